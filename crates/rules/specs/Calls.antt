@@ -1,0 +1,164 @@
+-- The public calls: for each the refusal that it gives, its answer, and the later contents of all it was lent.
+use mathlib.Core.Path.{_≡_}
+use mathlib.Core.Bool.{Bool, true, false, cond, _&&_, _||_}
+use mathlib.Core.List.{List}
+use Prim.Native.Nat.{ℕ, zero, suc, _+_, _-_}
+use lib.Dec.{ltb, eqb}
+use lib.ListN.{length}
+use lib.Ieee.{Float}
+use Rattle.rules.specs.Numbers.{plus-zero, at, zeros, table}
+use Rattle.rules.specs.Sizes.{most-axes, scratch-of-rows, Grid, points, knots-length, knots, samples-length, tensor-length, scratch-length, Place}
+use Rattle.rules.specs.Refusals.{axes-refused, points-refused, some-points-refused, tensor-refused, length-refused, scratch-refused, place-refused, number-refused, some-number-refused, ends-refused, some-ends-refused, knots-refused, some-knots-refused, fewness-refused, some-fewness-refused, outcome-refused, answer-refused}
+use Rattle.rules.specs.Locate.{label}
+use Rattle.rules.specs.Moments.{moments}
+use Rattle.rules.specs.Curve.{curve, knot-slopes}
+use Rattle.rules.specs.Tensor.{tensor}
+use Rattle.rules.specs.Change.{changed-tensor, change-lanes}
+use Rattle.rules.specs.Query.{query}
+use Rattle.rules.specs.declared.Condition.{Condition}
+use Rattle.rules.specs.declared.CurveAnswer.{CurveAnswer}
+use Rattle.rules.specs.declared.ChangeAnswer.{ChangeAnswer}
+use Rattle.rules.specs.declared.QueryAnswer.{QueryAnswer}
+
+-- "Outputs are untouched": what stands in an output after the refusal, 0 for none
+abbrev pub stored : ℕ → List Float → List Float → List Float
+stored zero old new = new
+stored (suc refusal) old new = old
+
+-- "Scratch is untouched for 1 to 9; once work has begun (success or 10) all of it is +0.0"
+abbrev pub scratch-after : ℕ → List Float → List Float
+scratch-after refusal scratch = cond (eqb refusal 0 || eqb refusal 10) (zeros (length scratch)) scratch
+
+-- "A refusal carries its number, answer +0.0, labels 0, count 0"
+abbrev pub answered : ℕ → Float → Float
+answered zero value = value
+answered (suc refusal) value = plus-zero
+
+abbrev pub counted : ℕ → ℕ → ℕ
+counted zero count = count
+counted (suc refusal) count = 0
+
+-- ---- the curve's moments
+
+module _ (n : ℕ) (knots samples : List Float) (condition : Condition) (moments-out scratch-lent : List Float) where
+  -- 2 4 5 7 8 9 10
+  unfoldable pub moments-refusal : ℕ
+  unfolding moments
+  moments-refusal =
+      cond (points-refused n) 2
+      (cond (length-refused (length knots) n || length-refused (length samples) n || length-refused (length moments-out) n) 4
+      (cond (scratch-refused (length scratch-lent) scratch-of-rows) 5
+      (cond (some-number-refused knots || ends-refused condition || some-number-refused samples) 7
+      (cond (knots-refused knots n) 8
+      (cond (fewness-refused condition n) 9
+      (cond (outcome-refused (moments knots (n - 1) condition samples)) 10 0))))))
+
+  pub record MomentsPromise (refusal : ℕ) (moments-later scratch-later : List Float) : Type 0 where
+    pub answer : refusal ≡ moments-refusal
+    pub output : moments-later ≡ stored moments-refusal moments-out (moments knots (n - 1) condition samples)
+    pub scratch : scratch-later ≡ scratch-after moments-refusal scratch-lent
+
+-- ---- the curve's value
+
+module _ (n : ℕ) (knots samples moments-in : List Float) (point : Float) where
+  -- 2 4 7 8 10
+  unfoldable pub curve-refusal : ℕ
+  unfolding curve
+  curve-refusal =
+      cond (points-refused n) 2
+      (cond (length-refused (length knots) n || length-refused (length samples) n || length-refused (length moments-in) n) 4
+      (cond (some-number-refused knots || some-number-refused samples || number-refused point) 7
+      (cond (knots-refused knots n) 8
+      (cond (answer-refused (curve knots (n - 1) samples moments-in point)) 10 0))))
+
+  pub record CurvePromise (answer-given : CurveAnswer) : Type 0 where
+    pub refusal : answer-given .refusal ≡ curve-refusal
+    pub value : answer-given .value ≡ answered curve-refusal (curve knots (n - 1) samples moments-in point)
+
+-- ---- the knot slopes
+
+module _ (n : ℕ) (knots samples moments-in slopes-out : List Float) where
+  -- 2 4 7 8 10
+  unfoldable pub slopes-refusal : ℕ
+  unfolding knot-slopes
+  slopes-refusal =
+      cond (points-refused n) 2
+      (cond (length-refused (length knots) n || length-refused (length samples) n || length-refused (length moments-in) n || length-refused (length slopes-out) n) 4
+      (cond (some-number-refused knots || some-number-refused samples) 7
+      (cond (knots-refused knots n) 8
+      (cond (outcome-refused (knot-slopes knots (n - 1) samples moments-in)) 10 0))))
+
+  pub record SlopesPromise (refusal : ℕ) (slopes-later : List Float) : Type 0 where
+    pub answer : refusal ≡ slopes-refusal
+    pub output : slopes-later ≡ stored slopes-refusal slopes-out (knot-slopes knots (n - 1) samples moments-in)
+
+-- ---- the build
+
+module _ (g : Grid) (samples tensor-out scratch-lent : List Float) where
+  -- 1 2 3 4 5 7 8 9 10
+  unfoldable pub build-refusal : ℕ
+  unfolding tensor
+  build-refusal =
+      cond (axes-refused g) 1
+      (cond (some-points-refused g) 2
+      (cond (tensor-refused g) 3
+      (cond (length-refused (length (g .flat-knots)) (knots-length g) || length-refused (length samples) (samples-length g) || length-refused (length tensor-out) (tensor-length g)) 4
+      (cond (scratch-refused (length scratch-lent) (scratch-length g)) 5
+      (cond (some-number-refused (g .flat-knots) || some-ends-refused g || some-number-refused samples) 7
+      (cond (some-knots-refused g) 8
+      (cond (some-fewness-refused g) 9
+      (cond (outcome-refused (tensor g samples)) 10 0))))))))
+
+  pub record BuildPromise (refusal : ℕ) (tensor-later scratch-later : List Float) : Type 0 where
+    pub answer : refusal ≡ build-refusal
+    pub output : tensor-later ≡ stored build-refusal tensor-out (tensor g samples)
+    pub scratch : scratch-later ≡ scratch-after build-refusal scratch-lent
+
+-- ---- the change
+
+module _ (g : Grid) (tensor-lent scratch-lent : List Float) (changed : Place) (v : Float) where
+  -- 1 2 3 4 5 6 7 8 9 10
+  unfoldable pub change-refusal : ℕ
+  unfolding changed-tensor
+  change-refusal =
+      cond (axes-refused g) 1
+      (cond (some-points-refused g) 2
+      (cond (tensor-refused g) 3
+      (cond (length-refused (length (g .flat-knots)) (knots-length g) || length-refused (length tensor-lent) (tensor-length g)) 4
+      (cond (scratch-refused (length scratch-lent) (scratch-length g)) 5
+      (cond (place-refused g changed) 6
+      (cond (some-number-refused (g .flat-knots) || some-ends-refused g || number-refused v || some-number-refused tensor-lent) 7
+      (cond (some-knots-refused g) 8
+      (cond (some-fewness-refused g) 9
+      (cond (outcome-refused (changed-tensor g changed v tensor-lent)) 10 0)))))))))
+
+  pub record ChangePromise (answer-given : ChangeAnswer) (tensor-later scratch-later : List Float) : Type 0 where
+    pub refusal : answer-given .refusal ≡ change-refusal
+    pub lanes : answer-given .lanes ≡ counted change-refusal (length (change-lanes g changed))
+    pub output : tensor-later ≡ stored change-refusal tensor-lent (changed-tensor g changed v tensor-lent)
+    pub scratch : scratch-later ≡ scratch-after change-refusal scratch-lent
+
+-- ---- the query
+
+module _ (g : Grid) (tensor-lent coordinates : List Float) where
+  -- 1 2 3 4 7 8 10
+  unfoldable pub query-refusal : ℕ
+  unfolding query
+  query-refusal =
+      cond (axes-refused g) 1
+      (cond (some-points-refused g) 2
+      (cond (tensor-refused g) 3
+      (cond (length-refused (length (g .flat-knots)) (knots-length g) || length-refused (length tensor-lent) (tensor-length g) || length-refused (length coordinates) (g .axes)) 4
+      (cond (some-number-refused (g .flat-knots) || some-number-refused coordinates) 7
+      (cond (some-knots-refused g) 8
+      (cond (answer-refused (query g tensor-lent (at coordinates))) 10 0))))))
+
+  -- "labels of the four axes", 0 past the axes in use and on a refusal
+  unfoldable pub labels : ℕ → List ℕ
+  unfolding label
+  labels refusal = table most-axes (λ i. counted refusal (cond (ltb i (g .axes)) (label (knots g i) (points g i - 1) (at coordinates i)) 0))
+
+  pub record QueryPromise (answer-given : QueryAnswer) : Type 0 where
+    pub refusal : answer-given .refusal ≡ query-refusal
+    pub value : answer-given .value ≡ answered query-refusal (query g tensor-lent (at coordinates))
+    pub labels-given : answer-given .labels ≡ labels query-refusal

@@ -1,0 +1,13 @@
+pub mod Numbers
+pub mod Ends
+pub mod Sizes
+pub mod Steps
+pub mod Refusals
+pub mod Locate
+pub mod Solve
+pub mod Moments
+pub mod Curve
+pub mod Tensor
+pub mod Change
+pub mod Query
+pub mod Calls

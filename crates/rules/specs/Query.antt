@@ -1,0 +1,60 @@
+-- "Query": the cell of the tensor around a point, and the Hermite blend that removes one axis after the other.
+use mathlib.Core.List.{List}
+use Prim.Native.Nat.{ℕ, zero, suc, _+_, _-_, _*_, _/_, _%_, _^_}
+use lib.Ieee.{Float, neg}
+use Rattle.rules.specs.Numbers.{_⊕_, _⊖_, _⊗_, _⊘_, one, two, three, at}
+use Rattle.rules.specs.Sizes.{Grid, points, knots, masks, Place, flat, spot}
+use Rattle.rules.specs.Steps.{h}
+use Rattle.rules.specs.Locate.{locate}
+
+-- `evaluate_hermite_1d`
+unfoldable pub hermite : Float → Float → Float → Float → Float → Float → Float
+hermite p0 m0 p1 m1 width t =
+    let t2 : Float = t ⊗ t in
+    let t3 : Float = t2 ⊗ t in
+    let h00 : Float = two ⊗ t3 ⊖ three ⊗ t2 ⊕ one in
+    let h10 : Float = t3 ⊖ two ⊗ t2 ⊕ t in
+    let h01 : Float = neg two ⊗ t3 ⊕ three ⊗ t2 in
+    let h11 : Float = t3 ⊖ t2 in
+    h00 ⊗ p0 ⊕ h10 ⊗ width ⊗ m0 ⊕ h01 ⊗ p1 ⊕ h11 ⊗ width ⊗ m1
+
+-- One axis removed, the lowest: a cell of 4 × size numbers, that axis slowest and its bit of the mask fastest, becomes one of size numbers.
+unfoldable pub without-lowest : ℕ → Float → Float → (ℕ → Float) → ℕ → Float
+unfolding hermite
+without-lowest size width t cell e =
+    hermite (cell (2 * e)) (cell (2 * e + 1)) (cell (2 * size + 2 * e)) (cell (2 * size + 2 * e + 1)) width t
+
+-- "The blend removes the lowest remaining axis first, until no axis is left and one number remains": of the axes from `lowest` on, so many
+unfoldable pub blend : ℕ → ℕ → (ℕ → Float) → (ℕ → Float) → (ℕ → Float) → Float
+unfolding without-lowest
+blend zero lowest widths ts cell = cell 0
+blend (suc axes) lowest widths ts cell =
+    blend axes (suc lowest) widths ts (without-lowest (4 ^ axes) (widths lowest) (ts lowest) cell)
+
+-- a corner of the cell: its bits say on which axes it is the upper one, axis 0 in the highest bit
+unfoldable pub corner : ℕ → Place → ℕ → Place
+corner axes lower bits i = lower i + bits / 2 ^ (axes - 1 - i) % 2
+
+-- the numbers of a cell, corner after corner, the mask fastest
+unfoldable pub cell : Grid → List Float → Place → ℕ → Float
+unfolding flat corner
+cell g tensor lower e = at tensor (spot g (corner (g .axes) lower (e / masks g)) (e % masks g))
+
+-- the cell of a point: the lower knot on each axis
+unfoldable pub cell-of : Grid → (ℕ → Float) → Place
+unfolding locate
+cell-of g point i = locate (knots g i) (points g i - 1) (point i)
+
+-- "t = (point − lower knot)/h", on axis i in the cell l
+unfoldable pub fraction : List Float → ℕ → Float → Float
+unfolding h
+fraction x l point = (point ⊖ at x l) ⊘ h x l
+
+-- the surface's value at a point
+unfoldable pub query : Grid → List Float → (ℕ → Float) → Float
+unfolding h blend cell cell-of fraction
+query g tensor point =
+    blend (g .axes) 0
+    (λ i. h (knots g i) (cell-of g point i))
+    (λ i. fraction (knots g i) (cell-of g point i) (point i))
+    (cell g tensor (cell-of g point))

@@ -1,0 +1,70 @@
+-- The solves of the Rust, each row a function of its index. Row k has sub (k - 1), diag k, sup k and rhs k; the last row is row l.
+use mathlib.Core.Bool.{Bool, true, false, cond}
+use Prim.Native.Nat.{ℕ, zero, suc, _-_}
+use lib.Dec.{eqb}
+use lib.Ieee.{Float, neg}
+use Rattle.rules.specs.Numbers.{_⊕_, _⊖_, _⊗_, _⊘_, plus-zero, one}
+
+-- `thomas`
+module _ (sub diag sup rhs : ℕ → Float) where
+  -- what row k is divided by
+  unfoldable pub w : ℕ → Float
+  w zero = diag zero
+  w (suc k) = diag (suc k) ⊖ sub k ⊗ (sup k ⊘ w k)
+
+  -- the first helper row; the Rust sets its last number to zero and does not read it
+  unfoldable pub cp : ℕ → Float
+  unfolding w
+  cp k = sup k ⊘ w k
+
+  -- the second helper row
+  unfoldable pub dp : ℕ → Float
+  unfolding w
+  dp zero = rhs zero ⊘ diag zero
+  dp (suc k) = (rhs (suc k) ⊖ sub k ⊗ dp k) ⊘ w (suc k)
+
+  -- the result j rows before the last
+  unfoldable pub before-last : ℕ → ℕ → Float
+  unfolding cp dp
+  before-last l zero = dp l
+  before-last l (suc j) = dp (l - suc j) ⊖ cp (l - suc j) ⊗ before-last l j
+
+  -- number k of the result
+  unfoldable pub thomas : ℕ → ℕ → Float
+  unfolding before-last
+  thomas l k = before-last l (l - k)
+
+-- `cyclic_thomas`: the corner stands in the first row's last place and in the last row's first
+module _ (sub diag sup rhs : ℕ → Float) (corner : Float) where
+  abbrev pub gamma : Float
+  gamma = neg (diag 0)
+
+  -- the diagonal without the corners
+  unfoldable pub diag-mod : ℕ → ℕ → Float
+  diag-mod l k =
+      cond (eqb k 0) (diag k ⊖ gamma)
+      (cond (eqb k l) (diag k ⊖ corner ⊗ corner ⊘ gamma)
+      (diag k))
+
+  -- the right side of the second solve
+  unfoldable pub u-vec : ℕ → ℕ → Float
+  u-vec l k = cond (eqb k 0) gamma (cond (eqb k l) corner plus-zero)
+
+  -- the two solves
+  unfoldable pub y : ℕ → ℕ → Float
+  unfolding diag-mod thomas
+  y l k = thomas sub (diag-mod l) sup rhs l k
+
+  unfoldable pub z : ℕ → ℕ → Float
+  unfolding diag-mod u-vec thomas
+  z l k = thomas sub (diag-mod l) sup (u-vec l) l k
+
+  unfoldable pub factor : ℕ → Float
+  unfolding y z
+  factor l = (y l 0 ⊕ corner ⊘ gamma ⊗ y l l) ⊘ (one ⊕ (z l 0 ⊕ corner ⊘ gamma ⊗ z l l))
+
+  -- number k of the result; the branch for one unknown first
+  unfoldable pub cyclic-thomas : ℕ → ℕ → Float
+  unfolding y z factor
+  cyclic-thomas zero k = rhs 0 ⊘ (diag 0 ⊕ corner ⊕ corner)
+  cyclic-thomas (suc l) k = y (suc l) k ⊖ factor (suc l) ⊗ z (suc l) k

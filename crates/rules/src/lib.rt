@@ -1,0 +1,125 @@
+// The types of document 01: ends, conditions, axes, and what the public calls answer.
+ghost use mathlib.Core.Path.{_≡_};
+ghost use Rattle.rules.specs.Ends.{zero-valued, crossed, not-a-knot, natural, clamped, periodic, first-derivative, second-derivative};
+
+// An end of an axis.
+pub enum End {
+    NotAKnot,
+    FirstDerivative(f64),
+    SecondDerivative(f64),
+}
+
+// Both ends of an axis, lower first, or the whole axis periodic.
+pub enum Condition {
+    Endpoints(End, End),
+    Periodic,
+}
+
+pub struct Axis {
+    pub points: usize,
+    pub condition: Condition,
+}
+
+// What an end's row has for its own knot and for the one neighbour it names.
+pub struct Row {
+    pub diagonal: f64,
+    pub neighbour: f64,
+    pub right: f64,
+}
+
+// A refusal's number, 0 for none, and the curve's value.
+pub struct CurveAnswer {
+    pub refusal: usize,
+    pub value: f64,
+}
+
+// A refusal's number, 0 for none, and how many lanes were solved.
+pub struct ChangeAnswer {
+    pub refusal: usize,
+    pub lanes: usize,
+}
+
+// A refusal's number, 0 for none, the surface's value, and the cell label of each axis.
+pub struct QueryAnswer {
+    pub refusal: usize,
+    pub value: f64,
+    pub labels: [usize; 4],
+}
+
+impl End {
+    // The same kind with value zero: the end that a cross pass uses.
+    pub fn zero_valued(self) -> End
+        ensures { λ r. ⌜ r ≡ zero-valued self ⌝ }
+    {
+        match self {
+            End::NotAKnot => End::NotAKnot,
+            End::FirstDerivative(_) => End::FirstDerivative(0.0),
+            End::SecondDerivative(_) => End::SecondDerivative(0.0),
+        }
+    }
+}
+
+impl Condition {
+    pub const NOT_A_KNOT: Condition = Condition::Endpoints(End::NotAKnot, End::NotAKnot);
+
+    pub const NATURAL: Condition = Condition::Endpoints(
+        End::SecondDerivative(0.0),
+        End::SecondDerivative(0.0),
+    );
+
+    pub const PERIODIC: Condition = Condition::Periodic;
+
+    // NotAKnot at both ends.
+    pub fn not_a_knot() -> Condition
+        ensures { λ r. ⌜ r ≡ not-a-knot ⌝ }
+    {
+        Condition::NOT_A_KNOT
+    }
+
+    // A second derivative of zero at both ends.
+    pub fn natural() -> Condition
+        ensures { λ r. ⌜ r ≡ natural ⌝ }
+    {
+        Condition::NATURAL
+    }
+
+    // The first derivatives of both ends, under the name that the Rust's strategy has for the pair.
+    pub fn clamped(lower: f64, upper: f64) -> Condition
+        ensures { λ r. ⌜ r ≡ clamped lower upper ⌝ }
+    {
+        Condition::first_derivative(lower, upper)
+    }
+
+    // The whole axis periodic.
+    pub fn periodic() -> Condition
+        ensures { λ r. ⌜ r ≡ periodic ⌝ }
+    {
+        Condition::PERIODIC
+    }
+
+    // The first derivatives of both ends.
+    pub fn first_derivative(lower: f64, upper: f64) -> Condition
+        ensures { λ r. ⌜ r ≡ first-derivative lower upper ⌝ }
+    {
+        Condition::Endpoints(End::FirstDerivative(lower), End::FirstDerivative(upper))
+    }
+
+    // The second derivatives of both ends.
+    pub fn second_derivative(lower: f64, upper: f64) -> Condition
+        ensures { λ r. ⌜ r ≡ second-derivative lower upper ⌝ }
+    {
+        Condition::Endpoints(End::SecondDerivative(lower), End::SecondDerivative(upper))
+    }
+
+    // The condition that a cross pass uses: every end with value zero, NotAKnot and Periodic as they are.
+    pub fn crossed(self) -> Condition
+        ensures { λ r. ⌜ r ≡ crossed self ⌝ }
+    {
+        match self {
+            Condition::Endpoints(lower, upper) => {
+                Condition::Endpoints(lower.zero_valued(), upper.zero_valued())
+            }
+            Condition::Periodic => Condition::Periodic,
+        }
+    }
+}
