@@ -1,30 +1,30 @@
--- The examples marked (P) in document 01, and those that its errors that look right would not pass, as the rows of one theorem. Every value is a bit pattern.
+-- The examples marked (P) in document 01, and examples that its errors that look right would not pass: the rows of one theorem about the definitions. Every float is a bit pattern.
 use mathlib.Core.Path.{_≡_, refl}
 use mathlib.Core.List.{List, [], _∷_}
 use Prim.Native.Nat.{ℕ}
 use lib.ListN.{length}
 use lib.Ieee as Ieee
 use lib.Ieee.{Float, binary64}
-use Rattle.rules.specs.Ends.{not-a-knot, natural, clamped, periodic, second-derivative}
-use Rattle.rules.specs.Numbers.{at, zeros}
-use Rattle.rules.specs.Sizes.{Grid, unused-axis, place-of, points, sum-below, product-below}
+use Rattle.rules.specs.Numbers.{at, zeros, any}
+use Rattle.rules.specs.Ends.{not-a-knot, natural, clamped, periodic}
+use Rattle.rules.specs.Sizes.{Grid, points, sum-below, product-below, unused-axis, place-of}
 use Rattle.rules.specs.Locate.{locate, label}
 use Rattle.rules.specs.Moments.{moments}
 use Rattle.rules.specs.Curve.{curve, knot-slopes}
 use Rattle.rules.specs.Tensor.{tensor}
-use Rattle.rules.specs.Change.{changed-tensor, change-lanes, build-lanes, lane-sum}
+use Rattle.rules.specs.Change.{changed-tensor, build-lanes, change-lanes, lane-sum}
 use Rattle.rules.specs.Query.{query}
+use Rattle.rules.specs.Refusals.{step-refused}
 use Rattle.rules.specs.Calls.{moments-refusal}
-use Rattle.rules.specs.declared.Axis.{Axis}
 use Rattle.rules.specs.declared.Condition.{Condition}
 use Rattle.rules.specs.declared.Condition.the-variants.{Endpoints}
-use Rattle.rules.specs.declared.End.the-variants.{NotAKnot, SecondDerivative}
+use Rattle.rules.specs.declared.End.the-variants.{NotAKnot, FirstDerivative, SecondDerivative}
 
 -- the float of a bit pattern
 abbrev pattern : ℕ → Float
 pattern bits = Ieee.ofBits binary64 bits
 
--- whole numbers and halves, by their patterns
+-- the numbers of the examples that stand more than once
 abbrev 0′ : Float
 0′ = pattern 0x0000_0000_0000_0000
 
@@ -49,27 +49,137 @@ abbrev 7′ : Float
 abbrev -1′ : Float
 -1′ = pattern 0xBFF0_0000_0000_0000
 
--- two axes of the knots 0 and 1, each under one condition
+-- knots 0 1, 0 1 2 and 0 1 2 3
+abbrev knots-2 : List Float
+knots-2 = 0′ ∷ 1′ ∷ []
+
+abbrev knots-3 : List Float
+knots-3 = 0′ ∷ 1′ ∷ 2′ ∷ []
+
+abbrev knots-4 : List Float
+knots-4 = 0′ ∷ 1′ ∷ 2′ ∷ 3′ ∷ []
+
+-- the curve through samples at a point, its moments under a condition; n is points minus 1
+abbrev spline : List Float → ℕ → Condition → List Float → Float → Float
+spline x n c y point = curve x n y (moments x n c y) point
+
+-- its knot slopes
+abbrev slopes : List Float → ℕ → Condition → List Float → List Float
+slopes x n c y = knot-slopes x n y (moments x n c y)
+
+-- two axes, each of the knots 0 1 and under one condition
 abbrev square : Condition → Grid
 square c = record {
   axes = 2;
   entries = record { points = 2; condition = c } ∷ record { points = 2; condition = c } ∷ unused-axis ∷ unused-axis ∷ [];
-  flat-knots = 0′ ∷ 1′ ∷ 0′ ∷ 1′ ∷ []
+  flat-knots = 0′ ∷ 1′ ∷ 0′ ∷ 1′ ∷ [];
 }
 
--- the natural tensor of the samples 0 0 0 1, and of 0 2 0 1
+-- its samples 0 0 0 1
+abbrev corner-up : List Float
+corner-up = 0′ ∷ 0′ ∷ 0′ ∷ 1′ ∷ []
+
+-- the natural tensor of these, and of the samples 0 2 0 1
 abbrev tensor-before : List Float
 tensor-before = 0′ ∷ 0′ ∷ 0′ ∷ 1′ ∷ 0′ ∷ 1′ ∷ 0′ ∷ 1′ ∷ 0′ ∷ 0′ ∷ 1′ ∷ 1′ ∷ 1′ ∷ 1′ ∷ 1′ ∷ 1′ ∷ []
 
 abbrev tensor-after : List Float
 tensor-after = 0′ ∷ 0′ ∷ 2′ ∷ -1′ ∷ 2′ ∷ -1′ ∷ 2′ ∷ -1′ ∷ 0′ ∷ 0′ ∷ 1′ ∷ -1′ ∷ 1′ ∷ -1′ ∷ 1′ ∷ -1′ ∷ []
 
-pub examples :
-    (moments (0′ ∷ 1′ ∷ 2′ ∷ []) 2 natural (0′ ∷ 1′ ∷ 0′ ∷ []) ≡ 0′ ∷ pattern 0xC008_0000_0000_0000 ∷ 0′ ∷ [])
-    × (tensor (square natural) (0′ ∷ 0′ ∷ 0′ ∷ 1′ ∷ []) ≡ tensor-before)
-    × (changed-tensor (square natural) (place-of (0 ∷ 1 ∷ 0 ∷ 0 ∷ [])) 2′ tensor-before ≡ tensor-after)
-    × (length (change-lanes (square natural) (place-of (0 ∷ 1 ∷ 0 ∷ 0 ∷ []))) ≡ 4)
-    × (length (build-lanes (square natural)) ≡ 6)
-    × (query (square natural) tensor-before (at (½ ∷ ½ ∷ [])) ≡ pattern 0x3FD0_0000_0000_0000)
-unfolding sum-below product-below moments tensor changed-tensor change-lanes query Ieee.add Ieee.sub Ieee.mul Ieee.div Ieee.neg Ieee.lt Ieee.le Ieee.ofBits
-examples = (refl, refl, refl, refl, refl, refl)
+-- the place (0, 1)
+abbrev place-01 : ℕ → ℕ
+place-01 = place-of (0 ∷ 1 ∷ 0 ∷ 0 ∷ [])
+
+-- the refusal of the moments of samples that are all 0, with all lengths right
+abbrev refusal-of : ℕ → List Float → Condition → ℕ
+refusal-of n x c = moments-refusal n x (zeros n) c (zeros n) (zeros 2048)
+
+pub record Examples : Type 0 where
+  -- (P) Natural, x 0 1 2, y 0 1 0: moments 0 −3 0; slopes 1.5, 0, −1.5; curve at 0.5 is 0.6875
+  pub natural-moments : moments knots-3 2 natural (0′ ∷ 1′ ∷ 0′ ∷ []) ≡ 0′ ∷ pattern 0xC008_0000_0000_0000 ∷ 0′ ∷ []
+  pub natural-slopes : slopes knots-3 2 natural (0′ ∷ 1′ ∷ 0′ ∷ []) ≡ pattern 0x3FF8_0000_0000_0000 ∷ 0′ ∷ pattern 0xBFF8_0000_0000_0000 ∷ []
+  pub natural-curve : spline knots-3 2 natural (0′ ∷ 1′ ∷ 0′ ∷ []) ½ ≡ pattern 0x3FE6_0000_0000_0000
+  -- (P) First derivatives 0 and 0, x 0 1, y 0 1: moments 6 −6; curve at 0.5 is 0.5
+  pub clamped-moments : moments knots-2 1 (clamped 0′ 0′) (0′ ∷ 1′ ∷ []) ≡ pattern 0x4018_0000_0000_0000 ∷ pattern 0xC018_0000_0000_0000 ∷ []
+  pub clamped-curve : spline knots-2 1 (clamped 0′ 0′) (0′ ∷ 1′ ∷ []) ½ ≡ ½
+  -- (P) NotAKnot twice, x 0 1 2 3, y 1 3 5 7: at 1.5 is 4, at 4 is 9
+  pub not-a-knot-inside : spline knots-4 3 not-a-knot (1′ ∷ 3′ ∷ 5′ ∷ 7′ ∷ []) (pattern 0x3FF8_0000_0000_0000) ≡ pattern 0x4010_0000_0000_0000
+  pub not-a-knot-beyond : spline knots-4 3 not-a-knot (1′ ∷ 3′ ∷ 5′ ∷ 7′ ∷ []) (pattern 0x4010_0000_0000_0000) ≡ pattern 0x4022_0000_0000_0000
+  -- (P) Periodic, x 0 1, y 0 5: moments 0 0, slopes 5 5
+  pub periodic-moments : moments knots-2 1 periodic (0′ ∷ 5′ ∷ []) ≡ 0′ ∷ 0′ ∷ []
+  pub periodic-slopes : slopes knots-2 1 periodic (0′ ∷ 5′ ∷ []) ≡ 5′ ∷ 5′ ∷ []
+  -- (P) Natural on both axes, knots 0 1 and 0 1, samples 0 0 0 1: tensor 0 0 0 1, 0 1 0 1, 0 0 1 1, 1 1 1 1; query (0.5, 0.5) is 0.25
+  pub built : tensor (square natural) corner-up ≡ tensor-before
+  pub queried : query (square natural) tensor-before (at (½ ∷ ½ ∷ [])) ≡ pattern 0x3FD0_0000_0000_0000
+  -- (P) There, sample (0,1) changed to 2: tensor 0 0 2 −1, 2 −1 2 −1, 0 0 1 −1, 1 −1 1 −1; 4 lanes, where a build solves 6
+  pub changed : changed-tensor (square natural) place-01 2′ tensor-before ≡ tensor-after
+  pub changed-as-built : tensor (square natural) (0′ ∷ 2′ ∷ 0′ ∷ 1′ ∷ []) ≡ tensor-after
+  pub lanes-of-the-change : length (change-lanes (square natural) place-01) ≡ 4
+  pub sum-of-the-lanes : lane-sum (points (square natural)) 2 ≡ 4
+  pub lanes-of-the-build : length (build-lanes (square natural)) ≡ 6
+  -- (P) Knots 0 1 2: point 1 lies in cell 0 with label 1; point 2 in cell 1, label 1; point −1 in cell 0
+  pub cell-at-interior-knot : locate knots-3 2 1′ ≡ 0
+  pub label-at-interior-knot : label knots-3 2 1′ ≡ 1
+  pub cell-at-last-knot : locate knots-3 2 2′ ≡ 1
+  pub label-at-last-knot : label knots-3 2 2′ ≡ 1
+  pub cell-below : locate knots-3 2 -1′ ≡ 0
+  -- (P) NotAKnot twice: 3 points refused 9, 4 accepted. One end: 2 refused, 3 accepted
+  pub both-ends-3 : refusal-of 3 knots-3 not-a-knot ≡ 9
+  pub both-ends-4 : refusal-of 4 knots-4 not-a-knot ≡ 0
+  pub lower-end-2 : refusal-of 2 knots-2 (Endpoints NotAKnot (SecondDerivative 0′)) ≡ 9
+  pub lower-end-3 : refusal-of 3 knots-3 (Endpoints NotAKnot (SecondDerivative 0′)) ≡ 0
+  pub upper-end-2 : refusal-of 2 knots-2 (Endpoints (FirstDerivative 0′) NotAKnot) ≡ 9
+  pub upper-end-3 : refusal-of 3 knots-3 (Endpoints (FirstDerivative 0′) NotAKnot) ≡ 0
+  -- a clamped end's own number stays out of the cross pass: with slopes 1 at every end the mixed derivatives are 0
+  pub clamped-cross-pass :
+      tensor (square (clamped 1′ 1′)) corner-up
+      ≡ 0′ ∷ 1′ ∷ 1′ ∷ 0′ ∷ 0′ ∷ 1′ ∷ 1′ ∷ 0′ ∷ 0′ ∷ 1′ ∷ 1′ ∷ 0′ ∷ 1′ ∷ 1′ ∷ 1′ ∷ 0′ ∷ []
+  -- two periodic intervals keep the corner: x 0 1 3, y 0 1 0
+  pub periodic-corner :
+      moments (0′ ∷ 1′ ∷ 3′ ∷ []) 2 periodic (0′ ∷ 1′ ∷ 0′ ∷ [])
+      ≡ pattern 0x4007_FFFF_FFFF_FFFE ∷ pattern 0xC007_FFFF_FFFF_FFFF ∷ pattern 0x4007_FFFF_FFFF_FFFE ∷ []
+  -- the M-form rounds: periodic, x 0 1 2, y 2 5 1 is just above 2 at 0
+  pub curve-at-a-knot : spline knots-3 2 periodic (2′ ∷ 5′ ∷ 1′ ∷ []) 0′ ≡ pattern 0x4000_0000_0000_0001
+  -- a division is no product with a reciprocal: natural, x 0 1 3, y 0 0 5
+  pub divided-by-six :
+      slopes (0′ ∷ 1′ ∷ 3′ ∷ []) 2 natural (0′ ∷ 0′ ∷ 5′ ∷ [])
+      ≡ pattern 0xBFDA_AAAA_AAAA_AAAB ∷ pattern 0x3FEA_AAAA_AAAA_AAAA ∷ pattern 0x400A_AAAA_AAAA_AAAB ∷ []
+  -- no product is fused with a sum: natural, x 0 1 2, y 0 1 5, at 0.25
+  pub rounded-twice : spline knots-3 2 natural (0′ ∷ 1′ ∷ 5′ ∷ []) (pattern 0x3FD0_0000_0000_0000) ≡ pattern 0x3FB3_0000_0000_0000
+
+pub examples : Examples
+unfolding any sum-below product-below locate label moments curve knot-slopes tensor changed-tensor change-lanes lane-sum query step-refused moments-refusal Ieee.add Ieee.sub Ieee.mul Ieee.div Ieee.neg Ieee.lt Ieee.le Ieee.ofBits
+examples = record {
+  natural-moments = refl;
+  natural-slopes = refl;
+  natural-curve = refl;
+  clamped-moments = refl;
+  clamped-curve = refl;
+  not-a-knot-inside = refl;
+  not-a-knot-beyond = refl;
+  periodic-moments = refl;
+  periodic-slopes = refl;
+  built = refl;
+  queried = refl;
+  changed = refl;
+  changed-as-built = refl;
+  lanes-of-the-change = refl;
+  sum-of-the-lanes = refl;
+  lanes-of-the-build = refl;
+  cell-at-interior-knot = refl;
+  label-at-interior-knot = refl;
+  cell-at-last-knot = refl;
+  label-at-last-knot = refl;
+  cell-below = refl;
+  both-ends-3 = refl;
+  both-ends-4 = refl;
+  lower-end-2 = refl;
+  lower-end-3 = refl;
+  upper-end-2 = refl;
+  upper-end-3 = refl;
+  clamped-cross-pass = refl;
+  periodic-corner = refl;
+  curve-at-a-knot = refl;
+  divided-by-six = refl;
+  rounded-twice = refl;
+}

@@ -38,6 +38,10 @@ abbrev pub counted : ℕ → ℕ → ℕ
 counted zero count = count
 counted (suc refusal) count = 0
 
+abbrev pub labelled : ℕ → List ℕ → List ℕ
+labelled zero labels = labels
+labelled (suc refusal) labels = table most-axes (λ i. 0)
+
 -- ---- the curve's moments
 
 module _ (n : ℕ) (knots samples : List Float) (condition : Condition) (moments-out scratch-lent : List Float) where
@@ -71,9 +75,15 @@ module _ (n : ℕ) (knots samples moments-in : List Float) (point : Float) where
       (cond (knots-refused knots n) 8
       (cond (answer-refused (curve knots (n - 1) samples moments-in point)) 10 0))))
 
-  pub record CurvePromise (answer-given : CurveAnswer) : Type 0 where
-    pub refusal : answer-given .refusal ≡ curve-refusal
-    pub value : answer-given .value ≡ answered curve-refusal (curve knots (n - 1) samples moments-in point)
+  unfoldable pub curve-answer : CurveAnswer
+  unfolding curve-refusal
+  curve-answer = record {
+    refusal = curve-refusal;
+    value = answered curve-refusal (curve knots (n - 1) samples moments-in point);
+  }
+
+  pub record CurvePromise (given : CurveAnswer) : Type 0 where
+    pub answer : given ≡ curve-answer
 
 -- ---- the knot slopes
 
@@ -132,9 +142,13 @@ module _ (g : Grid) (tensor-lent scratch-lent : List Float) (changed : Place) (v
       (cond (some-fewness-refused g) 9
       (cond (outcome-refused (changed-tensor g changed v tensor-lent)) 10 0)))))))))
 
-  pub record ChangePromise (answer-given : ChangeAnswer) (tensor-later scratch-later : List Float) : Type 0 where
-    pub refusal : answer-given .refusal ≡ change-refusal
-    pub lanes : answer-given .lanes ≡ counted change-refusal (length (change-lanes g changed))
+  -- the count is that of the lanes of the change
+  unfoldable pub change-answer : ChangeAnswer
+  unfolding change-refusal change-lanes
+  change-answer = record { refusal = change-refusal; lanes = counted change-refusal (length (change-lanes g changed)) }
+
+  pub record ChangePromise (given : ChangeAnswer) (tensor-later scratch-later : List Float) : Type 0 where
+    pub answer : given ≡ change-answer
     pub output : tensor-later ≡ stored change-refusal tensor-lent (changed-tensor g changed v tensor-lent)
     pub scratch : scratch-later ≡ scratch-after change-refusal scratch-lent
 
@@ -153,12 +167,18 @@ module _ (g : Grid) (tensor-lent coordinates : List Float) where
       (cond (some-knots-refused g) 8
       (cond (answer-refused (query g tensor-lent (at coordinates))) 10 0))))))
 
-  -- "labels of the four axes", 0 past the axes in use and on a refusal
-  unfoldable pub labels : ℕ → List ℕ
+  -- labels of the four axes: "entries past the axes in use aren't read, and labels there are 0"
+  unfoldable pub labels : List ℕ
   unfolding label
-  labels refusal = table most-axes (λ i. counted refusal (cond (ltb i (g .axes)) (label (knots g i) (points g i - 1) (at coordinates i)) 0))
+  labels = table most-axes (λ i. cond (ltb i (g .axes)) (label (knots g i) (points g i - 1) (at coordinates i)) 0)
 
-  pub record QueryPromise (answer-given : QueryAnswer) : Type 0 where
-    pub refusal : answer-given .refusal ≡ query-refusal
-    pub value : answer-given .value ≡ answered query-refusal (query g tensor-lent (at coordinates))
-    pub labels-given : answer-given .labels ≡ labels query-refusal
+  unfoldable pub query-answer : QueryAnswer
+  unfolding query-refusal labels
+  query-answer = record {
+    refusal = query-refusal;
+    value = answered query-refusal (query g tensor-lent (at coordinates));
+    labels = labelled query-refusal labels;
+  }
+
+  pub record QueryPromise (given : QueryAnswer) : Type 0 where
+    pub answer : given ≡ query-answer
