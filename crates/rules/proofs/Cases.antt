@@ -1,0 +1,22 @@
+-- A test's two arms, and what holds of both.
+use mathlib.Core.Path.{_≡_, refl, sym, _∙_}
+use mathlib.Core.Bool.{Bool, true, false}
+use Prim.Native.Nat.{ℕ}
+use native.Mathlib.Omega.{arith}
+
+abbrev pub arms : {A : Type 0} → Bool → A → A → A
+arms b x y = elim b [ true ↦ x | false ↦ y ]
+
+-- two pairs of arms that are equal where each is taken
+pub arms-ext : {A : Type 0} (b : Bool) {x x′ y y′ : A} → (b ≡ true → x ≡ x′) → (b ≡ false → y ≡ y′) → arms b x y ≡ arms b x′ y′
+arms-ext true first second = first refl
+arms-ext false first second = second refl
+
+-- arms that both equal one thing where they are taken
+pub arms-one : {A : Type 0} (b : Bool) {x y z : A} → (b ≡ true → x ≡ z) → (b ≡ false → y ≡ z) → arms b x y ≡ z
+arms-one true first second = first refl
+arms-one false first second = second refl
+
+-- no test is true and false
+pub not-both : {A : Type 0} (b : Bool) → b ≡ true → b ≡ false → A
+not-both b holds fails = absurd (let z : _≡_ {A = ℕ} 0 1 = cc in omega arith)
