@@ -111,6 +111,8 @@ pub record Examples : Type 0 where
   -- (P) Natural on both axes, knots 0 1 and 0 1, samples 0 0 0 1: tensor 0 0 0 1, 0 1 0 1, 0 0 1 1, 1 1 1 1; query (0.5, 0.5) is 0.25
   pub built : tensor (square natural) corner-up ≡ tensor-before
   pub queried : query (square natural) tensor-before (at (½ ∷ ½ ∷ [])) ≡ pattern 0x3FD0_0000_0000_0000
+  -- away from the middle the two axes differ: samples 0 2 0 1 at (0.25, 0.5) is 0.875
+  pub queried-off-the-middle : query (square natural) tensor-after (at (pattern 0x3FD0_0000_0000_0000 ∷ ½ ∷ [])) ≡ pattern 0x3FEC_0000_0000_0000
   -- (P) There, sample (0,1) changed to 2: tensor 0 0 2 −1, 2 −1 2 −1, 0 0 1 −1, 1 −1 1 −1; 4 lanes, where a build solves 6
   pub changed : changed-tensor (square natural) place-01 2′ tensor-before ≡ tensor-after
   pub changed-as-built : tensor (square natural) (0′ ∷ 2′ ∷ 0′ ∷ 1′ ∷ []) ≡ tensor-after
@@ -161,6 +163,7 @@ examples = record {
   periodic-slopes = refl;
   built = refl;
   queried = refl;
+  queried-off-the-middle = refl;
   changed = refl;
   changed-as-built = refl;
   lanes-of-the-change = refl;

@@ -4,5 +4,6 @@ pub mod Places
 pub mod Mask
 pub mod Locality
 pub mod ChangeIsBuild
+pub mod LaneCount
 pub mod Unique
 pub mod Examples

@@ -64,11 +64,11 @@ unfolding flat
 flat-ext n zero p q one = refl
 flat-ext n (suc d) p q one = cc (flat-ext n d p q (λ j below. one j (omega arith)), one d (omega arith))
 
-unflat-last : (n : ℕ → ℕ) (d f : ℕ) → unflat n (suc d) f d ≡ f % n d
+pub unflat-last : (n : ℕ → ℕ) (d f : ℕ) → unflat n (suc d) f d ≡ f % n d
 unfolding unflat
 unflat-last n d f = ap (λ (b : Bool). cond b (f % n d) (unflat n d (f / n d) d)) (eq-eqb d d refl)
 
-unflat-before : (n : ℕ → ℕ) (d f j : ℕ) → j < d → unflat n (suc d) f j ≡ unflat n d (f / n d) j
+pub unflat-before : (n : ℕ → ℕ) (d f j : ℕ) → j < d → unflat n (suc d) f j ≡ unflat n d (f / n d) j
 unfolding unflat
 unflat-before n d f j below = ap (λ (b : Bool). cond b (f % n d) (unflat n d (f / n d) j)) (ne-eqb j d (omega arith))
 
