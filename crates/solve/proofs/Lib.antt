@@ -1,0 +1,3 @@
+pub mod Elimination
+pub mod Substitution
+pub mod Solution
