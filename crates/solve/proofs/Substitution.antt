@@ -1,6 +1,6 @@
 -- The turns of `substitute`, on plain lists: with x stored at row k, the rows from k on are done.
 use native.Mathlib.Omega.{arith}
-use mathlib.Core.Path.{_≡_, refl, sym, _∙_}
+use mathlib.Core.Path.{_≡_, refl, sym, subst, _∙_}
 use mathlib.Core.Logic.{_≢_, ⊎-elim}
 use mathlib.Core.List.{List}
 use Prim.Native.Nat.{ℕ, suc, _+_, _-_, _<_, _≤_}
@@ -75,7 +75,7 @@ module _ (w₀ w : List Float) (l to : ℕ) (x : Float) (k : ℕ) (t : Turn w₀
       same-length = simp length-set (t .same-length);
       last = other (to + l) (omega (arith, t .most)) ∙ t .done .last;
       next = λ j a b. ⊎-elim
-          (λ e. rw (sym e) at next-here)
+          (λ e. subst (λ (i : ℕ). row w₂ to i ≡ row w₀ 1536 i ⊖ row w₀ 1280 i ⊗ row w₂ to (suc i)) e next-here)
           (λ above. rw (other (to + j) (omega arith), other (to + suc j) (omega arith)) (t .done .next j (omega arith) b))
           (eq-or-lt-of-le a);
       kept = λ j o. other j (o (k - 1) (omega (arith, t .most))) ∙ t .done .kept j o;

@@ -24,8 +24,8 @@ slice-read-x-3 c = simp length-set (omega arith)
 
 loop-again : tie.Need-loop-again Inv-loop μ-loop
 loop-again c =
-    let l = c .before .before .before .before in
-    turn-next _ _ _ _ _ _ (l .loop .inv) (c .before .before .before .loop-test .taken)
+    let turn = c .before .before in
+    turn-next _ _ _ _ _ _ (turn .before .loop .inv) (turn .loop-test .taken)
 
 returns : tie.Need-returns Inv-loop μ-loop
 returns c = turn-last _ _ _ _ _ _ (c .before .loop .inv) (c .loop-test .left)

@@ -8,7 +8,9 @@ use Rattle.solve.proofs.substitute.Reads as substitute-reads
 use Rattle.solve.proofs.Solution.{solved}
 
 returns : tie.Need-returns
-returns c = solved _ _ _ _ _ (c .before .before .before .before .eliminate .ensures) (c .before .substitute .ensures)
+returns c =
+    let back = c .before .before in
+    solved _ _ _ _ _ (back .before .before .before .before .eliminate .ensures) (back .substitute .ensures)
 
 pub thomas-spec : {M : Type 1} → statement M
 thomas-spec = tie.close (tie.spec (λ c κs. search needs) (λ c κs. search needs) (λ c. search needs) returns)
