@@ -1,0 +1,114 @@
+-- The steps of `cyclic_thomas` together: the result of the definition.
+use native.Mathlib.Omega.{arith}
+use mathlib.Core.Bool.{cond}
+use mathlib.Core.Path.{_≡_, refl, _∙_}
+use mathlib.Core.Logic.{_≢_, ⊎-elim}
+use mathlib.Core.List.{List}
+use Prim.Native.Nat.{ℕ, zero, suc, _+_, _<_, _≤_}
+use native.Mathlib.Nat.{eq-or-lt-of-le}
+use lib.Dec.{eqb}
+use lib.ListN.{length, set, length-set}
+use lib.Seq.{getD-set-same, getD-set-other}
+use lib.Ieee.{Float, nan, neg}
+use borrow.Author.Tests.{eq-eqb, ne-eqb}
+use Rattle.rules.specs.Numbers.{at, _⊕_, _⊖_, _⊗_, _⊘_, plus-zero}
+use Rattle.rules.specs.Solve.{thomas, diag-mod, u-vec, y, z, factor, cyclic-thomas}
+use Rattle.solve.specs.Rows.{row, of-rows, Outside, Given, Solved}
+use Rattle.solve.specs.Cyclic.{DiagMod, UVec, factor-of, Subtracted, CyclicSolved}
+use Rattle.solve.proofs.Agreement.{same-thomas}
+
+-- a row by its first number, its last and those between
+by-ends : (f a b c : ℕ → Float) (l : ℕ) → f 0 ≡ a 0 → f l ≡ b l → ((k : ℕ) → 0 < k → k < l → f k ≡ c k)
+    → (k : ℕ) → k ≤ l → f k ≡ cond (eqb k 0) (a k) (cond (eqb k l) (b k) (c k))
+by-ends f a b c l first last between zero h = first
+by-ends f a b c l first last between (suc k) h =
+    rw (ne-eqb (suc k) 0 (omega arith))
+    (⊎-elim
+    (λ e. rw (eq-eqb (suc k) l e) (cc))
+    (λ lt. rw (ne-eqb (suc k) l (omega arith)) (between (suc k) (omega arith) lt))
+    (eq-or-lt-of-le h))
+
+-- more than one unknown
+by-two-solves : (sub diag sup rhs : ℕ → Float) (corner : Float) (l k : ℕ) → l ≢ 0
+    → cyclic-thomas sub diag sup rhs corner l k ≡ y sub diag sup rhs corner l k ⊖ factor sub diag sup rhs corner l ⊗ z sub diag sup rhs corner l k
+unfolding cyclic-thomas
+by-two-solves sub diag sup rhs corner zero k n = absurd (n refl)
+by-two-solves sub diag sup rhs corner (suc l) k n = refl
+
+-- one unknown
+pub alone : (w : List Float) (corner : Float) (l : ℕ) → Given w l → l ≡ 0 → CyclicSolved w (set w 1792 (at w 1024 ⊘ (at w 512 ⊕ corner ⊕ corner))) l corner
+unfolding cyclic-thomas
+alone w corner l g e = record {
+  same-length = simp length-set;
+  result = λ k h. let z : k ≡ 0 = omega arith in rw (e, z) (getD-set-same w 1792 _ nan (omega arith));
+  kept = λ j o p. getD-set-other w 1792 j _ nan (p 768 (omega arith));
+}
+
+module _
+    (w₀ w₁ w₂ w₃ w₄ w₅ : List Float) (l : ℕ) (corner f : Float) (given : Given w₀ l) (more : l ≢ 0)
+    (modified : DiagMod w₀ w₁ l (neg (at w₀ 512)) corner)
+    (first : Solved w₁ w₂ l 1792)
+    (right : UVec w₂ w₃ l (neg (at w₀ 512)) corner)
+    (second : Solved w₃ w₄ l 1024)
+    (f-is : f ≡ factor-of w₄ l (neg (at w₀ 512)) corner)
+    (subtracted : Subtracted w₄ w₅ (l + 1) f)
+  where
+  same-diag : (k : ℕ) → k ≤ l → row w₁ 512 k ≡ of-rows diag-mod w₀ corner l k
+  unfolding diag-mod
+  same-diag =
+      by-ends (row w₁ 512) _ _ _ l (modified .first) (modified .last)
+      (λ k a b. modified .kept (512 + k) (omega arith) (omega arith))
+
+  same-rhs : (k : ℕ) → k ≤ l → row w₃ 1024 k ≡ of-rows u-vec w₀ corner l k
+  unfolding u-vec
+  same-rhs = by-ends (row w₃ 1024) _ _ _ l (right .first) (right .last) (right .between)
+
+  before-right : (j : ℕ) → j < 1024 → at w₃ j ≡ at w₁ j
+  before-right j h = right .kept j (omega arith) ∙ first .kept j (omega arith) (omega arith)
+
+  y-is : (k : ℕ) → k ≤ l → row w₄ 1792 k ≡ of-rows y w₀ corner l k
+  unfolding y
+  y-is k h =
+      second .kept (1792 + k) (omega arith) (omega (arith, given))
+      ∙ right .kept (1792 + k) (omega (arith, given))
+      ∙ first .result k h
+      ∙ same-thomas _ _ _ _ _ _ _ _ l
+      (λ i a. modified .kept (256 + i) (omega (arith, given)) (omega (arith, given)))
+      same-diag
+      (λ i a. modified .kept (768 + i) (omega (arith, given)) (omega (arith, given)))
+      (λ i a. modified .kept (1024 + i) (omega (arith, given)) (omega (arith, given)))
+      k
+
+  z-is : (k : ℕ) → k ≤ l → row w₄ 1024 k ≡ of-rows z w₀ corner l k
+  unfolding z
+  z-is k h =
+      second .result k h
+      ∙ same-thomas _ _ _ _ _ _ _ _ l
+      (λ i a. before-right (256 + i) (omega (arith, given)) ∙ modified .kept (256 + i) (omega (arith, given)) (omega (arith, given)))
+      (λ i a. before-right (512 + i) (omega (arith, given)) ∙ same-diag i a)
+      (λ i a. before-right (768 + i) (omega (arith, given)) ∙ modified .kept (768 + i) (omega (arith, given)) (omega (arith, given)))
+      same-rhs
+      k
+
+  factor-is : f ≡ of-rows factor w₀ corner l
+  unfolding factor
+  factor-is = cc (f-is, y-is 0 (omega arith), y-is l (omega arith), z-is 0 (omega arith), z-is l (omega arith))
+
+  pub cyclic-solved : CyclicSolved w₀ w₅ l corner
+  cyclic-solved = record {
+    same-length =
+        subtracted .same-length ∙ second .same-length ∙ right .same-length ∙ first .same-length ∙ modified .same-length;
+    result = λ k h.
+        cc
+        (subtracted .result k (omega arith),
+        y-is k h,
+        z-is k h,
+        factor-is,
+        by-two-solves (row w₀ 256) (row w₀ 512) (row w₀ 768) (row w₀ 1024) corner l k more);
+    kept = λ j o p.
+        subtracted .kept j (λ k h. omega (arith, p (768 + k) (omega (arith, given))))
+        ∙ second .kept j (λ k h. omega (arith, p (256 + k) (omega arith))) (λ k h. p k (omega (arith, given)))
+        ∙ right .kept j (λ k h. p k (omega (arith, given)))
+        ∙ first .kept j (λ k h. omega (arith, p (256 + k) (omega arith))) (λ k h. omega (arith, p (768 + k) (omega (arith, given))))
+        ∙ modified .kept j (omega (arith, o 0 (omega arith))) (o l (omega (arith, given)));
+  }

@@ -1,0 +1,115 @@
+-- The turns of `eliminate`, on plain lists: they leave the two helper rows of the definition.
+use native.Mathlib.Omega.{arith}
+use mathlib.Core.Path.{_≡_, refl, _∙_}
+use mathlib.Core.Logic.{_≢_}
+use mathlib.Core.List.{List}
+use Prim.Native.Nat.{ℕ, suc, _+_, _<_, _≤_}
+use native.Mathlib.Numerals.{add-one}
+use lib.ListN.{length, set, length-set}
+use lib.Seq.{getD-set-same, getD-set-other}
+use lib.Ieee.{Float, nan}
+use borrow.Author.Count.{below-more}
+use Rattle.rules.specs.Numbers.{at, _⊖_, _⊗_, _⊘_}
+use Rattle.rules.specs.Solve as Solve
+use Rattle.rules.specs.Solve.{cp, dp}
+use Rattle.solve.specs.Rows.{row, of-rows, Outside, Given, Eliminated}
+
+-- the rows below k are done; row k's divisor and second number are known
+pub record Turn (w₀ w : List Float) (l : ℕ) (divisor d : Float) (k : ℕ) : Type 0 where
+  pub given : Given w₀ l
+  pub most : k ≤ l
+  pub same-length : length w ≡ length w₀
+  pub divisor-is : divisor ≡ of-rows Solve.w w₀ k
+  pub d-is : d ≡ of-rows dp w₀ k
+  pub first : (j : ℕ) → j < k → row w 1280 j ≡ of-rows cp w₀ j
+  pub second : (j : ℕ) → j < k → row w 1536 j ≡ of-rows dp w₀ j
+  pub kept : (j : ℕ) → Outside 1280 512 j → at w j ≡ at w₀ j
+
+pub turn-first : (w : List Float) (l : ℕ) → Given w l → Turn w w l (at w 512) (at w 1024 ⊘ at w 512) 0
+unfolding Solve.w dp
+turn-first w l g = record {
+  given = g;
+  most = omega arith;
+  same-length = refl;
+  divisor-is = refl;
+  d-is = refl;
+  first = λ j h. absurd (omega arith);
+  second = λ j h. absurd (omega arith);
+  kept = λ j h. refl;
+}
+
+module _ (w₀ w : List Float) (l : ℕ) (divisor d : Float) (k : ℕ) (t : Turn w₀ w l divisor d k) (lt : k < l) where
+  abbrev c : Float
+  c = at w (768 + k) ⊘ divisor
+
+  abbrev w₁ : List Float
+  w₁ = set w (1280 + k) c
+
+  abbrev w₂ : List Float
+  w₂ = set w₁ (1536 + k) d
+
+  other : (j : ℕ) → j ≢ 1280 + k → j ≢ 1536 + k → at w₂ j ≡ at w j
+  other j a b = getD-set-other w₁ (1536 + k) j d nan b ∙ getD-set-other w (1280 + k) j c nan a
+
+  outside : (j : ℕ) → Outside 1280 512 j → at w₂ j ≡ at w₀ j
+  outside j o =
+      other j (o k (omega (arith, t .given .fit))) (omega (arith, o (256 + k) (omega (arith, t .given .fit)))) ∙ t .kept j o
+
+  at-first : at w₂ (1280 + k) ≡ c
+  at-first =
+      getD-set-other w₁ (1536 + k) (1280 + k) d nan (omega arith) ∙ getD-set-same w (1280 + k) c nan (omega (arith, t .same-length))
+
+  at-second : at w₂ (1536 + k) ≡ d
+  at-second = getD-set-same w₁ (1536 + k) d nan (simp length-set (omega (arith, t .same-length)))
+
+  c-is : c ≡ of-rows cp w₀ k
+  unfolding cp
+  c-is = cc (t .kept (768 + k) (omega (arith, t .given .fit)), t .divisor-is)
+
+  abbrev next-divisor : Float
+  next-divisor = at w₂ (512 + (k + 1)) ⊖ at w (256 + k) ⊗ c
+
+  abbrev next-d : Float
+  next-d = (at w₂ (1024 + (k + 1)) ⊖ at w (256 + k) ⊗ d) ⊘ next-divisor
+
+  next-divisor-is : next-divisor ≡ of-rows Solve.w w₀ (k + 1)
+  unfolding Solve.w cp
+  next-divisor-is =
+      rw add-one
+      (cc (outside (512 + suc k) (omega (arith, t .given .fit)), t .kept (256 + k) (omega (arith, t .given .fit)), c-is))
+
+  next-d-is : next-d ≡ of-rows dp w₀ (k + 1)
+  unfolding dp
+  next-d-is =
+      rw add-one
+      (cc
+      (outside (1024 + suc k) (omega (arith, t .given .fit)),
+      t .kept (256 + k) (omega (arith, t .given .fit)),
+      t .d-is,
+      rw add-one at next-divisor-is))
+
+  pub turn-next : Turn w₀ w₂ l next-divisor next-d (k + 1)
+  turn-next = record {
+    given = t .given;
+    most = omega arith;
+    same-length = simp length-set (t .same-length);
+    divisor-is = next-divisor-is;
+    d-is = next-d-is;
+    first = below-more _ k (λ j h. other (1280 + j) (omega arith) (omega (arith, t .given .fit)) ∙ t .first j h) (at-first ∙ c-is);
+    second = below-more _ k (λ j h. other (1536 + j) (omega (arith, t .given .fit)) (omega arith) ∙ t .second j h) (at-second ∙ t .d-is);
+    kept = outside;
+  }
+
+-- after the loop: the second row's last number
+pub turn-last : (w₀ w : List Float) (l : ℕ) (divisor d : Float) (k : ℕ) → Turn w₀ w l divisor d k → l ≤ k → Eliminated w₀ (set w (1536 + l) d) l
+turn-last w₀ w l divisor d k t ge =
+    let e : k ≡ l = omega (arith, t .most) in
+    let other : (j : ℕ) → j ≢ 1536 + l → at (set w (1536 + l) d) j ≡ at w j = λ j n. getD-set-other w (1536 + l) j d nan n in
+    record {
+      same-length = simp length-set (t .same-length);
+      first = λ j h. other (1280 + j) (omega (arith, t .given .fit)) ∙ t .first j (omega arith);
+      second = λ j h. below-more (λ (i : ℕ). row (set w (1536 + l) d) 1536 i ≡ of-rows dp w₀ i) k
+          (λ i g. other (1536 + i) (omega arith) ∙ t .second i g)
+          (rw e (getD-set-same w (1536 + l) d nan (omega (arith, t .same-length, t .given)) ∙ rw e at (t .d-is))) j (omega arith);
+      kept = λ j o. other j (omega (arith, o (256 + l) (omega (arith, t .given .fit)))) ∙ t .kept j o;
+    }

@@ -1,0 +1,89 @@
+-- The turns of `substitute`, on plain lists: with x stored at row k, the rows from k on are done.
+use native.Mathlib.Omega.{arith}
+use mathlib.Core.Path.{_≡_, refl, sym, subst, _∙_}
+use mathlib.Core.Logic.{_≢_, ⊎-elim}
+use mathlib.Core.List.{List}
+use Prim.Native.Nat.{ℕ, suc, _+_, _-_, _<_, _≤_}
+use native.Mathlib.Nat.{eq-or-lt-of-le}
+use lib.ListN.{length, set, length-set}
+use lib.Seq.{getD-set-same, getD-set-other}
+use lib.Ieee.{Float, nan}
+use Rattle.rules.specs.Numbers.{at, _⊖_, _⊗_}
+use Rattle.solve.specs.Rows.{row, Outside, Given, Place, Substituted}
+
+pub record Turn (w₀ w : List Float) (l to : ℕ) (x : Float) (k : ℕ) : Type 0 where
+  pub given : Given w₀ l
+  pub place : Place l to
+  pub most : k ≤ l
+  pub same-length : length w ≡ length w₀
+  pub done : Substituted w₀ (set w (to + k) x) l to k
+
+pub turn-first : (w : List Float) (l to : ℕ) → Given w l → Place l to → Turn w w l to (at w (1536 + l)) l
+turn-first w l to g p = record {
+  given = g;
+  place = p;
+  most = omega arith;
+  same-length = refl;
+  done = record {
+    same-length = simp length-set;
+    last = getD-set-same w (to + l) _ nan (omega arith);
+    next = λ k a b. absurd (omega arith);
+    kept = λ j o. getD-set-other w (to + l) j _ nan (o l (omega arith));
+  };
+}
+
+module _ (w₀ w : List Float) (l to : ℕ) (x : Float) (k : ℕ) (t : Turn w₀ w l to x k) (lt : 0 < k) where
+  abbrev w₁ : List Float
+  w₁ = set w (to + k) x
+
+  abbrev next-x : Float
+  next-x = at w₁ (1536 + (k - 1)) ⊖ at w₁ (1280 + (k - 1)) ⊗ x
+
+  abbrev w₂ : List Float
+  w₂ = set w₁ (to + (k - 1)) next-x
+
+  at-x : at w₁ (to + k) ≡ x
+  at-x = getD-set-same w (to + k) x nan (omega (arith, t .given .room, t .place .inside, t .same-length, t .most))
+
+  at-next : at w₂ (to + (k - 1)) ≡ next-x
+  at-next =
+      getD-set-same w₁ (to + (k - 1)) next-x nan
+      (simp length-set (omega (arith, t .given .room, t .place .inside, t .same-length, t .most)))
+
+  other : (j : ℕ) → j ≢ to + (k - 1) → at w₂ j ≡ at w₁ j
+  other j n = getD-set-other w₁ (to + (k - 1)) j next-x nan n
+
+  -- a helper row's number is outside the result
+  helper : (h : ℕ) → h < 512 → at w₁ (1280 + h) ≡ at w₀ (1280 + h)
+  helper h b = t .done .kept (1280 + h) (λ i g e. t .place .apart i (omega arith) h b (sym e))
+
+  next-x-is : next-x ≡ row w₀ 1536 (k - 1) ⊖ row w₀ 1280 (k - 1) ⊗ at w₂ (to + k)
+  next-x-is =
+      let e : 1280 + (256 + (k - 1)) ≡ 1536 + (k - 1) = omega arith in
+      cc (helper (256 + (k - 1)) (omega (arith, t .given .fit, t .most)), helper (k - 1) (omega (arith, t .given .fit, t .most)), at-x, other (to + k) (omega arith))
+
+  next-here : row w₂ to (k - 1) ≡ row w₀ 1536 (k - 1) ⊖ row w₀ 1280 (k - 1) ⊗ row w₂ to (suc (k - 1))
+  next-here = let e : suc (k - 1) ≡ k = omega arith in rw e (at-next ∙ next-x-is)
+
+  pub turn-next : Turn w₀ w₁ l to next-x (k - 1)
+  turn-next = record {
+    given = t .given;
+    place = t .place;
+    most = omega (arith, t .most);
+    same-length = simp length-set (t .same-length);
+    done = record {
+      same-length = simp length-set (t .same-length);
+      last = other (to + l) (omega (arith, t .most)) ∙ t .done .last;
+      next = λ j a b. ⊎-elim
+          (λ e. subst (λ (i : ℕ). row w₂ to i ≡ row w₀ 1536 i ⊖ row w₀ 1280 i ⊗ row w₂ to (suc i)) e next-here)
+          (λ above. rw (other (to + j) (omega arith), other (to + suc j) (omega arith)) (t .done .next j (omega arith) b))
+          (eq-or-lt-of-le a);
+      kept = λ j o. other j (o (k - 1) (omega (arith, t .most))) ∙ t .done .kept j o;
+    };
+  }
+
+pub turn-last : (w₀ w : List Float) (l to : ℕ) (x : Float) (k : ℕ) → Turn w₀ w l to x k → k ≤ 0 → Substituted w₀ (set w to x) l to 0
+turn-last w₀ w l to x k t z =
+    let e : k ≡ 0 = omega arith in
+    let none : to + 0 ≡ to = omega arith in
+    rw (e, none) at (t .done)

@@ -1,0 +1,16 @@
+use borrow.Author.Needs.{needs}
+use Rattle.solve.proofs.thomas.Statement.{statement}
+use Rattle.solve.proofs.thomas.Tie as tie
+use Rattle.solve.proofs.thomas.Reads as reads
+use Rattle.solve.proofs.thomas.Lts as lts
+use Rattle.solve.proofs.eliminate.Reads as eliminate-reads
+use Rattle.solve.proofs.substitute.Reads as substitute-reads
+use Rattle.solve.proofs.Solution.{solved}
+
+returns : tie.Need-returns
+returns c =
+    let back = c .before .before in
+    solved _ _ _ _ _ (back .before .before .before .before .eliminate .ensures) (back .substitute .ensures)
+
+pub thomas-spec : {M : Type 1} → statement M
+thomas-spec = tie.close (tie.spec (λ c κs. search needs) (λ c κs. search needs) (λ c. search needs) returns)

@@ -1,0 +1,124 @@
+// The solves of the Rust, over rows of the scratch. The last row of a solve is row l; row k has sub (k - 1), diag k, sup k and rhs k.
+// None of these is public: each requires a scratch of at least 2,048 numbers and l < 256.
+ghost use mathlib.Core.Path.{_≡_};
+ghost use Prim.Native.Nat.{_+_, _<_};
+ghost use Rattle.solve.specs.Rows.{Given, Place, Eliminated, Substituted, Solved};
+ghost use Rattle.solve.specs.Cyclic.{DiagMod, UVec, factor-of, Subtracted, CyclicSolved};
+
+// Where each row begins.
+const SUB: usize = 256;
+const DIAG: usize = 512;
+const SUP: usize = 768;
+const RHS: usize = 1024;
+const CP: usize = 1280;
+const DP: usize = 1536;
+const RESULT: usize = 1792;
+
+// The two helper rows of `thomas`, from the first row on. The last cp is not read, and is left as it was.
+fn eliminate(w: &mut [f64], l: usize)
+    requires { ⌜ Given (now w) l ⌝ }
+    ensures { λ _. ⌜ Eliminated (now (w .entry)) (now (w .exit)) l ⌝ }
+{
+    let mut divisor = w[DIAG];
+    let mut d = w[RHS] / divisor;
+    let mut k = 0;
+    while k < l {
+        let s = w[SUB + k];
+        let c = w[SUP + k] / divisor;
+        w[CP + k] = c;
+        w[DP + k] = d;
+        k += 1;
+        divisor = w[DIAG + k] - s * c;
+        d = (w[RHS + k] - s * d) / divisor;
+    }
+    w[DP + l] = d;
+}
+
+// The result of `thomas` from the helper rows, the last row first.
+fn substitute(w: &mut [f64], l: usize, to: usize)
+    requires { ⌜ Given (now w) l × Place l to ⌝ }
+    ensures { λ _. ⌜ Substituted (now (w .entry)) (now (w .exit)) l to 0 ⌝ }
+{
+    let mut x = w[DP + l];
+    let mut k = l;
+    while 0 < k {
+        w[to + k] = x;
+        k -= 1;
+        x = w[DP + k] - w[CP + k] * x;
+    }
+    w[to] = x;
+}
+
+// The solve of a tridiagonal matrix. The result goes from `to` on, and may take the place of a row that the way back no longer reads.
+pub fn thomas(w: &mut [f64], l: usize, to: usize)
+    requires { ⌜ Given (now w) l × Place l to ⌝ }
+    ensures { λ _. ⌜ Solved (now (w .entry)) (now (w .exit)) l to ⌝ }
+{
+    eliminate(w, l);
+    substitute(w, l, to);
+}
+
+// The diagonal without the corners.
+fn diag_mod(w: &mut [f64], l: usize, gamma: f64, corner: f64)
+    requires { ⌜ Given (now w) l × (0 < l) ⌝ }
+    ensures { λ _. ⌜ DiagMod (now (w .entry)) (now (w .exit)) l gamma corner ⌝ }
+{
+    w[DIAG] = w[DIAG] - gamma;
+    w[DIAG + l] = w[DIAG + l] - corner * corner / gamma;
+}
+
+// The right side of the second solve: gamma, zeros, corner.
+fn u_vec(w: &mut [f64], l: usize, gamma: f64, corner: f64)
+    requires { ⌜ Given (now w) l × (0 < l) ⌝ }
+    ensures { λ _. ⌜ UVec (now (w .entry)) (now (w .exit)) l gamma corner ⌝ }
+{
+    let mut k = 1;
+    while k < l {
+        w[RHS + k] = 0.0;
+        k += 1;
+    }
+    w[RHS] = gamma;
+    w[RHS + l] = corner;
+}
+
+// How much of z is taken from y.
+fn factor(w: &[f64], l: usize, gamma: f64, corner: f64) -> f64
+    requires { ⌜ Given (now w) l ⌝ }
+    ensures { λ r. ⌜ r ≡ factor-of (now (w .entry)) l gamma corner ⌝ }
+{
+    let c_over_g = corner / gamma;
+    let vt_y = w[RESULT] + c_over_g * w[RESULT + l];
+    let vt_z = w[RHS] + c_over_g * w[RHS + l];
+    vt_y / (1.0 + vt_z)
+}
+
+// y less factor times z, in the place of y.
+fn subtract(w: &mut [f64], l: usize, factor: f64)
+    requires { ⌜ Given (now w) l ⌝ }
+    ensures { λ _. ⌜ Subtracted (now (w .entry)) (now (w .exit)) (l + 1) factor ⌝ }
+{
+    let mut k = 0;
+    while k <= l {
+        w[RESULT + k] = w[RESULT + k] - factor * w[RHS + k];
+        k += 1;
+    }
+}
+
+// The solve of a matrix with `corner` in the first row's last place and the last row's first, by two solves without it: y for the right
+// side, z for the corners. The result goes from RESULT on; diag and rhs are overwritten.
+pub fn cyclic_thomas(w: &mut [f64], l: usize, corner: f64)
+    requires { ⌜ Given (now w) l ⌝ }
+    ensures { λ _. ⌜ CyclicSolved (now (w .entry)) (now (w .exit)) l corner ⌝ }
+{
+    if l == 0 {
+        w[RESULT] = w[RHS] / (w[DIAG] + corner + corner);
+    } else {
+        let gamma = -w[DIAG];
+        diag_mod(w, l, gamma, corner);
+        thomas(w, l, RESULT);
+        u_vec(w, l, gamma, corner);
+        thomas(w, l, RHS);
+        let f = factor(w, l, gamma, corner);
+        subtract(w, l, f);
+    }
+}
