@@ -1,0 +1,4 @@
+pub mod Scan
+pub mod Front
+pub mod Tables
+pub mod Finite
