@@ -38,10 +38,11 @@ module _ (w₀ w : List Float) (l : ℕ) (factor : Float) (k : ℕ) (t : Turn w�
 
   here-is : row w₁ 1792 k ≡ row w₀ 1792 k ⊖ factor ⊗ row w₀ 1024 k
   here-is =
-      cc
-      (getD-set-same w (1792 + k) here nan (omega (arith, t .same-length, t .given)),
-      t .done .kept (1792 + k) (omega arith),
-      t .done .kept (1024 + k) (omega (arith, t .given)))
+      cc (
+        getD-set-same w (1792 + k) here nan (omega (arith, t .same-length, t .given)),
+        t .done .kept (1792 + k) (omega arith),
+        t .done .kept (1024 + k) (omega (arith, t .given)),
+      )
 
   pub turn-next : Turn w₀ w₁ l factor (k + 1)
   turn-next = record {

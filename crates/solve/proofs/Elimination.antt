@@ -82,11 +82,12 @@ module _ (w₀ w : List Float) (l : ℕ) (divisor d : Float) (k : ℕ) (t : Turn
   unfolding dp
   next-d-is =
       rw add-one
-      (cc
-      (outside (1024 + suc k) (omega (arith, t .given .fit)),
-      t .kept (256 + k) (omega (arith, t .given .fit)),
-      t .d-is,
-      rw add-one at next-divisor-is))
+      (cc (
+        outside (1024 + suc k) (omega (arith, t .given .fit)),
+        t .kept (256 + k) (omega (arith, t .given .fit)),
+        t .d-is,
+        rw add-one at next-divisor-is,
+      ))
 
   pub turn-next : Turn w₀ w₂ l next-divisor next-d (k + 1)
   turn-next = record {

@@ -16,11 +16,12 @@ module _ (w₀ w₁ w₂ : List Float) (l to : ℕ) (forth : Eliminated w₀ w�
       rw e (back .last ∙ forth .second l (omega arith))
   before (suc j) h =
       let e : suc (l - suc j) ≡ l - j = omega arith in
-      cc
-      (back .next (l - suc j) (omega arith) (omega arith),
-      forth .second (l - suc j) (omega arith),
-      forth .first (l - suc j) (omega arith),
-      before j (omega arith))
+      cc (
+        back .next (l - suc j) (omega arith) (omega arith),
+        forth .second (l - suc j) (omega arith),
+        forth .first (l - suc j) (omega arith),
+        before j (omega arith),
+      )
 
   pub solved : Solved w₀ w₂ l to
   unfolding thomas

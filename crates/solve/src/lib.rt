@@ -7,11 +7,17 @@ ghost use Rattle.solve.specs.Cyclic.{DiagMod, UVec, factor-of, Subtracte
 
 // Where each row begins.
 const SUB: usize = 256;
+
 const DIAG: usize = 512;
+
 const SUP: usize = 768;
+
 const RHS: usize = 1024;
+
 const CP: usize = 1280;
+
 const DP: usize = 1536;
+
 const RESULT: usize = 1792;
 
 // The two helper rows of `thomas`, from the first row on. The last cp is not read, and is left as it was.
