@@ -1,4 +1,4 @@
--- The turns of `subtract`, on plain lists.
+-- The turns of `subtract`, on plain lists: they leave y less factor times z.
 use native.Mathlib.Omega.{arith}
 use mathlib.Core.Path.{_≡_, refl, _∙_}
 use mathlib.Core.Logic.{_≢_}
@@ -12,6 +12,7 @@ use Rattle.rules.specs.Numbers.{at, _⊖_, _⊗_}
 use Rattle.solve.specs.Rows.{row, Given}
 use Rattle.solve.specs.Cyclic.{Subtracted}
 
+-- the numbers before number k are done
 pub record Turn (w₀ w : List Float) (l : ℕ) (factor : Float) (k : ℕ) : Type 0 where
   pub given : Given w₀ l
   pub most : k ≤ l + 1

@@ -52,8 +52,7 @@ module _ (w₀ w : List Float) (l : ℕ) (divisor d : Float) (k : ℕ) (t : Turn
   other j a b = getD-set-other w₁ (1536 + k) j d nan b ∙ getD-set-other w (1280 + k) j c nan a
 
   outside : (j : ℕ) → Outside 1280 512 j → at w₂ j ≡ at w₀ j
-  outside j o =
-      other j (o k (omega arith)) (omega (arith, o (256 + k) (omega arith))) ∙ t .kept j o
+  outside j o = other j (o k (omega arith)) (omega (arith, o (256 + k) (omega arith))) ∙ t .kept j o
 
   at-first : at w₂ (1280 + k) ≡ c
   at-first =
@@ -75,8 +74,7 @@ module _ (w₀ w : List Float) (l : ℕ) (divisor d : Float) (k : ℕ) (t : Turn
   next-divisor-is : next-divisor ≡ of-rows Solve.w w₀ (k + 1)
   unfolding Solve.w cp
   next-divisor-is =
-      rw add-one
-      (cc (outside (512 + suc k) (omega arith), t .kept (256 + k) (omega arith), c-is))
+      rw add-one (cc (outside (512 + suc k) (omega arith), t .kept (256 + k) (omega arith), c-is))
 
   next-d-is : next-d ≡ of-rows dp w₀ (k + 1)
   unfolding dp

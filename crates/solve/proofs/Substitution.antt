@@ -1,4 +1,4 @@
--- The turns of `substitute`, on plain lists: with x stored at row k, the rows from k on are done.
+-- The turns of `substitute`, on plain lists: each number of the result comes from the one after it.
 use native.Mathlib.Omega.{arith}
 use mathlib.Core.Path.{_≡_, refl, sym, subst, _∙_}
 use mathlib.Core.Logic.{_≢_, ⊎-elim}
@@ -11,6 +11,7 @@ use lib.Ieee.{Float, nan}
 use Rattle.rules.specs.Numbers.{at, _⊖_, _⊗_}
 use Rattle.solve.specs.Rows.{row, Given, Place, Substituted}
 
+-- once x is stored at row k, the rows from k on are done
 pub record Turn (w₀ w : List Float) (l to : ℕ) (x : Float) (k : ℕ) : Type 0 where
   pub given : Given w₀ l
   pub place : Place l to
@@ -46,9 +47,7 @@ module _ (w₀ w : List Float) (l to : ℕ) (x : Float) (k : ℕ) (t : Turn w₀
   at-x = getD-set-same w (to + k) x nan (omega arith)
 
   at-next : at w₂ (to + (k - 1)) ≡ next-x
-  at-next =
-      getD-set-same w₁ (to + (k - 1)) next-x nan
-      (simp length-set (omega arith))
+  at-next = getD-set-same w₁ (to + (k - 1)) next-x nan (simp length-set (omega arith))
 
   other : (j : ℕ) → j ≢ to + (k - 1) → at w₂ j ≡ at w₁ j
   other j n = getD-set-other w₁ (to + (k - 1)) j next-x nan n
