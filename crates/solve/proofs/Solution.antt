@@ -2,11 +2,11 @@
 use native.Mathlib.Omega.{arith}
 use mathlib.Core.Path.{_≡_, _∙_}
 use mathlib.Core.List.{List}
-use Prim.Native.Nat.{ℕ, zero, suc, _+_, _-_, _<_, _≤_}
+use Prim.Native.Nat.{ℕ, zero, suc, _-_, _≤_}
 use lib.Ieee.{Float}
-use Rattle.rules.specs.Numbers.{at, _⊖_, _⊗_}
-use Rattle.rules.specs.Solve.{cp, dp, before-last, thomas}
-use Rattle.solve.specs.Rows.{row, of-rows, Outside, Place, Eliminated, Substituted, Solved}
+use Rattle.rules.specs.Numbers.{at}
+use Rattle.rules.specs.Solve.{before-last, thomas}
+use Rattle.solve.specs.Rows.{row, of-rows, Eliminated, Substituted, Solved}
 
 module _ (w₀ w₁ w₂ : List Float) (l to : ℕ) (forth : Eliminated w₀ w₁ l) (back : Substituted w₁ w₂ l to 0) where
   before : (j : ℕ) → j ≤ l → row w₂ to (l - j) ≡ of-rows before-last w₀ l j
