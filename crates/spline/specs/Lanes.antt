@@ -5,13 +5,21 @@ use Prim.Native.Nat.{ℕ, _+_, _-_, _<_, _≤_}
 use lib.ListN.{length, take}
 use lib.Ieee.{Float}
 use Rattle.rules.specs.Numbers.{at, _⊕_, _⊗_, two}
-use Rattle.rules.specs.Ends.{dropped, fewest-points}
+use Rattle.rules.specs.Ends.{dropped}
 use Rattle.rules.specs.Steps.{h, u}
-use Rattle.rules.specs.Moments.{moment, inner}
+use Rattle.rules.specs.Moments.{lower-row, upper-row, moment}
 use Rattle.rules.specs.declared.End.{End}
 use Rattle.rules.specs.declared.Condition.{Condition}
 use Rattle.rules.specs.declared.Row.{Row}
+use Rattle.spline.specs.declared.EndRow.{EndRow}
 use Rattle.solve.specs.Rows.{row, Outside}
+
+-- an end's row, with how many unknowns its kind drops beside it
+abbrev pub lower-end-row : List Float → List Float → End → EndRow
+lower-end-row x y end = record { dropped = dropped end; row = lower-row x y (length x - 1) end }
+
+abbrev pub upper-end-row : List Float → List Float → End → EndRow
+upper-end-row x y end = record { dropped = dropped end; row = upper-row x y (length x - 1) end }
 
 -- the lane's samples, one for each knot
 abbrev pub samples-in : List Float → List Float → List Float
