@@ -6,7 +6,7 @@ mod strategy;
 pub use ndarray::{ArrayD, ArrayView1, ArrayViewD, IxDyn};
 pub use strategy::cubic::{CubicC2BoundaryConditions, CubicC2Endpoint};
 pub use strategy::grid::locate_lower_index;
-pub use strategy::{Broadcastable, ValidateError};
+pub use strategy::{Broadcastable, InterpolateError, StepDirection, ValidateError};
 
 use strategy::cubic;
 
