@@ -1,1 +1,21 @@
-//! Cases.
+//! Generated calls, and their comparison with the reading of document 01.
+
+mod case;
+mod comparison;
+mod faults;
+mod generator;
+mod grid;
+mod lent;
+mod numbers;
+mod random;
+mod reading_calls;
+mod report;
+mod sheet;
+
+pub use case::{Argument, Call, Calls, Case};
+pub use comparison::{compare_all, compare_kind, Plan};
+pub use generator::{Kind, KINDS};
+pub use lent::{Lent, Word};
+pub use random::Random;
+pub use reading_calls::Reading;
+pub use report::{Counts, Report};

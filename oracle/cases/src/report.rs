@@ -1,0 +1,170 @@
+//! What a run has seen, and how a difference is printed.
+
+use crate::case::{Argument, Case};
+use crate::generator::{Kind, KINDS};
+use crate::lent::{Lent, Word};
+use std::fmt::{self, Write};
+
+/// How many differing cases are kept to be printed in full.
+const PRINTED: usize = 3;
+
+/// What was seen of one kind of case.
+#[derive(Debug, Clone, Default)]
+pub struct Counts {
+    /// Calls made to the reading.
+    pub calls: u64,
+    /// Calls whose answer was compared.
+    pub compared: u64,
+    /// How often each refusal was given; number 0 is acceptance.
+    pub refusals: [u64; 15],
+    /// Compared calls that were not the same.
+    pub differences: u64,
+}
+
+/// What was seen of every kind, and the first differing cases.
+#[derive(Debug, Default)]
+pub struct Report {
+    counts: [Counts; KINDS.len()],
+    differing: Vec<String>,
+}
+
+impl Report {
+    /// What was seen of one kind.
+    pub fn of(&self, kind: Kind) -> &Counts {
+        &self.counts[kind as usize]
+    }
+
+    pub(crate) fn of_mut(&mut self, kind: Kind) -> &mut Counts {
+        &mut self.counts[kind as usize]
+    }
+
+    /// What was seen of all kinds together.
+    pub fn total(&self) -> Counts {
+        let mut total = Counts::default();
+        for counts in &self.counts {
+            total.calls += counts.calls;
+            total.compared += counts.compared;
+            total.differences += counts.differences;
+            for (sum, seen) in total.refusals.iter_mut().zip(counts.refusals) {
+                *sum += seen;
+            }
+        }
+        total
+    }
+
+    pub(crate) fn difference(&mut self, kind: Kind, text: impl FnOnce() -> String) {
+        self.of_mut(kind).differences += 1;
+        if self.differing.len() < PRINTED {
+            self.differing.push(text());
+        }
+    }
+}
+
+impl fmt::Display for Report {
+    fn fmt(&self, formatter: &mut fmt::Formatter<'_>) -> fmt::Result {
+        for text in &self.differing {
+            writeln!(formatter, "{text}")?;
+        }
+        for kind in KINDS {
+            write_counts(formatter, kind.name(), self.of(kind))?;
+        }
+        write_counts(formatter, "all", &self.total())
+    }
+}
+
+fn write_counts(formatter: &mut fmt::Formatter<'_>, name: &str, counts: &Counts) -> fmt::Result {
+    let accepted = counts.refusals[0];
+    let share = 100 * accepted / counts.calls.max(1);
+    write!(
+        formatter,
+        "{name}: {} calls, {accepted} accepted ({share} in 100), refused",
+        counts.calls
+    )?;
+    for (number, seen) in counts.refusals.iter().enumerate().skip(1) {
+        if *seen > 0 {
+            write!(formatter, " {number}:{seen}")?;
+        }
+    }
+    writeln!(
+        formatter,
+        "; {} compared, {} differences",
+        counts.compared, counts.differences
+    )
+}
+
+/// A case in full: what went in, and where the two outcomes part.
+pub(crate) fn describe(
+    title: &str,
+    given: &Case,
+    expected: (usize, &Case),
+    found: (usize, &Case),
+) -> String {
+    let mut text = format!("DIFFERENCE in {title}: {:?}\n", given.call);
+    let _ = writeln!(
+        text,
+        "  refusal: expected {}, found {}",
+        expected.0, found.0
+    );
+    for (place, name) in given.call.arguments().iter().enumerate() {
+        let input = words(&given.arguments[place]);
+        let _ = writeln!(text, "  {name} given: {}", abbreviated(&input));
+        let expected = words(&expected.1.arguments[place]);
+        let found = words(&found.1.arguments[place]);
+        let mut parted = (0..expected.len()).filter(|at| expected[*at] != found[*at]);
+        if let Some(first) = parted.next() {
+            let _ = writeln!(
+                text,
+                "  {name} parts first at {first} of {} (guards counted), in {} places: \
+                 expected {:016x}, found {:016x}",
+                expected.len(),
+                1 + parted.count(),
+                expected[first],
+                found[first]
+            );
+        }
+    }
+    text
+}
+
+/// Hexadecimal patterns; a run of equal or counted-up ones is written once.
+fn abbreviated(words: &[u64]) -> String {
+    let mut text = String::new();
+    let mut at = 0;
+    while at < words.len() {
+        let run = run_length(&words[at..]);
+        let _ = write!(text, "{:x}", words[at]);
+        if run > 3 {
+            let _ = write!(text, "..{:x} ({run} of them)", words[at + run - 1]);
+            at += run;
+        } else {
+            at += 1;
+        }
+        text.push(' ');
+    }
+    text
+}
+
+/// How many words from the front are equal, or each one more than the last.
+fn run_length(words: &[u64]) -> usize {
+    let steps = |step: u64| {
+        let pairs = words.windows(2);
+        1 + pairs
+            .take_while(|pair| pair[0].wrapping_add(step) == pair[1])
+            .count()
+    };
+    steps(0).max(steps(1))
+}
+
+/// The words of an argument, with the guards of a slice.
+pub(crate) fn words(argument: &Argument) -> Vec<u64> {
+    fn all<T: Word>(lent: &Lent<T>) -> Vec<u64> {
+        lent.whole().iter().map(|item| item.word()).collect()
+    }
+    match argument {
+        Argument::Number(number) => vec![number.word()],
+        Argument::Float(float) => vec![float.word()],
+        Argument::Numbers(lent) => all(lent),
+        Argument::Floats(lent) => all(lent),
+        Argument::Bytes(lent) => all(lent),
+    }
+}
