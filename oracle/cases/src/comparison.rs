@@ -17,6 +17,27 @@ pub struct Plan {
     pub cases: [u64; KINDS.len()],
 }
 
+/// A list of changes is some 25 calls, so there are fewer lists.
+const CHANGES_IN_A_LIST: u64 = 25;
+
+impl Plan {
+    /// About so many calls of each kind.
+    pub fn of_each_kind(seed: u64, calls: u64) -> Self {
+        let cases = KINDS.map(|kind| match kind {
+            Kind::ChangeList => calls.div_ceil(CHANGES_IN_A_LIST),
+            _ => calls,
+        });
+        Self { seed, cases }
+    }
+
+    /// Cases of one kind only.
+    pub fn of_kind(seed: u64, kind: Kind, number: u64) -> Self {
+        let mut plan = Self::of_each_kind(seed, 0);
+        plan.cases[kind as usize] = number;
+        plan
+    }
+}
+
 /// Compares every kind of the plan.
 pub fn compare_all(subject: &dyn Calls, plan: &Plan) -> Report {
     let mut report = Report::default();
@@ -88,7 +109,7 @@ impl Run<'_> {
         }
         for _ in 0..random.between(10, 40) {
             let mut given = change_of(random, &grid, &tensor);
-            if random.percent(30) {
+            if random.percent(38) {
                 spoil(random, &mut given);
                 self.compare(&given);
                 continue;

@@ -1,6 +1,6 @@
 //! Axes that no call refuses: points, ends and knots.
 
-use crate::numbers::{not_finite, ordinary};
+use crate::numbers::{edge, not_finite, ordinary};
 use crate::random::Random;
 
 /// Shapes whose tensor has 4,096 numbers or an axis of 256 points.
@@ -137,6 +137,7 @@ fn coordinate(random: &mut Random, knots: &[f64]) -> f64 {
         0..=2 => random.pick(knots),
         3 => knots[0] - step * random.between(1, 3) as f64,
         4 => knots[knots.len() - 1] + step * random.between(1, 3) as f64,
+        5 if random.percent(20) => edge(random),
         5 => ordinary(random),
         _ => knots[lower] + step * (random.between(1, 15) as f64 / 16.0),
     }

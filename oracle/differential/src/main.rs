@@ -3,23 +3,20 @@
 mod archive;
 
 use archive::Archive;
-use cases::{compare_all, Plan, KINDS};
+use cases::{compare_all, Kind, Plan, KINDS};
 use std::env;
 use std::process::ExitCode;
 
 /// The seed where none is given.
 const SEED: u64 = 20_240_917;
 
-/// How many cases of each kind where no number is given.
+/// How many calls of each kind where no number is given.
 const CASES: u64 = 10_000;
-
-/// A list of changes is some 25 calls, so there are fewer lists.
-const CHANGES_IN_A_LIST: u64 = 25;
 
 const USAGE: &str = "differential [--seed N] [--cases N] [--KIND N]...
   --seed N   the seed of the generated cases
-  --cases N  how many cases of each kind
-  --KIND N   how many of one kind: moments, curve, slopes, build, change,
+  --cases N  about how many calls of each kind
+  --KIND N   how many cases of one kind: moments, curve, slopes, build, change,
              change_list, query, read, sheet_tensor";
 
 fn main() -> ExitCode {
@@ -42,10 +39,7 @@ fn main() -> ExitCode {
 
 /// The seed and the counts from the arguments; later ones count.
 fn plan(mut arguments: impl Iterator<Item = String>) -> Result<Plan, String> {
-    let mut plan = Plan {
-        seed: SEED,
-        cases: cases_of_each_kind(CASES),
-    };
+    let mut plan = Plan::of_each_kind(SEED, CASES);
     while let Some(name) = arguments.next() {
         let number = arguments.next().ok_or(format!("{name} wants a number"))?;
         let number: u64 = number
@@ -53,22 +47,15 @@ fn plan(mut arguments: impl Iterator<Item = String>) -> Result<Plan, String> {
             .map_err(|_| format!("{number} is no number"))?;
         match name.as_str() {
             "--seed" => plan.seed = number,
-            "--cases" => plan.cases = cases_of_each_kind(number),
+            "--cases" => plan = Plan::of_each_kind(plan.seed, number),
             _ => plan.cases[kind_position(&name)?] = number,
         }
     }
     Ok(plan)
 }
 
-fn cases_of_each_kind(number: u64) -> [u64; KINDS.len()] {
-    KINDS.map(|kind| match kind {
-        cases::Kind::ChangeList => number.div_ceil(CHANGES_IN_A_LIST),
-        _ => number,
-    })
-}
-
 fn kind_position(argument: &str) -> Result<usize, String> {
-    let named = |kind: &cases::Kind| argument.strip_prefix("--") == Some(kind.name());
+    let named = |kind: &Kind| argument.strip_prefix("--") == Some(kind.name());
     let position = KINDS.iter().position(named);
     position.ok_or(format!("{argument} is not known"))
 }

@@ -14,9 +14,9 @@ mod sheet;
 mod tensor;
 
 pub use curve::{curve, moments, slopes};
-pub use ends::Condition;
+pub use ends::{conditions, Condition};
 pub use query::query;
 pub use refusals::CURVE_SCRATCH;
 pub use shape::Shape;
 pub use sheet::{read, sheet_tensor, BUFFER, LONGEST_TENSOR};
-pub use tensor::{build, change, lanes_of_change, solve_lanes, tensor_of, Lane};
+pub use tensor::{build, change, lanes_of_build, lanes_of_change, solve_lane, solve_lanes, Lane};

@@ -131,12 +131,7 @@ fn on_the_grid(shape: &Shape, place: &[usize]) -> bool {
 }
 
 /// The tensor as ninterp builds it, finite or not.
-pub fn tensor_of(
-    shape: &Shape,
-    conditions: &[Condition],
-    knots: &[f64],
-    samples: &[f64],
-) -> Vec<f64> {
+fn tensor_of(shape: &Shape, conditions: &[Condition], knots: &[f64], samples: &[f64]) -> Vec<f64> {
     let grid = ArrayD::from_shape_vec(IxDyn(shape.points()), samples.to_vec())
         .expect("there is a sample for every place");
     let knots = views(&shape.knots_by_axis(knots));
@@ -156,28 +151,35 @@ pub struct Lane {
     pub start: Vec<usize>,
 }
 
-/// The lanes that a change at a place solves again, in the order of the build.
-pub fn lanes_of_change(shape: &Shape, place: &[usize]) -> Vec<Lane> {
+/// Every lane of the build, in its order.
+pub fn lanes_of_build(shape: &Shape) -> Vec<Lane> {
     let mut lanes = Vec::new();
     for axis in 0..shape.axes() {
         for mask in 0..1 << axis {
-            let starts = (0..shape.samples_length()).map(|number| shape.place(number));
-            let met = starts.filter(|start| meets(start, place, axis, mask));
-            lanes.extend(met.map(|start| Lane { axis, mask, start }));
+            let places = (0..shape.samples_length()).map(|number| shape.place(number));
+            let starts = places.filter(|place| place[axis] == 0);
+            lanes.extend(starts.map(|start| Lane { axis, mask, start }));
         }
     }
     lanes
 }
 
-/// Whether the lane from a start has the place's index on every axis outside the mask.
-fn meets(start: &[usize], place: &[usize], axis: usize, mask: usize) -> bool {
-    let outside = |other: usize| mask & (1 << other) == 0;
-    let matches = |other: usize| !outside(other) || start[other] == place[other];
-    let others = (0..start.len()).filter(|other| *other != axis);
-    start[axis] == 0 && others.into_iter().all(matches)
+/// The lanes that a change at a place solves again, in the order of the build.
+pub fn lanes_of_change(shape: &Shape, place: &[usize]) -> Vec<Lane> {
+    let mut lanes = lanes_of_build(shape);
+    lanes.retain(|lane| meets(lane, place));
+    lanes
+}
+
+/// Whether a lane has the place's index on every fixed axis outside its mask.
+fn meets(lane: &Lane, place: &[usize]) -> bool {
+    let fixed = (0..place.len()).filter(|axis| *axis != lane.axis);
+    let mut outside = fixed.filter(|axis| lane.mask & (1 << axis) == 0);
+    outside.all(|axis| lane.start[axis] == place[axis])
 }
 
 /// Solves lanes one after the other from the tensor's numbers as they then stand.
+/// Mask 0 has the axis's own ends, any other mask the same kinds with value zero.
 pub fn solve_lanes(
     shape: &Shape,
     conditions: &[Condition],
@@ -185,23 +187,32 @@ pub fn solve_lanes(
     tensor: &mut [f64],
     lanes: &[Lane],
 ) {
-    let knots = shape.knots_by_axis(knots);
     for lane in lanes {
         let own = &conditions[lane.axis];
-        let condition = if lane.mask == 0 {
-            own.clone()
+        if lane.mask == 0 {
+            solve_lane(shape, own, knots, tensor, lane);
         } else {
-            homogeneous(own)
-        };
-        let places = places_of_lane(shape, lane);
-        let position = |place: &Vec<usize>| shape.position(place, lane.mask);
-        let samples: Vec<f64> = places.iter().map(|place| tensor[position(place)]).collect();
-        let knots = knots[lane.axis];
-        let moments = compute_m(knots, &samples, &condition);
-        let slopes = knot_derivatives_from_m(knots, &samples, &moments);
-        for (place, slope) in places.iter().zip(slopes) {
-            tensor[shape.position(place, lane.mask | 1 << lane.axis)] = slope;
+            solve_lane(shape, &homogeneous(own), knots, tensor, lane);
         }
+    }
+}
+
+/// Stores the knot slopes of one lane at its mask plus its axis.
+pub fn solve_lane(
+    shape: &Shape,
+    condition: &Condition,
+    knots: &[f64],
+    tensor: &mut [f64],
+    lane: &Lane,
+) {
+    let knots = shape.knots_by_axis(knots)[lane.axis];
+    let places = places_of_lane(shape, lane);
+    let sample = |place: &Vec<usize>| tensor[shape.position(place, lane.mask)];
+    let samples: Vec<f64> = places.iter().map(sample).collect();
+    let moments = compute_m(knots, &samples, condition);
+    let slopes = knot_derivatives_from_m(knots, &samples, &moments);
+    for (place, slope) in places.iter().zip(slopes) {
+        tensor[shape.position(place, lane.mask | 1 << lane.axis)] = slope;
     }
 }
 

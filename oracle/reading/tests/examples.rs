@@ -157,8 +157,7 @@ fn a_change_on_two_axes_solves_four_lanes() {
 #[test]
 fn a_build_on_two_axes_has_six_lanes() {
     let shape = Shape::checked(2, &SQUARE).unwrap_or_else(|refusal| panic!("{refusal}"));
-    let lanes = |axis| (1usize << axis) * shape.samples_length() / shape.points()[axis];
-    assert_eq!((0..2).map(lanes).sum::<usize>(), 6);
+    assert_eq!(lanes_of_build(&shape).len(), 6);
     assert_eq!(lanes_of_change(&shape, &[0, 1]).len(), 4);
 }
 
