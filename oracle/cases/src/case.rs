@@ -1,6 +1,6 @@
 //! A call with everything that it is given and lent.
 
-use crate::lent::Lent;
+use crate::lent::{Lent, Word};
 
 /// The calls of the archive.
 #[derive(Debug, Clone, Copy, PartialEq, Eq)]
@@ -44,6 +44,20 @@ impl Call {
                 "bytes", "knots", "samples", "axes", "points", "kinds", "values",
             ],
             Call::SheetTensor => &["bytes", "knots", "samples", "tensor", "scratch", "length"],
+        }
+    }
+
+    /// The names of the slices that the call may write.
+    pub fn written(self) -> &'static [&'static str] {
+        match self {
+            Call::Moments => &["moments", "scratch"],
+            Call::Curve => &["value"],
+            Call::Slopes => &["slopes"],
+            Call::Build => &["tensor", "scratch"],
+            Call::Change => &["tensor", "scratch", "lanes"],
+            Call::Query => &["value", "labels"],
+            Call::Read => &["knots", "samples", "axes", "points", "kinds", "values"],
+            Call::SheetTensor => &["knots", "samples", "tensor", "scratch", "length"],
         }
     }
 
@@ -152,6 +166,34 @@ impl Argument {
             Argument::Floats(lent) => lent.resize(length),
             Argument::Bytes(lent) => lent.resize(length),
             other => panic!("a slice is meant, not {other:?}"),
+        }
+    }
+}
+
+/// The 64 bits of each item.
+fn words_of<T: Word>(items: &[T]) -> Vec<u64> {
+    items.iter().map(|item| item.word()).collect()
+}
+
+impl Argument {
+    /// The words of an argument, of a slice without its guards.
+    pub fn words(&self) -> Vec<u64> {
+        match self {
+            Argument::Number(number) => words_of(&[*number]),
+            Argument::Float(float) => words_of(&[*float]),
+            Argument::Numbers(lent) => words_of(lent.slice()),
+            Argument::Floats(lent) => words_of(lent.slice()),
+            Argument::Bytes(lent) => words_of(lent.slice()),
+        }
+    }
+
+    /// The words of an argument, of a slice with its guards.
+    pub fn words_with_guards(&self) -> Vec<u64> {
+        match self {
+            Argument::Numbers(lent) => words_of(lent.whole()),
+            Argument::Floats(lent) => words_of(lent.whole()),
+            Argument::Bytes(lent) => words_of(lent.whole()),
+            _ => self.words(),
         }
     }
 }

@@ -30,7 +30,7 @@ impl Word for u8 {
 }
 
 /// How many guards stand on each side.
-const GUARDS: usize = 4;
+pub const GUARDS: usize = 4;
 
 /// A slice with guards on both sides.
 #[derive(Debug, Clone)]

@@ -1,12 +1,12 @@
 //! What a run has seen, and how a difference is printed.
 
-use crate::case::{Argument, Case};
+use crate::case::Case;
 use crate::generator::{Kind, KINDS};
-use crate::lent::{Lent, Word};
+use crate::lent::GUARDS;
 use std::fmt::{self, Write};
 
-/// How many differing cases are kept to be printed in full.
-const PRINTED: usize = 3;
+/// How many differing cases of a kind are printed in full.
+const PRINTED: u64 = 2;
 
 /// What was seen of one kind of case.
 #[derive(Debug, Clone, Default)]
@@ -54,7 +54,7 @@ impl Report {
 
     pub(crate) fn difference(&mut self, kind: Kind, text: impl FnOnce() -> String) {
         self.of_mut(kind).differences += 1;
-        if self.differing.len() < PRINTED {
+        if self.of(kind).differences <= PRINTED {
             self.differing.push(text());
         }
     }
@@ -99,31 +99,33 @@ pub(crate) fn describe(
     expected: (usize, &Case),
     found: (usize, &Case),
 ) -> String {
-    let mut text = format!("DIFFERENCE in {title}: {:?}\n", given.call);
-    let _ = writeln!(
-        text,
-        "  refusal: expected {}, found {}",
-        expected.0, found.0
+    let mut text = format!(
+        "DIFFERENCE in {title}: {:?}\n  refusal: expected {}, found {}\n",
+        given.call, expected.0, found.0
     );
-    for (place, name) in given.call.arguments().iter().enumerate() {
-        let input = words(&given.arguments[place]);
-        let _ = writeln!(text, "  {name} given: {}", abbreviated(&input));
-        let expected = words(&expected.1.arguments[place]);
-        let found = words(&found.1.arguments[place]);
-        let mut parted = (0..expected.len()).filter(|at| expected[*at] != found[*at]);
-        if let Some(first) = parted.next() {
-            let _ = writeln!(
-                text,
-                "  {name} parts first at {first} of {} (guards counted), in {} places: \
-                 expected {:016x}, found {:016x}",
-                expected.len(),
-                1 + parted.count(),
-                expected[first],
-                found[first]
-            );
-        }
+    for (position, name) in given.call.arguments().iter().enumerate() {
+        let patterns = abbreviated(&given.arguments[position].words());
+        text += &format!("  {name}: {patterns}\n");
+        let expected = expected.1.arguments[position].words_with_guards();
+        let found = found.1.arguments[position].words_with_guards();
+        text += &parting(&expected, &found);
     }
     text
+}
+
+/// Where two outcomes of a slice part first; a place below 0 is a guard.
+fn parting(expected: &[u64], found: &[u64]) -> String {
+    let mut parted = (0..expected.len()).filter(|at| expected[*at] != found[*at]);
+    let Some(first) = parted.next() else {
+        return String::new();
+    };
+    format!(
+        "    parts in {} places, first at {}: expected {:016x}, found {:016x}\n",
+        1 + parted.count(),
+        first as isize - GUARDS as isize,
+        expected[first],
+        found[first]
+    )
 }
 
 /// Hexadecimal patterns; a run of equal or counted-up ones is written once.
@@ -153,18 +155,4 @@ fn run_length(words: &[u64]) -> usize {
             .count()
     };
     steps(0).max(steps(1))
-}
-
-/// The words of an argument, with the guards of a slice.
-pub(crate) fn words(argument: &Argument) -> Vec<u64> {
-    fn all<T: Word>(lent: &Lent<T>) -> Vec<u64> {
-        lent.whole().iter().map(|item| item.word()).collect()
-    }
-    match argument {
-        Argument::Number(number) => vec![number.word()],
-        Argument::Float(float) => vec![float.word()],
-        Argument::Numbers(lent) => all(lent),
-        Argument::Floats(lent) => all(lent),
-        Argument::Bytes(lent) => all(lent),
-    }
 }
