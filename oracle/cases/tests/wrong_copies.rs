@@ -1,8 +1,10 @@
-//! Copies of the reading with one deliberate error each: the cases find them.
+//! Copies of the reading with one deliberate error each, and programs that do
+//! next to nothing: the cases find them.
 
 use cases::{compare_all, Argument, Call, Calls, Case, Kind, Plan, Reading, KINDS};
-use ninterp_unchanged::thomas;
+use ninterp_unchanged::{evaluate_spline_from_m, locate_lower_index, thomas};
 use reading::{lanes_of_build, lanes_of_change, solve_lane, solve_lanes, Condition, Lane, Shape};
+use std::cell::Cell;
 
 /// How many of the generated cases of a kind find a subject different.
 fn differences(subject: &dyn Calls, kind: Kind) -> u64 {
@@ -98,8 +100,8 @@ fn a_dropped_corner_is_found() {
     assert!(differences(&wrong, Kind::Moments) > 0);
 }
 
-/// Knot slopes with a product by the reciprocal where the Rust divides by six.
-fn multiply_by_reciprocal_of_six(given: &Case, answered: &mut Case) {
+/// Knot slopes with the division by six left open.
+fn slopes_with(sixth: fn(f64) -> f64, given: &Case, answered: &mut Case) {
     let (x, y) = (
         given.argument("knots").floats(),
         given.argument("samples").floats(),
@@ -108,40 +110,57 @@ fn multiply_by_reciprocal_of_six(given: &Case, answered: &mut Case) {
     let slopes = answered.argument_mut("slopes").floats_mut();
     for i in 0..x.len() - 1 {
         let h = x[i + 1] - x[i];
-        slopes[i] = (y[i + 1] - y[i]) / h - h * (2.0 * m[i] + m[i + 1]) * (1.0 / 6.0);
+        slopes[i] = (y[i + 1] - y[i]) / h - sixth(h * (2.0 * m[i] + m[i + 1]));
     }
 }
 
 #[test]
 fn a_reciprocal_of_six_is_found() {
+    let right = Wrong {
+        call: Call::Slopes,
+        spoil: |given, answered| slopes_with(|number| number / 6.0, given, answered),
+    };
+    assert_eq!(differences(&right, Kind::Slopes), 0);
     let wrong = Wrong {
         call: Call::Slopes,
-        spoil: multiply_by_reciprocal_of_six,
+        spoil: |given, answered| slopes_with(|number| number * (1.0 / 6.0), given, answered),
     };
     assert!(differences(&wrong, Kind::Slopes) > 0);
 }
 
-/// Knot slopes with the product and the sum rounded once together.
-fn fuse_product_and_sum(given: &Case, answered: &mut Case) {
+/// The curve with its differences of a number and a product left open.
+fn curve_with(less_product: fn(f64, f64, f64) -> f64, given: &Case, answered: &mut Case) {
     let (x, y) = (
         given.argument("knots").floats(),
         given.argument("samples").floats(),
     );
-    let m = given.argument("moments").floats();
-    let slopes = answered.argument_mut("slopes").floats_mut();
-    for i in 0..x.len() - 1 {
-        let h = x[i + 1] - x[i];
-        slopes[i] = (-h).mul_add((2.0 * m[i] + m[i + 1]) / 6.0, (y[i + 1] - y[i]) / h);
-    }
+    let (m, point) = (
+        given.argument("moments").floats(),
+        given.argument("point").float(),
+    );
+    let i = locate_lower_index(x.into(), &point);
+    let h = x[i + 1] - x[i];
+    let (above, below) = (point - x[i], h - (point - x[i]));
+    let cubes =
+        m[i] * below * below * below / (6.0 * h) + m[i + 1] * above * above * above / (6.0 * h);
+    let lower = less_product(y[i], m[i], h * h / 6.0);
+    let upper = less_product(y[i + 1], m[i + 1], h * h / 6.0);
+    let value = cubes + lower * below / h + upper * above / h;
+    answered.argument_mut("value").floats_mut()[0] = value;
 }
 
 #[test]
 fn a_fused_product_is_found() {
-    let wrong = Wrong {
-        call: Call::Slopes,
-        spoil: fuse_product_and_sum,
+    let right = Wrong {
+        call: Call::Curve,
+        spoil: |given, answered| curve_with(|y, m, h| y - m * h, given, answered),
     };
-    assert!(differences(&wrong, Kind::Slopes) > 0);
+    assert_eq!(differences(&right, Kind::Curve), 0);
+    let wrong = Wrong {
+        call: Call::Curve,
+        spoil: |given, answered| curve_with(|y, m, h| (-m).mul_add(h, y), given, answered),
+    };
+    assert!(differences(&wrong, Kind::Curve) > 0);
 }
 
 /// Puts the tensor back as it was, with only the sample changed.
@@ -206,7 +225,7 @@ fn a_label_that_is_the_cell_is_found() {
         spoil: |given, answered| {
             let knots = &given.argument("knots").floats()[..given.argument("points").numbers()[0]];
             let point = given.argument("coordinates").floats()[0];
-            let cell = ninterp_unchanged::locate_lower_index(knots.into(), &point);
+            let cell = locate_lower_index(knots.into(), &point);
             answered.argument_mut("labels").numbers_mut()[0] = cell;
         },
     };
@@ -274,4 +293,109 @@ fn a_refusal_that_touches_what_it_was_lent_is_found() {
     for name in ["tensor", "scratch", "samples"] {
         assert!(differences(&Touching { name }, Kind::Build) > 0, "{name}");
     }
+}
+
+/// The curve as it is in the cell after an interior knot.
+fn take_the_cell_after_a_knot(given: &Case, answered: &mut Case) {
+    let knots = given.argument("knots").floats();
+    let point = given.argument("point").float();
+    let interior = 1..knots.len() - 1;
+    if let Some(knot) = interior.into_iter().find(|knot| knots[*knot] == point) {
+        let samples = &given.argument("samples").floats()[knot..];
+        let moments = &given.argument("moments").floats()[knot..];
+        let value = evaluate_spline_from_m(&knots[knot..], samples, moments, point);
+        answered.argument_mut("value").floats_mut()[0] = value;
+    }
+}
+
+#[test]
+fn a_cell_after_the_knot_is_found() {
+    let wrong = Wrong {
+        call: Call::Curve,
+        spoil: take_the_cell_after_a_knot,
+    };
+    assert!(differences(&wrong, Kind::Curve) > 0);
+}
+
+/// The curve with each sample given back at its knot.
+fn give_samples_back(given: &Case, answered: &mut Case) {
+    let point = given.argument("point").float();
+    let knots = given.argument("knots").floats();
+    if let Some(knot) = knots.iter().position(|knot| *knot == point) {
+        let sample = given.argument("samples").floats()[knot];
+        answered.argument_mut("value").floats_mut()[0] = sample;
+    }
+}
+
+#[test]
+fn a_curve_that_gives_its_samples_back_is_found() {
+    let wrong = Wrong {
+        call: Call::Curve,
+        spoil: give_samples_back,
+    };
+    assert!(differences(&wrong, Kind::Curve) > 0);
+}
+
+/// Refuses everything by one number.
+struct RefusesAll;
+
+impl Calls for RefusesAll {
+    fn run(&self, _: &mut Case) -> Option<usize> {
+        Some(4)
+    }
+}
+
+#[test]
+fn a_program_that_refuses_all_is_found() {
+    for kind in KINDS {
+        assert!(differences(&RefusesAll, kind) > 0, "{}", kind.name());
+    }
+}
+
+#[test]
+fn a_constant_answer_is_found() {
+    let wrong = Wrong {
+        call: Call::Query,
+        spoil: |_, answered| answered.argument_mut("value").floats_mut()[0] = 0.0,
+    };
+    assert!(differences(&wrong, Kind::Query) > 0);
+}
+
+#[test]
+fn a_change_that_stores_nothing_is_found() {
+    let wrong = Wrong {
+        call: Call::Change,
+        spoil: |given, answered| {
+            let tensor = answered.argument_mut("tensor").floats_mut();
+            tensor.copy_from_slice(given.argument("tensor").floats());
+        },
+    };
+    assert!(differences(&wrong, Kind::Change) > 0);
+}
+
+/// Solves lanes at every hundredth change; at the others it stores the sample.
+struct RefreshesAtFirst {
+    changes: Cell<usize>,
+}
+
+impl Calls for RefreshesAtFirst {
+    fn run(&self, case: &mut Case) -> Option<usize> {
+        let given = case.clone();
+        let refusal = Reading.run(case)?;
+        if refusal == 0 {
+            let before = self.changes.replace(self.changes.get() + 1);
+            if before % 100 != 0 {
+                store_the_sample_only(&given, case);
+            }
+        }
+        Some(refusal)
+    }
+}
+
+#[test]
+fn a_program_that_refreshes_at_first_only_is_found() {
+    let wrong = RefreshesAtFirst {
+        changes: Cell::new(0),
+    };
+    assert!(differences(&wrong, Kind::ChangeList) > 0);
 }

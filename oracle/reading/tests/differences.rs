@@ -40,25 +40,37 @@ fn a_periodic_curve_misses_a_sample() {
 
 /// "Constructs a C² piecewise cubic polynomial through all data points".
 #[test]
-fn a_curve_of_given_ends_misses_a_sample() {
-    let (knots, samples) = ([0.0, 1.0], [1.0, 0.0]);
-    let condition = Condition::second_derivative(1.0, 0.0);
+fn a_clamped_curve_misses_a_sample() {
+    let (knots, samples) = ([0.0, 1.0], [1.0, 1.0]);
+    let condition = Condition::first_derivative(1.0, 0.0);
     let value = curve_at(&knots, &samples, &condition, 0.0);
-    assert_eq!(value, 1.0, "{value:e}");
+    assert_eq!(value, 0.9999999999999999);
 }
 
 /// "First and second derivatives match at both endpoints".
 #[test]
 fn a_periodic_curve_has_two_slopes_at_its_seam() {
-    let (knots, samples) = ([0.0, 1.0, 2.0, 3.0], [1.0, 3.0, 5.0, 0.0]);
+    let (knots, samples) = ([0.0, 1.0, 2.0], [2.0, -2.0, 1.0]);
     let slopes = slopes(&knots, &samples, &Condition::Periodic);
-    assert_ne!(slopes[0].to_bits(), slopes[3].to_bits());
+    assert_eq!(
+        (slopes[0], slopes[2]),
+        (-0.5000000000000013, -0.49999999999999867)
+    );
 }
 
 /// "Specified first derivative at this endpoint".
 #[test]
 fn a_clamped_end_has_another_slope() {
-    let (knots, samples) = ([0.0, 1.0, 2.0, 3.0], [0.0, 4.0, 2.0, 4.0]);
-    let slopes = slopes(&knots, &samples, &Condition::first_derivative(1.0, 0.0));
-    assert!(slopes[0] != 1.0 || slopes[3] != 0.0);
+    let (knots, samples) = ([0.0, 1.0, 2.0], [0.0, 1.0, -1.0]);
+    let slopes = slopes(&knots, &samples, &Condition::first_derivative(1.0, 1.0));
+    assert_eq!((slopes[0], slopes[2]), (1.0, 0.9999999999999996));
+}
+
+/// "Specified second derivative at this endpoint".
+#[test]
+fn a_second_derivative_of_minus_zero_loses_its_sign_at_the_upper_end() {
+    let line = [0.0, 1.0];
+    let moments = compute_m(&line, &line, &Condition::second_derivative(-0.0, -0.0));
+    assert_eq!(moments[0].to_bits(), (-0.0f64).to_bits());
+    assert_eq!(moments[1].to_bits(), 0.0f64.to_bits());
 }
