@@ -1,9 +1,11 @@
 //! Runs cases against the reading and against a subject, and compares.
 
 use crate::case::{Argument, Calls, Case};
+use crate::examples::examples;
 use crate::faults::spoil;
-use crate::generator::{build, case, change_of, Kind, KINDS};
+use crate::generator::{self, Kind, KINDS};
 use crate::grid::Grid;
+use crate::lending;
 use crate::lent::Word;
 use crate::numbers::ordinary;
 use crate::random::Random;
@@ -21,9 +23,10 @@ pub struct Plan {
 const CHANGES_IN_A_LIST: u64 = 25;
 
 impl Plan {
-    /// About so many calls of each kind.
+    /// About so many calls of each kind, and the examples once.
     pub fn of_each_kind(seed: u64, calls: u64) -> Self {
         let cases = KINDS.map(|kind| match kind {
+            Kind::Example => 1,
             Kind::ChangeList => calls.div_ceil(CHANGES_IN_A_LIST),
             _ => calls,
         });
@@ -32,9 +35,9 @@ impl Plan {
 
     /// Cases of one kind only.
     pub fn of_kind(seed: u64, kind: Kind, number: u64) -> Self {
-        let mut plan = Self::of_each_kind(seed, 0);
-        plan.cases[kind as usize] = number;
-        plan
+        let mut cases = [0; KINDS.len()];
+        cases[kind as usize] = number;
+        Self { seed, cases }
     }
 }
 
@@ -48,20 +51,37 @@ pub fn compare_all(subject: &dyn Calls, plan: &Plan) -> Report {
 }
 
 /// Compares the cases of one kind.
-pub fn compare_kind(subject: &dyn Calls, plan: &Plan, kind: Kind, report: &mut Report) {
+fn compare_kind(subject: &dyn Calls, plan: &Plan, kind: Kind, report: &mut Report) {
     for number in 0..plan.cases[kind as usize] {
-        let mut random = Random::of_case(plan.seed, kind as u64, number);
+        let random = &mut Random::of_case(plan.seed, kind as u64, number);
         let mut run = Run {
             subject,
             kind,
             title: format!("{} {number} of seed {}", kind.name(), plan.seed),
             report,
         };
-        if kind == Kind::ChangeList {
-            run.change_list(&mut random);
-        } else {
-            run.compare(&case(kind, number as usize, &mut random));
+        match kind {
+            Kind::Example => run.compare_examples(),
+            Kind::ChangeList => run.change_list(random),
+            _ => {
+                run.compare(&single(kind, number as usize, random));
+            }
         }
+    }
+}
+
+/// The case of a kind that is a single call, by its number.
+pub(crate) fn single(kind: Kind, number: usize, random: &mut Random) -> Case {
+    match kind {
+        Kind::Moments => generator::moments(random),
+        Kind::Curve => generator::curve(random),
+        Kind::Slopes => generator::slopes(random),
+        Kind::Build => generator::build(random),
+        Kind::Change => generator::change(random),
+        Kind::Query => generator::query(random),
+        Kind::Read => generator::read(random, number),
+        Kind::SheetTensor => generator::sheet_tensor(random, number),
+        Kind::Example | Kind::ChangeList => panic!("more than one call: {}", kind.name()),
     }
 }
 
@@ -97,6 +117,12 @@ impl Run<'_> {
         (refusal, found, same)
     }
 
+    fn compare_examples(&mut self) {
+        for example in examples() {
+            self.compare(&example);
+        }
+    }
+
     /// A list of changes from a built tensor. After each change the tensor is
     /// the fresh build of the samples that then stand. Spoiled changes stand
     /// between them; what they are lent is thrown away.
@@ -108,7 +134,7 @@ impl Run<'_> {
             return;
         }
         for _ in 0..random.between(10, 40) {
-            let mut given = change_of(random, &grid, &tensor);
+            let mut given = generator::change_of(random, &grid, &tensor);
             if random.percent(38) {
                 spoil(random, &mut given);
                 self.compare(&given);
@@ -149,7 +175,7 @@ impl Run<'_> {
 
 /// The refusal and the tensor of the reading's build.
 fn fresh_build(random: &mut Random, grid: &Grid, samples: &[f64]) -> (usize, Vec<f64>) {
-    let mut case = build(random, grid, samples);
+    let mut case = lending::build(random, grid, samples);
     let refusal = Reading.run(&mut case).expect("the reading answers all");
     (refusal, case.argument("tensor").floats().to_vec())
 }

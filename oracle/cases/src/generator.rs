@@ -1,16 +1,19 @@
 //! One case of each kind from a sequence of random numbers.
 
-use crate::case::{Argument, Call, Case};
+use crate::case::Case;
 use crate::faults::spoil;
 use crate::grid::Grid;
-use crate::numbers::{fill, list, ordinary};
+use crate::lending;
+use crate::numbers::list;
 use crate::random::Random;
-use crate::sheet::{damaged_sheet, good_sheet};
-use reading::{BUFFER, CURVE_SCRATCH, LONGEST_TENSOR};
+use crate::sheet::{damaged_sheet, good_sheet, swept_sheet};
+use reading::CURVE_SCRATCH;
 
-/// The kinds of cases: one for each call, and lists of changes.
+/// The kinds of cases: the examples of document 01, one kind for each call, and
+/// lists of changes.
 #[derive(Debug, Clone, Copy, PartialEq, Eq)]
 pub enum Kind {
+    Example,
     Moments,
     Curve,
     Slopes,
@@ -23,7 +26,8 @@ pub enum Kind {
 }
 
 /// Every kind, in the order of the report.
-pub const KINDS: [Kind; 9] = [
+pub const KINDS: [Kind; 10] = [
+    Kind::Example,
     Kind::Moments,
     Kind::Curve,
     Kind::Slopes,
@@ -39,6 +43,7 @@ impl Kind {
     /// The name that the runner prints and takes.
     pub fn name(self) -> &'static str {
         match self {
+            Kind::Example => "example",
             Kind::Moments => "moments",
             Kind::Curve => "curve",
             Kind::Slopes => "slopes",
@@ -55,53 +60,111 @@ impl Kind {
 /// So many cases in a hundred get a fault; some fail without one.
 const FAULTY: usize = 36;
 
-/// The case of a number. For a list of changes it is the build that it starts from.
-pub fn case(kind: Kind, number: usize, random: &mut Random) -> Case {
-    let faulty = random.percent(FAULTY);
-    let mut case = match kind {
-        Kind::Moments => moments(random),
-        Kind::Curve => curve(random),
-        Kind::Slopes => slopes(random),
-        Kind::Build | Kind::ChangeList => return build_case(random, faulty),
-        Kind::Change => change(random),
-        Kind::Query => query(random),
-        Kind::Read | Kind::SheetTensor => return sheet_case(kind, number, random, faulty),
-    };
-    if faulty {
+/// A damaged sheet is often still a good one for the reader, so it gets more
+/// faults; of what it accepts the build refuses some.
+const FAULTY_TO_READ: usize = 46;
+const FAULTY_TO_BUILD: usize = 30;
+
+/// The moments of generated samples.
+pub fn moments(random: &mut Random) -> Case {
+    let line = Grid::line(random);
+    let samples = list(random, line.samples());
+    let case = lending::moments(random, &line, &samples);
+    spoiled_at_times(random, case)
+}
+
+/// The curve at a generated point.
+pub fn curve(random: &mut Random) -> Case {
+    let (line, samples, moments) = solved_curve(random);
+    let point = line.coordinates(random)[0];
+    let case = lending::curve(random, &line.knots, &samples, &moments, point);
+    spoiled_at_times(random, case)
+}
+
+/// The slopes of a generated curve.
+pub fn slopes(random: &mut Random) -> Case {
+    let (line, samples, moments) = solved_curve(random);
+    let case = lending::slopes(random, &line.knots, &samples, &moments);
+    spoiled_at_times(random, case)
+}
+
+/// The build of generated samples.
+pub fn build(random: &mut Random) -> Case {
+    let grid = Grid::generate(random);
+    let samples = list(random, grid.samples());
+    let case = lending::build(random, &grid, &samples);
+    spoiled_at_times(random, case)
+}
+
+/// A change in a generated tensor.
+pub fn change(random: &mut Random) -> Case {
+    let grid = Grid::generate(random);
+    let tensor = tensor(random, &grid);
+    let case = change_of(random, &grid, &tensor);
+    spoiled_at_times(random, case)
+}
+
+/// A change somewhere in a tensor on a grid.
+pub fn change_of(random: &mut Random, grid: &Grid, tensor: &[f64]) -> Case {
+    let place = grid.place(random);
+    let sample = list(random, 1)[0];
+    lending::change(random, grid, tensor, place, sample)
+}
+
+/// A query of a generated tensor.
+pub fn query(random: &mut Random) -> Case {
+    let grid = Grid::generate(random);
+    let tensor = tensor(random, &grid);
+    let coordinates = grid.coordinates(random);
+    let case = lending::query(random, &grid, &tensor, &coordinates);
+    spoiled_at_times(random, case)
+}
+
+/// A sheet to be read: first every cut and every single damaged bit of a small
+/// one, by the number of the case, and then generated ones.
+pub fn read(random: &mut Random, number: usize) -> Case {
+    if let Some(bytes) = swept_sheet(number) {
+        return lending::read(random, &bytes);
+    }
+    let lend = |random: &mut Random, bytes: &[u8], _| lending::read(random, bytes);
+    sheet_case(random, number, FAULTY_TO_READ, lend)
+}
+
+/// A sheet to be read and built.
+pub fn sheet_tensor(random: &mut Random, number: usize) -> Case {
+    sheet_case(random, number, FAULTY_TO_BUILD, lending::sheet_tensor)
+}
+
+fn spoiled_at_times(random: &mut Random, mut case: Case) -> Case {
+    if random.percent(FAULTY) {
         spoil(random, &mut case);
     }
     case
 }
 
-/// Scratch that is just enough, or longer.
-fn scratch(random: &mut Random, needed: usize) -> Argument {
-    let length = needed + random.pick(&[0, 0, 0, 1, 5, 300]);
-    Argument::of_floats(&fill(random, length, true))
+/// A case of a sheet that is good or damaged, or whose other arguments are.
+fn sheet_case(
+    random: &mut Random,
+    number: usize,
+    faulty: usize,
+    lend: fn(&mut Random, &[u8], usize) -> Case,
+) -> Case {
+    let faulty = random.percent(faulty);
+    let damaged = faulty && random.percent(80);
+    let (bytes, tensor) = if damaged {
+        damaged_sheet(random, number)
+    } else {
+        good_sheet(random)
+    };
+    let mut case = lend(random, &bytes, tensor);
+    if faulty && (!damaged || random.percent(10)) {
+        spoil(random, &mut case);
+    }
+    case
 }
 
-/// Room for an answer of so many floats.
-fn room(random: &mut Random, length: usize) -> Argument {
-    Argument::of_floats(&fill(random, length, true))
-}
-
-fn moments(random: &mut Random) -> Case {
-    let line = Grid::line(random);
-    let points = line.points[0];
-    let arguments = vec![
-        Argument::Number(points),
-        Argument::of_floats(&line.knots),
-        Argument::of_floats(&list(random, points)),
-        Argument::of_bytes(&line.kinds[..2]),
-        Argument::of_floats(&line.values[..2]),
-        room(random, points),
-        scratch(random, CURVE_SCRATCH),
-    ];
-    Case::new(Call::Moments, arguments)
-}
-
-/// The points, knots, samples and moments of a curve; its moments are now and
-/// then any numbers at all.
-fn solved_curve(random: &mut Random) -> (Grid, Vec<Argument>) {
+/// A line, samples on it and their moments, which are now and then any numbers.
+fn solved_curve(random: &mut Random) -> (Grid, Vec<f64>, Vec<f64>) {
     let line = Grid::line(random);
     let points = line.points[0];
     let samples = list(random, points);
@@ -117,51 +180,7 @@ fn solved_curve(random: &mut Random) -> (Grid, Vec<Argument>) {
             &mut [0.0; CURVE_SCRATCH],
         );
     }
-    let arguments = vec![
-        Argument::Number(points),
-        Argument::of_floats(&line.knots),
-        Argument::of_floats(&samples),
-        Argument::of_floats(&moments),
-    ];
-    (line, arguments)
-}
-
-fn curve(random: &mut Random) -> Case {
-    let (line, mut arguments) = solved_curve(random);
-    arguments.push(Argument::Float(line.coordinates(random)[0]));
-    arguments.push(room(random, 1));
-    Case::new(Call::Curve, arguments)
-}
-
-fn slopes(random: &mut Random) -> Case {
-    let (line, mut arguments) = solved_curve(random);
-    arguments.push(room(random, line.points[0]));
-    Case::new(Call::Slopes, arguments)
-}
-
-fn build_case(random: &mut Random, faulty: bool) -> Case {
-    let grid = Grid::generate(random);
-    let samples = list(random, grid.samples());
-    let mut case = build(random, &grid, &samples);
-    if faulty {
-        spoil(random, &mut case);
-    }
-    case
-}
-
-/// The build of samples on a grid.
-pub fn build(random: &mut Random, grid: &Grid, samples: &[f64]) -> Case {
-    let arguments = vec![
-        Argument::Number(grid.axes),
-        Argument::of_numbers(&grid.points),
-        Argument::of_bytes(&grid.kinds),
-        Argument::of_floats(&grid.values),
-        Argument::of_floats(&grid.knots),
-        Argument::of_floats(samples),
-        room(random, grid.tensor()),
-        scratch(random, grid.tensor() + CURVE_SCRATCH),
-    ];
-    Case::new(Call::Build, arguments)
+    (line, samples, moments)
 }
 
 /// A tensor that was built where the samples allow it, or any numbers at all.
@@ -181,85 +200,4 @@ fn tensor(random: &mut Random, grid: &Grid) -> Vec<f64> {
         );
     }
     tensor
-}
-
-fn change(random: &mut Random) -> Case {
-    let grid = Grid::generate(random);
-    let tensor = tensor(random, &grid);
-    change_of(random, &grid, &tensor)
-}
-
-/// A change somewhere in a tensor on a grid.
-pub fn change_of(random: &mut Random, grid: &Grid, tensor: &[f64]) -> Case {
-    let place = grid.place(random);
-    let sample = list(random, 1)[0];
-    let arguments = vec![
-        Argument::Number(grid.axes),
-        Argument::of_numbers(&grid.points),
-        Argument::of_bytes(&grid.kinds),
-        Argument::of_floats(&grid.values),
-        Argument::of_floats(&grid.knots),
-        Argument::of_floats(tensor),
-        scratch(random, grid.tensor() + CURVE_SCRATCH),
-        Argument::of_numbers(&place),
-        Argument::Float(sample),
-        Argument::of_numbers(&[77]),
-    ];
-    Case::new(Call::Change, arguments)
-}
-
-fn query(random: &mut Random) -> Case {
-    let grid = Grid::generate(random);
-    let tensor = tensor(random, &grid);
-    let arguments = vec![
-        Argument::Number(grid.axes),
-        Argument::of_numbers(&grid.points),
-        Argument::of_floats(&grid.knots),
-        Argument::of_floats(&tensor),
-        Argument::of_floats(&grid.coordinates(random)),
-        room(random, 1),
-        Argument::of_numbers(&[71, 72, 73, 74]),
-    ];
-    Case::new(Call::Query, arguments)
-}
-
-/// A sheet to read, or to read and build. What is no number keeps no payload
-/// there, so the buffers are filled with numbers.
-fn sheet_case(kind: Kind, number: usize, random: &mut Random, faulty: bool) -> Case {
-    let damaged = faulty && random.percent(90);
-    let (bytes, tensor) = if damaged {
-        damaged_sheet(random, number)
-    } else {
-        good_sheet(random)
-    };
-    let mut arguments = vec![
-        Argument::of_bytes(&bytes),
-        Argument::of_floats(&fill(random, BUFFER, false)),
-        Argument::of_floats(&fill(random, BUFFER, false)),
-    ];
-    let call = if kind == Kind::Read {
-        arguments.extend(read_answers(random));
-        Call::Read
-    } else {
-        arguments.push(Argument::of_floats(&fill(random, LONGEST_TENSOR, false)));
-        arguments.push(scratch(random, tensor + CURVE_SCRATCH));
-        arguments.push(Argument::of_numbers(&[78]));
-        Call::SheetTensor
-    };
-    let mut case = Case::new(call, arguments);
-    if faulty && (!damaged || random.percent(10)) {
-        spoil(random, &mut case);
-    }
-    case
-}
-
-/// Room for axes, points, kinds and values.
-fn read_answers(random: &mut Random) -> [Argument; 4] {
-    let values = [0.0; 8].map(|_| ordinary(random));
-    [
-        Argument::of_numbers(&[79]),
-        Argument::of_numbers(&[71, 72, 73, 74]),
-        Argument::of_bytes(&[91, 92, 93, 94, 95, 96, 97, 98]),
-        Argument::of_floats(&values),
-    ]
 }

@@ -68,16 +68,7 @@ impl Grid {
     /// Kinds that the axis has points for. A kind without a number keeps the one
     /// that is not read.
     fn set_ends(&mut self, random: &mut Random, axis: usize) {
-        let kinds = loop {
-            let kinds = [random.below(4) as u8, random.below(4) as u8];
-            if kinds.contains(&3) {
-                break [3, 3];
-            }
-            let dropped = kinds.iter().filter(|kind| **kind == 0).count();
-            if dropped == 0 || self.points[axis] >= 2 + dropped {
-                break kinds;
-            }
-        };
+        let kinds = ends(random, self.points[axis]);
         for (end, kind) in kinds.into_iter().enumerate() {
             self.kinds[2 * axis + end] = kind;
             if matches!(kind, 1 | 2) {
@@ -112,10 +103,24 @@ impl Grid {
     /// A place on the grid; what stands past the axes in use is not read.
     pub fn place(&self, random: &mut Random) -> [usize; 4] {
         let mut place = [usize::MAX; 4];
-        for axis in 0..self.axes {
-            place[axis] = random.below(self.points[axis]);
+        for (index, points) in place.iter_mut().zip(&self.points[..self.axes]) {
+            *index = random.below(*points);
         }
         place
+    }
+}
+
+/// Kinds of both ends that so many points are enough for.
+fn ends(random: &mut Random, points: usize) -> [u8; 2] {
+    if random.percent(20) {
+        return [3, 3];
+    }
+    loop {
+        let kinds = [random.below(3) as u8, random.below(3) as u8];
+        let dropped = kinds.iter().filter(|kind| **kind == 0).count();
+        if dropped == 0 || points >= 2 + dropped {
+            return kinds;
+        }
     }
 }
 

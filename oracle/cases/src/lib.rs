@@ -2,9 +2,11 @@
 
 mod case;
 mod comparison;
+mod examples;
 mod faults;
 mod generator;
 mod grid;
+mod lending;
 mod lent;
 mod list;
 mod numbers;
@@ -14,7 +16,7 @@ mod report;
 mod sheet;
 
 pub use case::{Argument, Call, Calls, Case};
-pub use comparison::{compare_all, compare_kind, Plan};
+pub use comparison::{compare_all, Plan};
 pub use generator::{Kind, KINDS};
 pub use lent::{Lent, Word};
 pub use list::{list, CALLS};

@@ -17,7 +17,9 @@
 //! the one before plus the step. A byte is a word too.
 
 use crate::case::{Argument, Call, Calls, Case};
-use crate::generator::{case, Kind, KINDS};
+use crate::comparison::single;
+use crate::examples::examples;
+use crate::generator::{Kind, KINDS};
 use crate::random::Random;
 use crate::reading_calls::Reading;
 
@@ -45,17 +47,17 @@ const LONGEST_CASE: usize = 200;
 /// How many generated cases of a kind are looked at.
 const LOOKED_AT: u64 = 3_000;
 
-/// The words of the whole list.
+/// The words of the whole list: the examples of document 01, and generated cases.
 pub fn list(seed: u64) -> Vec<u64> {
-    let mut count = 0;
-    let mut words = Vec::new();
-    for kind in KINDS.into_iter().filter(|kind| *kind != Kind::ChangeList) {
-        for chosen in chosen(seed, kind) {
-            count += 1;
-            words.extend(chosen);
+    let mut cases: Vec<Vec<u64>> = examples().iter().map(|case| answered(case).1).collect();
+    cases.retain(|words| words.len() <= LONGEST_CASE);
+    for kind in KINDS {
+        if !matches!(kind, Kind::Example | Kind::ChangeList) {
+            cases.extend(chosen(seed, kind));
         }
     }
-    words.insert(0, count);
+    let mut words = vec![cases.len() as u64];
+    words.extend(cases.concat());
     words
 }
 
@@ -66,16 +68,20 @@ fn chosen(seed: u64, kind: Kind) -> Vec<Vec<u64>> {
     let mut chosen = Vec::new();
     for number in 0..LOOKED_AT {
         let mut random = Random::of_case(seed, kind as u64, number);
-        let given = case(kind, number as usize, &mut random);
-        let mut after = given.clone();
-        let refusal = Reading.run(&mut after).expect("the reading answers all");
-        let words = words(&given, refusal, &after);
+        let (refusal, words) = answered(&single(kind, number as usize, &mut random));
         if wanted[refusal] > 0 && words.len() <= LONGEST_CASE {
             wanted[refusal] -= 1;
             chosen.push(words);
         }
     }
     chosen
+}
+
+/// The refusal and the words of a case.
+fn answered(given: &Case) -> (usize, Vec<u64>) {
+    let mut after = given.clone();
+    let refusal = Reading.run(&mut after).expect("the reading answers all");
+    (refusal, words(given, refusal, &after))
 }
 
 fn words(given: &Case, refusal: usize, after: &Case) -> Vec<u64> {

@@ -72,6 +72,31 @@ fn pack(fields: &Fields) -> Vec<u8> {
     bytes
 }
 
+/// The sheet of document 01: one natural axis with knots and samples 0 and 1.
+pub fn example_sheet() -> Vec<u8> {
+    let line = [0.0, 1.0];
+    let grid = Grid {
+        axes: 1,
+        points: [2, 0, 0, 0],
+        kinds: [2, 2, 0, 0, 0, 0, 0, 0],
+        values: [0.0; 8],
+        knots: line.to_vec(),
+    };
+    pack(&fields(&grid, &line))
+}
+
+/// The example cut at every length, and then with every single bit damaged.
+pub fn swept_sheet(number: usize) -> Option<Vec<u8>> {
+    let mut bytes = example_sheet();
+    if number <= bytes.len() {
+        bytes.truncate(number);
+        return Some(bytes);
+    }
+    let bit = number - bytes.len() - 1;
+    *bytes.get_mut(bit / 8)? ^= 0x80 >> (bit % 8);
+    Some(bytes)
+}
+
 /// A sheet with a fault; some faults leave a sheet that is still good.
 pub fn damaged_sheet(random: &mut Random, number: usize) -> (Vec<u8>, usize) {
     let (mut fields, tensor) = good_fields(random);

@@ -14,6 +14,7 @@ impl Calls for Nobody {
 /// The refusals that the calls of a kind have.
 fn refusals(kind: Kind) -> &'static [usize] {
     match kind {
+        Kind::Example => &[1, 3, 7, 8, 9, 11],
         Kind::Moments => &[2, 4, 5, 7, 8, 9, 10, 13],
         Kind::Curve | Kind::Slopes => &[2, 4, 7, 8, 10],
         Kind::Build => &[1, 2, 3, 4, 5, 7, 8, 9, 10, 13],
@@ -37,7 +38,7 @@ fn every_refusal_is_seen_and_no_other() {
 #[test]
 fn about_sixty_in_a_hundred_are_accepted() {
     let report = compare_all(&Nobody, &Plan::of_each_kind(2, 4000));
-    for kind in KINDS {
+    for kind in KINDS.into_iter().filter(|kind| *kind != Kind::Example) {
         let counts = report.of(kind);
         let share = 100 * counts.refusals[0] / counts.calls;
         assert!((50..=70).contains(&share), "{}: {share}", kind.name());

@@ -92,7 +92,7 @@ fn the_list_gives_the_readings_answers_back() {
     }
     assert_eq!(words.words.len(), 0);
     assert!((300..=800).contains(&count), "{count}");
-    assert!(seen.iter().all(|refusals| refusals[0] == 24));
+    assert!(seen.iter().all(|refusals| refusals[0] >= 24));
     let refused = |number: usize| seen.iter().any(|refusals| refusals[number] > 0);
     assert!((1..=14).all(refused));
 }

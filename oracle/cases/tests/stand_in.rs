@@ -1,48 +1,15 @@
 //! The stand-in for ndarray puts every number where flat places say: what is
 //! computed through it is the same when written over flat slices.
 
-use cases::{compare_all, Call, Calls, Case, Kind, Plan, Reading};
+mod altered;
+
+use altered::{conditions, differences, shape, Altered};
+use cases::{Call, Case, Kind};
 use reading::{lanes_of_build, solve_lanes, Shape};
-
-/// The shape of a grid's case that was accepted.
-fn shape(case: &Case) -> Shape<'_> {
-    let points = case.argument("points").numbers();
-    Shape::checked(case.argument("axes").number(), points)
-        .unwrap_or_else(|refusal| panic!("refused {refusal} where it was accepted"))
-}
-
-/// Answers one call as the reading does, with the outcome computed once more.
-struct Again {
-    call: Call,
-    compute: fn(given: &Case, answered: &mut Case),
-}
-
-impl Calls for Again {
-    fn run(&self, case: &mut Case) -> Option<usize> {
-        if case.call != self.call {
-            return None;
-        }
-        let given = case.clone();
-        let refusal = Reading.run(case)?;
-        if refusal == 0 {
-            (self.compute)(&given, case);
-        }
-        Some(refusal)
-    }
-}
-
-fn same(subject: &Again, kind: Kind) {
-    let total = compare_all(subject, &Plan::of_kind(5, kind, 4000)).total();
-    assert!(total.compared == 4000 && total.refusals[0] > 2000);
-    assert_eq!(total.differences, 0);
-}
 
 /// Solves the lanes of a build one after the other.
 fn build_by_lanes(given: &Case, answered: &mut Case) {
-    let shape = shape(given);
-    let ends = 2 * shape.axes();
-    let kinds = &given.argument("kinds").bytes()[..ends];
-    let conditions = reading::conditions(kinds, &given.argument("values").floats()[..ends]);
+    let (shape, conditions) = (shape(given), conditions(given));
     let knots = given.argument("knots").floats();
     let tensor = answered.argument_mut("tensor").floats_mut();
     tensor.fill(f64::NAN);
@@ -55,11 +22,11 @@ fn build_by_lanes(given: &Case, answered: &mut Case) {
 
 #[test]
 fn a_build_is_its_lanes_solved_in_order() {
-    let again = Again {
+    let again = Altered {
         call: Call::Build,
-        compute: build_by_lanes,
+        alter: build_by_lanes,
     };
-    same(&again, Kind::Build);
+    assert_eq!(differences(&again, Kind::Build), 0);
 }
 
 /// A query over the flat tensor.
@@ -128,9 +95,9 @@ fn query_by_places(given: &Case, answered: &mut Case) {
 
 #[test]
 fn a_query_is_the_blend_over_flat_places() {
-    let again = Again {
+    let again = Altered {
         call: Call::Query,
-        compute: query_by_places,
+        alter: query_by_places,
     };
-    same(&again, Kind::Query);
+    assert_eq!(differences(&again, Kind::Query), 0);
 }

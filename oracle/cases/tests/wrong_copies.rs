@@ -1,51 +1,11 @@
-//! Copies of the reading with one deliberate error each, and programs that do
-//! next to nothing: the cases find them.
+//! Copies of the reading with one deliberate error each: the cases find them.
 
-use cases::{compare_all, Argument, Call, Calls, Case, Kind, Plan, Reading, KINDS};
+mod altered;
+
+use altered::{conditions, differences, shape, store_the_sample_only, Altered};
+use cases::{Call, Case, Kind, Reading, KINDS};
 use ninterp_unchanged::{evaluate_spline_from_m, locate_lower_index, thomas};
-use reading::{lanes_of_build, lanes_of_change, solve_lane, solve_lanes, Condition, Lane, Shape};
-use std::cell::Cell;
-
-/// How many of the generated cases of a kind find a subject different.
-fn differences(subject: &dyn Calls, kind: Kind) -> u64 {
-    let report = compare_all(subject, &Plan::of_kind(4, kind, 600));
-    assert!(report.total().compared > 0);
-    report.total().differences
-}
-
-/// A wrong copy: the reading, after which an accepted case is made wrong.
-struct Wrong {
-    call: Call,
-    spoil: fn(given: &Case, answered: &mut Case),
-}
-
-impl Calls for Wrong {
-    fn run(&self, case: &mut Case) -> Option<usize> {
-        if case.call != self.call {
-            return None;
-        }
-        let given = case.clone();
-        let refusal = Reading.run(case)?;
-        if refusal == 0 {
-            (self.spoil)(&given, case);
-        }
-        Some(refusal)
-    }
-}
-
-/// The conditions of a grid's case that was accepted.
-fn conditions(case: &Case) -> Vec<Condition> {
-    let ends = 2 * case.argument("axes").number();
-    let kinds = &case.argument("kinds").bytes()[..ends];
-    reading::conditions(kinds, &case.argument("values").floats()[..ends])
-}
-
-/// The shape of a grid's case that was accepted.
-fn shape(case: &Case) -> Shape<'_> {
-    let points = case.argument("points").numbers();
-    Shape::checked(case.argument("axes").number(), points)
-        .unwrap_or_else(|refusal| panic!("refused {refusal} where it was accepted"))
-}
+use reading::{lanes_of_build, lanes_of_change, solve_lane, solve_lanes, Lane};
 
 #[test]
 fn the_reading_itself_is_never_different() {
@@ -66,9 +26,9 @@ fn keep_values_in_cross_passes(given: &Case, answered: &mut Case) {
 
 #[test]
 fn a_cross_pass_that_keeps_its_value_is_found() {
-    let wrong = Wrong {
+    let wrong = Altered {
         call: Call::Build,
-        spoil: keep_values_in_cross_passes,
+        alter: keep_values_in_cross_passes,
     };
     assert!(differences(&wrong, Kind::Build) > 0);
 }
@@ -93,9 +53,9 @@ fn drop_corner(given: &Case, answered: &mut Case) {
 
 #[test]
 fn a_dropped_corner_is_found() {
-    let wrong = Wrong {
+    let wrong = Altered {
         call: Call::Moments,
-        spoil: drop_corner,
+        alter: drop_corner,
     };
     assert!(differences(&wrong, Kind::Moments) > 0);
 }
@@ -116,14 +76,14 @@ fn slopes_with(sixth: fn(f64) -> f64, given: &Case, answered: &mut Case) {
 
 #[test]
 fn a_reciprocal_of_six_is_found() {
-    let right = Wrong {
+    let right = Altered {
         call: Call::Slopes,
-        spoil: |given, answered| slopes_with(|number| number / 6.0, given, answered),
+        alter: |given, answered| slopes_with(|number| number / 6.0, given, answered),
     };
     assert_eq!(differences(&right, Kind::Slopes), 0);
-    let wrong = Wrong {
+    let wrong = Altered {
         call: Call::Slopes,
-        spoil: |given, answered| slopes_with(|number| number * (1.0 / 6.0), given, answered),
+        alter: |given, answered| slopes_with(|number| number * (1.0 / 6.0), given, answered),
     };
     assert!(differences(&wrong, Kind::Slopes) > 0);
 }
@@ -151,25 +111,16 @@ fn curve_with(less_product: fn(f64, f64, f64) -> f64, given: &Case, answered: &m
 
 #[test]
 fn a_fused_product_is_found() {
-    let right = Wrong {
+    let right = Altered {
         call: Call::Curve,
-        spoil: |given, answered| curve_with(|y, m, h| y - m * h, given, answered),
+        alter: |given, answered| curve_with(|y, m, h| y - m * h, given, answered),
     };
     assert_eq!(differences(&right, Kind::Curve), 0);
-    let wrong = Wrong {
+    let wrong = Altered {
         call: Call::Curve,
-        spoil: |given, answered| curve_with(|y, m, h| (-m).mul_add(h, y), given, answered),
+        alter: |given, answered| curve_with(|y, m, h| (-m).mul_add(h, y), given, answered),
     };
     assert!(differences(&wrong, Kind::Curve) > 0);
-}
-
-/// Puts the tensor back as it was, with only the sample changed.
-fn store_the_sample_only(given: &Case, answered: &mut Case) {
-    let shape = shape(given);
-    let place = &given.argument("place").numbers()[..shape.axes()];
-    let tensor = answered.argument_mut("tensor").floats_mut();
-    tensor.copy_from_slice(given.argument("tensor").floats());
-    tensor[shape.position(place, 0)] = given.argument("sample").float();
 }
 
 /// Whether a lane goes through a place.
@@ -192,37 +143,19 @@ fn solve_lanes_through_the_place(given: &Case, answered: &mut Case) {
 
 #[test]
 fn a_change_of_the_lanes_through_the_place_only_is_found() {
-    let wrong = Wrong {
+    let wrong = Altered {
         call: Call::Change,
-        spoil: solve_lanes_through_the_place,
+        alter: solve_lanes_through_the_place,
     };
     assert!(differences(&wrong, Kind::Change) > 0);
     assert!(differences(&wrong, Kind::ChangeList) > 0);
 }
 
 #[test]
-fn a_change_that_only_stores_the_sample_is_found() {
-    let wrong = Wrong {
-        call: Call::Change,
-        spoil: store_the_sample_only,
-    };
-    assert!(differences(&wrong, Kind::Change) > 0);
-}
-
-#[test]
-fn an_invented_lane_count_is_found() {
-    let wrong = Wrong {
-        call: Call::Change,
-        spoil: |_, answered| answered.argument_mut("lanes").numbers_mut()[0] += 1,
-    };
-    assert!(differences(&wrong, Kind::Change) > 0);
-}
-
-#[test]
 fn a_label_that_is_the_cell_is_found() {
-    let wrong = Wrong {
+    let wrong = Altered {
         call: Call::Query,
-        spoil: |given, answered| {
+        alter: |given, answered| {
             let knots = &given.argument("knots").floats()[..given.argument("points").numbers()[0]];
             let point = given.argument("coordinates").floats()[0];
             let cell = locate_lower_index(knots.into(), &point);
@@ -230,69 +163,6 @@ fn a_label_that_is_the_cell_is_found() {
         },
     };
     assert!(differences(&wrong, Kind::Query) > 0);
-}
-
-#[test]
-fn scratch_left_behind_is_found() {
-    for (call, kind) in [
-        (Call::Moments, Kind::Moments),
-        (Call::Build, Kind::Build),
-        (Call::Change, Kind::Change),
-    ] {
-        let wrong = Wrong {
-            call,
-            spoil: |given, answered| {
-                // What a call leaves that clears only what it is bound to use.
-                let given = given.argument("scratch").floats();
-                let scratch = answered.argument_mut("scratch").floats_mut();
-                let last = given.len() - 1;
-                scratch[last] = given[last];
-            },
-        };
-        assert!(differences(&wrong, kind) > 0);
-    }
-}
-
-/// Writes past the end of a slice, on its guard.
-struct BehindTheSlice;
-
-impl Calls for BehindTheSlice {
-    fn run(&self, case: &mut Case) -> Option<usize> {
-        let refusal = Reading.run(case)?;
-        if let Argument::Floats(tensor) = case.argument_mut("tensor") {
-            let length = tensor.slice().len();
-            tensor.resize(length + 1);
-        }
-        Some(refusal)
-    }
-}
-
-#[test]
-fn a_number_behind_a_slice_is_found() {
-    assert!(differences(&BehindTheSlice, Kind::Build) > 0);
-}
-
-/// Touches an output, or clears scratch, on a refusal.
-struct Touching {
-    name: &'static str,
-}
-
-impl Calls for Touching {
-    fn run(&self, case: &mut Case) -> Option<usize> {
-        let refusal = Reading.run(case)?;
-        let slots = case.argument_mut(self.name).floats_mut();
-        if refusal != 0 && !slots.is_empty() {
-            slots[0] = 0.0;
-        }
-        Some(refusal)
-    }
-}
-
-#[test]
-fn a_refusal_that_touches_what_it_was_lent_is_found() {
-    for name in ["tensor", "scratch", "samples"] {
-        assert!(differences(&Touching { name }, Kind::Build) > 0, "{name}");
-    }
 }
 
 /// The curve as it is in the cell after an interior knot.
@@ -310,9 +180,9 @@ fn take_the_cell_after_a_knot(given: &Case, answered: &mut Case) {
 
 #[test]
 fn a_cell_after_the_knot_is_found() {
-    let wrong = Wrong {
+    let wrong = Altered {
         call: Call::Curve,
-        spoil: take_the_cell_after_a_knot,
+        alter: take_the_cell_after_a_knot,
     };
     assert!(differences(&wrong, Kind::Curve) > 0);
 }
@@ -329,73 +199,9 @@ fn give_samples_back(given: &Case, answered: &mut Case) {
 
 #[test]
 fn a_curve_that_gives_its_samples_back_is_found() {
-    let wrong = Wrong {
+    let wrong = Altered {
         call: Call::Curve,
-        spoil: give_samples_back,
+        alter: give_samples_back,
     };
     assert!(differences(&wrong, Kind::Curve) > 0);
-}
-
-/// Refuses everything by one number.
-struct RefusesAll;
-
-impl Calls for RefusesAll {
-    fn run(&self, _: &mut Case) -> Option<usize> {
-        Some(4)
-    }
-}
-
-#[test]
-fn a_program_that_refuses_all_is_found() {
-    for kind in KINDS {
-        assert!(differences(&RefusesAll, kind) > 0, "{}", kind.name());
-    }
-}
-
-#[test]
-fn a_constant_answer_is_found() {
-    let wrong = Wrong {
-        call: Call::Query,
-        spoil: |_, answered| answered.argument_mut("value").floats_mut()[0] = 0.0,
-    };
-    assert!(differences(&wrong, Kind::Query) > 0);
-}
-
-#[test]
-fn a_change_that_stores_nothing_is_found() {
-    let wrong = Wrong {
-        call: Call::Change,
-        spoil: |given, answered| {
-            let tensor = answered.argument_mut("tensor").floats_mut();
-            tensor.copy_from_slice(given.argument("tensor").floats());
-        },
-    };
-    assert!(differences(&wrong, Kind::Change) > 0);
-}
-
-/// Solves lanes at every hundredth change; at the others it stores the sample.
-struct RefreshesAtFirst {
-    changes: Cell<usize>,
-}
-
-impl Calls for RefreshesAtFirst {
-    fn run(&self, case: &mut Case) -> Option<usize> {
-        let given = case.clone();
-        let refusal = Reading.run(case)?;
-        if refusal == 0 {
-            let before = self.changes.replace(self.changes.get() + 1);
-            if before % 100 != 0 {
-                store_the_sample_only(&given, case);
-            }
-        }
-        Some(refusal)
-    }
-}
-
-#[test]
-fn a_program_that_refreshes_at_first_only_is_found() {
-    let wrong = RefreshesAtFirst {
-        changes: Cell::new(0),
-    };
-    assert!(differences(&wrong, Kind::ChangeList) > 0);
 }
