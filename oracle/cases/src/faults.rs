@@ -24,48 +24,60 @@ const OFF_POINTS: [usize; 6] = [0, 1, 1, 257, 257, usize::MAX];
 /// Numbers so large that what follows from them seldom stays finite.
 const LARGEST: [f64; 4] = [f64::MAX, -f64::MAX, 1.1e308, -1e307];
 
-/// The faults of a call, apart from lists of a wrong length.
+/// The faults of moments.
+const OF_MOMENTS: &[Fault] = &[
+    points_off,
+    length_off,
+    scratch_short,
+    number_not_finite,
+    knots_not_rising,
+    too_few_points,
+    kind_off,
+    overflow,
+];
+
+/// The faults of the curve and its slopes.
+const OF_CURVE: &[Fault] = &[
+    points_off,
+    length_off,
+    number_not_finite,
+    knots_not_rising,
+    overflow,
+];
+
+/// The faults of a build and a change.
+const OF_TENSOR: &[Fault] = &[
+    axes_off,
+    points_off,
+    shape_too_large,
+    length_off,
+    scratch_short,
+    place_off,
+    number_not_finite,
+    knots_not_rising,
+    too_few_points,
+    kind_off,
+    overflow,
+];
+
+/// The faults of a query.
+const OF_QUERY: &[Fault] = &[
+    axes_off,
+    points_off,
+    shape_too_large,
+    length_off,
+    number_not_finite,
+    knots_not_rising,
+    overflow,
+];
+
+/// The faults of a call, apart from lists of a fixed length and damaged sheets.
 fn faults_of(call: Call) -> &'static [Fault] {
     match call {
-        Call::Moments => &[
-            points_off,
-            length_off,
-            scratch_short,
-            number_not_finite,
-            knots_not_rising,
-            too_few_points,
-            kind_off,
-            overflow,
-        ],
-        Call::Curve | Call::Slopes => &[
-            points_off,
-            length_off,
-            number_not_finite,
-            knots_not_rising,
-            overflow,
-        ],
-        Call::Build | Call::Change => &[
-            axes_off,
-            points_off,
-            shape_too_large,
-            length_off,
-            scratch_short,
-            place_off,
-            number_not_finite,
-            knots_not_rising,
-            too_few_points,
-            kind_off,
-            overflow,
-        ],
-        Call::Query => &[
-            axes_off,
-            points_off,
-            shape_too_large,
-            length_off,
-            number_not_finite,
-            knots_not_rising,
-            overflow,
-        ],
+        Call::Moments => OF_MOMENTS,
+        Call::Curve | Call::Slopes => OF_CURVE,
+        Call::Build | Call::Change => OF_TENSOR,
+        Call::Query => OF_QUERY,
         Call::Read => &[length_off],
         Call::SheetTensor => &[length_off, scratch_short],
     }

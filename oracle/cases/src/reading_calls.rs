@@ -1,19 +1,25 @@
 //! The reading of document 01 as something that answers calls.
 
-use crate::case::{Call, Calls, Case};
+use crate::case::{Argument, Call, Calls, Case};
 
 /// The reading, which answers every call.
 pub struct Reading;
 
 impl Calls for Reading {
     fn run(&self, case: &mut Case) -> Option<usize> {
-        Some(refusal(case))
+        let arguments = case.arguments.as_mut_slice();
+        let refusal = match case.call {
+            Call::Moments | Call::Curve | Call::Slopes => on_a_line(case.call, arguments),
+            Call::Build | Call::Change | Call::Query => on_a_grid(case.call, arguments),
+            Call::Read | Call::SheetTensor => on_a_sheet(case.call, arguments),
+        };
+        Some(refusal)
     }
 }
 
 #[rustfmt::skip]
-fn refusal(case: &mut Case) -> usize {
-    match (case.call, case.arguments.as_mut_slice()) {
+fn on_a_line(call: Call, arguments: &mut [Argument]) -> usize {
+    match (call, arguments) {
         (Call::Moments, [points, knots, samples, kinds, values, moments, scratch]) => {
             reading::moments(
                 points.number(), knots.floats(), samples.floats(), kinds.bytes(),
@@ -28,6 +34,13 @@ fn refusal(case: &mut Case) -> usize {
             points.number(), knots.floats(), samples.floats(), moments.floats(),
             slopes.floats_mut(),
         ),
+        _ => panic!("a case has the arguments of its call"),
+    }
+}
+
+#[rustfmt::skip]
+fn on_a_grid(call: Call, arguments: &mut [Argument]) -> usize {
+    match (call, arguments) {
         (Call::Build, [axes, points, kinds, values, knots, samples, tensor, scratch]) => {
             reading::build(
                 axes.number(), points.numbers(), kinds.bytes(), values.floats(),
@@ -48,6 +61,13 @@ fn refusal(case: &mut Case) -> usize {
                 coordinates.floats(), value.floats_mut(), labels.numbers_mut(),
             )
         }
+        _ => panic!("a case has the arguments of its call"),
+    }
+}
+
+#[rustfmt::skip]
+fn on_a_sheet(call: Call, arguments: &mut [Argument]) -> usize {
+    match (call, arguments) {
         (Call::Read, [bytes, knots, samples, axes, points, kinds, values]) => reading::read(
             bytes.bytes(), knots.floats_mut(), samples.floats_mut(), axes.numbers_mut(),
             points.numbers_mut(), kinds.bytes_mut(), values.floats_mut(),

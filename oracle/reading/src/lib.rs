@@ -17,6 +17,6 @@ pub use curve::{curve, moments, slopes};
 pub use ends::{conditions, Condition};
 pub use query::query;
 pub use refusals::CURVE_SCRATCH;
-pub use shape::Shape;
-pub use sheet::{read, sheet_tensor, BUFFER, LONGEST_TENSOR};
+pub use shape::{Shape, LONGEST_TENSOR};
+pub use sheet::{read, sheet_tensor, BUFFER};
 pub use tensor::{build, change, lanes_of_build, lanes_of_change, solve_lane, solve_lanes, Lane};

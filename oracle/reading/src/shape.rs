@@ -3,8 +3,8 @@
 use crate::refusals::{points_in_range, require, Refusal};
 use ninterp_unchanged::ArrayView1;
 
-/// A tensor's most numbers.
-const LONGEST_TENSOR: usize = 4096;
+/// The most numbers that a tensor holds.
+pub const LONGEST_TENSOR: usize = 4096;
 
 /// The points of the axes in use.
 #[derive(Clone, Copy)]

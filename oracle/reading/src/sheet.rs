@@ -3,14 +3,11 @@
 use crate::bits::Bits;
 use crate::ends::{has_value, PERIODIC};
 use crate::refusals::{points_in_range, require, Refusal};
-use crate::shape::Shape;
+use crate::shape::{Shape, LONGEST_TENSOR};
 use crate::tensor::build;
 
 /// The length of the lent buffers for knots and for samples.
 pub const BUFFER: usize = 1024;
-
-/// The length of the lent tensor.
-pub const LONGEST_TENSOR: usize = 4096;
 
 /// What a sheet says; axes not in use stay as they are here at first.
 #[derive(Default)]
@@ -36,13 +33,10 @@ pub fn read(
     if axes.len() != 1 || points.len() != 4 || kinds.len() != 8 || values.len() != 8 {
         return 4;
     }
-    let buffers = require(knots.len() == BUFFER && samples.len() == BUFFER, 4);
-    let (sheet, refusal) = match buffers.and_then(|()| parse(bytes)) {
+    let (sheet, refusal) = match read_sheet(bytes, knots, samples) {
         Ok(sheet) => (sheet, 0),
         Err(refusal) => (Sheet::default(), refusal),
     };
-    knots[..sheet.knots.len()].copy_from_slice(&sheet.knots);
-    samples[..sheet.samples.len()].copy_from_slice(&sheet.samples);
     axes[0] = sheet.axes;
     points.copy_from_slice(&sheet.points);
     kinds.copy_from_slice(&sheet.kinds);
@@ -62,39 +56,36 @@ pub fn sheet_tensor(
     if length.len() != 1 {
         return 4;
     }
-    length[0] = 0;
-    if tensor.len() != LONGEST_TENSOR {
-        return 4;
-    }
-    let mut sheet = Sheet::default();
-    let mut axes = [0];
-    let refusal = read(
-        bytes,
-        knots,
-        samples,
-        &mut axes,
-        &mut sheet.points,
-        &mut sheet.kinds,
-        &mut sheet.values,
-    );
-    if refusal != 0 {
-        return refusal;
-    }
-    let shape = Shape::checked(axes[0], &sheet.points).expect("the reader checks 1, 2 and 3");
+    let built = require(tensor.len() == LONGEST_TENSOR, 4)
+        .and_then(|()| read_sheet(bytes, knots, samples))
+        .and_then(|sheet| build_sheet(&sheet, tensor, scratch));
+    length[0] = built.unwrap_or(0);
+    built.err().unwrap_or(0)
+}
+
+/// The sheet, once its knots and samples stand in the lent buffers.
+fn read_sheet(bytes: &[u8], knots: &mut [f64], samples: &mut [f64]) -> Result<Sheet, Refusal> {
+    require(knots.len() == BUFFER && samples.len() == BUFFER, 4)?;
+    let sheet = parse(bytes)?;
+    knots[..sheet.knots.len()].copy_from_slice(&sheet.knots);
+    samples[..sheet.samples.len()].copy_from_slice(&sheet.samples);
+    Ok(sheet)
+}
+
+/// The length of a sheet's tensor, once it stands in the lent one.
+fn build_sheet(sheet: &Sheet, tensor: &mut [f64], scratch: &mut [f64]) -> Result<usize, Refusal> {
+    let length = sheet.samples.len() << sheet.axes;
     let refusal = build(
-        axes[0],
+        sheet.axes,
         &sheet.points,
         &sheet.kinds,
         &sheet.values,
-        &knots[..shape.knots_length()],
-        &samples[..shape.samples_length()],
-        &mut tensor[..shape.tensor_length()],
+        &sheet.knots,
+        &sheet.samples,
+        &mut tensor[..length],
         scratch,
     );
-    if refusal == 0 {
-        length[0] = shape.tensor_length();
-    }
-    refusal
+    require(refusal == 0, refusal).map(|()| length)
 }
 
 /// The fields in reading order, each with the faults met there.
