@@ -64,24 +64,9 @@ fn compare_kind(subject: &dyn Calls, plan: &Plan, kind: Kind, report: &mut Repor
             Kind::Example => run.compare_examples(),
             Kind::ChangeList => run.change_list(random),
             _ => {
-                run.compare(&single(kind, number as usize, random));
+                run.compare(&generator::single(kind, number as usize, random));
             }
         }
-    }
-}
-
-/// The case of a kind that is a single call, by its number.
-pub(crate) fn single(kind: Kind, number: usize, random: &mut Random) -> Case {
-    match kind {
-        Kind::Moments => generator::moments(random),
-        Kind::Curve => generator::curve(random),
-        Kind::Slopes => generator::slopes(random),
-        Kind::Build => generator::build(random),
-        Kind::Change => generator::change(random),
-        Kind::Query => generator::query(random),
-        Kind::Read => generator::read(random, number),
-        Kind::SheetTensor => generator::sheet_tensor(random, number),
-        Kind::Example | Kind::ChangeList => panic!("more than one call: {}", kind.name()),
     }
 }
 

@@ -65,8 +65,23 @@ const FAULTY: usize = 36;
 const FAULTY_TO_READ: usize = 46;
 const FAULTY_TO_BUILD: usize = 30;
 
+/// The case of a kind that is a single call, by its number.
+pub fn single(kind: Kind, number: usize, random: &mut Random) -> Case {
+    match kind {
+        Kind::Moments => moments(random),
+        Kind::Curve => curve(random),
+        Kind::Slopes => slopes(random),
+        Kind::Build => build(random),
+        Kind::Change => change(random),
+        Kind::Query => query(random),
+        Kind::Read => read(random, number),
+        Kind::SheetTensor => sheet_tensor(random, number),
+        Kind::Example | Kind::ChangeList => panic!("more than one call: {}", kind.name()),
+    }
+}
+
 /// The moments of generated samples.
-pub fn moments(random: &mut Random) -> Case {
+fn moments(random: &mut Random) -> Case {
     let line = Grid::line(random);
     let samples = list(random, line.samples());
     let case = lending::moments(random, &line, &samples);
@@ -74,7 +89,7 @@ pub fn moments(random: &mut Random) -> Case {
 }
 
 /// The curve at a generated point.
-pub fn curve(random: &mut Random) -> Case {
+fn curve(random: &mut Random) -> Case {
     let (line, samples, moments) = solved_curve(random);
     let point = line.coordinates(random)[0];
     let case = lending::curve(random, &line.knots, &samples, &moments, point);
@@ -82,14 +97,14 @@ pub fn curve(random: &mut Random) -> Case {
 }
 
 /// The slopes of a generated curve.
-pub fn slopes(random: &mut Random) -> Case {
+fn slopes(random: &mut Random) -> Case {
     let (line, samples, moments) = solved_curve(random);
     let case = lending::slopes(random, &line.knots, &samples, &moments);
     spoiled_at_times(random, case)
 }
 
 /// The build of generated samples.
-pub fn build(random: &mut Random) -> Case {
+fn build(random: &mut Random) -> Case {
     let grid = Grid::generate(random);
     let samples = list(random, grid.samples());
     let case = lending::build(random, &grid, &samples);
@@ -97,7 +112,7 @@ pub fn build(random: &mut Random) -> Case {
 }
 
 /// A change in a generated tensor.
-pub fn change(random: &mut Random) -> Case {
+fn change(random: &mut Random) -> Case {
     let grid = Grid::generate(random);
     let tensor = tensor(random, &grid);
     let case = change_of(random, &grid, &tensor);
@@ -112,7 +127,7 @@ pub fn change_of(random: &mut Random, grid: &Grid, tensor: &[f64]) -> Case {
 }
 
 /// A query of a generated tensor.
-pub fn query(random: &mut Random) -> Case {
+fn query(random: &mut Random) -> Case {
     let grid = Grid::generate(random);
     let tensor = tensor(random, &grid);
     let coordinates = grid.coordinates(random);
@@ -122,7 +137,7 @@ pub fn query(random: &mut Random) -> Case {
 
 /// A sheet to be read: first every cut and every single damaged bit of a small
 /// one, by the number of the case, and then generated ones.
-pub fn read(random: &mut Random, number: usize) -> Case {
+fn read(random: &mut Random, number: usize) -> Case {
     if let Some(bytes) = swept_sheet(number) {
         return lending::read(random, &bytes);
     }
@@ -131,7 +146,7 @@ pub fn read(random: &mut Random, number: usize) -> Case {
 }
 
 /// A sheet to be read and built.
-pub fn sheet_tensor(random: &mut Random, number: usize) -> Case {
+fn sheet_tensor(random: &mut Random, number: usize) -> Case {
     sheet_case(random, number, FAULTY_TO_BUILD, lending::sheet_tensor)
 }
 

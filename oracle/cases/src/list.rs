@@ -17,9 +17,8 @@
 //! the one before plus the step. A byte is a word too.
 
 use crate::case::{Argument, Call, Calls, Case};
-use crate::comparison::single;
 use crate::examples::examples;
-use crate::generator::{Kind, KINDS};
+use crate::generator::{single, Kind, KINDS};
 use crate::random::Random;
 use crate::reading_calls::Reading;
 

@@ -8,7 +8,11 @@ use reading::{Condition, Shape};
 
 /// How many of the generated cases of a kind find a subject different.
 pub fn differences(subject: &dyn Calls, kind: Kind) -> u64 {
-    let number = if kind == Kind::Example { 1 } else { 600 };
+    let number = match kind {
+        Kind::Example => 1,
+        Kind::ChangeList => 100,
+        _ => 3000,
+    };
     let report = compare_all(subject, &Plan::of_kind(4, kind, number));
     assert!(report.total().compared > 0);
     report.total().differences
