@@ -11,10 +11,16 @@ fn main() {
         return;
     }
     let folder = archive_folder();
-    println!(
-        "cargo::rerun-if-changed={}",
-        folder.join("libhost.a").display()
-    );
+    let archive = folder.join("libhost.a");
+    println!("cargo::rerun-if-changed={}", archive.display());
+    if !archive.is_file() {
+        println!(
+            "cargo::error=the archive is missing: {}; build it with `rt staticlib host`, \
+             or set HULLASHLAR_ARCHIVE_DIR to its folder",
+            archive.display()
+        );
+        return;
+    }
     println!("cargo::rustc-link-search=native={}", folder.display());
     println!("cargo::rustc-link-lib=static=host");
 }
