@@ -1,9 +1,11 @@
 -- The place of a float among all of its format, a whole number, and the finite numbers that an f64 holds.
 use mathlib.Core.Path.{_≡_}
 use mathlib.Core.Bool.{true, false}
+use mathlib.Core.List.{List}
 use Prim.Native.Nat.{ℕ, suc, _+_, _-_, _*_, _^_}
 use lib.Dec.{T}
 use lib.IntN.{ℤ, pos, negsuc}
+use lib.ListN.{getD}
 use lib.Ieee.{Float, nan, inf, fin, Format, binary64, low, fits}
 use lib.Ieee.Scale.{overflow, finite}
 
@@ -29,5 +31,9 @@ place x = place-in binary64 x
 
 -- a finite number that an f64 holds
 pub record Real (x : Float) : Type 0 where
-  pub held : T (fits binary64 x)
+  pub fits : T (fits binary64 x)
   pub finite : finite x ≡ true
+
+-- numbers that an f64 each holds, as those of every slice are
+abbrev pub AllFit : List Float → Type 0
+AllFit xs = (k : ℕ) → T (fits binary64 (getD xs k nan))

@@ -1,0 +1,5 @@
+pub mod Halving
+mod Split
+pub mod Among
+pub mod Accepted
+mod Answered
