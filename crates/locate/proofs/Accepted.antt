@@ -1,9 +1,10 @@
 -- Knots that pass document 01's tests 7 and 8 are rising.
-use mathlib.Core.Path.{_≡_, refl, sym, _∙_}
+use mathlib.Core.Path.{_≡_, refl}
 use mathlib.Core.List.{List}
 use mathlib.Core.Bool.{Bool, true, false, not, _||_}
 use Prim.Native.Nat.{ℕ, zero, suc, _+_, _-_, _<_}
 use native.Mathlib.Omega.{arith}
+use borrow.Author.Count.{below-more}
 use borrow.Author.Tests.{not-false}
 use lib.ListN.{length}
 use lib.Ieee.{Float, lt}
@@ -12,12 +13,12 @@ use Rattle.rules.specs.Numbers.{at, any}
 use Rattle.rules.specs.Steps.{h}
 use Rattle.rules.specs.Refusals.{number-refused, some-number-refused, step-refused, knots-refused}
 use Rattle.locate.specs.Answers.{Rising}
-use borrow.Author.Count.{below-more}
 
 neither : (t u : Bool) → t || u ≡ false → (t ≡ false) × (u ≡ false)
 neither true u e = (e, (cc))
 neither false u e = (refl, e)
 
+-- a test that holds of no number below n
 none : (test : ℕ → Bool) (n : ℕ) → any test n ≡ false → (k : ℕ) → k < n → test k ≡ false
 unfolding any
 none test zero e k h = absurd (omega arith)

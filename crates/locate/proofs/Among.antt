@@ -12,7 +12,7 @@ use Rattle.rules.specs.Numbers.{at}
 use Rattle.rules.specs.Locate.{first-at-or-above, locate, last-at-or-below, label}
 use Rattle.floats.specs.Place.{place, Real, AllFit}
 use Rattle.floats.proofs.Reals.{lt-is, le-is, eq-is}
-use Rattle.locate.specs.Cell.{middle, halving, most-halvings, one-back, held, lower-index, label-of}
+use Rattle.locate.specs.Cell.{middle, halving, most-halvings, one-back, rust-index, held, lower-index, label-of}
 use Rattle.locate.specs.Answers.{Rising}
 use Rattle.locate.proofs.Split.{Split, split}
 use Rattle.locate.proofs.Halving.{half, halving-ends, halving-down, halving-up}
@@ -68,6 +68,7 @@ module _ (knots : List Float) (point : Float) (n : ℕ) (R : Rising knots n) (F 
 
 -- ---- what search, cell and label come to
 
+-- the label in numbers: from the cell, which ends below the knots at or above the point, to the last knot at or below it
 label-numbers : (above below most cell : ℕ) → cell ≡ min (above - 1) most → above ≤ below → below ≤ above + 1
     → min (cond (leb above (cell + 1) && ltb (cell + 1) below) (cell + 1) cell) most ≡ min (below - 1) most
 label-numbers above below most cell e o c = go (leb above (cell + 1)) refl (ltb (cell + 1) below) refl
@@ -142,18 +143,14 @@ module _ (knots : List Float) (point : Float) (last : ℕ) (A : Among knots poin
 
   module _ (count : length knots ≡ suc last) where
     lower-index-is : last < 256 → lower-index knots point ≡ min (A .above - 1) (last - 1)
-    unfolding lower-index
+    unfolding lower-index rust-index
     lower-index-is few =
         let e : length knots - 1 ≡ last = omega arith in
         let g : length knots - 2 ≡ last - 1 = omega arith in
-        (cc (e, g)) ∙ ends-first (held (one-back knots point (halving knots point most-halvings 0 last)) (length knots)) inner
-      where
-        inner : A .above ≤ last → held (one-back knots point (halving knots point most-halvings 0 last)) (length knots) ≡ A .above - 1
-        inner h =
-            let z : 2 ^ 8 ≡ 256 = refl in
-            ap (λ (k : ℕ). held (one-back knots point k) (length knots)) (halving-finds most-halvings 0 last (omega arith) (omega arith) h (omega arith))
-            ∙ ap (λ (k : ℕ). held k (length knots)) (one-back-is h)
-            ∙ (let y : min (A .above - 1) (length knots - 2) ≡ A .above - 1 = omega arith in y)
+        let inner = one-back knots point (halving knots point most-halvings 0 last) in
+        let z : 2 ^ 8 ≡ 256 = refl in
+        let found : A .above ≤ last → inner ≡ A .above - 1 = λ h. ap (one-back knots point) (halving-finds most-halvings 0 last (omega arith) (omega arith) h (omega arith)) ∙ one-back-is h in
+        (cc (e, g, ends-first inner found)) ∙ (let y : min (min (A .above - 1) (last - 1)) (last - 1) ≡ min (A .above - 1) (last - 1) = omega arith in y)
 
     label-of-is : 1 ≤ last → (cell : ℕ) → cell ≡ min (A .above - 1) (last - 1) → label-of knots point cell ≡ min (A .below - 1) (last - 1)
     unfolding label-of

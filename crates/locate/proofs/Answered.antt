@@ -1,8 +1,8 @@
 -- What each branch of the code answers is the definition's answer, and the definition's answer is the one promised.
-use mathlib.Core.Path.{_≡_, refl, sym, ap, _∙_, subst}
+use mathlib.Core.Path.{_≡_, ap, _∙_}
 use mathlib.Core.List.{List}
-use mathlib.Core.Bool.{Bool, true, false, cond}
-use Prim.Native.Nat.{ℕ, _+_, _-_, min, _<_, _≤_}
+use mathlib.Core.Bool.{true, false}
+use Prim.Native.Nat.{ℕ, _+_, _-_, _<_, _≤_}
 use native.Mathlib.Omega.{arith}
 use lib.Dec.{T}
 use lib.ListN.{length}
@@ -10,7 +10,7 @@ use borrow.Author.Tests.{lt-ltb, le-ltb}
 use lib.Ieee.{Float, binary64, fits, lt, le, eq}
 use Rattle.rules.specs.Numbers.{at}
 use Rattle.floats.specs.Place.{AllFit}
-use Rattle.locate.specs.Cell.{halving, most-halvings, one-back, held, lower-index, label-of}
+use Rattle.locate.specs.Cell.{halving, most-halvings, one-back, rust-index, held, lower-index, label-of}
 use Rattle.locate.specs.Answers.{Located, Labelled}
 use Rattle.locate.proofs.Among.{lower-index-is-locate, label-of-is-label}
 
@@ -31,33 +31,25 @@ module _ (knots : List Float) (point : Float) where
 
   -- the cell
   pub below-all : lt point (at knots 0) ≡ true → 0 ≡ lower-index knots point
-  unfolding lower-index
-  below-all e = simp e
+  unfolding lower-index rust-index
+  below-all e = simp e (omega arith)
 
   module _ (not-below : lt point (at knots 0) ≡ false) where
     pub above-all : le (at knots (length knots - 1)) point ≡ true → length knots - 2 ≡ lower-index knots point
-    unfolding lower-index
-    above-all e = simp (not-below, e)
+    unfolding lower-index rust-index
+    above-all e = simp (not-below, e) (omega arith)
 
     pub inside : le (at knots (length knots - 1)) point ≡ false → (low back cell : ℕ)
         → low ≡ halving knots point most-halvings 0 (length knots - 1) → back ≡ one-back knots point low → cell ≡ held back (length knots) → cell ≡ lower-index knots point
-    unfolding lower-index
+    unfolding lower-index rust-index
     inside e low back cell f g h = simp (not-below, e) (h ∙ ap (λ (k : ℕ). held k (length knots)) (g ∙ ap (one-back knots point) f))
-
-  in-range : 2 ≤ length knots → lower-index knots point + 1 < length knots
-  unfolding lower-index
-  in-range some = go (lt point (at knots 0)) (le (at knots (length knots - 1)) point) (one-back knots point (halving knots point most-halvings 0 (length knots - 1)))
-    where
-      go : (t u : Bool) (k : ℕ) → cond t 0 (cond u (length knots - 2) (held k (length knots))) + 1 < length knots
-      go true u k = omega arith
-      go false true k = omega arith
-      go false false k = omega arith
 
   module _ (all : AllFit knots) (fit : T (fits binary64 point)) where
     pub located : (2 ≤ length knots) × (length knots ≤ 256) → (cell : ℕ) → cell ≡ lower-index knots point → Located knots point cell
+    unfolding lower-index
     located size cell e = record {
       found = e;
-      inside = (let h = in-range (size .0) in omega arith);
+      inside = omega arith;
       rising = λ {n} R f. e ∙ lower-index-is-locate knots point n R all (record { fits = fit; finite = f }) (let c = R .count in omega arith) (let c = R .count in omega arith);
     }
 

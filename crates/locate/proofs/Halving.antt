@@ -1,8 +1,8 @@
 -- The search by halves, of any knots: a turn of the loop is one halving, and for at most 256 knots 8 of them end it.
-use mathlib.Core.Path.{_≡_, refl, sym, _∙_, subst}
+use mathlib.Core.Path.{_≡_, refl, sym, _∙_}
 use mathlib.Core.List.{List}
-use mathlib.Core.Bool.{Bool, true, false}
-use Prim.Native.Nat.{ℕ, zero, suc, _+_, _-_, _*_, _/_, _^_, _<_, _≤_}
+use mathlib.Core.Bool.{Bool, true, false, cond}
+use Prim.Native.Nat.{ℕ, zero, suc, _+_, _-_, _/_, _^_, _<_, _≤_}
 use native.Mathlib.Nat.{pow-suc, lt-of-lt-of-le}
 use native.Mathlib.Omega.{arith}
 use lib.Dec.{ltb}
@@ -39,6 +39,20 @@ module _ (knots : List Float) (point : Float) where
     pub halving-up : le point (at knots (middle low high)) ≡ false → halving knots point (suc d) low high ≡ halving knots point d (middle low high + 1) high
     unfolding halving
     halving-up e = simp (lt-ltb low high l, e)
+
+  -- the search stays between low and high
+  pub halving-under : (d low high : ℕ) → low ≤ high → halving knots point d low high ≤ high
+  unfolding halving
+  halving-under zero low high h = h
+  halving-under (suc d) low high h =
+      go (ltb low high) refl (le point (at knots (middle low high))) (halving-under d low (middle low high) (omega arith)) (λ l. halving-under d (middle low high + 1) high (omega arith))
+    where
+      go : (t : Bool) → ltb low high ≡ t → (u : Bool) → halving knots point d low (middle low high) ≤ middle low high
+          → (low < high → halving knots point d (middle low high + 1) high ≤ high)
+          → cond t (cond u (halving knots point d low (middle low high)) (halving knots point d (middle low high + 1) high)) low ≤ high
+      go true p true down up = omega arith
+      go true p false down up = up (ltb-true low high p)
+      go false p u down up = h
 
   -- more halvings than are enough find the same
   pub enough : (d e low high : ℕ) → high - low < 2 ^ d → high - low < 2 ^ e → halving knots point d low high ≡ halving knots point e low high

@@ -3,3 +3,4 @@ mod Split
 pub mod Among
 pub mod Accepted
 mod Answered
+pub mod Unheld

@@ -1,4 +1,4 @@
--- The search of the Rust's `locate_lower_index` and the label of its cell, for any knots at all.
+-- The search of the Rust's `locate_lower_index`, and the label of its cell, for any knots at all. In quotes stand the words of the Rust and of request W1.
 use mathlib.Core.Bool.{cond, _&&_}
 use mathlib.Core.List.{List}
 use Prim.Native.Nat.{ℕ, zero, suc, _+_, _-_, _/_, min}
@@ -27,7 +27,15 @@ most-halvings = 8
 
 -- one back from where the search ended, where that knot is at or above the point
 unfoldable pub one-back : List Float → Float → ℕ → ℕ
-one-back knots point found = cond (ltb 0 found && le point (at knots found)) (found - 1) found
+one-back knots point low = cond (ltb 0 low && le point (at knots low)) (low - 1) low
+
+-- what the Rust answers: the last knot, past the last cell, where the point or that knot is a NaN
+unfoldable pub rust-index : List Float → Float → ℕ
+unfolding halving one-back
+rust-index knots point =
+    cond (lt point (at knots 0)) 0
+    (cond (le (at knots (length knots - 1)) point) (length knots - 2)
+    (one-back knots point (halving knots point most-halvings 0 (length knots - 1))))
 
 -- "held to points minus 2"
 abbrev pub held : ℕ → ℕ → ℕ
@@ -35,11 +43,8 @@ held index points = min index (points - 2)
 
 -- the cell: "the search runs as in the Rust, its index held to points minus 2"
 unfoldable pub lower-index : List Float → Float → ℕ
-unfolding halving one-back
-lower-index knots point =
-    cond (lt point (at knots 0)) 0
-    (cond (le (at knots (length knots - 1)) point) (length knots - 2)
-    (held (one-back knots point (halving knots point most-halvings 0 (length knots - 1))) (length knots)))
+unfolding rust-index
+lower-index knots point = held (rust-index knots point) (length knots)
 
 -- the label: "the cell, or one more when the point equals the cell's upper knot, held likewise"
 unfoldable pub label-of : List Float → Float → ℕ → ℕ

@@ -31,7 +31,7 @@ fn one_back(knots: &[f64], point: f64, low: usize) -> usize
     low
 }
 
-// The cell of a point among 2 to 256 knots, whatever they are, by at most 8 halvings. On a knot it is the cell below.
+// The cell of a point among 2 to 256 knots, whatever they are, by at most 8 halvings. On an interior knot it is the cell below.
 pub fn locate_lower_index(knots: &[f64], point: f64) -> usize
     requires { ⌜ (2 ≤ length (now knots)) × (length (now knots) ≤ 256) ⌝ }
     ensures { λ r. ⌜ Located (now (knots .entry)) point r ⌝ }

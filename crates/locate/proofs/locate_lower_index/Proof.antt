@@ -1,3 +1,4 @@
+-- The measure is the number of binary digits of the width between low and high: at most 8 for 256 knots, and each halving takes one or more.
 use Prim.Native.Nat.{_-_}
 use native.Mathlib.Omega.{arith}
 use borrow.Author.Needs.{needs}
