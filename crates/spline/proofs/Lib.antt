@@ -1,2 +1,3 @@
 pub mod Interior
 pub mod Ends
+pub mod Stores

@@ -3,7 +3,7 @@ ghost use mathlib.Core.Path.{_≡_};
 ghost use Prim.Native.Nat.{_+_, _-_, _<_, _≤_};
 ghost use lib.ListN.{length};
 ghost use Rattle.rules.specs.Ends.{dropped};
-ghost use Rattle.spline.specs.Lanes.{lower-end-row, upper-end-row, LaneGiven, InteriorRows, EndRows, samples-in};
+ghost use Rattle.spline.specs.Lanes.{lower-end-row, upper-end-row, samples-in, LaneGiven, InteriorRows, FirstRow, LastRow, lower-moment, upper-moment, OneStored};
 use rules::End;
 use rules::Row;
 
@@ -124,5 +124,61 @@ fn upper_row(x: &[f64], y: &[f64], end: End) -> EndRow
                 right: v,
             },
         },
+    }
+}
+
+// The first row of a solve is the lower end's.
+fn first_row(w: &mut [f64], lower: Row)
+    requires { ⌜ 2048 ≤ length (now w) ⌝ }
+    ensures { λ _. ⌜ FirstRow (now (w .entry)) (now (w .exit)) lower ⌝ }
+{
+    w[DIAG] = lower.diagonal;
+    w[SUP] = lower.neighbour;
+    w[RHS] = lower.right;
+}
+
+// The last row of a solve, row l, is the upper end's.
+fn last_row(w: &mut [f64], l: usize, upper: Row)
+    requires { ⌜ (2048 ≤ length (now w)) × (l < 256) ⌝ }
+    ensures { λ _. ⌜ LastRow (now (w .entry)) (now (w .exit)) l upper ⌝ }
+{
+    w[255 + l] = upper.neighbour;
+    w[DIAG + l] = upper.diagonal;
+    w[RHS + l] = upper.right;
+}
+
+// The first moment, where the lower end dropped it, from the two after it.
+fn drop_lower(w: &mut [f64], x: &[f64], lower: End)
+    requires { ⌜ (2048 ≤ length (now w)) × (2 + dropped lower ≤ length (now x)) ⌝ }
+    ensures { λ _. ⌜ OneStored (now (w .entry)) (now (w .exit)) 1792 (lower-moment (now (w .entry)) (now (x .entry)) lower) ⌝ }
+{
+    match lower {
+        End::NotAKnot => {
+            let h0 = x[1] - x[0];
+            let h1 = x[2] - x[1];
+            w[RESULT] = ((h0 + h1) * w[RESULT + 1] - h0 * w[RESULT + 2]) / h1;
+        }
+        End::FirstDerivative(_) => {}
+        End::SecondDerivative(_) => {}
+    }
+}
+
+// The last moment, where the upper end dropped it, from the two before it.
+fn drop_upper(w: &mut [f64], x: &[f64], upper: End)
+    requires { ⌜ (2048 ≤ length (now w)) × (2 + dropped upper ≤ length (now x)) × (length (now x) ≤ 256) ⌝ }
+    ensures { λ _. ⌜ OneStored (now (w .entry)) (now (w .exit)) (1792 + (length (now (x .entry)) - 1)) (upper-moment (now (w .entry)) (now (x .entry)) (length (now (x .entry)) - 1) upper) ⌝ }
+{
+    match upper {
+        End::NotAKnot => {
+            let n = x.len() - 1;
+            let last = n - 1;
+            let before = n - 2;
+            let h_last = x[last + 1] - x[last];
+            let h_before = x[before + 1] - x[before];
+            let m = (h_before + h_last) * w[RESULT + last] - h_last * w[RESULT + before];
+            w[RESULT + n] = m / h_before;
+        }
+        End::FirstDerivative(_) => {}
+        End::SecondDerivative(_) => {}
     }
 }
