@@ -1,3 +1,4 @@
 pub mod Interior
 pub mod Ends
 pub mod Stores
+pub mod RowsOfBothEnds

@@ -3,7 +3,7 @@ ghost use mathlib.Core.Path.{_≡_};
 ghost use Prim.Native.Nat.{_+_, _-_, _<_, _≤_};
 ghost use lib.ListN.{length};
 ghost use Rattle.rules.specs.Ends.{dropped};
-ghost use Rattle.spline.specs.Lanes.{lower-end-row, upper-end-row, samples-in, LaneGiven, InteriorRows, FirstRow, LastRow, lower-moment, upper-moment, OneStored};
+ghost use Rattle.spline.specs.Lanes.{lower-end-row, upper-end-row, samples-in, LaneGiven, InteriorRows, FirstRow, LastRow, lower-moment, upper-moment, OneStored, InnerSolved, MomentsSolved};
 use rules::End;
 use rules::Row;
 
@@ -181,4 +181,20 @@ fn drop_upper(w: &mut [f64], x: &[f64], upper: End)
         End::FirstDerivative(_) => {}
         End::SecondDerivative(_) => {}
     }
+}
+
+// The moments that the rows of both ends give, from the first knot that is not dropped on.
+fn inner_moments(w: &mut [f64], x: &[f64], lower: End, upper: End)
+    requires { ⌜ LaneGiven (now w) (now x) × (2 + dropped lower + dropped upper ≤ length (now x)) ⌝ }
+    ensures { λ _. ⌜ InnerSolved (now (w .entry)) (now (w .exit)) (now (x .entry)) lower upper ⌝ }
+{
+    let points = x.len();
+    let first = lower_row(x, &w[0..points], lower);
+    let last = upper_row(x, &w[0..points], upper);
+    let start = first.dropped;
+    let l = points - 1 - start - last.dropped;
+    interior_rows(w, x, start, l);
+    first_row(w, first.row);
+    last_row(w, l, last.row);
+    solve::thomas(w, l, RESULT + start);
 }
