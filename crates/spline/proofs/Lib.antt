@@ -2,3 +2,5 @@ pub mod Interior
 pub mod Ends
 pub mod Stores
 pub mod RowsOfBothEnds
+pub mod Endpoints
+pub mod PeriodicLane

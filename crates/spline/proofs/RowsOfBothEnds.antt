@@ -21,7 +21,7 @@ use Rattle.solve.proofs.Agreement.{same-thomas}
 use Rattle.spline.specs.Lanes.{lower-end-row, upper-end-row, samples-in, LaneGiven, InteriorRows, FirstRow, LastRow, InnerSolved}
 
 -- a number is 0 or more
-zero-or-more : (k : ℕ) → (k ≡ 0) ⊎ (0 < k)
+pub zero-or-more : (k : ℕ) → (k ≡ 0) ⊎ (0 < k)
 zero-or-more zero = inl refl
 zero-or-more (suc k) = inr (omega arith)
 

@@ -5,9 +5,9 @@ use mathlib.Core.List.{List}
 use Prim.Native.Nat.{ℕ, _+_, _-_, _<_, _≤_}
 use lib.ListN.{length, take}
 use lib.Ieee.{Float}
-use Rattle.rules.specs.Numbers.{at, _⊕_, _⊖_, _⊗_, _⊘_, two}
+use Rattle.rules.specs.Numbers.{at, _⊕_, _⊖_, _⊗_, _⊘_, two, six}
 use Rattle.rules.specs.Ends.{dropped}
-use Rattle.rules.specs.Steps.{h, u}
+use Rattle.rules.specs.Steps.{h, s, u}
 use Rattle.rules.specs.Moments.{lower-row, upper-row, inner, moment}
 use Rattle.rules.specs.declared.End.{End}
 use Rattle.rules.specs.declared.End.the-variants.{NotAKnot, FirstDerivative, SecondDerivative}
@@ -57,6 +57,14 @@ pub record LastRow (w w′ : List Float) (l : ℕ) (upper : Row) : Type 0 where
   pub diag : at w′ (512 + l) ≡ upper .diagonal
   pub rhs : at w′ (1024 + l) ≡ upper .right
   pub kept : (j : ℕ) → j ≢ 255 + l → j ≢ 512 + l → j ≢ 1024 + l → at w′ j ≡ at w j
+
+-- the first row of a periodic axis: its lower neighbour is the last knot
+abbrev pub periodic-row : List Float → List Float → Row
+periodic-row x y = record {
+  diagonal = two ⊗ (h x (length x - 1 - 1) ⊕ h x 0);
+  neighbour = h x 0;
+  right = six ⊗ (s x y 0 ⊖ s x y (length x - 1 - 1));
+}
 
 -- the rows of both ends solved: the result begins at the first knot that is not dropped
 pub record InnerSolved (w w′ x : List Float) (lower upper : End) : Type 0 where

@@ -2,8 +2,9 @@
 ghost use mathlib.Core.Path.{_≡_};
 ghost use Prim.Native.Nat.{_+_, _-_, _<_, _≤_};
 ghost use lib.ListN.{length};
-ghost use Rattle.rules.specs.Ends.{dropped};
-ghost use Rattle.spline.specs.Lanes.{lower-end-row, upper-end-row, samples-in, LaneGiven, InteriorRows, FirstRow, LastRow, lower-moment, upper-moment, OneStored, InnerSolved, MomentsSolved};
+ghost use Rattle.rules.specs.Ends.{dropped, fewest-points};
+ghost use Rattle.spline.specs.Lanes.{lower-end-row, upper-end-row, samples-in, LaneGiven, InteriorRows, FirstRow, LastRow, periodic-row, lower-moment, upper-moment, OneStored, InnerSolved, MomentsSolved};
+use rules::Condition;
 use rules::End;
 use rules::Row;
 
@@ -197,4 +198,71 @@ fn inner_moments(w: &mut [f64], x: &[f64], lower: End, upper: End)
     first_row(w, first.row);
     last_row(w, l, last.row);
     solve::thomas(w, l, RESULT + start);
+}
+
+// The moments of a lane under two ends.
+fn endpoint_moments(w: &mut [f64], x: &[f64], lower: End, upper: End)
+    requires { ⌜ LaneGiven (now w) (now x) × (2 + dropped lower + dropped upper ≤ length (now x)) ⌝ }
+    ensures { λ _. ⌜ MomentsSolved (now (w .entry)) (now (w .exit)) (now (x .entry)) (Condition.Endpoints lower upper) ⌝ }
+{
+    inner_moments(w, x, lower, upper);
+    drop_lower(w, x, lower);
+    drop_upper(w, x, upper);
+}
+
+// The first row of a periodic axis.
+fn periodic_row(x: &[f64], y: &[f64]) -> Row
+    requires { ⌜ (2 ≤ length (now x)) × (length (now x) ≤ length (now y)) ⌝ }
+    ensures { λ r. ⌜ r ≡ periodic-row (now (x .entry)) (now (y .entry)) ⌝ }
+{
+    let last = x.len() - 1 - 1;
+    let h0 = x[1] - x[0];
+    let s0 = (y[1] - y[0]) / h0;
+    let h_last = x[last + 1] - x[last];
+    let s_last = (y[last + 1] - y[last]) / h_last;
+    Row {
+        diagonal: 2.0 * (h_last + h0),
+        neighbour: h0,
+        right: 6.0 * (s0 - s_last),
+    }
+}
+
+// The moments of a periodic lane of more than one interval.
+fn cyclic_moments(w: &mut [f64], x: &[f64])
+    requires { ⌜ LaneGiven (now w) (now x) × (3 ≤ length (now x)) ⌝ }
+    ensures { λ _. ⌜ MomentsSolved (now (w .entry)) (now (w .exit)) (now (x .entry)) Condition.Periodic ⌝ }
+{
+    let points = x.len();
+    let n = points - 1;
+    let last = n - 1;
+    let row = periodic_row(x, &w[0..points]);
+    interior_rows(w, x, 0, n);
+    first_row(w, row);
+    solve::cyclic_thomas(w, last, x[last + 1] - x[last]);
+    w[RESULT + n] = w[RESULT];
+}
+
+// The moments of a periodic lane: two zeros for one interval.
+fn periodic_moments(w: &mut [f64], x: &[f64])
+    requires { ⌜ LaneGiven (now w) (now x) ⌝ }
+    ensures { λ _. ⌜ MomentsSolved (now (w .entry)) (now (w .exit)) (now (x .entry)) Condition.Periodic ⌝ }
+{
+    if x.len() < 3 {
+        w[RESULT] = 0.0;
+        w[RESULT + 1] = 0.0;
+    } else {
+        cyclic_moments(w, x);
+    }
+}
+
+// The moments of the lane whose samples stand in front of the scratch, under a condition. They go from RESULT on.
+// Not public: it requires a scratch of 2,048 numbers, 2 to 256 knots, and the fewest points of the condition.
+pub fn compute_m(w: &mut [f64], x: &[f64], condition: Condition)
+    requires { ⌜ LaneGiven (now w) (now x) × (fewest-points condition ≤ length (now x)) ⌝ }
+    ensures { λ _. ⌜ MomentsSolved (now (w .entry)) (now (w .exit)) (now (x .entry)) condition ⌝ }
+{
+    match condition {
+        Condition::Endpoints(lower, upper) => endpoint_moments(w, x, lower, upper),
+        Condition::Periodic => periodic_moments(w, x),
+    }
 }
