@@ -1,14 +1,16 @@
 -- The rows of a table of refusals: what code that asks them one after the other answers, what follows them, and what is known where none applies.
-use mathlib.Core.Path.{_≡_, refl, sym, _∙_}
+use mathlib.Core.Path.{_≡_, refl, sym, ap, _∙_}
 use mathlib.Core.Bool.{Bool, true, false, cond, _||_, _&&_}
 use mathlib.Core.List.{List, [], _∷_}
 use Prim.Native.Nat.{ℕ, zero, suc, _<_, _≤_}
 use native.Mathlib.Omega.{arith}
+use lib.ListN.{length}
 use lib.Dec.{T, ltb, ltb→lt}
+use lib.Ieee.{Float}
 use borrow.Author.Tests.{ltb-false, eqb-true, not-false}
 use Rattle.rules.specs.Numbers.{any}
 use Rattle.rules.specs.Sizes.{most-axes, most-in-a-tensor, tensor-length}
-use Rattle.rules.specs.Refusals.{points-refused, length-refused}
+use Rattle.rules.specs.Refusals.{points-refused, length-refused, knots-refused}
 use Rattle.rules.specs.declared.Axis.{Axis}
 use Rattle.base.proofs.Scan.{neither, any-at}
 use Rattle.checks.specs.Given.{sizes-of, points-of, InRange}
@@ -136,3 +138,17 @@ module _ (axes : ℕ) (entries : List Axis) {number : ℕ} (e : number ≡ sizes
 
 pub exact : (given size : ℕ) → length-refused given size ≡ false → given ≡ size
 exact given size e = eqb-true given size (not-false _ e)
+
+pub exact-2 : (a m b n : ℕ) → (length-refused a m || length-refused b n) ≡ false → (a ≡ m) × (b ≡ n)
+exact-2 a m b n e =
+    let two = neither (length-refused a m) (length-refused b n) e in (exact a m (two .0), exact b n (two .1))
+
+pub exact-3 : (a m b n c k : ℕ) → (length-refused a m || length-refused b n || length-refused c k) ≡ false → (a ≡ m) × (b ≡ n) × (c ≡ k)
+exact-3 a m b n c k e =
+    let three = neither (length-refused a m || length-refused b n) (length-refused c k) e in
+    let two = exact-2 a m b n (three .0) in (two .0, two .1, exact c k (three .1))
+
+-- ---- row 8 of one axis, whose knots are as many as its points
+
+pub knots-row : (x : List Float) (n : ℕ) {r : Bool} → length x ≡ n → r ≡ knots-refused x (length x) → r ≡ knots-refused x n
+knots-row x n exact e = e ∙ ap (knots-refused x) exact

@@ -1,81 +1,91 @@
+use mathlib.Core.Path.{_≡_, refl, sym, _∙_}
+use lib.ListN.{length}
+use Rattle.rules.specs.Sizes.{knots-length, samples-length, tensor-length}
+use Rattle.checks.specs.Given.{sizes-of, points-of, InRange}
+use Rattle.checks.specs.Check.{build-check}
+use Rattle.checks.proofs.Rows.{stop, pass, sizes-passed, sizes-stop, sizes-pass, exact-3}
 use borrow.Author.Needs.{needs}
 use Rattle.checks.proofs.build_refusal.Statement.{statement}
 use Rattle.checks.proofs.build_refusal.Tie as tie
-use Rattle.checks.proofs.build_refusal.Reads as reads
-use Rattle.checks.proofs.build_refusal.Lts as lts
-use Rattle.checks.proofs.ends.some_fewness_refused.Reads as some-fewness-refused-reads
-use Rattle.checks.proofs.lengths.build_refused.Reads as lengths-build-refused-reads
-use Rattle.checks.proofs.lengths.scratch_refused.Reads as scratch-refused-reads
-use Rattle.checks.proofs.numbers.build_refused.Reads as numbers-build-refused-reads
-use Rattle.checks.proofs.rising.some_knots_refused.Reads as some-knots-refused-reads
-use Rattle.checks.proofs.sizes.sizes_refusal.Reads as sizes-refusal-reads
 
--- src/lib.rt:115:9
-sizes-refusal-requires : tie.Need-sizes-refusal-requires
-sizes-refusal-requires c κs = search needs
+given : (c : tie.Else1) → InRange (c .before .before .before .before .args .axes) (points-of (c .before .before .before .before .args .all))
+given c = sizes-passed _ _ (c .before .sizes-refusal .ensures) (c .if1 .left)
 
--- src/lib.rt:117:9
+knots-exact : (c : tie.Else2) → length (c .before .before .before .before .before .before .args .knots .now) ≡ knots-length (sizes-of (c .before .before .before .before .before .before .args .axes) (c .before .before .before .before .before .before .args .all))
+knots-exact c =
+    exact-3
+    (length (c .before .before .before .before .before .before .args .knots .now)) (knots-length (sizes-of (c .before .before .before .before .before .before .args .axes) (c .before .before .before .before .before .before .args .all))) (length (c .before .before .before .before .before .before .args .samples .now)) (samples-length (sizes-of (c .before .before .before .before .before .before .args .axes) (c .before .before .before .before .before .before .args .all))) (c .before .before .before .before .before .before .args .tensor-length) (tensor-length (sizes-of (c .before .before .before .before .before .before .args .axes) (c .before .before .before .before .before .before .args .all)))
+    (sym (c .before .build-refused .ensures) ∙ c .if2 .left)
+    .0
+
 returns : tie.Need-returns
-returns c = search needs
+unfolding build-check
+returns c = sizes-stop _ _ (c .before .sizes-refusal .ensures) _ (c .if1 .taken)
 
--- src/lib.rt:119:8
-build-refused-requires : tie.Need-build-refused-requires
-build-refused-requires c κs = search needs
-
--- src/lib.rt:120:9
 returns-2 : tie.Need-returns-2
-returns-2 c = search needs
+unfolding build-check
+returns-2 c =
+    sizes-pass _ _ (c .before .before .before .sizes-refusal .ensures) _ (c .before .before .if1 .left)
+    (stop _ (c .before .build-refused .ensures) (c .if2 .taken))
 
--- src/lib.rt:122:8
-scratch-refused-requires : tie.Need-scratch-refused-requires
-scratch-refused-requires c κs = search needs
-
--- src/lib.rt:123:9
 returns-3 : tie.Need-returns-3
-returns-3 c = search needs
+unfolding build-check
+returns-3 c =
+    sizes-pass _ _ (c .before .before .before .before .before .sizes-refusal .ensures) _ (c .before .before .before .before .if1 .left)
+    (pass _ (c .before .before .before .build-refused .ensures) (c .before .before .if2 .left)
+    (stop _ (c .before .scratch-refused .ensures) (c .if3 .taken)))
 
--- src/lib.rt:125:8
-build-refused-requires-2 : tie.Need-build-refused-requires-2
-build-refused-requires-2 c κs = search needs
-
--- src/lib.rt:126:9
 returns-4 : tie.Need-returns-4
-returns-4 c = search needs
+unfolding build-check
+returns-4 c =
+    sizes-pass _ _ (c .before .before .before .before .before .before .before .sizes-refusal .ensures) _ (c .before .before .before .before .before .before .if1 .left)
+    (pass _ (c .before .before .before .before .before .build-refused .ensures) (c .before .before .before .before .if2 .left)
+    (pass _ (c .before .before .before .scratch-refused .ensures) (c .before .before .if3 .left)
+    (stop _ (c .before .build-refused2 .ensures) (c .if4 .taken))))
 
--- src/lib.rt:128:8
-some-knots-refused-requires : tie.Need-some-knots-refused-requires
-some-knots-refused-requires c κs = search needs
-
--- src/lib.rt:129:9
 returns-5 : tie.Need-returns-5
-returns-5 c = search needs
+unfolding build-check
+returns-5 c =
+    sizes-pass _ _ (c .before .before .before .before .before .before .before .before .before .sizes-refusal .ensures) _ (c .before .before .before .before .before .before .before .before .if1 .left)
+    (pass _ (c .before .before .before .before .before .before .before .build-refused .ensures) (c .before .before .before .before .before .before .if2 .left)
+    (pass _ (c .before .before .before .before .before .scratch-refused .ensures) (c .before .before .before .before .if3 .left)
+    (pass _ (c .before .before .before .build-refused2 .ensures) (c .before .before .if4 .left)
+    (stop _ (c .before .some-knots-refused .ensures) (c .if5 .taken)))))
 
--- src/lib.rt:131:8
-some-fewness-refused-requires : tie.Need-some-fewness-refused-requires
-some-fewness-refused-requires c κs = search needs
-
--- src/lib.rt:132:9
 returns-6 : tie.Need-returns-6
-returns-6 c = search needs
+unfolding build-check
+returns-6 c =
+    sizes-pass _ _ (c .before .before .before .before .before .before .before .before .before .before .before .sizes-refusal .ensures) _ (c .before .before .before .before .before .before .before .before .before .before .if1 .left)
+    (pass _ (c .before .before .before .before .before .before .before .before .before .build-refused .ensures) (c .before .before .before .before .before .before .before .before .if2 .left)
+    (pass _ (c .before .before .before .before .before .before .before .scratch-refused .ensures) (c .before .before .before .before .before .before .if3 .left)
+    (pass _ (c .before .before .before .before .before .build-refused2 .ensures) (c .before .before .before .before .if4 .left)
+    (pass _ (c .before .before .before .some-knots-refused .ensures) (c .before .before .if5 .left)
+    (stop _ (c .before .some-fewness-refused .ensures) (c .if6 .taken))))))
 
--- src/lib.rt:105:1
 returns-7 : tie.Need-returns-7
-returns-7 c = search needs
+unfolding build-check
+returns-7 c =
+    sizes-pass _ _ (c .before .before .before .before .before .before .before .before .before .before .before .sizes-refusal .ensures) _ (c .before .before .before .before .before .before .before .before .before .before .if1 .left)
+    (pass _ (c .before .before .before .before .before .before .before .before .before .build-refused .ensures) (c .before .before .before .before .before .before .before .before .if2 .left)
+    (pass _ (c .before .before .before .before .before .before .before .scratch-refused .ensures) (c .before .before .before .before .before .before .if3 .left)
+    (pass _ (c .before .before .before .before .before .build-refused2 .ensures) (c .before .before .before .before .if4 .left)
+    (pass _ (c .before .before .before .some-knots-refused .ensures) (c .before .before .if5 .left)
+    (pass _ (c .before .some-fewness-refused .ensures) (c .if6 .left) refl)))))
 
 pub build-refusal-spec : {M : Type 1} → statement M
 build-refusal-spec =
     tie.close
     (tie.spec
-    sizes-refusal-requires
+    (λ c κs. search needs)
     returns
-    build-refused-requires
+    (λ c κs. given c)
     returns-2
-    scratch-refused-requires
+    (λ c κs. given (c .before .before))
     returns-3
-    build-refused-requires-2
+    (λ c κs. given (c .before .before .before .before) .few-axes)
     returns-4
-    some-knots-refused-requires
+    (λ c κs. (given (c .before .before .before .before .before .before), knots-exact (c .before .before .before .before)))
     returns-5
-    some-fewness-refused-requires
+    (λ c κs. given (c .before .before .before .before .before .before .before .before) .few-axes)
     returns-6
     returns-7)

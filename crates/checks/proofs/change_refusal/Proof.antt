@@ -1,92 +1,105 @@
+use mathlib.Core.Path.{_≡_, refl, sym, _∙_}
+use lib.ListN.{length}
+use Rattle.rules.specs.Sizes.{knots-length, tensor-length}
+use Rattle.checks.specs.Given.{sizes-of, points-of, InRange}
+use Rattle.checks.specs.Check.{change-check}
+use Rattle.checks.proofs.Rows.{stop, pass, sizes-passed, sizes-stop, sizes-pass, exact-2}
 use borrow.Author.Needs.{needs}
 use Rattle.checks.proofs.change_refusal.Statement.{statement}
 use Rattle.checks.proofs.change_refusal.Tie as tie
-use Rattle.checks.proofs.change_refusal.Reads as reads
-use Rattle.checks.proofs.change_refusal.Lts as lts
-use Rattle.checks.proofs.ends.some_fewness_refused.Reads as some-fewness-refused-reads
-use Rattle.checks.proofs.lengths.change_refused.Reads as lengths-change-refused-reads
-use Rattle.checks.proofs.lengths.scratch_refused.Reads as scratch-refused-reads
-use Rattle.checks.proofs.numbers.change_refused.Reads as numbers-change-refused-reads
-use Rattle.checks.proofs.rising.some_knots_refused.Reads as some-knots-refused-reads
-use Rattle.checks.proofs.sizes.place_refused.Reads as place-refused-reads
-use Rattle.checks.proofs.sizes.sizes_refusal.Reads as sizes-refusal-reads
 
--- src/lib.rt:149:9
-sizes-refusal-requires : tie.Need-sizes-refusal-requires
-sizes-refusal-requires c κs = search needs
+given : (c : tie.Else1) → InRange (c .before .before .before .before .args .axes) (points-of (c .before .before .before .before .args .all))
+given c = sizes-passed _ _ (c .before .sizes-refusal .ensures) (c .if1 .left)
 
--- src/lib.rt:151:9
+knots-exact : (c : tie.Else2) → length (c .before .before .before .before .before .before .args .knots .now) ≡ knots-length (sizes-of (c .before .before .before .before .before .before .args .axes) (c .before .before .before .before .before .before .args .all))
+knots-exact c =
+    exact-2
+    (length (c .before .before .before .before .before .before .args .knots .now)) (knots-length (sizes-of (c .before .before .before .before .before .before .args .axes) (c .before .before .before .before .before .before .args .all))) (length (c .before .before .before .before .before .before .args .tensor .now)) (tensor-length (sizes-of (c .before .before .before .before .before .before .args .axes) (c .before .before .before .before .before .before .args .all)))
+    (sym (c .before .change-refused .ensures) ∙ c .if2 .left)
+    .0
+
 returns : tie.Need-returns
-returns c = search needs
+unfolding change-check
+returns c = sizes-stop _ _ (c .before .sizes-refusal .ensures) _ (c .if1 .taken)
 
--- src/lib.rt:153:8
-change-refused-requires : tie.Need-change-refused-requires
-change-refused-requires c κs = search needs
-
--- src/lib.rt:154:9
 returns-2 : tie.Need-returns-2
-returns-2 c = search needs
+unfolding change-check
+returns-2 c =
+    sizes-pass _ _ (c .before .before .before .sizes-refusal .ensures) _ (c .before .before .if1 .left)
+    (stop _ (c .before .change-refused .ensures) (c .if2 .taken))
 
--- src/lib.rt:156:8
-scratch-refused-requires : tie.Need-scratch-refused-requires
-scratch-refused-requires c κs = search needs
-
--- src/lib.rt:157:9
 returns-3 : tie.Need-returns-3
-returns-3 c = search needs
+unfolding change-check
+returns-3 c =
+    sizes-pass _ _ (c .before .before .before .before .before .sizes-refusal .ensures) _ (c .before .before .before .before .if1 .left)
+    (pass _ (c .before .before .before .change-refused .ensures) (c .before .before .if2 .left)
+    (stop _ (c .before .scratch-refused .ensures) (c .if3 .taken)))
 
--- src/lib.rt:159:8
-place-refused-requires : tie.Need-place-refused-requires
-place-refused-requires c κs = search needs
-
--- src/lib.rt:160:9
 returns-4 : tie.Need-returns-4
-returns-4 c = search needs
+unfolding change-check
+returns-4 c =
+    sizes-pass _ _ (c .before .before .before .before .before .before .before .sizes-refusal .ensures) _ (c .before .before .before .before .before .before .if1 .left)
+    (pass _ (c .before .before .before .before .before .change-refused .ensures) (c .before .before .before .before .if2 .left)
+    (pass _ (c .before .before .before .scratch-refused .ensures) (c .before .before .if3 .left)
+    (stop _ (c .before .place-refused .ensures) (c .if4 .taken))))
 
--- src/lib.rt:162:8
-change-refused-requires-2 : tie.Need-change-refused-requires-2
-change-refused-requires-2 c κs = search needs
-
--- src/lib.rt:163:9
 returns-5 : tie.Need-returns-5
-returns-5 c = search needs
+unfolding change-check
+returns-5 c =
+    sizes-pass _ _ (c .before .before .before .before .before .before .before .before .before .sizes-refusal .ensures) _ (c .before .before .before .before .before .before .before .before .if1 .left)
+    (pass _ (c .before .before .before .before .before .before .before .change-refused .ensures) (c .before .before .before .before .before .before .if2 .left)
+    (pass _ (c .before .before .before .before .before .scratch-refused .ensures) (c .before .before .before .before .if3 .left)
+    (pass _ (c .before .before .before .place-refused .ensures) (c .before .before .if4 .left)
+    (stop _ (c .before .change-refused2 .ensures) (c .if5 .taken)))))
 
--- src/lib.rt:165:8
-some-knots-refused-requires : tie.Need-some-knots-refused-requires
-some-knots-refused-requires c κs = search needs
-
--- src/lib.rt:166:9
 returns-6 : tie.Need-returns-6
-returns-6 c = search needs
+unfolding change-check
+returns-6 c =
+    sizes-pass _ _ (c .before .before .before .before .before .before .before .before .before .before .before .sizes-refusal .ensures) _ (c .before .before .before .before .before .before .before .before .before .before .if1 .left)
+    (pass _ (c .before .before .before .before .before .before .before .before .before .change-refused .ensures) (c .before .before .before .before .before .before .before .before .if2 .left)
+    (pass _ (c .before .before .before .before .before .before .before .scratch-refused .ensures) (c .before .before .before .before .before .before .if3 .left)
+    (pass _ (c .before .before .before .before .before .place-refused .ensures) (c .before .before .before .before .if4 .left)
+    (pass _ (c .before .before .before .change-refused2 .ensures) (c .before .before .if5 .left)
+    (stop _ (c .before .some-knots-refused .ensures) (c .if6 .taken))))))
 
--- src/lib.rt:168:8
-some-fewness-refused-requires : tie.Need-some-fewness-refused-requires
-some-fewness-refused-requires c κs = search needs
-
--- src/lib.rt:169:9
 returns-7 : tie.Need-returns-7
-returns-7 c = search needs
+unfolding change-check
+returns-7 c =
+    sizes-pass _ _ (c .before .before .before .before .before .before .before .before .before .before .before .before .before .sizes-refusal .ensures) _ (c .before .before .before .before .before .before .before .before .before .before .before .before .if1 .left)
+    (pass _ (c .before .before .before .before .before .before .before .before .before .before .before .change-refused .ensures) (c .before .before .before .before .before .before .before .before .before .before .if2 .left)
+    (pass _ (c .before .before .before .before .before .before .before .before .before .scratch-refused .ensures) (c .before .before .before .before .before .before .before .before .if3 .left)
+    (pass _ (c .before .before .before .before .before .before .before .place-refused .ensures) (c .before .before .before .before .before .before .if4 .left)
+    (pass _ (c .before .before .before .before .before .change-refused2 .ensures) (c .before .before .before .before .if5 .left)
+    (pass _ (c .before .before .before .some-knots-refused .ensures) (c .before .before .if6 .left)
+    (stop _ (c .before .some-fewness-refused .ensures) (c .if7 .taken)))))))
 
--- src/lib.rt:138:1
 returns-8 : tie.Need-returns-8
-returns-8 c = search needs
+unfolding change-check
+returns-8 c =
+    sizes-pass _ _ (c .before .before .before .before .before .before .before .before .before .before .before .before .before .sizes-refusal .ensures) _ (c .before .before .before .before .before .before .before .before .before .before .before .before .if1 .left)
+    (pass _ (c .before .before .before .before .before .before .before .before .before .before .before .change-refused .ensures) (c .before .before .before .before .before .before .before .before .before .before .if2 .left)
+    (pass _ (c .before .before .before .before .before .before .before .before .before .scratch-refused .ensures) (c .before .before .before .before .before .before .before .before .if3 .left)
+    (pass _ (c .before .before .before .before .before .before .before .place-refused .ensures) (c .before .before .before .before .before .before .if4 .left)
+    (pass _ (c .before .before .before .before .before .change-refused2 .ensures) (c .before .before .before .before .if5 .left)
+    (pass _ (c .before .before .before .some-knots-refused .ensures) (c .before .before .if6 .left)
+    (pass _ (c .before .some-fewness-refused .ensures) (c .if7 .left) refl))))))
 
 pub change-refusal-spec : {M : Type 1} → statement M
 change-refusal-spec =
     tie.close
     (tie.spec
-    sizes-refusal-requires
+    (λ c κs. search needs)
     returns
-    change-refused-requires
+    (λ c κs. given c)
     returns-2
-    scratch-refused-requires
+    (λ c κs. given (c .before .before))
     returns-3
-    place-refused-requires
+    (λ c κs. given (c .before .before .before .before) .few-axes)
     returns-4
-    change-refused-requires-2
+    (λ c κs. given (c .before .before .before .before .before .before) .few-axes)
     returns-5
-    some-knots-refused-requires
+    (λ c κs. (given (c .before .before .before .before .before .before .before .before), knots-exact (c .before .before .before .before .before .before)))
     returns-6
-    some-fewness-refused-requires
+    (λ c κs. given (c .before .before .before .before .before .before .before .before .before .before) .few-axes)
     returns-7
     returns-8)

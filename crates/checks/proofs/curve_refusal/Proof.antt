@@ -1,59 +1,58 @@
+use mathlib.Core.Path.{_≡_, refl, sym, _∙_}
+use lib.ListN.{length}
+use Rattle.checks.specs.Check.{curve-check}
+use Rattle.checks.proofs.Rows.{stop, pass, exact-3, knots-row}
 use borrow.Author.Needs.{needs}
 use Rattle.checks.proofs.curve_refusal.Statement.{statement}
 use Rattle.checks.proofs.curve_refusal.Tie as tie
-use Rattle.checks.proofs.curve_refusal.Reads as reads
-use Rattle.checks.proofs.curve_refusal.Lts as lts
-use Rattle.checks.proofs.lengths.axis_refused.Reads as axis-refused-reads
-use Rattle.checks.proofs.numbers.curve_refused.Reads as curve-refused-reads
-use Rattle.checks.proofs.rising.knots_refused.Reads as knots-refused-reads
-use Rattle.checks.proofs.sizes.points_refused.Reads as points-refused-reads
 
--- src/lib.rt:58:8
-points-refused-requires : tie.Need-points-refused-requires
-points-refused-requires c κs = search needs
+knots-exact : (c : tie.Else2) → length (c .before .before .before .before .before .before .args .knots .now) ≡ c .before .before .before .before .before .before .args .points
+knots-exact c =
+    exact-3 (length (c .before .before .before .before .before .before .args .knots .now)) (c .before .before .before .before .before .before .args .points) (length (c .before .before .before .before .before .before .args .samples .now)) (c .before .before .before .before .before .before .args .points) (c .before .before .before .before .before .before .args .moments-length) (c .before .before .before .before .before .before .args .points) (sym (c .before .axis-refused .ensures) ∙ c .if2 .left) .0
 
--- src/lib.rt:59:9
 returns : tie.Need-returns
-returns c = search needs
+unfolding curve-check
+returns c = stop _ (c .before .points-refused .ensures) (c .if1 .taken)
 
--- src/lib.rt:61:8
-axis-refused-requires : tie.Need-axis-refused-requires
-axis-refused-requires c κs = search needs
-
--- src/lib.rt:62:9
 returns-2 : tie.Need-returns-2
-returns-2 c = search needs
+unfolding curve-check
+returns-2 c =
+    pass _ (c .before .before .before .points-refused .ensures) (c .before .before .if1 .left)
+    (stop _ (c .before .axis-refused .ensures) (c .if2 .taken))
 
--- src/lib.rt:64:8
-curve-refused-requires : tie.Need-curve-refused-requires
-curve-refused-requires c κs = search needs
-
--- src/lib.rt:65:9
 returns-3 : tie.Need-returns-3
-returns-3 c = search needs
+unfolding curve-check
+returns-3 c =
+    pass _ (c .before .before .before .before .before .points-refused .ensures) (c .before .before .before .before .if1 .left)
+    (pass _ (c .before .before .before .axis-refused .ensures) (c .before .before .if2 .left)
+    (stop _ (c .before .curve-refused .ensures) (c .if3 .taken)))
 
--- src/lib.rt:67:8
-knots-refused-requires : tie.Need-knots-refused-requires
-knots-refused-requires c κs = search needs
-
--- src/lib.rt:68:9
 returns-4 : tie.Need-returns-4
-returns-4 c = search needs
+unfolding curve-check
+returns-4 c =
+    pass _ (c .before .before .before .before .before .before .before .points-refused .ensures) (c .before .before .before .before .before .before .if1 .left)
+    (pass _ (c .before .before .before .before .before .axis-refused .ensures) (c .before .before .before .before .if2 .left)
+    (pass _ (c .before .before .before .curve-refused .ensures) (c .before .before .if3 .left)
+    (stop _ (knots-row (c .before .before .before .before .before .before .before .before .before .before .args .knots .now) (c .before .before .before .before .before .before .before .before .before .before .args .points) (knots-exact (c .before .before .before .before)) (c .before .knots-refused .ensures)) (c .if4 .taken))))
 
--- src/lib.rt:49:1
 returns-5 : tie.Need-returns-5
-returns-5 c = search needs
+unfolding curve-check
+returns-5 c =
+    pass _ (c .before .before .before .before .before .before .before .points-refused .ensures) (c .before .before .before .before .before .before .if1 .left)
+    (pass _ (c .before .before .before .before .before .axis-refused .ensures) (c .before .before .before .before .if2 .left)
+    (pass _ (c .before .before .before .curve-refused .ensures) (c .before .before .if3 .left)
+    (pass _ (knots-row (c .before .before .before .before .before .before .before .before .before .before .args .knots .now) (c .before .before .before .before .before .before .before .before .before .before .args .points) (knots-exact (c .before .before .before .before)) (c .before .knots-refused .ensures)) (c .if4 .left) refl)))
 
 pub curve-refusal-spec : {M : Type 1} → statement M
 curve-refusal-spec =
     tie.close
     (tie.spec
-    points-refused-requires
+    (λ c κs. search needs)
     returns
-    axis-refused-requires
+    (λ c κs. search needs)
     returns-2
-    curve-refused-requires
+    (λ c κs. search needs)
     returns-3
-    knots-refused-requires
+    (λ c κs. search needs)
     returns-4
     returns-5)

@@ -1,75 +1,83 @@
+use mathlib.Core.Path.{_≡_, refl, sym, _∙_}
+use lib.ListN.{length}
+use borrow.Author.Tests.{lt-ltb, le-ltb}
+use Rattle.checks.specs.Check.{moments-check}
+use Rattle.checks.proofs.Rows.{stop, pass, exact-3, knots-row}
 use borrow.Author.Needs.{needs}
 use Rattle.checks.proofs.moments_refusal.Statement.{statement}
 use Rattle.checks.proofs.moments_refusal.Tie as tie
-use Rattle.checks.proofs.moments_refusal.Reads as reads
-use Rattle.checks.proofs.moments_refusal.Lts as lts
-use Rattle.checks.proofs.ends.fewness_refused.Reads as fewness-refused-reads
-use Rattle.checks.proofs.lengths.axis_refused.Reads as axis-refused-reads
-use Rattle.checks.proofs.numbers.moments_refused.Reads as moments-refused-reads
-use Rattle.checks.proofs.rising.knots_refused.Reads as knots-refused-reads
-use Rattle.checks.proofs.sizes.points_refused.Reads as points-refused-reads
 
--- src/lib.rt:27:8
-points-refused-requires : tie.Need-points-refused-requires
-points-refused-requires c κs = search needs
+knots-exact : (c : tie.Else2) → length (c .before .before .before .before .before .before .args .knots .now) ≡ c .before .before .before .before .before .before .args .points
+knots-exact c =
+    exact-3 (length (c .before .before .before .before .before .before .args .knots .now)) (c .before .before .before .before .before .before .args .points) (length (c .before .before .before .before .before .before .args .samples .now)) (c .before .before .before .before .before .before .args .points) (c .before .before .before .before .before .before .args .moments-length) (c .before .before .before .before .before .before .args .points) (sym (c .before .axis-refused .ensures) ∙ c .if2 .left) .0
 
--- src/lib.rt:28:9
 returns : tie.Need-returns
-returns c = search needs
+unfolding moments-check
+returns c = stop _ (c .before .points-refused .ensures) (c .if1 .taken)
 
--- src/lib.rt:30:8
-axis-refused-requires : tie.Need-axis-refused-requires
-axis-refused-requires c κs = search needs
-
--- src/lib.rt:31:9
 returns-2 : tie.Need-returns-2
-returns-2 c = search needs
+unfolding moments-check
+returns-2 c =
+    pass _ (c .before .before .before .points-refused .ensures) (c .before .before .if1 .left)
+    (stop _ (c .before .axis-refused .ensures) (c .if2 .taken))
 
--- src/lib.rt:34:9
 returns-3 : tie.Need-returns-3
-returns-3 c = search needs
+unfolding moments-check
+returns-3 c =
+    pass _ (c .before .before .before .before .points-refused .ensures) (c .before .before .before .if1 .left)
+    (pass _ (c .before .before .axis-refused .ensures) (c .before .if2 .left)
+    (stop _ refl (lt-ltb _ _ (c .if3 .taken))))
 
--- src/lib.rt:36:8
-moments-refused-requires : tie.Need-moments-refused-requires
-moments-refused-requires c κs = search needs
-
--- src/lib.rt:37:9
 returns-4 : tie.Need-returns-4
-returns-4 c = search needs
+unfolding moments-check
+returns-4 c =
+    pass _ (c .before .before .before .before .before .before .points-refused .ensures) (c .before .before .before .before .before .if1 .left)
+    (pass _ (c .before .before .before .before .axis-refused .ensures) (c .before .before .before .if2 .left)
+    (pass _ refl (le-ltb _ _ (c .before .before .if3 .left))
+    (stop _ (c .before .moments-refused .ensures) (c .if4 .taken))))
 
--- src/lib.rt:39:8
-knots-refused-requires : tie.Need-knots-refused-requires
-knots-refused-requires c κs = search needs
-
--- src/lib.rt:40:9
 returns-5 : tie.Need-returns-5
-returns-5 c = search needs
+unfolding moments-check
+returns-5 c =
+    pass _ (c .before .before .before .before .before .before .before .before .points-refused .ensures) (c .before .before .before .before .before .before .before .if1 .left)
+    (pass _ (c .before .before .before .before .before .before .axis-refused .ensures) (c .before .before .before .before .before .if2 .left)
+    (pass _ refl (le-ltb _ _ (c .before .before .before .before .if3 .left))
+    (pass _ (c .before .before .before .moments-refused .ensures) (c .before .before .if4 .left)
+    (stop _ (knots-row (c .before .before .before .before .before .before .before .before .before .before .before .args .knots .now) (c .before .before .before .before .before .before .before .before .before .before .before .args .points) (knots-exact (c .before .before .before .before .before)) (c .before .knots-refused .ensures)) (c .if5 .taken)))))
 
--- src/lib.rt:42:8
-fewness-refused-requires : tie.Need-fewness-refused-requires
-fewness-refused-requires c κs = search needs
-
--- src/lib.rt:43:9
 returns-6 : tie.Need-returns-6
-returns-6 c = search needs
+unfolding moments-check
+returns-6 c =
+    pass _ (c .before .before .before .before .before .before .before .before .before .before .points-refused .ensures) (c .before .before .before .before .before .before .before .before .before .if1 .left)
+    (pass _ (c .before .before .before .before .before .before .before .before .axis-refused .ensures) (c .before .before .before .before .before .before .before .if2 .left)
+    (pass _ refl (le-ltb _ _ (c .before .before .before .before .before .before .if3 .left))
+    (pass _ (c .before .before .before .before .before .moments-refused .ensures) (c .before .before .before .before .if4 .left)
+    (pass _ (knots-row (c .before .before .before .before .before .before .before .before .before .before .before .before .before .args .knots .now) (c .before .before .before .before .before .before .before .before .before .before .before .before .before .args .points) (knots-exact (c .before .before .before .before .before .before .before)) (c .before .before .before .knots-refused .ensures)) (c .before .before .if5 .left)
+    (stop _ (c .before .fewness-refused .ensures) (c .if6 .taken))))))
 
--- src/lib.rt:17:1
 returns-7 : tie.Need-returns-7
-returns-7 c = search needs
+unfolding moments-check
+returns-7 c =
+    pass _ (c .before .before .before .before .before .before .before .before .before .before .points-refused .ensures) (c .before .before .before .before .before .before .before .before .before .if1 .left)
+    (pass _ (c .before .before .before .before .before .before .before .before .axis-refused .ensures) (c .before .before .before .before .before .before .before .if2 .left)
+    (pass _ refl (le-ltb _ _ (c .before .before .before .before .before .before .if3 .left))
+    (pass _ (c .before .before .before .before .before .moments-refused .ensures) (c .before .before .before .before .if4 .left)
+    (pass _ (knots-row (c .before .before .before .before .before .before .before .before .before .before .before .before .before .args .knots .now) (c .before .before .before .before .before .before .before .before .before .before .before .before .before .args .points) (knots-exact (c .before .before .before .before .before .before .before)) (c .before .before .before .knots-refused .ensures)) (c .before .before .if5 .left)
+    (pass _ (c .before .fewness-refused .ensures) (c .if6 .left) refl)))))
 
 pub moments-refusal-spec : {M : Type 1} → statement M
 moments-refusal-spec =
     tie.close
     (tie.spec
-    points-refused-requires
+    (λ c κs. search needs)
     returns
-    axis-refused-requires
+    (λ c κs. search needs)
     returns-2
     returns-3
-    moments-refused-requires
+    (λ c κs. search needs)
     returns-4
-    knots-refused-requires
+    (λ c κs. search needs)
     returns-5
-    fewness-refused-requires
+    (λ c κs. search needs)
     returns-6
     returns-7)

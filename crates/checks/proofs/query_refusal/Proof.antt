@@ -1,59 +1,66 @@
+use mathlib.Core.Path.{_≡_, refl, sym, _∙_}
+use lib.ListN.{length}
+use Rattle.rules.specs.Sizes.{knots-length, tensor-length}
+use Rattle.checks.specs.Given.{sizes-of, points-of, InRange}
+use Rattle.checks.specs.Check.{query-check}
+use Rattle.checks.proofs.Rows.{stop, pass, sizes-passed, sizes-stop, sizes-pass, exact-3}
 use borrow.Author.Needs.{needs}
 use Rattle.checks.proofs.query_refusal.Statement.{statement}
 use Rattle.checks.proofs.query_refusal.Tie as tie
-use Rattle.checks.proofs.query_refusal.Reads as reads
-use Rattle.checks.proofs.query_refusal.Lts as lts
-use Rattle.checks.proofs.lengths.query_refused.Reads as query-refused-reads
-use Rattle.checks.proofs.numbers.two_refused.Reads as two-refused-reads
-use Rattle.checks.proofs.rising.some_knots_refused.Reads as some-knots-refused-reads
-use Rattle.checks.proofs.sizes.sizes_refusal.Reads as sizes-refusal-reads
 
--- src/lib.rt:184:9
-sizes-refusal-requires : tie.Need-sizes-refusal-requires
-sizes-refusal-requires c κs = search needs
+given : (c : tie.Else1) → InRange (c .before .before .before .before .args .axes) (points-of (c .before .before .before .before .args .all))
+given c = sizes-passed _ _ (c .before .sizes-refusal .ensures) (c .if1 .left)
 
--- src/lib.rt:186:9
+knots-exact : (c : tie.Else2) → length (c .before .before .before .before .before .before .args .knots .now) ≡ knots-length (sizes-of (c .before .before .before .before .before .before .args .axes) (c .before .before .before .before .before .before .args .all))
+knots-exact c =
+    exact-3
+    (length (c .before .before .before .before .before .before .args .knots .now)) (knots-length (sizes-of (c .before .before .before .before .before .before .args .axes) (c .before .before .before .before .before .before .args .all))) (c .before .before .before .before .before .before .args .tensor-length) (tensor-length (sizes-of (c .before .before .before .before .before .before .args .axes) (c .before .before .before .before .before .before .args .all))) (length (c .before .before .before .before .before .before .args .coordinates .now)) (c .before .before .before .before .before .before .args .axes)
+    (sym (c .before .query-refused .ensures) ∙ c .if2 .left)
+    .0
+
 returns : tie.Need-returns
-returns c = search needs
+unfolding query-check
+returns c = sizes-stop _ _ (c .before .sizes-refusal .ensures) _ (c .if1 .taken)
 
--- src/lib.rt:188:8
-query-refused-requires : tie.Need-query-refused-requires
-query-refused-requires c κs = search needs
-
--- src/lib.rt:189:9
 returns-2 : tie.Need-returns-2
-returns-2 c = search needs
+unfolding query-check
+returns-2 c =
+    sizes-pass _ _ (c .before .before .before .sizes-refusal .ensures) _ (c .before .before .if1 .left)
+    (stop _ (c .before .query-refused .ensures) (c .if2 .taken))
 
--- src/lib.rt:191:8
-two-refused-requires : tie.Need-two-refused-requires
-two-refused-requires c κs = search needs
-
--- src/lib.rt:192:9
 returns-3 : tie.Need-returns-3
-returns-3 c = search needs
+unfolding query-check
+returns-3 c =
+    sizes-pass _ _ (c .before .before .before .before .before .sizes-refusal .ensures) _ (c .before .before .before .before .if1 .left)
+    (pass _ (c .before .before .before .query-refused .ensures) (c .before .before .if2 .left)
+    (stop _ (c .before .slices-refused .ensures) (c .if3 .taken)))
 
--- src/lib.rt:194:8
-some-knots-refused-requires : tie.Need-some-knots-refused-requires
-some-knots-refused-requires c κs = search needs
-
--- src/lib.rt:195:9
 returns-4 : tie.Need-returns-4
-returns-4 c = search needs
+unfolding query-check
+returns-4 c =
+    sizes-pass _ _ (c .before .before .before .before .before .before .before .sizes-refusal .ensures) _ (c .before .before .before .before .before .before .if1 .left)
+    (pass _ (c .before .before .before .before .before .query-refused .ensures) (c .before .before .before .before .if2 .left)
+    (pass _ (c .before .before .before .slices-refused .ensures) (c .before .before .if3 .left)
+    (stop _ (c .before .some-knots-refused .ensures) (c .if4 .taken))))
 
--- src/lib.rt:175:1
 returns-5 : tie.Need-returns-5
-returns-5 c = search needs
+unfolding query-check
+returns-5 c =
+    sizes-pass _ _ (c .before .before .before .before .before .before .before .sizes-refusal .ensures) _ (c .before .before .before .before .before .before .if1 .left)
+    (pass _ (c .before .before .before .before .before .query-refused .ensures) (c .before .before .before .before .if2 .left)
+    (pass _ (c .before .before .before .slices-refused .ensures) (c .before .before .if3 .left)
+    (pass _ (c .before .some-knots-refused .ensures) (c .if4 .left) refl)))
 
 pub query-refusal-spec : {M : Type 1} → statement M
 query-refusal-spec =
     tie.close
     (tie.spec
-    sizes-refusal-requires
+    (λ c κs. search needs)
     returns
-    query-refused-requires
+    (λ c κs. given c)
     returns-2
-    two-refused-requires
+    (λ c κs. search needs)
     returns-3
-    some-knots-refused-requires
+    (λ c κs. (given (c .before .before .before .before), knots-exact (c .before .before)))
     returns-4
     returns-5)

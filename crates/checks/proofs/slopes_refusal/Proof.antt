@@ -1,59 +1,62 @@
+use mathlib.Core.Path.{_≡_, refl, sym, _∙_}
+use mathlib.Core.Bool.{_||_}
+use lib.ListN.{length}
+use Rattle.rules.specs.Refusals.{length-refused}
+use Rattle.base.proofs.Scan.{neither}
+use Rattle.checks.specs.Check.{slopes-check}
+use Rattle.checks.proofs.Rows.{stop, pass, exact-3, knots-row}
 use borrow.Author.Needs.{needs}
 use Rattle.checks.proofs.slopes_refusal.Statement.{statement}
 use Rattle.checks.proofs.slopes_refusal.Tie as tie
-use Rattle.checks.proofs.slopes_refusal.Reads as reads
-use Rattle.checks.proofs.slopes_refusal.Lts as lts
-use Rattle.checks.proofs.lengths.slopes_refused.Reads as slopes-refused-reads
-use Rattle.checks.proofs.numbers.two_refused.Reads as two-refused-reads
-use Rattle.checks.proofs.rising.knots_refused.Reads as knots-refused-reads
-use Rattle.checks.proofs.sizes.points_refused.Reads as points-refused-reads
 
--- src/lib.rt:83:8
-points-refused-requires : tie.Need-points-refused-requires
-points-refused-requires c κs = search needs
+knots-exact : (c : tie.Else2) → length (c .before .before .before .before .before .before .args .knots .now) ≡ c .before .before .before .before .before .before .args .points
+knots-exact c =
+    exact-3 (length (c .before .before .before .before .before .before .args .knots .now)) (c .before .before .before .before .before .before .args .points) (length (c .before .before .before .before .before .before .args .samples .now)) (c .before .before .before .before .before .before .args .points) (c .before .before .before .before .before .before .args .moments-length) (c .before .before .before .before .before .before .args .points)
+    (neither (length-refused (length (c .before .before .before .before .before .before .args .knots .now)) (c .before .before .before .before .before .before .args .points) || length-refused (length (c .before .before .before .before .before .before .args .samples .now)) (c .before .before .before .before .before .before .args .points) || length-refused (c .before .before .before .before .before .before .args .moments-length) (c .before .before .before .before .before .before .args .points)) (length-refused (c .before .before .before .before .before .before .args .slopes-length) (c .before .before .before .before .before .before .args .points)) (sym (c .before .slopes-refused .ensures) ∙ c .if2 .left) .0) .0
 
--- src/lib.rt:84:9
 returns : tie.Need-returns
-returns c = search needs
+unfolding slopes-check
+returns c = stop _ (c .before .points-refused .ensures) (c .if1 .taken)
 
--- src/lib.rt:86:8
-slopes-refused-requires : tie.Need-slopes-refused-requires
-slopes-refused-requires c κs = search needs
-
--- src/lib.rt:93:9
 returns-2 : tie.Need-returns-2
-returns-2 c = search needs
+unfolding slopes-check
+returns-2 c =
+    pass _ (c .before .before .before .points-refused .ensures) (c .before .before .if1 .left)
+    (stop _ (c .before .slopes-refused .ensures) (c .if2 .taken))
 
--- src/lib.rt:95:8
-two-refused-requires : tie.Need-two-refused-requires
-two-refused-requires c κs = search needs
-
--- src/lib.rt:96:9
 returns-3 : tie.Need-returns-3
-returns-3 c = search needs
+unfolding slopes-check
+returns-3 c =
+    pass _ (c .before .before .before .before .before .points-refused .ensures) (c .before .before .before .before .if1 .left)
+    (pass _ (c .before .before .before .slopes-refused .ensures) (c .before .before .if2 .left)
+    (stop _ (c .before .slices-refused .ensures) (c .if3 .taken)))
 
--- src/lib.rt:98:8
-knots-refused-requires : tie.Need-knots-refused-requires
-knots-refused-requires c κs = search needs
-
--- src/lib.rt:99:9
 returns-4 : tie.Need-returns-4
-returns-4 c = search needs
+unfolding slopes-check
+returns-4 c =
+    pass _ (c .before .before .before .before .before .before .before .points-refused .ensures) (c .before .before .before .before .before .before .if1 .left)
+    (pass _ (c .before .before .before .before .before .slopes-refused .ensures) (c .before .before .before .before .if2 .left)
+    (pass _ (c .before .before .before .slices-refused .ensures) (c .before .before .if3 .left)
+    (stop _ (knots-row (c .before .before .before .before .before .before .before .before .before .before .args .knots .now) (c .before .before .before .before .before .before .before .before .before .before .args .points) (knots-exact (c .before .before .before .before)) (c .before .knots-refused .ensures)) (c .if4 .taken))))
 
--- src/lib.rt:74:1
 returns-5 : tie.Need-returns-5
-returns-5 c = search needs
+unfolding slopes-check
+returns-5 c =
+    pass _ (c .before .before .before .before .before .before .before .points-refused .ensures) (c .before .before .before .before .before .before .if1 .left)
+    (pass _ (c .before .before .before .before .before .slopes-refused .ensures) (c .before .before .before .before .if2 .left)
+    (pass _ (c .before .before .before .slices-refused .ensures) (c .before .before .if3 .left)
+    (pass _ (knots-row (c .before .before .before .before .before .before .before .before .before .before .args .knots .now) (c .before .before .before .before .before .before .before .before .before .before .args .points) (knots-exact (c .before .before .before .before)) (c .before .knots-refused .ensures)) (c .if4 .left) refl)))
 
 pub slopes-refusal-spec : {M : Type 1} → statement M
 slopes-refusal-spec =
     tie.close
     (tie.spec
-    points-refused-requires
+    (λ c κs. search needs)
     returns
-    slopes-refused-requires
+    (λ c κs. search needs)
     returns-2
-    two-refused-requires
+    (λ c κs. search needs)
     returns-3
-    knots-refused-requires
+    (λ c κs. search needs)
     returns-4
     returns-5)
