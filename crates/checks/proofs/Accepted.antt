@@ -1,0 +1,156 @@
+-- A check that gives no number: what is then known of all that a call was given.
+use mathlib.Core.Path.{_≡_, refl}
+use mathlib.Core.Bool.{Bool, false, _||_}
+use mathlib.Core.List.{List}
+use Prim.Native.Nat.{ℕ, _<_}
+use native.Mathlib.Omega.{arith}
+use lib.Dec.{T, leb}
+use lib.ListN.{length}
+use lib.Ieee.{Float}
+use borrow.Author.Tests.{ltb-false, leb-false}
+use Rattle.rules.specs.Numbers.{any}
+use Rattle.rules.specs.Sizes.{most-in-a-tensor, scratch-of-rows, Grid, points, condition, knots, knots-length, samples-length, tensor-length, scratch-length, Place}
+use Rattle.rules.specs.Refusals.{axes-refused, points-refused, some-points-refused, length-refused, scratch-refused, number-refused, some-number-refused, ends-refused, some-ends-refused, knots-refused, some-knots-refused, fewness-refused, some-fewness-refused}
+use Rattle.rules.specs.declared.Condition.{Condition}
+use Rattle.base.proofs.Scan.{neither, any-at}
+use Rattle.checks.specs.Given.{InRange, AxisGiven, MomentsGiven, CurveGiven, SlopesGiven, GridGiven, SolveGiven, BuildGiven, ChangeGiven, QueryGiven}
+use Rattle.checks.specs.Check.{moments-rows, curve-rows, slopes-rows, build-rows, change-rows, query-rows, moments-check, curve-check, slopes-check, build-check, change-check, query-check}
+use Rattle.checks.proofs.Rows.{none-applies, axes-few, in-range, exact, exact-2, exact-3}
+
+neither-3 : (a b c : Bool) → (a || b || c) ≡ false → (a ≡ false) × (b ≡ false) × (c ≡ false)
+neither-3 a b c e = let three = neither (a || b) c e in let two = neither a b (three .0) in (two .0, two .1, three .1)
+
+-- ---- the calls on one axis
+
+module _ (n : ℕ) (x y : List Float) where
+  axis-given : points-refused n ≡ false → length x ≡ n → length y ≡ n → some-number-refused x ≡ false → some-number-refused y ≡ false → knots-refused x n ≡ false → AxisGiven n x y
+  axis-given range knots-exact samples-exact knots-finite samples-finite knots-rise =
+      let two = neither _ _ range in
+      record {
+        some-points = ltb-false _ _ (two .0);
+        few-points = ltb-false _ _ (two .1);
+        knots-exact = knots-exact;
+        samples-exact = samples-exact;
+        knots-finite = knots-finite;
+        samples-finite = samples-finite;
+        knots-rise = knots-rise;
+      }
+
+  pub moments-given : (ends : Condition) (moments-length scratch-given : ℕ) → moments-check n x y ends moments-length scratch-given ≡ 0 → MomentsGiven n x y ends moments-length scratch-given
+  unfolding moments-check
+  moments-given ends moments-length scratch-given e =
+      let none = none-applies (moments-rows n x y ends moments-length scratch-given) tt e in
+      let lengths = exact-3 (length x) n (length y) n moments-length n (none .1 .0) in
+      let numbers = neither-3 (some-number-refused x) (ends-refused ends) (some-number-refused y) (none .1 .1 .1 .0) in
+      record {
+        axis = axis-given (none .0) (lengths .0) (lengths .1) (numbers .0) (numbers .2) (none .1 .1 .1 .1 .0);
+        moments-exact = lengths .2;
+        scratch-enough = ltb-false scratch-given scratch-of-rows (none .1 .1 .0);
+        ends-finite = numbers .1;
+        enough-points = none .1 .1 .1 .1 .1 .0;
+      }
+
+  pub curve-given : (moments-length : ℕ) (point : Float) → curve-check n x y moments-length point ≡ 0 → CurveGiven n x y moments-length point
+  unfolding curve-check
+  curve-given moments-length point e =
+      let none = none-applies (curve-rows n x y moments-length point) tt e in
+      let lengths = exact-3 (length x) n (length y) n moments-length n (none .1 .0) in
+      let numbers = neither-3 (some-number-refused x) (some-number-refused y) (number-refused point) (none .1 .1 .0) in
+      record {
+        axis = axis-given (none .0) (lengths .0) (lengths .1) (numbers .0) (numbers .1) (none .1 .1 .1 .0);
+        moments-exact = lengths .2;
+        point-finite = numbers .2;
+      }
+
+  pub slopes-given : (moments-length slopes-length : ℕ) → slopes-check n x y moments-length slopes-length ≡ 0 → SlopesGiven n x y moments-length slopes-length
+  unfolding slopes-check
+  slopes-given moments-length slopes-length e =
+      let none = none-applies (slopes-rows n x y moments-length slopes-length) tt e in
+      let four = neither (length-refused (length x) n || length-refused (length y) n || length-refused moments-length n) (length-refused slopes-length n) (none .1 .0) in
+      let lengths = exact-3 (length x) n (length y) n moments-length n (four .0) in
+      let numbers = neither (some-number-refused x) (some-number-refused y) (none .1 .1 .0) in
+      record {
+        axis = axis-given (none .0) (lengths .0) (lengths .1) (numbers .0) (numbers .1) (none .1 .1 .1 .0);
+        moments-exact = lengths .2;
+        slopes-exact = exact slopes-length n (four .1);
+      }
+
+-- ---- the calls on a grid
+
+module _ (g : Grid) where
+  grid-in-range : (axes-refused g ≡ false) → (some-points-refused g ≡ false) → InRange (g .axes) (points g)
+  grid-in-range few fine = let two = axes-few {axes = g .axes} few in in-range (two .0) (two .1) fine
+
+  rises : some-knots-refused g ≡ false → (i : ℕ) → i < g .axes → knots-refused (knots g i) (points g i) ≡ false
+  rises e = any-at (λ i. knots-refused (knots g i) (points g i)) (g .axes) e
+
+  solve-given : (scratch-given : ℕ) → scratch-refused scratch-given (scratch-length g) ≡ false → some-ends-refused g ≡ false → some-fewness-refused g ≡ false → SolveGiven g scratch-given
+  solve-given scratch-given scratch ends fewness = record {
+    scratch-enough = ltb-false scratch-given (scratch-length g) scratch;
+    ends-finite = any-at (λ i. ends-refused (condition g i)) (g .axes) ends;
+    enough-points = any-at (λ i. fewness-refused (condition g i) (points g i)) (g .axes) fewness;
+  }
+
+  pub build-given : (samples : List Float) (tensor-given scratch-given : ℕ) → build-check g samples tensor-given scratch-given ≡ 0 → BuildGiven g samples tensor-given scratch-given
+  unfolding build-check
+  build-given samples tensor-given scratch-given e =
+      let none = none-applies (build-rows g samples tensor-given scratch-given) tt e in
+      let later = none .1 .1 .1 in
+      let lengths = exact-3 (length (g .flat-knots)) (knots-length g) (length samples) (samples-length g) tensor-given (tensor-length g) (later .0) in
+      let numbers = neither-3 (some-number-refused (g .flat-knots)) (some-ends-refused g) (some-number-refused samples) (later .1 .1 .0) in
+      record {
+        grid-given = record {
+          in-range = grid-in-range (none .0) (none .1 .0);
+          small = ltb-false most-in-a-tensor (tensor-length g) (none .1 .1 .0);
+          knots-exact = lengths .0;
+          tensor-exact = lengths .2;
+          knots-finite = numbers .0;
+          knots-rise = rises (later .1 .1 .1 .0);
+        };
+        solve-given = solve-given scratch-given (later .1 .0) (numbers .1) (later .1 .1 .1 .1 .0);
+        samples-exact = lengths .1;
+        samples-finite = numbers .2;
+      }
+
+  pub change-given : (tensor : List Float) (scratch-given : ℕ) (changed : Place) (v : Float) → change-check g tensor scratch-given changed v ≡ 0 → ChangeGiven g tensor scratch-given changed v
+  unfolding change-check
+  change-given tensor scratch-given changed v e =
+      let none = none-applies (change-rows g tensor scratch-given changed v) tt e in
+      let later = none .1 .1 .1 in
+      let lengths = exact-2 (length (g .flat-knots)) (knots-length g) (length tensor) (tensor-length g) (later .0) in
+      let four = neither (some-number-refused (g .flat-knots) || some-ends-refused g || number-refused v) (some-number-refused tensor) (later .1 .1 .1 .0) in
+      let numbers = neither-3 (some-number-refused (g .flat-knots)) (some-ends-refused g) (number-refused v) (four .0) in
+      record {
+        grid-given = record {
+          in-range = grid-in-range (none .0) (none .1 .0);
+          small = ltb-false most-in-a-tensor (tensor-length g) (none .1 .1 .0);
+          knots-exact = lengths .0;
+          tensor-exact = lengths .1;
+          knots-finite = numbers .0;
+          knots-rise = rises (later .1 .1 .1 .1 .0);
+        };
+        solve-given = solve-given scratch-given (later .1 .0) (numbers .1) (later .1 .1 .1 .1 .1 .0);
+        on-the-grid = λ i l. leb-false (points g i) (changed i) (any-at (λ j. leb (points g j) (changed j)) (g .axes) (later .1 .1 .0) i l);
+        sample-finite = numbers .2;
+        tensor-finite = four .1;
+      }
+
+  pub query-given : (tensor-given : ℕ) (coordinates : List Float) → query-check g tensor-given coordinates ≡ 0 → QueryGiven g tensor-given coordinates
+  unfolding query-check
+  query-given tensor-given coordinates e =
+      let none = none-applies (query-rows g tensor-given coordinates) tt e in
+      let later = none .1 .1 .1 in
+      let lengths = exact-3 (length (g .flat-knots)) (knots-length g) tensor-given (tensor-length g) (length coordinates) (g .axes) (later .0) in
+      let numbers = neither (some-number-refused (g .flat-knots)) (some-number-refused coordinates) (later .1 .0) in
+      record {
+        grid-given = record {
+          in-range = grid-in-range (none .0) (none .1 .0);
+          small = ltb-false most-in-a-tensor (tensor-length g) (none .1 .1 .0);
+          knots-exact = lengths .0;
+          tensor-exact = lengths .1;
+          knots-finite = numbers .0;
+          knots-rise = rises (later .1 .1 .0);
+        };
+        coordinates-exact = lengths .2;
+        coordinates-finite = numbers .1;
+      }
