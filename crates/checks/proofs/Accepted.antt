@@ -1,20 +1,24 @@
 -- A check that gives no number: what is then known of all that a call was given.
-use mathlib.Core.Path.{_≡_, refl}
-use mathlib.Core.Bool.{Bool, false, _||_}
+use mathlib.Core.Path.{_≡_, sym, _∙_}
+use mathlib.Core.Bool.{Bool, true, false, not, _||_}
 use mathlib.Core.List.{List}
-use Prim.Native.Nat.{ℕ, _<_}
+use Prim.Native.Nat.{ℕ, _+_, _-_, _<_}
 use native.Mathlib.Omega.{arith}
-use lib.Dec.{T, leb}
-use lib.ListN.{length}
-use lib.Ieee.{Float}
-use borrow.Author.Tests.{ltb-false, leb-false}
-use Rattle.rules.specs.Numbers.{any}
-use Rattle.rules.specs.Sizes.{most-in-a-tensor, scratch-of-rows, Grid, points, condition, knots, knots-length, samples-length, tensor-length, scratch-length, Place}
-use Rattle.rules.specs.Refusals.{axes-refused, points-refused, some-points-refused, length-refused, scratch-refused, number-refused, some-number-refused, ends-refused, some-ends-refused, knots-refused, some-knots-refused, fewness-refused, some-fewness-refused}
+use lib.Dec.{leb}
+use lib.ListN.{length, drop, length-drop}
+use lib.Seq.{length-take-le}
+use lib.Ieee.{Float, lt}
+use lib.Ieee.Scale.{finite}
+use borrow.Author.Tests.{ltb-false, leb-false, not-false}
+use Rattle.rules.specs.Numbers.{at}
+use Rattle.rules.specs.Steps.{h}
+use Rattle.rules.specs.Sizes.{most-in-a-tensor, scratch-of-rows, Grid, points, condition, sum-below, knots, knots-length, samples-length, tensor-length, scratch-length, Place}
+use Rattle.rules.specs.Refusals.{axes-refused, points-refused, some-points-refused, tensor-refused, length-refused, scratch-refused, number-refused, some-number-refused, ends-refused, some-ends-refused, step-refused, knots-refused, some-knots-refused, fewness-refused, some-fewness-refused}
 use Rattle.rules.specs.declared.Condition.{Condition}
 use Rattle.base.proofs.Scan.{neither, any-at}
 use Rattle.checks.specs.Given.{InRange, AxisGiven, MomentsGiven, CurveGiven, SlopesGiven, GridGiven, SolveGiven, BuildGiven, ChangeGiven, QueryGiven}
 use Rattle.checks.specs.Check.{moments-rows, curve-rows, slopes-rows, build-rows, change-rows, query-rows, moments-check, curve-check, slopes-check, build-check, change-check, query-check}
+use Rattle.checks.proofs.Products.{sum-within}
 use Rattle.checks.proofs.Rows.{none-applies, axes-few, in-range, exact, exact-2, exact-3}
 
 neither-3 : (a b c : Bool) → (a || b || c) ≡ false → (a ≡ false) × (b ≡ false) × (c ≡ false)
@@ -78,14 +82,20 @@ module _ (n : ℕ) (x y : List Float) where
 -- ---- the calls on a grid
 
 module _ (g : Grid) where
-  grid-in-range : (axes-refused g ≡ false) → (some-points-refused g ≡ false) → InRange (g .axes) (points g)
-  grid-in-range few fine = let two = axes-few {axes = g .axes} few in in-range (two .0) (two .1) fine
+  grid-known : (tensor-given : ℕ) → axes-refused g ≡ false → some-points-refused g ≡ false → tensor-refused g ≡ false → length (g .flat-knots) ≡ knots-length g → tensor-given ≡ tensor-length g → some-number-refused (g .flat-knots) ≡ false → some-knots-refused g ≡ false → GridGiven g tensor-given
+  grid-known tensor-given few fine small knots-exact tensor-exact knots-finite rise =
+      let count = axes-few {axes = g .axes} few in
+      record {
+        in-range = in-range (count .0) (count .1) fine;
+        small = ltb-false most-in-a-tensor (tensor-length g) small;
+        knots-exact = knots-exact;
+        tensor-exact = tensor-exact;
+        knots-finite = knots-finite;
+        knots-rise = any-at (λ i. knots-refused (knots g i) (points g i)) (g .axes) rise;
+      }
 
-  rises : some-knots-refused g ≡ false → (i : ℕ) → i < g .axes → knots-refused (knots g i) (points g i) ≡ false
-  rises e = any-at (λ i. knots-refused (knots g i) (points g i)) (g .axes) e
-
-  solve-given : (scratch-given : ℕ) → scratch-refused scratch-given (scratch-length g) ≡ false → some-ends-refused g ≡ false → some-fewness-refused g ≡ false → SolveGiven g scratch-given
-  solve-given scratch-given scratch ends fewness = record {
+  solve-known : (scratch-given : ℕ) → scratch-refused scratch-given (scratch-length g) ≡ false → some-ends-refused g ≡ false → some-fewness-refused g ≡ false → SolveGiven g scratch-given
+  solve-known scratch-given scratch ends fewness = record {
     scratch-enough = ltb-false scratch-given (scratch-length g) scratch;
     ends-finite = any-at (λ i. ends-refused (condition g i)) (g .axes) ends;
     enough-points = any-at (λ i. fewness-refused (condition g i) (points g i)) (g .axes) fewness;
@@ -99,15 +109,8 @@ module _ (g : Grid) where
       let lengths = exact-3 (length (g .flat-knots)) (knots-length g) (length samples) (samples-length g) tensor-given (tensor-length g) (later .0) in
       let numbers = neither-3 (some-number-refused (g .flat-knots)) (some-ends-refused g) (some-number-refused samples) (later .1 .1 .0) in
       record {
-        grid-given = record {
-          in-range = grid-in-range (none .0) (none .1 .0);
-          small = ltb-false most-in-a-tensor (tensor-length g) (none .1 .1 .0);
-          knots-exact = lengths .0;
-          tensor-exact = lengths .2;
-          knots-finite = numbers .0;
-          knots-rise = rises (later .1 .1 .1 .0);
-        };
-        solve-given = solve-given scratch-given (later .1 .0) (numbers .1) (later .1 .1 .1 .1 .0);
+        grid-given = grid-known tensor-given (none .0) (none .1 .0) (none .1 .1 .0) (lengths .0) (lengths .2) (numbers .0) (later .1 .1 .1 .0);
+        solve-given = solve-known scratch-given (later .1 .0) (numbers .1) (later .1 .1 .1 .1 .0);
         samples-exact = lengths .1;
         samples-finite = numbers .2;
       }
@@ -121,15 +124,8 @@ module _ (g : Grid) where
       let four = neither (some-number-refused (g .flat-knots) || some-ends-refused g || number-refused v) (some-number-refused tensor) (later .1 .1 .1 .0) in
       let numbers = neither-3 (some-number-refused (g .flat-knots)) (some-ends-refused g) (number-refused v) (four .0) in
       record {
-        grid-given = record {
-          in-range = grid-in-range (none .0) (none .1 .0);
-          small = ltb-false most-in-a-tensor (tensor-length g) (none .1 .1 .0);
-          knots-exact = lengths .0;
-          tensor-exact = lengths .1;
-          knots-finite = numbers .0;
-          knots-rise = rises (later .1 .1 .1 .1 .0);
-        };
-        solve-given = solve-given scratch-given (later .1 .0) (numbers .1) (later .1 .1 .1 .1 .1 .0);
+        grid-given = grid-known (length tensor) (none .0) (none .1 .0) (none .1 .1 .0) (lengths .0) (lengths .1) (numbers .0) (later .1 .1 .1 .1 .0);
+        solve-given = solve-known scratch-given (later .1 .0) (numbers .1) (later .1 .1 .1 .1 .1 .0);
         on-the-grid = λ i l. leb-false (points g i) (changed i) (any-at (λ j. leb (points g j) (changed j)) (g .axes) (later .1 .1 .0) i l);
         sample-finite = numbers .2;
         tensor-finite = four .1;
@@ -143,14 +139,22 @@ module _ (g : Grid) where
       let lengths = exact-3 (length (g .flat-knots)) (knots-length g) tensor-given (tensor-length g) (length coordinates) (g .axes) (later .0) in
       let numbers = neither (some-number-refused (g .flat-knots)) (some-number-refused coordinates) (later .1 .0) in
       record {
-        grid-given = record {
-          in-range = grid-in-range (none .0) (none .1 .0);
-          small = ltb-false most-in-a-tensor (tensor-length g) (none .1 .1 .0);
-          knots-exact = lengths .0;
-          tensor-exact = lengths .1;
-          knots-finite = numbers .0;
-          knots-rise = rises (later .1 .1 .0);
-        };
+        grid-given = grid-known tensor-given (none .0) (none .1 .0) (none .1 .1 .0) (lengths .0) (lengths .1) (numbers .0) (later .1 .1 .0);
         coordinates-exact = lengths .2;
         coordinates-finite = numbers .1;
       }
+
+-- ---- what the knots of an axis then have
+
+-- every knot lies below the next, and the step between them is finite
+pub knots-step : (x : List Float) (n : ℕ) → knots-refused x n ≡ false → (k : ℕ) → k + 1 < n → (lt (at x k) (at x (k + 1)) ≡ true) × (finite (h x k) ≡ true)
+unfolding step-refused
+knots-step x n e k l =
+    let two = neither (not (lt (at x k) (at x (k + 1)))) (not (finite (h x k))) (any-at (step-refused x) (n - 1) e k (omega arith)) in
+    (not-false _ (two .0), not-false _ (two .1))
+
+-- there is one for each point
+pub knots-of-axis : (g : Grid) (tensor-given : ℕ) → GridGiven g tensor-given → (i : ℕ) → i < g .axes → length (knots g i) ≡ points g i
+knots-of-axis g tensor-given given i l =
+    let within = sum-within (points g) i (g .axes) l in
+    length-take-le (points g i) (drop (sum-below (points g) i) (g .flat-knots)) (rw length-drop (omega (arith, given .knots-exact)))

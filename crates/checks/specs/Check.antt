@@ -74,12 +74,12 @@ module _ (g : Grid) where
   abbrev pub build-rows : List Float → ℕ → ℕ → List Refusal
   build-rows samples tensor-given scratch-given =
       sizes-rows g ++ (
-        row 4 (length-refused (length (g .flat-knots)) (knots-length g) || length-refused (length samples) (samples-length g) || length-refused tensor-given (tensor-length g))
-        ∷ row 5 (scratch-refused scratch-given (scratch-length g))
-        ∷ row 7 (some-number-refused (g .flat-knots) || some-ends-refused g || some-number-refused samples)
-        ∷ row 8 (some-knots-refused g)
-        ∷ row 9 (some-fewness-refused g)
-        ∷ []
+      row 4 (length-refused (length (g .flat-knots)) (knots-length g) || length-refused (length samples) (samples-length g) || length-refused tensor-given (tensor-length g))
+      ∷ row 5 (scratch-refused scratch-given (scratch-length g))
+      ∷ row 7 (some-number-refused (g .flat-knots) || some-ends-refused g || some-number-refused samples)
+      ∷ row 8 (some-knots-refused g)
+      ∷ row 9 (some-fewness-refused g)
+      ∷ []
       )
 
   unfoldable pub build-check : List Float → ℕ → ℕ → ℕ
@@ -88,13 +88,13 @@ module _ (g : Grid) where
   abbrev pub change-rows : List Float → ℕ → Place → Float → List Refusal
   change-rows tensor scratch-given changed v =
       sizes-rows g ++ (
-        row 4 (length-refused (length (g .flat-knots)) (knots-length g) || length-refused (length tensor) (tensor-length g))
-        ∷ row 5 (scratch-refused scratch-given (scratch-length g))
-        ∷ row 6 (place-refused g changed)
-        ∷ row 7 (some-number-refused (g .flat-knots) || some-ends-refused g || number-refused v || some-number-refused tensor)
-        ∷ row 8 (some-knots-refused g)
-        ∷ row 9 (some-fewness-refused g)
-        ∷ []
+      row 4 (length-refused (length (g .flat-knots)) (knots-length g) || length-refused (length tensor) (tensor-length g))
+      ∷ row 5 (scratch-refused scratch-given (scratch-length g))
+      ∷ row 6 (place-refused g changed)
+      ∷ row 7 (some-number-refused (g .flat-knots) || some-ends-refused g || number-refused v || some-number-refused tensor)
+      ∷ row 8 (some-knots-refused g)
+      ∷ row 9 (some-fewness-refused g)
+      ∷ []
       )
 
   unfoldable pub change-check : List Float → ℕ → Place → Float → ℕ
@@ -103,10 +103,10 @@ module _ (g : Grid) where
   abbrev pub query-rows : ℕ → List Float → List Refusal
   query-rows tensor-given coordinates =
       sizes-rows g ++ (
-        row 4 (length-refused (length (g .flat-knots)) (knots-length g) || length-refused tensor-given (tensor-length g) || length-refused (length coordinates) (g .axes))
-        ∷ row 7 (some-number-refused (g .flat-knots) || some-number-refused coordinates)
-        ∷ row 8 (some-knots-refused g)
-        ∷ []
+      row 4 (length-refused (length (g .flat-knots)) (knots-length g) || length-refused tensor-given (tensor-length g) || length-refused (length coordinates) (g .axes))
+      ∷ row 7 (some-number-refused (g .flat-knots) || some-number-refused coordinates)
+      ∷ row 8 (some-knots-refused g)
+      ∷ []
       )
 
   unfoldable pub query-check : ℕ → List Float → ℕ

@@ -5,7 +5,6 @@ ghost use Rattle.rules.specs.Numbers.{any};
 ghost use Rattle.rules.specs.Ends.{dropped, fewest-points};
 ghost use Rattle.rules.specs.Refusals.{end-refused, ends-refused, fewness-refused};
 ghost use Rattle.checks.specs.Given.{points-of, condition-of};
-
 use rules::Axis;
 use rules::Condition;
 use rules::End;

@@ -4,7 +4,6 @@ ghost use mathlib.Core.Bool.{_||_};
 ghost use Rattle.rules.specs.Sizes.{knots-length, samples-length, tensor-length, scratch-length};
 ghost use Rattle.rules.specs.Refusals.{length-refused, scratch-refused};
 ghost use Rattle.checks.specs.Given.{sizes-of, points-of, InRange};
-
 use crate::sizes;
 use rules::Axis;
 

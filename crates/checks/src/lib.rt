@@ -3,15 +3,14 @@ ghost use mathlib.Core.Path.{_≡_};
 ghost use Rattle.rules.specs.Sizes.{place-of};
 ghost use Rattle.checks.specs.Given.{grid};
 ghost use Rattle.checks.specs.Check.{moments-check, curve-check, slopes-check, build-check, change-check, query-check};
-
 use rules::Axis;
 use rules::Condition;
 
-pub mod sizes;
+pub mod ends;
 pub mod lengths;
 pub mod numbers;
-pub mod ends;
 pub mod rising;
+pub mod sizes;
 
 // What the curve's moments meet: 2, 4, 5, 7, 8, 9, or 0.
 pub fn moments_refusal(

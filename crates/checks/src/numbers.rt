@@ -4,7 +4,6 @@ ghost use mathlib.Core.Bool.{_||_};
 ghost use Prim.Native.Nat.{_≤_};
 ghost use Rattle.rules.specs.Refusals.{number-refused, some-number-refused, ends-refused, some-ends-refused};
 ghost use Rattle.checks.specs.Given.{sizes-of};
-
 use crate::ends;
 use rules::Axis;
 use rules::Condition;

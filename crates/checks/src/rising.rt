@@ -8,7 +8,6 @@ ghost use Rattle.rules.specs.Numbers.{_⊖_};
 ghost use Rattle.rules.specs.Sizes.{sum-below};
 ghost use Rattle.rules.specs.Refusals.{knots-refused, some-knots-refused};
 ghost use Rattle.checks.specs.Given.{grid, points-of, InRange};
-
 use rules::Axis;
 
 // Whether a knot does not rise to the next, or the step between them overflows.

@@ -8,29 +8,20 @@ ghost use Rattle.rules.specs.Sizes.{most-axes, sum-below, product-below, place-
 ghost use Rattle.rules.specs.Refusals.{points-refused};
 ghost use Rattle.checks.specs.Given.{points-of, InRange};
 ghost use Rattle.checks.specs.Check.{sizes-check};
-
 use rules::Axis;
 
 // Whether there are not 1 to 4 axes.
 pub fn axes_refused(axes: usize) -> bool
     ensures { λ r. ⌜ r ≡ (ltb axes 1 || ltb most-axes axes) ⌝ }
 {
-    if axes < 1 {
-        true
-    } else {
-        4 < axes
-    }
+    if axes < 1 { true } else { 4 < axes }
 }
 
 // Whether an axis has fewer than 2 or more than 256 points.
 pub fn points_refused(points: usize) -> bool
     ensures { λ r. ⌜ r ≡ points-refused points ⌝ }
 {
-    if points < 2 {
-        true
-    } else {
-        256 < points
-    }
+    if points < 2 { true } else { 256 < points }
 }
 
 // Whether an axis in use has.

@@ -16,7 +16,7 @@ returns-3 c = (rw (c .match .keys3), search needs)
 returns-4 : tie.Need-returns-4
 returns-4 c =
     let e : c .before .args .axes ≡ 4 =
-        omega (arith, c .match .rest .1, c .match .rest .0 .1, c .match .rest .0 .0 .1)
+    omega (arith, c .match .rest .1, c .match .rest .0 .1, c .match .rest .0 .0 .1)
     in (rw e, search needs)
 
 pub masks-spec : {M : Type 1} → statement M

@@ -37,8 +37,7 @@ loop-again c = (omega arith, rw (product-more, ← c .before .before .before .lo
 
 returns : tie.Need-returns Inv-loop μ-loop
 returns c =
-    let e : c .before .loop .i ≡ c .before .before .args .axes = omega arith in
-    (
+    let e : c .before .loop .i ≡ c .before .before .args .axes = omega arith in (
       rw e at (c .before .loop .inv .1),
       of-four _ (c .before .loop .i) (c .before .loop .inv .2) (omega (arith, c .before .before .pre .few-axes)),
     )
