@@ -13,13 +13,13 @@ use borrow.Author.Tests.{ltb-false, leb-false, not-false}
 use Rattle.rules.specs.Numbers.{at}
 use Rattle.rules.specs.Steps.{h}
 use Rattle.rules.specs.Sizes.{most-in-a-tensor, scratch-of-rows, Grid, points, condition, sum-below, knots, knots-length, samples-length, tensor-length, scratch-length, Place}
-use Rattle.rules.specs.Refusals.{axes-refused, points-refused, some-points-refused, tensor-refused, length-refused, scratch-refused, number-refused, some-number-refused, ends-refused, some-ends-refused, step-refused, knots-refused, some-knots-refused, fewness-refused, some-fewness-refused}
+use Rattle.rules.specs.Refusals.{axes-refused, points-refused, some-points-refused, tensor-refused, scratch-refused, number-refused, some-number-refused, ends-refused, some-ends-refused, step-refused, knots-refused, some-knots-refused, fewness-refused, some-fewness-refused}
 use Rattle.rules.specs.declared.Condition.{Condition}
 use Rattle.base.proofs.Scan.{neither, any-at}
 use Rattle.checks.specs.Given.{InRange, AxisGiven, MomentsGiven, CurveGiven, SlopesGiven, GridGiven, SolveGiven, BuildGiven, ChangeGiven, QueryGiven}
 use Rattle.checks.specs.Check.{moments-rows, curve-rows, slopes-rows, build-rows, change-rows, query-rows, moments-check, curve-check, slopes-check, build-check, change-check, query-check}
 use Rattle.checks.proofs.Products.{sum-within}
-use Rattle.checks.proofs.Rows.{none-applies, axes-few, in-range, exact, exact-2, exact-3}
+use Rattle.checks.proofs.Rows.{none-applies, axes-few, in-range, exact-2, exact-3, exact-4}
 
 neither-3 : (a b c : Bool) → (a || b || c) ≡ false → (a ≡ false) × (b ≡ false) × (c ≡ false)
 neither-3 a b c e = let three = neither (a || b) c e in let two = neither a b (three .0) in (two .0, two .1, three .1)
@@ -70,13 +70,12 @@ module _ (n : ℕ) (x y : List Float) where
   unfolding slopes-check
   slopes-given moments-length slopes-length e =
       let none = none-applies (slopes-rows n x y moments-length slopes-length) tt e in
-      let four = neither (length-refused (length x) n || length-refused (length y) n || length-refused moments-length n) (length-refused slopes-length n) (none .1 .0) in
-      let lengths = exact-3 (length x) n (length y) n moments-length n (four .0) in
+      let lengths = exact-4 (length x) n (length y) n moments-length n slopes-length n (none .1 .0) in
       let numbers = neither (some-number-refused x) (some-number-refused y) (none .1 .1 .0) in
       record {
         axis = axis-given (none .0) (lengths .0) (lengths .1) (numbers .0) (numbers .1) (none .1 .1 .1 .0);
         moments-exact = lengths .2;
-        slopes-exact = exact slopes-length n (four .1);
+        slopes-exact = lengths .3;
       }
 
 -- ---- the calls on a grid

@@ -4,7 +4,7 @@ use mathlib.Core.Bool.{Bool, true, false, cond, _||_, _&&_}
 use mathlib.Core.List.{List, [], _∷_}
 use Prim.Native.Nat.{ℕ, zero, suc, _<_, _≤_}
 use native.Mathlib.Omega.{arith}
-use lib.ListN.{length}
+use lib.ListN.{length, drop}
 use lib.Dec.{T, ltb, ltb→lt}
 use lib.Ieee.{Float}
 use borrow.Author.Tests.{ltb-false, eqb-true, not-false}
@@ -33,6 +33,10 @@ stop later e t = rw (sym e ∙ t)
 -- it does not: the rows below answer
 pub pass : {r b : Bool} {answer later : ℕ} (number : ℕ) → r ≡ b → r ≡ false → answer ≡ later → answer ≡ cond b number later
 pass number e f below = rw (sym e ∙ f) below
+
+-- the first k rows have been asked and do not apply: the others answer
+abbrev pub Past : List Refusal → ℕ → Type 0
+Past rows k = (answer : ℕ) → answer ≡ lowest (drop k rows) 0 → answer ≡ lowest rows 0
 
 -- ---- all rows
 
@@ -147,6 +151,11 @@ pub exact-3 : (a m b n c k : ℕ) → (length-refused a m || length-refused b n 
 exact-3 a m b n c k e =
     let three = neither (length-refused a m || length-refused b n) (length-refused c k) e in
     let two = exact-2 a m b n (three .0) in (two .0, two .1, exact c k (three .1))
+
+pub exact-4 : (a m b n c k d l : ℕ) → (length-refused a m || length-refused b n || length-refused c k || length-refused d l) ≡ false → (a ≡ m) × (b ≡ n) × (c ≡ k) × (d ≡ l)
+exact-4 a m b n c k d l e =
+    let four = neither (length-refused a m || length-refused b n || length-refused c k) (length-refused d l) e in
+    let three = exact-3 a m b n c k (four .0) in (three .0, three .1, three .2, exact d l (four .1))
 
 -- ---- row 8 of one axis, whose knots are as many as its points
 
