@@ -1,11 +1,8 @@
 use mathlib.Core.Path.{_≡_, refl, sym, _∙_}
-use mathlib.Core.Bool.{_||_}
 use mathlib.Core.List.{List}
 use lib.ListN.{length}
-use Rattle.rules.specs.Refusals.{length-refused}
-use Rattle.base.proofs.Scan.{neither}
 use Rattle.checks.specs.Check.{Refusal, slopes-rows, slopes-check}
-use Rattle.checks.proofs.Rows.{stop, pass, Past, exact-3, knots-row}
+use Rattle.checks.proofs.Rows.{stop, pass, Past, exact-4, knots-row}
 use borrow.Author.Needs.{needs}
 use Rattle.checks.proofs.slopes_refusal.Statement.{statement}
 use Rattle.checks.proofs.slopes_refusal.Tie as tie
@@ -18,8 +15,7 @@ start c = c .before .before .before .before .before .before
 
 knots-exact : (c : tie.Else2) → length (start c .args .knots .now) ≡ start c .args .points
 knots-exact c =
-    exact-3 (length (start c .args .knots .now)) (start c .args .points) (length (start c .args .samples .now)) (start c .args .points) (start c .args .moments-length) (start c .args .points)
-    (neither (length-refused (length (start c .args .knots .now)) (start c .args .points) || length-refused (length (start c .args .samples .now)) (start c .args .points) || length-refused (start c .args .moments-length) (start c .args .points)) (length-refused (start c .args .slopes-length) (start c .args .points)) (sym (c .before .slopes-refused .ensures) ∙ c .if2 .left) .0) .0
+    exact-4 (length (start c .args .knots .now)) (start c .args .points) (length (start c .args .samples .now)) (start c .args .points) (start c .args .moments-length) (start c .args .points) (start c .args .slopes-length) (start c .args .points) (sym (c .before .slopes-refused .ensures) ∙ c .if2 .left) .0
 
 past-1 : (c : tie.Else1) → Past (rows (c .before .before .before .before)) 1
 past-1 c answer e = pass _ (c .before .points-refused .ensures) (c .if1 .left) e
