@@ -2,16 +2,16 @@ use native.Mathlib.Omega.{arith}
 use native.Mathlib.Nat.{sub-zero}
 use borrow.Author.Needs.{needs}
 use Rattle.spline.proofs.RowsOfBothEnds.{dropped-most, lower-drops, upper-drops, rows-solved}
-use Rattle.spline.proofs.inner_moments.Statement.{statement}
-use Rattle.spline.proofs.inner_moments.Tie as tie
-use Rattle.spline.proofs.inner_moments.Reads as reads
-use Rattle.spline.proofs.inner_moments.Lts as lts
+use Rattle.spline.proofs.lane.inner_moments.Statement.{statement}
+use Rattle.spline.proofs.lane.inner_moments.Tie as tie
+use Rattle.spline.proofs.lane.inner_moments.Reads as reads
+use Rattle.spline.proofs.lane.inner_moments.Lts as lts
 use Rattle.solve.proofs.thomas.Reads as thomas-reads
-use Rattle.spline.proofs.first_row.Reads as first-row-reads
-use Rattle.spline.proofs.interior_rows.Reads as interior-rows-reads
-use Rattle.spline.proofs.last_row.Reads as last-row-reads
-use Rattle.spline.proofs.lower_row.Reads as lower-row-reads
-use Rattle.spline.proofs.upper_row.Reads as upper-row-reads
+use Rattle.spline.proofs.rows.first_row.Reads as first-row-reads
+use Rattle.spline.proofs.rows.interior_rows.Reads as interior-rows-reads
+use Rattle.spline.proofs.rows.last_row.Reads as last-row-reads
+use Rattle.spline.proofs.rows.lower_row.Reads as lower-row-reads
+use Rattle.spline.proofs.rows.upper_row.Reads as upper-row-reads
 
 sub-lower-row : tie.Need-sub-lower-row
 sub-lower-row c = search needs

@@ -4,10 +4,10 @@ use borrow.Author.Needs.{needs}
 use Rattle.rules.specs.Ends.{dropped}
 use Rattle.spline.specs.Lanes.{lower-end-row}
 use Rattle.rules.specs.Moments.{lower-row}
-use Rattle.spline.proofs.lower_row.Statement.{statement}
-use Rattle.spline.proofs.lower_row.Tie as tie
-use Rattle.spline.proofs.lower_row.Reads as reads
-use Rattle.spline.proofs.lower_row.Lts as lts
+use Rattle.spline.proofs.rows.lower_row.Statement.{statement}
+use Rattle.spline.proofs.rows.lower_row.Tie as tie
+use Rattle.spline.proofs.rows.lower_row.Reads as reads
+use Rattle.spline.proofs.rows.lower_row.Lts as lts
 
 shared-slice-read-h0 : tie.Need-shared-slice-read-h0
 shared-slice-read-h0 c = search needs

@@ -4,10 +4,10 @@ use Prim.Native.Nat.{_-_}
 use lib.ListN.{length-set}
 use Rattle.spline.specs.Lanes.{samples-in}
 use Rattle.spline.proofs.Interior.{Turn, turn-first, turn-next, turn-last}
-use Rattle.spline.proofs.interior_rows.Statement.{statement}
-use Rattle.spline.proofs.interior_rows.Tie as tie
-use Rattle.spline.proofs.interior_rows.Reads as reads
-use Rattle.spline.proofs.interior_rows.Lts as lts
+use Rattle.spline.proofs.rows.interior_rows.Statement.{statement}
+use Rattle.spline.proofs.rows.interior_rows.Tie as tie
+use Rattle.spline.proofs.rows.interior_rows.Reads as reads
+use Rattle.spline.proofs.rows.interior_rows.Lts as lts
 
 abbrev Inv-loop : tie.InvT-loop
 Inv-loop w₀ x start stop h₀ s₀ j₀ w h s j = Turn w₀ w x (samples-in w₀ x) start stop h s j

@@ -1,12 +1,12 @@
 use borrow.Author.Needs.{needs}
 use Rattle.spline.proofs.Endpoints.{moments-solved}
-use Rattle.spline.proofs.endpoint_moments.Statement.{statement}
-use Rattle.spline.proofs.endpoint_moments.Tie as tie
-use Rattle.spline.proofs.endpoint_moments.Reads as reads
-use Rattle.spline.proofs.endpoint_moments.Lts as lts
-use Rattle.spline.proofs.drop_lower.Reads as drop-lower-reads
-use Rattle.spline.proofs.drop_upper.Reads as drop-upper-reads
-use Rattle.spline.proofs.inner_moments.Reads as inner-moments-reads
+use Rattle.spline.proofs.lane.endpoint_moments.Statement.{statement}
+use Rattle.spline.proofs.lane.endpoint_moments.Tie as tie
+use Rattle.spline.proofs.lane.endpoint_moments.Reads as reads
+use Rattle.spline.proofs.lane.endpoint_moments.Lts as lts
+use Rattle.spline.proofs.lane.drop_lower.Reads as drop-lower-reads
+use Rattle.spline.proofs.lane.drop_upper.Reads as drop-upper-reads
+use Rattle.spline.proofs.lane.inner_moments.Reads as inner-moments-reads
 
 inner-moments-requires : tie.Need-inner-moments-requires
 inner-moments-requires c κs = search needs

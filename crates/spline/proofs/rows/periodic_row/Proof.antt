@@ -1,10 +1,10 @@
 use mathlib.Core.Path.{refl}
 use borrow.Author.Needs.{needs}
 use Rattle.rules.specs.Steps.{h, s}
-use Rattle.spline.proofs.periodic_row.Statement.{statement}
-use Rattle.spline.proofs.periodic_row.Tie as tie
-use Rattle.spline.proofs.periodic_row.Reads as reads
-use Rattle.spline.proofs.periodic_row.Lts as lts
+use Rattle.spline.proofs.rows.periodic_row.Statement.{statement}
+use Rattle.spline.proofs.rows.periodic_row.Tie as tie
+use Rattle.spline.proofs.rows.periodic_row.Reads as reads
+use Rattle.spline.proofs.rows.periodic_row.Lts as lts
 
 sub-last : tie.Need-sub-last
 sub-last c = search needs

@@ -2,10 +2,10 @@ use native.Mathlib.Omega.{arith}
 use borrow.Author.Needs.{needs}
 use lib.ListN.{length-set}
 use Rattle.spline.proofs.Stores.{at-none, at-first, at-second, at-third}
-use Rattle.spline.proofs.first_row.Statement.{statement}
-use Rattle.spline.proofs.first_row.Tie as tie
-use Rattle.spline.proofs.first_row.Reads as reads
-use Rattle.spline.proofs.first_row.Lts as lts
+use Rattle.spline.proofs.rows.first_row.Statement.{statement}
+use Rattle.spline.proofs.rows.first_row.Tie as tie
+use Rattle.spline.proofs.rows.first_row.Reads as reads
+use Rattle.spline.proofs.rows.first_row.Lts as lts
 
 slice-write-w : tie.Need-slice-write-w
 slice-write-w c = search needs

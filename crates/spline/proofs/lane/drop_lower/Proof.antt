@@ -4,10 +4,10 @@ use borrow.Author.Needs.{needs}
 use Rattle.rules.specs.Ends.{dropped}
 use Rattle.spline.specs.Lanes.{lower-moment}
 use Rattle.spline.proofs.Stores.{one-stored, none-stored}
-use Rattle.spline.proofs.drop_lower.Statement.{statement}
-use Rattle.spline.proofs.drop_lower.Tie as tie
-use Rattle.spline.proofs.drop_lower.Reads as reads
-use Rattle.spline.proofs.drop_lower.Lts as lts
+use Rattle.spline.proofs.lane.drop_lower.Statement.{statement}
+use Rattle.spline.proofs.lane.drop_lower.Tie as tie
+use Rattle.spline.proofs.lane.drop_lower.Reads as reads
+use Rattle.spline.proofs.lane.drop_lower.Lts as lts
 
 enum-told : tie.Need-enum-told
 enum-told c = search needs

@@ -3,10 +3,10 @@ use Prim.Native.Nat.{_+_}
 use borrow.Author.Needs.{needs}
 use lib.ListN.{length-set}
 use Rattle.spline.proofs.Stores.{at-none, at-first, at-second, at-third}
-use Rattle.spline.proofs.last_row.Statement.{statement}
-use Rattle.spline.proofs.last_row.Tie as tie
-use Rattle.spline.proofs.last_row.Reads as reads
-use Rattle.spline.proofs.last_row.Lts as lts
+use Rattle.spline.proofs.rows.last_row.Statement.{statement}
+use Rattle.spline.proofs.rows.last_row.Tie as tie
+use Rattle.spline.proofs.rows.last_row.Reads as reads
+use Rattle.spline.proofs.rows.last_row.Lts as lts
 
 add-w : tie.Need-add-w
 add-w c = search needs

@@ -6,10 +6,10 @@ use borrow.Author.Needs.{needs}
 use Rattle.rules.specs.Ends.{dropped}
 use Rattle.spline.specs.Lanes.{upper-moment}
 use Rattle.spline.proofs.Stores.{one-stored, none-stored}
-use Rattle.spline.proofs.drop_upper.Statement.{statement}
-use Rattle.spline.proofs.drop_upper.Tie as tie
-use Rattle.spline.proofs.drop_upper.Reads as reads
-use Rattle.spline.proofs.drop_upper.Lts as lts
+use Rattle.spline.proofs.lane.drop_upper.Statement.{statement}
+use Rattle.spline.proofs.lane.drop_upper.Tie as tie
+use Rattle.spline.proofs.lane.drop_upper.Reads as reads
+use Rattle.spline.proofs.lane.drop_upper.Lts as lts
 
 enum-told : tie.Need-enum-told
 enum-told c = search needs

@@ -4,14 +4,14 @@ use lib.ListN.{length-set}
 use borrow.Author.Needs.{needs}
 use Rattle.rules.specs.Steps.{h}
 use Rattle.spline.proofs.PeriodicLane.{cyclic-solved}
-use Rattle.spline.proofs.cyclic_moments.Statement.{statement}
-use Rattle.spline.proofs.cyclic_moments.Tie as tie
-use Rattle.spline.proofs.cyclic_moments.Reads as reads
-use Rattle.spline.proofs.cyclic_moments.Lts as lts
+use Rattle.spline.proofs.lane.cyclic_moments.Statement.{statement}
+use Rattle.spline.proofs.lane.cyclic_moments.Tie as tie
+use Rattle.spline.proofs.lane.cyclic_moments.Reads as reads
+use Rattle.spline.proofs.lane.cyclic_moments.Lts as lts
 use Rattle.solve.proofs.cyclic_thomas.Reads as cyclic-thomas-reads
-use Rattle.spline.proofs.first_row.Reads as first-row-reads
-use Rattle.spline.proofs.interior_rows.Reads as interior-rows-reads
-use Rattle.spline.proofs.periodic_row.Reads as periodic-row-reads
+use Rattle.spline.proofs.rows.first_row.Reads as first-row-reads
+use Rattle.spline.proofs.rows.interior_rows.Reads as interior-rows-reads
+use Rattle.spline.proofs.rows.periodic_row.Reads as periodic-row-reads
 
 sub-n : tie.Need-sub-n
 sub-n c = search needs

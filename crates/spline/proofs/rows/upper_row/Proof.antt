@@ -5,10 +5,10 @@ use Rattle.rules.specs.Ends.{dropped}
 use Rattle.rules.specs.Moments.{upper-row}
 use Rattle.spline.specs.Lanes.{upper-end-row}
 use Rattle.spline.proofs.Ends.{upper-not-a-knot}
-use Rattle.spline.proofs.upper_row.Statement.{statement}
-use Rattle.spline.proofs.upper_row.Tie as tie
-use Rattle.spline.proofs.upper_row.Reads as reads
-use Rattle.spline.proofs.upper_row.Lts as lts
+use Rattle.spline.proofs.rows.upper_row.Statement.{statement}
+use Rattle.spline.proofs.rows.upper_row.Tie as tie
+use Rattle.spline.proofs.rows.upper_row.Reads as reads
+use Rattle.spline.proofs.rows.upper_row.Lts as lts
 
 sub-n : tie.Need-sub-n
 sub-n c = search needs

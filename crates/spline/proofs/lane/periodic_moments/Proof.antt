@@ -2,11 +2,11 @@ use native.Mathlib.Omega.{arith}
 use lib.ListN.{length-set}
 use borrow.Author.Needs.{needs}
 use Rattle.spline.proofs.PeriodicLane.{one-interval}
-use Rattle.spline.proofs.periodic_moments.Statement.{statement}
-use Rattle.spline.proofs.periodic_moments.Tie as tie
-use Rattle.spline.proofs.periodic_moments.Reads as reads
-use Rattle.spline.proofs.periodic_moments.Lts as lts
-use Rattle.spline.proofs.cyclic_moments.Reads as cyclic-moments-reads
+use Rattle.spline.proofs.lane.periodic_moments.Statement.{statement}
+use Rattle.spline.proofs.lane.periodic_moments.Tie as tie
+use Rattle.spline.proofs.lane.periodic_moments.Reads as reads
+use Rattle.spline.proofs.lane.periodic_moments.Lts as lts
+use Rattle.spline.proofs.lane.cyclic_moments.Reads as cyclic-moments-reads
 
 slice-write-w : tie.Need-slice-write-w
 slice-write-w c = search needs
