@@ -1,0 +1,83 @@
+-- The blend sees only the numbers of its cell and its axes, and one axis removed in place is one step of it.
+use native.Mathlib.Omega.{arith}
+use mathlib.Core.Path.{_≡_, refl, sym, ap, ap₂, _∙_}
+use mathlib.Core.Logic.{_≢_}
+use mathlib.Core.List.{List}
+use Prim.Native.Nat.{ℕ, zero, suc, _+_, _-_, _*_, _/_, _^_, _<_, _≤_}
+use native.Mathlib.Nat.{pow-suc, sub-zero, pow-le-pow-right}
+use native.Mathlib.Numerals.{add-one}
+use lib.Dec.{lit<}
+use lib.ListN.{length, take}
+use lib.Seq.{getD-take, length-take-le}
+use lib.Ieee.{Float, nan}
+use Rattle.rules.specs.Numbers.{at}
+use Rattle.rules.specs.Query.{without-lowest, blend}
+use Rattle.query.specs.Blend.{Removed}
+
+-- ---- what the blend sees
+
+without-lowest-ext :
+    (size : ℕ) {width width′ t t′ : Float} (cell cell′ : ℕ → Float) → width ≡ width′ → t ≡ t′
+    → ((e : ℕ) → e < 4 * size → cell e ≡ cell′ e) → (e : ℕ) → e < size
+    → without-lowest size width t cell e ≡ without-lowest size width′ t′ cell′ e
+unfolding without-lowest
+without-lowest-ext size cell cell′ w u same e h =
+    cc (
+      same (2 * e) (omega arith),
+      same (2 * e + 1) (omega arith),
+      same (2 * size + 2 * e) (omega arith),
+      same (2 * size + 2 * e + 1) (omega arith),
+    )
+
+-- two blends are equal where widths and fractions agree on the axes and the cells on their numbers
+pub blend-ext :
+    (axes lowest : ℕ) (widths widths′ ts ts′ cell cell′ : ℕ → Float)
+    → ((i : ℕ) → lowest ≤ i → i < lowest + axes → widths i ≡ widths′ i)
+    → ((i : ℕ) → lowest ≤ i → i < lowest + axes → ts i ≡ ts′ i)
+    → ((e : ℕ) → e < 4 ^ axes → cell e ≡ cell′ e)
+    → blend axes lowest widths ts cell ≡ blend axes lowest widths′ ts′ cell′
+unfolding blend
+blend-ext zero lowest widths widths′ ts ts′ cell cell′ w t same = same 0 (omega arith)
+blend-ext (suc axes) lowest widths widths′ ts ts′ cell cell′ w t same =
+    blend-ext axes (suc lowest) widths widths′ ts ts′ _ _
+    (λ i a b. w i (omega arith) (omega arith))
+    (λ i a b. t i (omega arith) (omega arith))
+    (without-lowest-ext (4 ^ axes) cell cell′
+    (w lowest (omega arith) (omega arith))
+    (t lowest (omega arith) (omega arith))
+    (λ e h. same e (omega (arith, pow-suc 4 axes))))
+
+-- ---- one step
+
+less-one : (n : ℕ) → suc n - 1 ≡ n
+less-one n = omega arith
+
+-- a quarter of a cell is the cell of one axis fewer
+pub quarter : (axes n : ℕ) → axes ≢ 0 → n ≡ 4 ^ axes → n / 4 ≡ 4 ^ (axes - 1)
+quarter zero n some e = absurd (some refl)
+quarter (suc axes) n some e = rw less-one (omega (arith, pow-suc 4 axes))
+
+pub few : (axes : ℕ) → axes ≤ 3 → 4 ^ axes ≤ 64
+few axes h = pow-le-pow-right (lit< tt) {i = axes} {j = 3} h
+
+-- no axis is left
+pub none-left : (axes lowest : ℕ) (widths ts : ℕ → Float) (cell : List Float) → axes ≡ 0 → at cell 0 ≡ blend axes lowest widths ts (at cell)
+unfolding blend
+none-left axes lowest widths ts cell e = rw e refl
+
+-- what stands in the front once the lowest axis is removed is blended on
+pub one-fewer :
+    (axes lowest size : ℕ) (widths ts : ℕ → Float) (cell later : List Float) → axes ≢ 0 → size ≡ 4 ^ (axes - 1)
+    → Removed cell later size (widths lowest) (ts lowest)
+    → blend (axes - 1) (lowest + 1) widths ts (at (take (size - 0) later)) ≡ blend axes lowest widths ts (at cell)
+unfolding blend
+one-fewer zero lowest size widths ts cell later some e removed = absurd (some refl)
+one-fewer (suc axes) lowest size widths ts cell later some e removed =
+    let s : size ≡ 4 ^ axes = rw less-one at e in
+    rw (less-one, add-one, sub-zero)
+    (blend-ext axes (suc lowest) widths widths ts ts
+    (at (take size later))
+    (without-lowest (4 ^ axes) (widths lowest) (ts lowest) (at cell))
+    (λ i a b. refl)
+    (λ i a b. refl)
+    (λ k h. getD-take size later k nan (omega arith) ∙ removed .smaller k (omega arith) ∙ ap (λ (n : ℕ). without-lowest n (widths lowest) (ts lowest) (at cell) k) s))
