@@ -1,2 +1,4 @@
 pub mod Removal
 pub mod Blending
+pub mod Corners
+pub mod Gathering

@@ -5,7 +5,6 @@ use Prim.Native.Nat.{ℕ, _<_}
 use lib.ListN.{getD, length}
 use lib.Ieee.{Float, nan}
 use Rattle.rules.specs.Numbers.{_⊕_, _⊗_, at}
-use Rattle.rules.specs.Sizes.{Place}
 use Rattle.rules.specs.Query.{hermite, without-lowest}
 use Rattle.query.specs.declared.Weights.{Weights}
 use Rattle.query.specs.declared.AxisCell.{AxisCell}
@@ -26,9 +25,6 @@ pub record Removed (cell later : List Float) (size : ℕ) (width t : Float) : Ty
 -- what is known of a point on axis i: the lower knot of its cell, the cell's width, the fraction, and the label
 abbrev pub axis-cell : List AxisCell → ℕ → AxisCell
 axis-cell cells i = getD cells i (record { lower = 0; width = nan; t = nan; label = 0 })
-
-abbrev pub lowers : List AxisCell → Place
-lowers cells i = axis-cell cells i .lower
 
 abbrev pub widths : List AxisCell → ℕ → Float
 widths cells i = axis-cell cells i .width

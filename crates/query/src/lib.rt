@@ -3,8 +3,12 @@ ghost use mathlib.Core.Path.{_≡_};
 ghost use Prim.Native.Nat.{_+_, _*_, _^_, _≤_};
 ghost use lib.ListN.{length};
 ghost use Rattle.rules.specs.Numbers.{at};
+ghost use Rattle.rules.specs.Sizes.{flat, tensor-length};
 ghost use Rattle.rules.specs.Query as rule;
 ghost use Rattle.query.specs.Blend.{weighted, WeightsOf, Removed, widths, ts};
+ghost use Rattle.query.specs.Cell.{points-of, sizes-of, lowers, Inside, Gathered};
+
+use rules::Axis;
 
 // The Hermite weights of one axis: h00 and h01 for the values at the lower and the upper knot, h10 and h11, times the width, for the slopes.
 struct Weights {
@@ -76,4 +80,48 @@ fn blend(cell: &mut [f64], axes: usize, lowest: usize, cells: [AxisCell; 4]) -> 
     let axis_cell = cells[lowest];
     remove_lowest(cell, size, axis_cell.width, axis_cell.t);
     blend(&mut cell[0..size], axes - 1, lowest + 1, cells)
+}
+
+// Which of the grid's places, counted last axis fastest, is the corner of the cell with these bits.
+fn corner_place(axes: usize, all: [Axis; 4], cells: [AxisCell; 4], bits: usize) -> usize
+    requires { ⌜ Inside axes all cells ⌝ }
+    ensures { λ r. ⌜ r ≡ flat (points-of all) axes (rule.corner axes (lowers cells) bits) ⌝ }
+{
+    let mut place = 0;
+    let mut i = 0;
+    while i < axes {
+        let corner = cells[i].lower + (bits >> (axes - 1 - i)) % 2;
+        place = place * all[i].points + corner;
+        i += 1;
+    }
+    place
+}
+
+// How many masks there are: 2 to the power of the axes.
+fn masks(axes: usize) -> usize
+    requires { ⌜ (1 ≤ axes) × (axes ≤ 4) ⌝ }
+    ensures { λ r. ⌜ (r ≡ 2 ^ axes) × (r ≤ 16) ⌝ }
+{
+    match axes {
+        1 => 2,
+        2 => 4,
+        3 => 8,
+        _ => 16,
+    }
+}
+
+// The numbers of the cell from the tensor, corner after corner, the mask fastest. Two corners that differ on the last axis alone stand side by side in the tensor too.
+fn gather(cell: &mut [f64], axes: usize, all: [Axis; 4], cells: [AxisCell; 4], tensor: &[f64])
+    requires { ⌜ Inside axes all cells × (length (now cell) ≡ 4 ^ axes) × (length (now tensor) ≡ tensor-length (sizes-of axes all)) ⌝ }
+    ensures { λ _. ⌜ Gathered (sizes-of axes all) (now (tensor .entry)) (lowers cells) (now (cell .exit)) ⌝ }
+{
+    let masks = masks(axes);
+    let two = 2 * masks;
+    let mut bits = 0;
+    while bits < masks {
+        let start = corner_place(axes, all, cells, bits) * masks;
+        let to = bits * masks;
+        base::copy(&mut cell[to..to + two], &tensor[start..start + two]);
+        bits += 2;
+    }
 }

@@ -1,0 +1,34 @@
+-- What a cell is gathered from, and what stands in it then.
+use mathlib.Core.Path.{_≡_}
+use mathlib.Core.List.{List, []}
+use Prim.Native.Nat.{ℕ, _+_, _^_, _<_, _≤_}
+use lib.ListN.{getD, length}
+use lib.Ieee.{Float}
+use Rattle.rules.specs.Numbers.{at}
+use Rattle.rules.specs.Sizes.{most-axes, most-in-a-tensor, unused-axis, Grid, points, product-below, tensor-length, Place}
+use Rattle.rules.specs.Query.{cell}
+use Rattle.rules.specs.declared.Axis.{Axis}
+use Rattle.query.specs.Blend.{axis-cell}
+use Rattle.query.specs.declared.AxisCell.{AxisCell}
+
+abbrev pub sizes-of : ℕ → List Axis → Grid
+sizes-of axes all = record { axes = axes; entries = all; flat-knots = [] }
+
+abbrev pub points-of : List Axis → ℕ → ℕ
+points-of all i = getD all i unused-axis .points
+
+-- the lower knot on each axis
+abbrev pub lowers : List AxisCell → Place
+lowers cells i = axis-cell cells i .lower
+
+-- a cell of the grid: its upper knots are on it too
+pub record Inside (axes : ℕ) (all : List Axis) (cells : List AxisCell) : Type 0 where
+  pub some-axes : 1 ≤ axes
+  pub few-axes : axes ≤ most-axes
+  pub small : tensor-length (sizes-of axes all) ≤ most-in-a-tensor
+  pub upper : (i : ℕ) → i < axes → lowers cells i + 1 < points-of all i
+
+-- the local cell has the numbers of the tensor's cell
+pub record Gathered (g : Grid) (tensor : List Float) (lower : Place) (gathered : List Float) : Type 0 where
+  pub exact : length gathered ≡ 4 ^ g .axes
+  pub number : (e : ℕ) → e < 4 ^ g .axes → at gathered e ≡ cell g tensor lower e
