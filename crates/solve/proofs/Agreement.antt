@@ -13,26 +13,26 @@ module _
     (same-sup : (k : ℕ) → k < l → sup k ≡ sup′ k)
     (same-rhs : (k : ℕ) → k ≤ l → rhs k ≡ rhs′ k)
   where
-  same-w : (k : ℕ) → k ≤ l → Solve.w sub diag sup rhs k ≡ Solve.w sub′ diag′ sup′ rhs′ k
-  unfolding Solve.w
-  same-w zero h = same-diag zero h
-  same-w (suc k) h = cc (same-diag (suc k) h, same-sub k h, same-sup k h, same-w k (omega arith))
+    same-w : (k : ℕ) → k ≤ l → Solve.w sub diag sup rhs k ≡ Solve.w sub′ diag′ sup′ rhs′ k
+    unfolding Solve.w
+    same-w zero h = same-diag zero h
+    same-w (suc k) h = cc (same-diag (suc k) h, same-sub k h, same-sup k h, same-w k (omega arith))
 
-  same-cp : (k : ℕ) → k < l → cp sub diag sup rhs k ≡ cp sub′ diag′ sup′ rhs′ k
-  unfolding cp
-  same-cp k h = cc (same-sup k h, same-w k (omega arith))
+    same-cp : (k : ℕ) → k < l → cp sub diag sup rhs k ≡ cp sub′ diag′ sup′ rhs′ k
+    unfolding cp
+    same-cp k h = cc (same-sup k h, same-w k (omega arith))
 
-  same-dp : (k : ℕ) → k ≤ l → dp sub diag sup rhs k ≡ dp sub′ diag′ sup′ rhs′ k
-  unfolding dp
-  same-dp zero h = cc (same-rhs zero h, same-diag zero h)
-  same-dp (suc k) h = cc (same-rhs (suc k) h, same-sub k h, same-dp k (omega arith), same-w (suc k) h)
+    same-dp : (k : ℕ) → k ≤ l → dp sub diag sup rhs k ≡ dp sub′ diag′ sup′ rhs′ k
+    unfolding dp
+    same-dp zero h = cc (same-rhs zero h, same-diag zero h)
+    same-dp (suc k) h = cc (same-rhs (suc k) h, same-sub k h, same-dp k (omega arith), same-w (suc k) h)
 
-  same-before-last : (j : ℕ) → j ≤ l → before-last sub diag sup rhs l j ≡ before-last sub′ diag′ sup′ rhs′ l j
-  unfolding before-last
-  same-before-last zero h = same-dp l (omega arith)
-  same-before-last (suc j) h =
-      cc (same-dp (l - suc j) (omega arith), same-cp (l - suc j) (omega arith), same-before-last j (omega arith))
+    same-before-last : (j : ℕ) → j ≤ l → before-last sub diag sup rhs l j ≡ before-last sub′ diag′ sup′ rhs′ l j
+    unfolding before-last
+    same-before-last zero h = same-dp l (omega arith)
+    same-before-last (suc j) h =
+        cc (same-dp (l - suc j) (omega arith), same-cp (l - suc j) (omega arith), same-before-last j (omega arith))
 
-  pub same-thomas : (k : ℕ) → thomas sub diag sup rhs l k ≡ thomas sub′ diag′ sup′ rhs′ l k
-  unfolding thomas
-  same-thomas k = same-before-last (l - k) (omega arith)
+    pub same-thomas : (k : ℕ) → thomas sub diag sup rhs l k ≡ thomas sub′ diag′ sup′ rhs′ l k
+    unfolding thomas
+    same-thomas k = same-before-last (l - k) (omega arith)

@@ -1,0 +1,2 @@
+pub mod Interior
+pub mod Ends
