@@ -11,8 +11,10 @@ use lib.ListN.{length, take}
 use lib.Seq.{getD-take, length-take-le}
 use lib.Ieee.{Float, nan}
 use Rattle.rules.specs.Numbers.{at}
-use Rattle.rules.specs.Query.{without-lowest, blend}
+use Rattle.rules.specs.Sizes.{Grid, Place}
+use Rattle.rules.specs.Query.{without-lowest, blend, cell}
 use Rattle.query.specs.Blend.{Removed}
+use Rattle.query.specs.Cell.{Gathered}
 
 -- ---- what the blend sees
 
@@ -81,3 +83,10 @@ one-fewer (suc axes) lowest size widths ts cell later some e removed =
     (λ i a b. refl)
     (λ i a b. refl)
     (λ k h. getD-take size later k nan (omega arith) ∙ removed .smaller k (omega arith) ∙ ap (λ (n : ℕ). without-lowest n (widths lowest) (ts lowest) (at cell) k) s))
+
+-- a gathered cell is blended as the tensor's
+pub gathered-blend :
+    (g : Grid) (tensor : List Float) (lower : Place) (widths ts : ℕ → Float) (gathered : List Float) → Gathered g tensor lower gathered
+    → blend (g .axes) 0 widths ts (at gathered) ≡ blend (g .axes) 0 widths ts (cell g tensor lower)
+gathered-blend g tensor lower widths ts gathered given =
+    blend-ext (g .axes) 0 widths widths ts ts (at gathered) (cell g tensor lower) (λ i a b. refl) (λ i a b. refl) (given .number)

@@ -2,3 +2,4 @@ pub mod Removal
 pub mod Blending
 pub mod Corners
 pub mod Gathering
+pub mod Locating

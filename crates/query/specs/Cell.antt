@@ -6,9 +6,9 @@ use lib.ListN.{getD, length}
 use lib.Ieee.{Float}
 use Rattle.rules.specs.Numbers.{at}
 use Rattle.rules.specs.Sizes.{most-axes, most-in-a-tensor, unused-axis, Grid, points, product-below, tensor-length, Place}
-use Rattle.rules.specs.Query.{cell}
+use Rattle.rules.specs.Query.{cell, blend}
 use Rattle.rules.specs.declared.Axis.{Axis}
-use Rattle.query.specs.Blend.{axis-cell}
+use Rattle.query.specs.Blend.{axis-cell, widths, ts}
 use Rattle.query.specs.declared.AxisCell.{AxisCell}
 
 abbrev pub sizes-of : ℕ → List Axis → Grid
@@ -32,3 +32,7 @@ pub record Inside (axes : ℕ) (all : List Axis) (cells : List AxisCell) : Type 
 pub record Gathered (g : Grid) (tensor : List Float) (lower : Place) (gathered : List Float) : Type 0 where
   pub exact : length gathered ≡ 4 ^ g .axes
   pub number : (e : ℕ) → e < 4 ^ g .axes → at gathered e ≡ cell g tensor lower e
+
+-- the blend of the tensor's cell
+abbrev pub blended : ℕ → List Axis → List AxisCell → List Float → Float
+blended axes all cells tensor = blend axes 0 (widths cells) (ts cells) (cell (sizes-of axes all) tensor (lowers cells))

@@ -1,2 +1,3 @@
 pub mod Blend
 pub mod Cell
+pub mod Located

@@ -2,11 +2,12 @@
 ghost use mathlib.Core.Path.{_≡_};
 ghost use Prim.Native.Nat.{_+_, _*_, _^_, _≤_};
 ghost use lib.ListN.{length};
-ghost use Rattle.rules.specs.Numbers.{at};
+ghost use Rattle.rules.specs.Numbers.{at, table};
 ghost use Rattle.rules.specs.Sizes.{flat, tensor-length};
 ghost use Rattle.rules.specs.Query as rule;
-ghost use Rattle.query.specs.Blend.{weighted, WeightsOf, Removed, widths, ts};
-ghost use Rattle.query.specs.Cell.{points-of, sizes-of, lowers, Inside, Gathered};
+ghost use Rattle.query.specs.Blend.{weighted, WeightsOf, Removed, axis-cell, widths, ts};
+ghost use Rattle.query.specs.Cell.{points-of, sizes-of, lowers, Inside, Gathered, blended};
+ghost use Rattle.query.specs.Located.{grid, AxisAccepted, OnAxis, Accepted, OnAxes};
 
 use rules::Axis;
 
@@ -123,5 +124,86 @@ fn gather(cell: &mut [f64], axes: usize, all: [Axis; 4], cells: [AxisCell; 4], t
         let to = bits * masks;
         base::copy(&mut cell[to..to + two], &tensor[start..start + two]);
         bits += 2;
+    }
+}
+
+// Where a point lies among the knots of an axis.
+fn locate_on_axis(knots: &[f64], point: f64) -> AxisCell
+    requires { ⌜ AxisAccepted (now knots) point ⌝ }
+    ensures { λ r. ⌜ OnAxis (now (knots .entry)) point r ⌝ }
+{
+    let lower = locate::locate_lower_index(knots, point);
+    let width = knots[lower + 1] - knots[lower];
+    let t = (point - knots[lower]) / width;
+    let label = locate::cell_label(knots, point, lower);
+    AxisCell {
+        lower,
+        width,
+        t,
+        label,
+    }
+}
+
+// Where a point lies on each axis in use. Past them the label is 0.
+fn locate_on_axes(axes: usize, all: [Axis; 4], knots: &[f64], coordinates: &[f64]) -> [AxisCell; 4]
+    requires { ⌜ Accepted (grid axes all (now knots)) (now coordinates) ⌝ }
+    ensures { λ r. ⌜ OnAxes (grid axes all (now (knots .entry))) (now (coordinates .entry)) axes r ⌝ }
+{
+    let unused = AxisCell {
+        lower: 0,
+        width: 0.0,
+        t: 0.0,
+        label: 0,
+    };
+    let mut cells = [unused; 4];
+    let mut begin = 0;
+    let mut i = 0;
+    while i < axes {
+        let end = begin + all[i].points;
+        cells[i] = locate_on_axis(&knots[begin..end], coordinates[i]);
+        begin = end;
+        i += 1;
+    }
+    cells
+}
+
+// The labels of the four axes.
+fn labels(cells: [AxisCell; 4]) -> [usize; 4]
+    ensures { λ r. ⌜ r ≡ table 4 (λ i. axis-cell cells i .label) ⌝ }
+{
+    [cells[0].label, cells[1].label, cells[2].label, cells[3].label]
+}
+
+// The blend of the tensor's cell, with as many numbers lent for it as it has.
+fn blend_in(cell: &mut [f64], axes: usize, all: [Axis; 4], cells: [AxisCell; 4], tensor: &[f64]) -> f64
+    requires { ⌜ Inside axes all cells × (length (now cell) ≡ 4 ^ axes) × (length (now tensor) ≡ tensor-length (sizes-of axes all)) ⌝ }
+    ensures { λ r. ⌜ r ≡ blended axes all cells (now (tensor .entry)) ⌝ }
+{
+    gather(cell, axes, all, cells, tensor);
+    blend(cell, axes, 0, cells)
+}
+
+// The surface's value in a cell: no more numbers are cleared than the cell has.
+fn value(axes: usize, all: [Axis; 4], cells: [AxisCell; 4], tensor: &[f64]) -> f64
+    requires { ⌜ Inside axes all cells × (length (now tensor) ≡ tensor-length (sizes-of axes all)) ⌝ }
+    ensures { λ r. ⌜ r ≡ blended axes all cells (now (tensor .entry)) ⌝ }
+{
+    match axes {
+        1 => {
+            let mut cell = [0.0; 4];
+            blend_in(&mut cell, axes, all, cells, tensor)
+        }
+        2 => {
+            let mut cell = [0.0; 16];
+            blend_in(&mut cell, axes, all, cells, tensor)
+        }
+        3 => {
+            let mut cell = [0.0; 64];
+            blend_in(&mut cell, axes, all, cells, tensor)
+        }
+        _ => {
+            let mut cell = [0.0; 256];
+            blend_in(&mut cell, axes, all, cells, tensor)
+        }
     }
 }
