@@ -11,7 +11,8 @@ use Rattle.rules.specs.Sizes.{Place, flat, product-below}
 use Rattle.rules.specs.Query.{corner}
 use Rattle.rules.specs.declared.Axis.{Axis}
 use Rattle.rules.proofs.Places.{OnGrid, flat-below, flat-ext, below-or-last}
-use Rattle.query.specs.Cell.{points-of, lowers, Inside}
+use Rattle.checks.specs.Given.{points-of}
+use Rattle.query.specs.Cell.{lowers, Inside}
 use Rattle.query.specs.declared.AxisCell.{AxisCell}
 
 product-rises : (n : ℕ → ℕ) (d i : ℕ) → ((j : ℕ) → j < d → 0 < n j) → i ≤ d → product-below n i ≤ product-below n d
@@ -58,12 +59,13 @@ module _ (axes : ℕ) (all : List Axis) (cells : List AxisCell) (bits : ℕ) (gi
   -- how far the count can come
   pub corner-below : (i : ℕ) → i ≤ axes → flat (points-of all) i (corner axes (lowers cells) bits) < 4096
   corner-below i h =
-      omega
-      (arith,
-      flat-below (points-of all) i (corner axes (lowers cells) bits) (λ j g. corner-on-grid j (omega arith)),
-      product-rises (points-of all) axes i (λ j g. omega (arith, given .upper j g)) h,
-      le-mul-of-pos-right (product-below (points-of all) axes) (pow-pos axes),
-      given .small)
+      omega (
+        arith,
+        flat-below (points-of all) i (corner axes (lowers cells) bits) (λ j g. corner-on-grid j (omega arith)),
+        product-rises (points-of all) axes i (λ j g. omega (arith, given .upper j g)) h,
+        le-mul-of-pos-right (product-below (points-of all) axes) (pow-pos axes),
+        given .small,
+      )
 
 -- the place of the first i axes is counted
 pub record Turn (axes : ℕ) (all : List Axis) (cells : List AxisCell) (bits place i : ℕ) : Type 0 where

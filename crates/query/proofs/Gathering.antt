@@ -16,7 +16,8 @@ use Rattle.rules.specs.Sizes.{Place, flat, product-below, tensor-length}
 use Rattle.rules.specs.Query.{corner, cell}
 use Rattle.rules.specs.declared.Axis.{Axis}
 use Rattle.rules.proofs.Places.{flat-below}
-use Rattle.query.specs.Cell.{sizes-of, points-of, lowers, Inside, Gathered}
+use Rattle.checks.specs.Given.{sizes-of, points-of}
+use Rattle.query.specs.Cell.{lowers, Inside, Gathered}
 use Rattle.query.specs.declared.AxisCell.{AxisCell}
 use Rattle.query.proofs.Corners.{side-by-side, corner-on-grid}
 
@@ -123,11 +124,12 @@ module _ (cell₀ : List Float) (axes : ℕ) (all : List Axis) (cells : List Axi
 
     above : place + 2 ≤ product-below (points-of all) axes
     above =
-        omega
-        (arith,
-        is,
-        side-by-side (lowers cells) bits (turn .even) (points-of all) axes (turn .inside .some-axes),
-        flat-below (points-of all) axes (corner axes (lowers cells) (bits + 1)) (corner-on-grid axes all cells (bits + 1) (turn .inside)))
+        omega (
+          arith,
+          is,
+          side-by-side (lowers cells) bits (turn .even) (points-of all) axes (turn .inside .some-axes),
+          flat-below (points-of all) axes (corner axes (lowers cells) (bits + 1)) (corner-on-grid axes all cells (bits + 1) (turn .inside)),
+        )
 
     pub room : Room gathered bits place
     room = record {

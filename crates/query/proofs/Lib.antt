@@ -3,3 +3,4 @@ pub mod Blending
 pub mod Corners
 pub mod Gathering
 pub mod Locating
+pub mod Answers

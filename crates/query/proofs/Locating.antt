@@ -2,10 +2,8 @@
 use native.Mathlib.Omega.{arith}
 use mathlib.Core.Path.{_≡_, refl, sym, ap, _∙_}
 use mathlib.Core.List.{List}
-use Prim.Native.Nat.{ℕ, zero, suc, _+_, _-_, _<_, _≤_}
-use mathlib.Core.Logic.{⊎-elim}
-use native.Mathlib.Nat.{add-sub-cancel-left, le-refl, eq-or-lt-of-le, le-of-suc-le-suc}
-use native.Mathlib.Numerals.{add-one}
+use Prim.Native.Nat.{ℕ, _+_, _-_, _<_, _≤_}
+use native.Mathlib.Nat.{add-sub-cancel-left}
 use lib.ListN.{length, getD, take, drop, set, replicate, length-set, length-replicate, getD-replicate}
 use lib.Seq.{getD-set-same, getD-set-other}
 use lib.Ieee.{Float, nan}
@@ -14,6 +12,7 @@ use Rattle.rules.specs.Numbers.{_⊖_, _⊘_, at, plus-zero}
 use Rattle.rules.specs.Sizes.{Grid, points, knots, sum-below}
 use Rattle.rules.specs.Steps.{h}
 use Rattle.rules.specs.Query.{fraction}
+use Rattle.checks.proofs.Products.{sum-more, sum-within}
 use Rattle.locate.specs.Answers as locate
 use Rattle.query.specs.Blend.{axis-cell}
 use Rattle.query.specs.Located.{AxisAccepted, OnAxis, on-axis, Accepted, OnAxes}
@@ -41,16 +40,6 @@ on-one-axis knots point lower label given located labelled =
     }
 
 -- ---- the turns
-
-sum-more : (n : ℕ → ℕ) (i : ℕ) → sum-below n (i + 1) ≡ sum-below n i + n i
-unfolding sum-below
-sum-more n i = rw add-one refl
-
-sum-within : (n : ℕ → ℕ) (i axes : ℕ) → i < axes → sum-below n i + n i ≤ sum-below n axes
-unfolding sum-below
-sum-within n i zero l = absurd (omega arith)
-sum-within n i (suc axes) l =
-    ⊎-elim (λ e. rw e (le-refl _)) (λ lt. let h = sum-within n i axes lt in omega arith) (eq-or-lt-of-le (le-of-suc-le-suc l))
 
 -- the point is located on the first i axes, and the knots of the next begin at `begin`
 pub record Turn (g : Grid) (coordinates : List Float) (cells : List AxisCell) (begin i : ℕ) : Type 0 where

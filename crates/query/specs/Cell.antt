@@ -1,21 +1,16 @@
 -- What a cell is gathered from, and what stands in it then.
 use mathlib.Core.Path.{_≡_}
-use mathlib.Core.List.{List, []}
+use mathlib.Core.List.{List}
 use Prim.Native.Nat.{ℕ, _+_, _^_, _<_, _≤_}
-use lib.ListN.{getD, length}
+use lib.ListN.{length}
 use lib.Ieee.{Float}
 use Rattle.rules.specs.Numbers.{at}
-use Rattle.rules.specs.Sizes.{most-axes, most-in-a-tensor, unused-axis, Grid, points, product-below, tensor-length, Place}
+use Rattle.rules.specs.Sizes.{most-axes, most-in-a-tensor, Grid, tensor-length, Place}
 use Rattle.rules.specs.Query.{cell, blend}
 use Rattle.rules.specs.declared.Axis.{Axis}
+use Rattle.checks.specs.Given.{sizes-of, points-of}
 use Rattle.query.specs.Blend.{axis-cell, widths, ts}
 use Rattle.query.specs.declared.AxisCell.{AxisCell}
-
-abbrev pub sizes-of : ℕ → List Axis → Grid
-sizes-of axes all = record { axes = axes; entries = all; flat-knots = [] }
-
-abbrev pub points-of : List Axis → ℕ → ℕ
-points-of all i = getD all i unused-axis .points
 
 -- the lower knot on each axis
 abbrev pub lowers : List AxisCell → Place

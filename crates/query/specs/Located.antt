@@ -11,13 +11,9 @@ use Rattle.rules.specs.Sizes.{most-axes, fewest-on-an-axis, most-on-an-axis, Gr
 use Rattle.rules.specs.Steps.{h}
 use Rattle.rules.specs.Locate.{locate, label}
 use Rattle.rules.specs.Query.{fraction}
-use Rattle.rules.specs.declared.Axis.{Axis}
 use Rattle.locate.specs.Answers.{Rising}
 use Rattle.query.specs.Blend.{axis-cell}
 use Rattle.query.specs.declared.AxisCell.{AxisCell}
-
-abbrev pub grid : ℕ → List Axis → List Float → Grid
-grid axes all flat-knots = record { axes = axes; entries = all; flat-knots = flat-knots }
 
 -- a point and the knots of an axis that the refusals let pass
 pub record AxisAccepted (knots : List Float) (point : Float) : Type 0 where

@@ -5,11 +5,14 @@ ghost use lib.ListN.{length};
 ghost use Rattle.rules.specs.Numbers.{at, table};
 ghost use Rattle.rules.specs.Sizes.{flat, tensor-length};
 ghost use Rattle.rules.specs.Query as rule;
+ghost use Rattle.rules.specs.Calls.{QueryPromise};
+ghost use Rattle.checks.specs.Given.{grid, sizes-of, points-of};
+ghost use Rattle.query.specs.Answer.{refused-with};
 ghost use Rattle.query.specs.Blend.{weighted, WeightsOf, Removed, axis-cell, widths, ts};
-ghost use Rattle.query.specs.Cell.{points-of, sizes-of, lowers, Inside, Gathered, blended};
-ghost use Rattle.query.specs.Located.{grid, AxisAccepted, OnAxis, Accepted, OnAxes};
-
+ghost use Rattle.query.specs.Cell.{lowers, Inside, Gathered, blended};
+ghost use Rattle.query.specs.Located.{AxisAccepted, OnAxis, Accepted, OnAxes};
 use rules::Axis;
+use rules::QueryAnswer;
 
 // The Hermite weights of one axis: h00 and h01 for the values at the lower and the upper knot, h10 and h11, times the width, for the slopes.
 struct Weights {
@@ -98,25 +101,12 @@ fn corner_place(axes: usize, all: [Axis; 4], cells: [AxisCell; 4], bits: usize) 
     place
 }
 
-// How many masks there are: 2 to the power of the axes.
-fn masks(axes: usize) -> usize
-    requires { ⌜ (1 ≤ axes) × (axes ≤ 4) ⌝ }
-    ensures { λ r. ⌜ (r ≡ 2 ^ axes) × (r ≤ 16) ⌝ }
-{
-    match axes {
-        1 => 2,
-        2 => 4,
-        3 => 8,
-        _ => 16,
-    }
-}
-
 // The numbers of the cell from the tensor, corner after corner, the mask fastest. Two corners that differ on the last axis alone stand side by side in the tensor too.
 fn gather(cell: &mut [f64], axes: usize, all: [Axis; 4], cells: [AxisCell; 4], tensor: &[f64])
     requires { ⌜ Inside axes all cells × (length (now cell) ≡ 4 ^ axes) × (length (now tensor) ≡ tensor-length (sizes-of axes all)) ⌝ }
     ensures { λ _. ⌜ Gathered (sizes-of axes all) (now (tensor .entry)) (lowers cells) (now (cell .exit)) ⌝ }
 {
-    let masks = masks(axes);
+    let masks = checks::sizes::masks(axes);
     let two = 2 * masks;
     let mut bits = 0;
     while bits < masks {
@@ -171,11 +161,22 @@ fn locate_on_axes(axes: usize, all: [Axis; 4], knots: &[f64], coordinates: &[f64
 fn labels(cells: [AxisCell; 4]) -> [usize; 4]
     ensures { λ r. ⌜ r ≡ table 4 (λ i. axis-cell cells i .label) ⌝ }
 {
-    [cells[0].label, cells[1].label, cells[2].label, cells[3].label]
+    [
+        cells[0].label,
+        cells[1].label,
+        cells[2].label,
+        cells[3].label,
+    ]
 }
 
 // The blend of the tensor's cell, with as many numbers lent for it as it has.
-fn blend_in(cell: &mut [f64], axes: usize, all: [Axis; 4], cells: [AxisCell; 4], tensor: &[f64]) -> f64
+fn blend_in(
+    cell: &mut [f64],
+    axes: usize,
+    all: [Axis; 4],
+    cells: [AxisCell; 4],
+    tensor: &[f64],
+) -> f64
     requires { ⌜ Inside axes all cells × (length (now cell) ≡ 4 ^ axes) × (length (now tensor) ≡ tensor-length (sizes-of axes all)) ⌝ }
     ensures { λ r. ⌜ r ≡ blended axes all cells (now (tensor .entry)) ⌝ }
 {
@@ -205,5 +206,44 @@ fn value(axes: usize, all: [Axis; 4], cells: [AxisCell; 4], tensor: &[f64]) -> f
             let mut cell = [0.0; 256];
             blend_in(&mut cell, axes, all, cells, tensor)
         }
+    }
+}
+
+// A refusal: its number, +0.0, and labels 0.
+fn refused(refusal: usize) -> QueryAnswer
+    ensures { λ r. ⌜ r ≡ refused-with refusal ⌝ }
+{
+    QueryAnswer {
+        refusal,
+        value: 0.0,
+        labels: [0; 4],
+    }
+}
+
+// The surface's value at a point, and the cell label of each axis in use. It refuses by 1, 2, 3, 4, 7 and 8, which look at all that it is lent
+// but the tensor's numbers, and by 10 where the value is infinite or NaN.
+pub fn query(
+    axes: usize,
+    all: [Axis; 4],
+    knots: &[f64],
+    tensor: &[f64],
+    coordinates: &[f64],
+) -> QueryAnswer
+    ensures { λ r. ⌜ QueryPromise (grid axes all (now (knots .entry))) (now (tensor .entry)) (now (coordinates .entry)) r ⌝ }
+{
+    let refusal = checks::query_refusal(axes, all, knots, tensor.len(), coordinates);
+    if refusal != 0 {
+        return refused(refusal);
+    }
+    let cells = locate_on_axes(axes, all, knots, coordinates);
+    let value = value(axes, all, cells, tensor);
+    if base::is_finite(value) {
+        QueryAnswer {
+            refusal: 0,
+            value,
+            labels: labels(cells),
+        }
+    } else {
+        refused(10)
     }
 }
