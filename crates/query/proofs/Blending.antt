@@ -5,7 +5,6 @@ use mathlib.Core.Logic.{_≢_}
 use mathlib.Core.List.{List}
 use Prim.Native.Nat.{ℕ, zero, suc, _+_, _-_, _*_, _/_, _^_, _<_, _≤_}
 use native.Mathlib.Nat.{pow-suc, sub-zero, pow-le-pow-right}
-use native.Mathlib.Numerals.{add-one}
 use lib.Dec.{lit<}
 use lib.ListN.{length, take}
 use lib.Seq.{getD-take, length-take-le}
@@ -51,42 +50,45 @@ blend-ext (suc axes) lowest widths widths′ ts ts′ cell cell′ w t same =
 
 -- ---- one step
 
-less-one : (n : ℕ) → suc n - 1 ≡ n
-less-one n = omega arith
-
 -- a quarter of a cell is the cell of one axis fewer
-pub quarter : (axes n : ℕ) → axes ≢ 0 → n ≡ 4 ^ axes → n / 4 ≡ 4 ^ (axes - 1)
+pub quarter : (left n : ℕ) → left ≢ 0 → n ≡ 4 ^ left → n / 4 ≡ 4 ^ (left - 1)
 quarter zero n some e = absurd (some refl)
-quarter (suc axes) n some e = rw less-one (omega (arith, pow-suc 4 axes))
+quarter (suc left) n some e = let less : suc left - 1 ≡ left = omega arith in rw less (omega (arith, pow-suc 4 left))
 
-pub few : (axes : ℕ) → axes ≤ 3 → 4 ^ axes ≤ 64
-few axes h = pow-le-pow-right (lit< tt) {i = axes} {j = 3} h
+pub few : (left : ℕ) → left ≤ 3 → 4 ^ left ≤ 64
+few left h = pow-le-pow-right (lit< tt) {i = left} {j = 3} h
 
 -- no axis is left
-pub none-left : (axes lowest : ℕ) (widths ts : ℕ → Float) (cell : List Float) → axes ≡ 0 → at cell 0 ≡ blend axes lowest widths ts (at cell)
+pub none-left : (left lowest : ℕ) (widths ts : ℕ → Float) (cell : List Float) → left ≡ 0 → at cell 0 ≡ blend left lowest widths ts (at cell)
 unfolding blend
-none-left axes lowest widths ts cell e = rw e refl
+none-left left lowest widths ts cell e = rw e refl
 
 -- what stands in the front once the lowest axis is removed is blended on
 pub one-fewer :
-    (axes lowest size : ℕ) (widths ts : ℕ → Float) (cell later : List Float) → axes ≢ 0 → size ≡ 4 ^ (axes - 1)
-    → Removed cell later size (widths lowest) (ts lowest)
-    → blend (axes - 1) (lowest + 1) widths ts (at (take (size - 0) later)) ≡ blend axes lowest widths ts (at cell)
+    (left axes size : ℕ) (widths ts : ℕ → Float) (cell later : List Float) → left ≢ 0 → left ≤ axes → size ≡ 4 ^ (left - 1)
+    → Removed cell later size (widths (axes - left)) (ts (axes - left))
+    → blend (left - 1) (axes - (left - 1)) widths ts (at (take (size - 0) later)) ≡ blend left (axes - left) widths ts (at cell)
 unfolding blend
-one-fewer zero lowest size widths ts cell later some e removed = absurd (some refl)
-one-fewer (suc axes) lowest size widths ts cell later some e removed =
-    let s : size ≡ 4 ^ axes = rw less-one at e in
-    rw (less-one, add-one, sub-zero)
-    (blend-ext axes (suc lowest) widths widths ts ts
+one-fewer zero axes size widths ts cell later some most e removed = absurd (some refl)
+one-fewer (suc left) axes size widths ts cell later some most e removed =
+    let less : suc left - 1 ≡ left = omega arith in
+    let next : axes - left ≡ suc (axes - suc left) = omega arith in
+    let s : size ≡ 4 ^ left = rw less at e in
+    rw (less, next, sub-zero)
+    (blend-ext left (suc (axes - suc left)) widths widths ts ts
     (at (take size later))
-    (without-lowest (4 ^ axes) (widths lowest) (ts lowest) (at cell))
+    (without-lowest (4 ^ left) (widths (axes - suc left)) (ts (axes - suc left)) (at cell))
     (λ i a b. refl)
     (λ i a b. refl)
-    (λ k h. getD-take size later k nan (omega arith) ∙ removed .smaller k (omega arith) ∙ ap (λ (n : ℕ). without-lowest n (widths lowest) (ts lowest) (at cell) k) s))
+    (λ k h. getD-take size later k nan (omega arith)
+    ∙ removed .smaller k (omega arith)
+    ∙ ap (λ (n : ℕ). without-lowest n (widths (axes - suc left)) (ts (axes - suc left)) (at cell) k) s))
 
 -- a gathered cell is blended as the tensor's
 pub gathered-blend :
     (g : Grid) (tensor : List Float) (lower : Place) (widths ts : ℕ → Float) (gathered : List Float) → Gathered g tensor lower gathered
-    → blend (g .axes) 0 widths ts (at gathered) ≡ blend (g .axes) 0 widths ts (cell g tensor lower)
+    → blend (g .axes) (g .axes - g .axes) widths ts (at gathered) ≡ blend (g .axes) 0 widths ts (cell g tensor lower)
 gathered-blend g tensor lower widths ts gathered given =
-    blend-ext (g .axes) 0 widths widths ts ts (at gathered) (cell g tensor lower) (λ i a b. refl) (λ i a b. refl) (given .number)
+    let first : g .axes - g .axes ≡ 0 = omega arith in
+    rw first
+    (    blend-ext (g .axes) 0 widths widths ts ts (at gathered) (cell g tensor lower) (λ i a b. refl) (λ i a b. refl) (given .number))

@@ -1,6 +1,6 @@
 // The query of a tensor: the cell around a point, and the Hermite blend of the cell as in cubic/utils.rs.
 ghost use mathlib.Core.Path.{_≡_};
-ghost use Prim.Native.Nat.{_+_, _*_, _^_, _≤_};
+ghost use Prim.Native.Nat.{_-_, _*_, _^_, _≤_};
 ghost use lib.ListN.{length};
 ghost use Rattle.rules.specs.Numbers.{at, table};
 ghost use Rattle.rules.specs.Sizes.{flat, tensor-length};
@@ -72,18 +72,18 @@ fn remove_lowest(cell: &mut [f64], size: usize, width: f64, t: f64)
     }
 }
 
-// The blend of the axes from `lowest` on, so many: each call removes one, until no axis is left and one number remains.
-fn blend(cell: &mut [f64], axes: usize, lowest: usize, cells: [AxisCell; 4]) -> f64
-    requires { ⌜ (length (now cell) ≡ 4 ^ axes) × (lowest + axes ≤ 4) ⌝ }
-    ensures { λ r. ⌜ r ≡ rule.blend axes lowest (widths cells) (ts cells) (at (now (cell .entry))) ⌝ }
+// The blend of a cell of the axes that are left of so many: each call removes the lowest, until no axis is left and one number remains.
+fn blend(cell: &mut [f64], left: usize, axes: usize, cells: [AxisCell; 4]) -> f64
+    requires { ⌜ (length (now cell) ≡ 4 ^ left) × (left ≤ axes) × (axes ≤ 4) ⌝ }
+    ensures { λ r. ⌜ r ≡ rule.blend left (axes - left) (widths cells) (ts cells) (at (now (cell .entry))) ⌝ }
 {
-    if axes == 0 {
+    if left == 0 {
         return cell[0];
     }
     let size = cell.len() / 4;
-    let axis_cell = cells[lowest];
-    remove_lowest(cell, size, axis_cell.width, axis_cell.t);
-    blend(&mut cell[0..size], axes - 1, lowest + 1, cells)
+    let lowest = cells[axes - left];
+    remove_lowest(cell, size, lowest.width, lowest.t);
+    blend(&mut cell[0..size], left - 1, axes, cells)
 }
 
 // Which of the grid's places, counted last axis fastest, is the corner of the cell with these bits.
@@ -181,7 +181,7 @@ fn blend_in(
     ensures { λ r. ⌜ r ≡ blended axes all cells (now (tensor .entry)) ⌝ }
 {
     gather(cell, axes, all, cells, tensor);
-    blend(cell, axes, 0, cells)
+    blend(cell, axes, axes, cells)
 }
 
 // The surface's value in a cell: no more numbers are cleared than the cell has.

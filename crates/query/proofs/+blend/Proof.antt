@@ -35,18 +35,17 @@ pub +blend-spec : {M : Type 1} → statement M
 )
     (blend-at t)
     blend.Post
-    (λ c. let one : 4 ^ c .before .before .before .args .axes ≡ 1 = rw (c .before .if1 .taken) in omega (arith, c .before .before .before .pre .1 .0))
+    (λ c. let one : 4 ^ c .before .before .before .args .left ≡ 1 = rw (c .before .if1 .taken) in omega (arith, c .before .before .before .pre .1 .0))
     (λ c. none-left _ _ _ _ (c .before .before .before .args .cell .now) (c .before .if1 .taken))
     (λ c. search needs)
     (λ c. search needs)
+    (λ c. search needs)
     (λ c κs. (let s = c .before .before .before .before in
-    let q = quarter (s .args .axes) _ (c .before .before .if1 .left) (s .pre .1 .0) in
-    let f = few (s .args .axes - 1) (omega (arith, s .pre .1 .1)) in
-    (omega arith, omega arith)))
+    let q = quarter (s .args .left) _ (c .before .before .if1 .left) (s .pre .1 .0) in
+    let f = few (s .args .left - 1) (omega (arith, s .pre .1 .1, s .pre .1 .2)) in (omega arith, omega arith)))
     (λ c. search needs)
     (λ c. search needs)
     (λ c. (let k = c .before .before .remove-lowest .kept .0 in omega arith))
-    (λ c. search needs)
     (λ c. search needs)
     (λ c κs. (let removed = c .before .before .before in
     let s = removed .before .before .before .before .before in
@@ -54,8 +53,9 @@ pub +blend-spec : {M : Type 1} → statement M
       omega arith,
       (
         rw (sub-zero, length-take-le (length (s .args .cell .now) / 4) (removed .remove-lowest .last .0) (omega arith))
-            (quarter (s .args .axes) _ (removed .before .before .before .if1 .left) (s .pre .1 .0)),
+            (quarter (s .args .left) _ (removed .before .before .before .if1 .left) (s .pre .1 .0)),
         omega (arith, s .pre .1 .1),
+        s .pre .1 .2,
       ),
     )))
     (λ c. search needs)
@@ -65,6 +65,6 @@ pub +blend-spec : {M : Type 1} → statement M
     let s = removed .before .before .before .before .before in
     let some = removed .before .before .before .if1 .left in
     rest .blend .ensures
-    ∙ one-fewer (s .args .axes) (s .args .lowest) _ (widths (s .args .t4)) (ts (s .args .t4)) (s .args .cell .now) _ some
-    (quarter (s .args .axes) _ some (s .pre .1 .0))
+    ∙ one-fewer (s .args .left) (s .args .axes) _ (widths (s .args .t4)) (ts (s .args .t4)) (s .args .cell .now) _ some (s .pre .1 .1)
+    (quarter (s .args .left) _ some (s .pre .1 .0))
     (removed .remove-lowest .ensures))
