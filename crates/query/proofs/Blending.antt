@@ -91,4 +91,4 @@ pub gathered-blend :
 gathered-blend g tensor lower widths ts gathered given =
     let first : g .axes - g .axes ≡ 0 = omega arith in
     rw first
-    (    blend-ext (g .axes) 0 widths widths ts ts (at gathered) (cell g tensor lower) (λ i a b. refl) (λ i a b. refl) (given .number))
+    (blend-ext (g .axes) 0 widths widths ts ts (at gathered) (cell g tensor lower) (λ i a b. refl) (λ i a b. refl) (given .number))
