@@ -4,7 +4,7 @@ use mathlib.Core.Path.{_≡_, refl, sym, ap, _∙_}
 use mathlib.Core.Logic.{_≢_}
 use mathlib.Core.Bool.{Bool, true, false, not, cond}
 use mathlib.Core.List.{List}
-use Prim.Native.Nat.{ℕ, zero, suc, _+_, _-_, _*_, _/_, _%_, _^_, _<_, _≤_}
+use Prim.Native.Nat.{ℕ, zero, suc, _+_, _-_, _*_, _/_, _%_, _^_, _<_}
 use lib.Dec.{ltb}
 use lib.ListN.{length, drop}
 use lib.Seq.{getD-take, getD-drop}
@@ -12,7 +12,7 @@ use lib.Ieee.{Float, nan}
 use lib.Ieee.Scale.{finite}
 use borrow.Author.Tests.{ltb-true, ltb-false, not-false}
 use Rattle.rules.specs.Numbers.{at, table}
-use Rattle.rules.specs.Sizes.{most-axes, Grid, points, knots, sum-below, masks, Place, flat}
+use Rattle.rules.specs.Sizes.{most-axes, Grid, points, knots, sum-below, masks, Place}
 use Rattle.rules.specs.Refusals.{number-refused, answer-refused}
 use Rattle.rules.specs.Query.{corner, cell, cell-of, query}
 use Rattle.rules.specs.Calls.{answered, labelled, labels, query-refusal, query-answer, QueryPromise}

@@ -1,13 +1,13 @@
 -- The blend sees only the numbers of its cell and its axes, and one axis removed in place is one step of it.
 use native.Mathlib.Omega.{arith}
-use mathlib.Core.Path.{_≡_, refl, sym, ap, ap₂, _∙_}
+use mathlib.Core.Path.{_≡_, refl, ap, _∙_}
 use mathlib.Core.Logic.{_≢_}
 use mathlib.Core.List.{List}
 use Prim.Native.Nat.{ℕ, zero, suc, _+_, _-_, _*_, _/_, _^_, _<_, _≤_}
 use native.Mathlib.Nat.{pow-suc, sub-zero, pow-le-pow-right}
 use lib.Dec.{lit<}
-use lib.ListN.{length, take}
-use lib.Seq.{getD-take, length-take-le}
+use lib.ListN.{take}
+use lib.Seq.{getD-take}
 use lib.Ieee.{Float, nan}
 use Rattle.rules.specs.Numbers.{at}
 use Rattle.rules.specs.Sizes.{Grid, Place}

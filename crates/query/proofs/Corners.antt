@@ -1,12 +1,11 @@
 -- The corners of a cell: they are on the grid, two that differ on the last axis alone stand side by side, and the turns of `corner_place` count to them.
 use native.Mathlib.Omega.{arith}
-use mathlib.Core.Path.{_≡_, refl, sym, ap, _∙_}
+use mathlib.Core.Path.{_≡_, refl, ap}
 use mathlib.Core.List.{List}
 use Prim.Native.Nat.{ℕ, zero, suc, _+_, _-_, _*_, _/_, _%_, _^_, _<_, _≤_}
 use native.Mathlib.Nat.{le-refl, le-trans, le-mul-of-pos-right, pow-succ', div-div-eq-div-mul}
 use native.Mathlib.Numerals.{add-one}
 use lib.Pow.{pow-pos}
-use lib.ListN.{length}
 use Rattle.rules.specs.Sizes.{Place, flat, product-below}
 use Rattle.rules.specs.Query.{corner}
 use Rattle.rules.specs.declared.Axis.{Axis}

@@ -3,11 +3,11 @@ use native.Mathlib.Omega.{arith}
 use mathlib.Core.Path.{_≡_, refl, sym, ap, _∙_}
 use mathlib.Core.Bool.{Bool, true, false}
 use mathlib.Core.List.{List, _++_}
-use Prim.Native.Nat.{ℕ, zero, suc, _+_, _-_, _*_, _/_, _%_, _^_, _<_, _≤_}
+use Prim.Native.Nat.{ℕ, zero, suc, _+_, _-_, _*_, _%_, _^_, _<_, _≤_}
 use native.Mathlib.Nat.{pow-suc, add-mul, suc-mul, mul-le-mul, mul-le-mul-right, mul-mul-mul-comm, add-sub-cancel-left}
 use lib.Arith.{digits-div, digits-mod}
 use lib.Dec.{ltb}
-use lib.ListN.{length, getD, take, drop, length-append, length-drop, List·getD-append}
+use lib.ListN.{length, take, drop, length-append, length-drop, List·getD-append}
 use lib.Seq.{length-take-le, getD-take, getD-drop, getD-append-add}
 use lib.Ieee.{Float, nan}
 use borrow.Author.Tests.{ltb-true, ltb-false}
@@ -93,6 +93,13 @@ pub record Turn (cell₀ : List Float) (axes : ℕ) (all : List Axis) (cells : L
   pub most : bits ≤ masks
   pub done : (e : ℕ) → e < bits * masks → at gathered e ≡ cell (sizes-of axes all) tensor (lowers cells) e
 
+-- what the slices have room for in one turn
+pub record Room (tensor gathered : List Float) (masks bits place : ℕ) : Type 0 where
+  pub to : bits * masks + 2 * masks ≤ length gathered
+  pub start : place * masks + 2 * masks ≤ length tensor
+  pub few : length gathered ≤ 256
+  pub small : length tensor ≤ 4096
+
 module _ (cell₀ : List Float) (axes : ℕ) (all : List Axis) (cells : List AxisCell) (tensor : List Float) (masks : ℕ) where
   pub turn-first :
       Inside axes all cells × (length cell₀ ≡ 4 ^ axes) × (length tensor ≡ tensor-length (sizes-of axes all)) → (masks ≡ 2 ^ axes) × (masks ≤ 16)
@@ -109,13 +116,6 @@ module _ (cell₀ : List Float) (axes : ℕ) (all : List Axis) (cells : List Axi
     done = λ e h. absurd (omega arith);
   }
 
-  -- what one turn needs
-  pub record Room (gathered : List Float) (bits place : ℕ) : Type 0 where
-    pub to : bits * masks + 2 * masks ≤ length gathered
-    pub start : place * masks + 2 * masks ≤ length tensor
-    pub few : length gathered ≤ 256
-    pub small : length tensor ≤ 4096
-
   module _ (gathered : List Float) (bits place : ℕ) (turn : Turn cell₀ axes all cells tensor masks gathered bits) (lt : bits < masks)
       (is : place ≡ flat (points-of all) axes (corner axes (lowers cells) bits)) where
     two-more : bits + 2 ≤ masks
@@ -131,7 +131,7 @@ module _ (cell₀ : List Float) (axes : ℕ) (all : List Axis) (cells : List Axi
           flat-below (points-of all) axes (corner axes (lowers cells) (bits + 1)) (corner-on-grid axes all cells (bits + 1) (turn .inside)),
         )
 
-    pub room : Room gathered bits place
+    pub room : Room tensor gathered masks bits place
     room = record {
       to = omega (arith, add-mul bits 2 masks, mul-le-mul-right masks two-more, turn .exact, turn .same-length);
       start = rw (turn .tensor-exact, ← turn .power) (omega (arith, add-mul place 2 masks, mul-le-mul-right masks above));

@@ -1,12 +1,12 @@
 -- Where an accepted point lies: on one axis what `locate` answers is document 01's, and the turns of `locate_on_axes` go from axis to axis.
 use native.Mathlib.Omega.{arith}
-use mathlib.Core.Path.{_≡_, refl, sym, ap, _∙_}
+use mathlib.Core.Path.{_≡_, refl, ap, _∙_}
 use mathlib.Core.List.{List}
 use Prim.Native.Nat.{ℕ, _+_, _-_, _<_, _≤_}
 use native.Mathlib.Nat.{add-sub-cancel-left}
-use lib.ListN.{length, getD, take, drop, set, replicate, length-set, length-replicate, getD-replicate}
+use lib.ListN.{length, take, drop, set, replicate, length-set, getD-replicate}
 use lib.Seq.{getD-set-same, getD-set-other}
-use lib.Ieee.{Float, nan}
+use lib.Ieee.{Float}
 use borrow.Author.Count.{below-more}
 use Rattle.rules.specs.Numbers.{_⊖_, _⊘_, at, plus-zero}
 use Rattle.rules.specs.Sizes.{Grid, points, knots, sum-below}

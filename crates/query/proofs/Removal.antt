@@ -8,7 +8,7 @@ use lib.Seq.{getD-set-same, getD-set-other}
 use lib.Ieee.{Float, nan}
 use borrow.Author.Count.{below-more}
 use Rattle.rules.specs.Numbers.{at}
-use Rattle.rules.specs.Query.{hermite, without-lowest}
+use Rattle.rules.specs.Query.{without-lowest}
 use Rattle.query.specs.Blend.{weighted, WeightsOf, Removed}
 use Rattle.query.specs.declared.Weights.{Weights}
 

@@ -1,5 +1,4 @@
 -- What a refused query answers.
-use mathlib.Core.List.{List}
 use Prim.Native.Nat.{ℕ}
 use lib.ListN.{replicate}
 use Rattle.rules.specs.Numbers.{plus-zero}

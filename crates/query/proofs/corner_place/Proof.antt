@@ -14,15 +14,6 @@ abbrev μ-loop : tie.MeasureT-loop
 loop-holds : tie.Need-loop-holds Inv-loop μ-loop
 loop-holds c = turn-first _ _ _ _ (c .pre)
 
-add-corner : tie.Need-add-corner Inv-loop μ-loop
-add-corner c = omega (arith, turn-small _ _ _ _ _ _ (c .before .loop .inv) (c .loop-test .taken))
-
-mul-place-2 : tie.Need-mul-place-2 Inv-loop μ-loop
-mul-place-2 c = omega (arith, turn-small _ _ _ _ _ _ (c .before .loop .inv) (c .loop-test .taken))
-
-add-place : tie.Need-add-place Inv-loop μ-loop
-add-place c = omega (arith, turn-small _ _ _ _ _ _ (c .before .loop .inv) (c .loop-test .taken))
-
 loop-again : tie.Need-loop-again Inv-loop μ-loop
 loop-again c = turn-next _ _ _ _ _ _ (c .before .loop .inv) (c .loop-test .taken)
 
@@ -41,11 +32,11 @@ corner-place-spec =
     (λ c. search needs)
     (λ c. search needs)
     (λ c. search needs)
-    add-corner
+    (λ c. omega (arith, turn-small _ _ _ _ _ _ (c .before .loop .inv) (c .loop-test .taken)))
     (λ c. search needs)
     (λ c. search needs)
-    mul-place-2
-    add-place
+    (λ c. omega (arith, turn-small _ _ _ _ _ _ (c .before .loop .inv) (c .loop-test .taken)))
+    (λ c. omega (arith, turn-small _ _ _ _ _ _ (c .before .loop .inv) (c .loop-test .taken)))
     (λ c. search needs)
     (λ c. search needs)
     loop-again

@@ -15,26 +15,15 @@ abbrev μ-loop : tie.MeasureT-loop
 loop-holds : tie.Need-loop-holds Inv-loop μ-loop
 loop-holds c = turn-first _ _ (c .before .before .pre)
 
-add-end : tie.Need-add-end Inv-loop μ-loop
-add-end c = omega (arith, end-within _ _ _ _ _ (c .before .loop .inv) (c .loop-test .taken))
-
-mul-locate-on-axis : tie.Need-mul-locate-on-axis Inv-loop μ-loop
-mul-locate-on-axis c = omega (arith, end-within _ _ _ _ _ (c .before .loop .inv) (c .loop-test .taken))
-
-sub-locate-on-axis : tie.Need-sub-locate-on-axis Inv-loop μ-loop
-sub-locate-on-axis c = omega (arith, end-within _ _ _ _ _ (c .before .loop .inv) (c .loop-test .taken))
-
-part-locate-on-axis-start : tie.Need-part-locate-on-axis-start Inv-loop μ-loop
-part-locate-on-axis-start c = omega (arith, end-within _ _ _ _ _ (c .before .loop .inv) (c .loop-test .taken))
-
-part-locate-on-axis-end : tie.Need-part-locate-on-axis-end Inv-loop μ-loop
-part-locate-on-axis-end c = omega (arith, end-within _ _ _ _ _ (c .before .loop .inv) (c .loop-test .taken))
-
 locate-on-axis-requires : tie.Need-locate-on-axis-requires Inv-loop μ-loop
-locate-on-axis-requires c κs = let turn = c .before .before in axis-accepted _ _ _ _ _ (turn .before .loop .inv) (turn .loop-test .taken)
+locate-on-axis-requires c κs =
+    let turn = c .before .before in
+    axis-accepted _ _ _ _ _ (turn .before .loop .inv) (turn .loop-test .taken)
 
 loop-again : tie.Need-loop-again Inv-loop μ-loop
-loop-again c = let turn = c .before .before .before in turn-next _ _ _ _ _ (turn .before .loop .inv) (turn .loop-test .taken) _ (c .locate-on-axis .ensures)
+loop-again c =
+    let turn = c .before .before .before in
+    turn-next _ _ _ _ _ (turn .before .loop .inv) (turn .loop-test .taken) _ (c .locate-on-axis .ensures)
 
 returns : tie.Need-returns Inv-loop μ-loop
 returns c = turn-last _ _ _ _ _ (c .before .loop .inv) (c .loop-test .left)
@@ -48,11 +37,11 @@ locate-on-axes-spec =
     loop-holds
     (λ c. search needs)
     (λ c. search needs)
-    add-end
-    mul-locate-on-axis
-    sub-locate-on-axis
-    part-locate-on-axis-start
-    part-locate-on-axis-end
+    (λ c. omega (arith, end-within _ _ _ _ _ (c .before .loop .inv) (c .loop-test .taken)))
+    (λ c. omega (arith, end-within _ _ _ _ _ (c .before .loop .inv) (c .loop-test .taken)))
+    (λ c. omega (arith, end-within _ _ _ _ _ (c .before .loop .inv) (c .loop-test .taken)))
+    (λ c. omega (arith, end-within _ _ _ _ _ (c .before .loop .inv) (c .loop-test .taken)))
+    (λ c. omega (arith, end-within _ _ _ _ _ (c .before .loop .inv) (c .loop-test .taken)))
     (λ c. search needs)
     (λ c. search needs)
     locate-on-axis-requires

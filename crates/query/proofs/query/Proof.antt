@@ -5,7 +5,9 @@ use Rattle.query.proofs.query.Statement.{statement}
 use Rattle.query.proofs.query.Tie as tie
 
 returns : tie.Need-returns
-returns c = let check = c .before .before in check-refuses _ _ _ _ (check .query-refusal .ensures) (c .before .if1 .taken) _ (c .refused .ensures)
+returns c =
+    let check = c .before .before in
+    check-refuses _ _ _ _ (check .query-refusal .ensures) (c .before .if1 .taken) _ (c .refused .ensures)
 
 locate-on-axes-requires : tie.Need-locate-on-axes-requires
 locate-on-axes-requires c κs =
@@ -16,7 +18,11 @@ value-requires : tie.Need-value-requires
 value-requires c κs =
     let check = c .before .before in
     let s = check .before .before .before .before .args in
-    let given = check-passes (grid (s .axes) (s .all) (s .knots .now)) (s .tensor .now) (s .coordinates .now) _ (check .query-refusal .ensures) (c .before .if1 .left) in (located-inside _ _ _ given _ (c .locate-on-axes .ensures), given .grid-given .tensor-exact)
+    let given =
+    check-passes (grid (s .axes) (s .all) (s .knots .now)) (s .tensor .now) (s .coordinates .now) _
+    (check .query-refusal .ensures)
+    (c .before .if1 .left)
+    in (located-inside _ _ _ given _ (c .locate-on-axes .ensures), given .grid-given .tensor-exact)
 
 returns-2 : tie.Need-returns-2
 returns-2 c =

@@ -14,7 +14,9 @@ loop-holds : tie.Need-loop-holds Inv-loop μ-loop
 loop-holds c = turn-first _ _ _ _ _ (c .before .before .pre) (c .hermite-weights .ensures)
 
 loop-again : tie.Need-loop-again Inv-loop μ-loop
-loop-again c = turn-next _ _ _ _ _ _ _ _ (c .before .before .before .before .before .before .loop .inv) (c .before .before .before .before .before .loop-test .taken) (c .evaluate-hermite-1d .ensures)
+loop-again c =
+    let turn = c .before .before .before .before .before in
+    turn-next _ _ _ _ _ _ _ _ (turn .before .loop .inv) (turn .loop-test .taken) (c .evaluate-hermite-1d .ensures)
 
 returns : tie.Need-returns Inv-loop μ-loop
 returns c = turn-last _ _ _ _ _ _ _ (c .before .loop .inv) (c .loop-test .left)
