@@ -14,6 +14,7 @@ use Rattle.checks.specs.Given.{points-of}
 use Rattle.query.specs.Cell.{lowers, Inside}
 use Rattle.query.specs.declared.AxisCell.{AxisCell}
 
+-- fewer axes have no more places
 product-rises : (n : ℕ → ℕ) (d i : ℕ) → ((j : ℕ) → j < d → 0 < n j) → i ≤ d → product-below n i ≤ product-below n d
 unfolding product-below
 product-rises n zero i some h = let e : i ≡ 0 = omega arith in rw e (le-refl _)
@@ -56,7 +57,7 @@ module _ (axes : ℕ) (all : List Axis) (cells : List AxisCell) (bits : ℕ) (gi
   corner-on-grid i h = omega (arith, given .upper i h)
 
   -- how far the count can come
-  pub corner-below : (i : ℕ) → i ≤ axes → flat (points-of all) i (corner axes (lowers cells) bits) < 4096
+  corner-below : (i : ℕ) → i ≤ axes → flat (points-of all) i (corner axes (lowers cells) bits) < 4096
   corner-below i h =
       omega (
         arith,

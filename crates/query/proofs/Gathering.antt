@@ -30,14 +30,14 @@ module _ (old new : List Float) (a k : ℕ) (room : a + k ≤ length old) (exact
   before : length (take a old) ≡ a
   before = length-take-le a old (omega arith)
 
-  pub replaced-length : length replaced ≡ length old
+  replaced-length : length replaced ≡ length old
   replaced-length = simp (length-append, before, length-drop) (omega arith)
 
-  pub replaced-before : (e : ℕ) → e < a → at replaced e ≡ at old e
+  replaced-before : (e : ℕ) → e < a → at replaced e ≡ at old e
   replaced-before e h =
       List·getD-append (take a old) (new ++ drop k (drop a old)) nan e (omega (arith, before)) ∙ getD-take a old e nan h
 
-  pub replaced-within : (e : ℕ) → e < k → at replaced (a + e) ≡ at new e
+  replaced-within : (e : ℕ) → e < k → at replaced (a + e) ≡ at new e
   replaced-within e h =
       ap (λ (n : ℕ). at replaced (n + e)) (sym before)
       ∙ getD-append-add (take a old) (new ++ drop k (drop a old)) e nan
@@ -45,12 +45,12 @@ module _ (old new : List Float) (a k : ℕ) (room : a + k ≤ length old) (exact
 
 -- ---- two corners of the cell
 
-pub four-power : (axes : ℕ) → 4 ^ axes ≡ 2 ^ axes * 2 ^ axes
+four-power : (axes : ℕ) → 4 ^ axes ≡ 2 ^ axes * 2 ^ axes
 four-power zero = refl
 four-power (suc axes) =
     rw (pow-suc 4 axes, pow-suc 2 axes, four-power axes, mul-mul-mul-comm (2 ^ axes) 2 (2 ^ axes) 2) refl
 
-pub even-power : (axes : ℕ) → 1 ≤ axes → 2 ^ axes % 2 ≡ 0
+even-power : (axes : ℕ) → 1 ≤ axes → 2 ^ axes % 2 ≡ 0
 even-power zero h = absurd (omega arith)
 even-power (suc axes) h = omega (arith, pow-suc 2 axes)
 
