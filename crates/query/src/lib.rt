@@ -1,4 +1,5 @@
-// The query of a tensor: the cell around a point, and the Hermite blend of the cell as in cubic/utils.rs.
+// The query of a tensor: the cell around a point, and the Hermite blend of the cell as in cubic/utils.rs. `cells` is where the point lies on
+// each of the four axes, `cell` the local cell of 4 to the power of the axes numbers.
 ghost use mathlib.Core.Path.{_≡_};
 ghost use Prim.Native.Nat.{_-_, _*_, _^_, _≤_};
 ghost use lib.ListN.{length};
@@ -55,7 +56,7 @@ fn evaluate_hermite_1d(weights: Weights, p0: f64, m0: f64, p1: f64, m1: f64) -> 
     weights.h00 * p0 + weights.h10 * m0 + weights.h01 * p1 + weights.h11 * m1
 }
 
-// One axis removed, the lowest: 4 * size numbers become size, in the front of the cell.
+// One axis removed, the lowest: 4 * size numbers become size, in the front of the cell. Each is read before another takes its place.
 fn remove_lowest(cell: &mut [f64], size: usize, width: f64, t: f64)
     requires { ⌜ (4 * size ≤ length (now cell)) × (size ≤ 64) ⌝ }
     ensures { λ _. ⌜ Removed (now (cell .entry)) (now (cell .exit)) size width t ⌝ }
@@ -72,7 +73,7 @@ fn remove_lowest(cell: &mut [f64], size: usize, width: f64, t: f64)
     }
 }
 
-// The blend of a cell of the axes that are left of so many: each call removes the lowest, until no axis is left and one number remains.
+// The blend of a cell in which the last `left` of the axes are left: each call removes the lowest, until no axis is left and one number remains.
 fn blend(cell: &mut [f64], left: usize, axes: usize, cells: [AxisCell; 4]) -> f64
     requires { ⌜ (length (now cell) ≡ 4 ^ left) × (left ≤ axes) × (axes ≤ 4) ⌝ }
     ensures { λ r. ⌜ r ≡ rule.blend left (axes - left) (widths cells) (ts cells) (at (now (cell .entry))) ⌝ }
@@ -101,7 +102,8 @@ fn corner_place(axes: usize, all: [Axis; 4], cells: [AxisCell; 4], bits: usize) 
     place
 }
 
-// The numbers of the cell from the tensor, corner after corner, the mask fastest. Two corners that differ on the last axis alone stand side by side in the tensor too.
+// The numbers of the cell from the tensor, corner after corner, the mask fastest. Two corners that differ on the last axis alone stand side by
+// side in the tensor too, so one copy takes both.
 fn gather(cell: &mut [f64], axes: usize, all: [Axis; 4], cells: [AxisCell; 4], tensor: &[f64])
     requires { ⌜ Inside axes all cells × (length (now cell) ≡ 4 ^ axes) × (length (now tensor) ≡ tensor-length (sizes-of axes all)) ⌝ }
     ensures { λ _. ⌜ Gathered (sizes-of axes all) (now (tensor .entry)) (lowers cells) (now (cell .exit)) ⌝ }
