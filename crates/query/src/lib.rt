@@ -222,8 +222,8 @@ fn refused(refusal: usize) -> QueryAnswer
     }
 }
 
-// The surface's value at a point, and the cell label of each axis in use. It refuses by 1, 2, 3, 4, 7 and 8, which look at all that it is lent
-// but the tensor's numbers, and by 10 where the value is infinite or NaN.
+// PUBLIC. The surface's value at a point, beyond the grid too, and the cell label of each axis, 0 past those in use. Refuses 1 2 3 4 7 8 10;
+// then the value is +0.0 and every label 0. The tensor is not searched for 7.
 pub fn query(
     axes: usize,
     all: [Axis; 4],
