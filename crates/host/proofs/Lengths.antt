@@ -1,14 +1,12 @@
 -- Where the host itself refuses nothing, the slices have their lengths.
 use mathlib.Core.Path.{_≡_, refl}
-use mathlib.Core.Bool.{Bool, true, false, cond, _||_}
+use mathlib.Core.Bool.{Bool, true, false, cond}
 use mathlib.Core.List.{List}
 use Prim.Native.Nat.{ℕ, suc}
 use native.Mathlib.Omega.{arith}
-use borrow.Author.Tests.{eqb-true, not-false}
 use lib.ListN.{length}
 use lib.Ieee.{Float}
-use Rattle.rules.specs.Refusals.{length-refused}
-use Rattle.base.proofs.Scan.{neither}
+use Rattle.checks.proofs.Rows.{exact, exact-2, exact-3}
 use Rattle.host.specs.Axes.{kinds-refused, lower-kind, upper-kind, some-kinds-refused}
 use Rattle.host.specs.Exports.{moments-own-refusal, curve-own-refusal, build-own-refusal, change-own-refusal, query-own-refusal}
 
@@ -16,18 +14,6 @@ use Rattle.host.specs.Exports.{moments-own-refusal, curve-own-refusal, b
 not-the-first : (applies : Bool) (number later : ℕ) → cond applies (suc number) later ≡ 0 → (applies ≡ false) × (later ≡ 0)
 not-the-first true number later e = absurd (omega arith)
 not-the-first false number later e = (refl, e)
-
-exact : (given size : ℕ) → length-refused given size ≡ false → given ≡ size
-exact given size e = eqb-true given size (not-false _ e)
-
-exact-2 : (a m b n : ℕ) → (length-refused a m || length-refused b n) ≡ false → (a ≡ m) × (b ≡ n)
-exact-2 a m b n e =
-    let two = neither (length-refused a m) (length-refused b n) e in (exact a m (two .0), exact b n (two .1))
-
-exact-3 : (a m b n c k : ℕ) → (length-refused a m || length-refused b n || length-refused c k) ≡ false → (a ≡ m) × (b ≡ n) × (c ≡ k)
-exact-3 a m b n c k e =
-    let three = neither (length-refused a m || length-refused b n) (length-refused c k) e in
-    let two = exact-2 a m b n (three .0) in (two .0, two .1, exact c k (three .1))
 
 pub moments-lengths : (kinds : List ℕ) (values : List Float) → moments-own-refusal kinds values ≡ 0 → (length kinds ≡ 2) × (length values ≡ 2)
 unfolding moments-own-refusal
