@@ -11,7 +11,7 @@ use Rattle.rules.specs.Moments.{upper-row}
 use Rattle.rules.specs.declared.End.the-variants.{NotAKnot}
 use Rattle.rules.specs.declared.Row.{Row}
 use Rattle.spline.specs.Lanes.{upper-end-row}
-use Rattle.spline.specs.declared.EndRow.{EndRow}
+use Rattle.spline.specs.declared.rows.EndRow.{EndRow}
 
 u-of-the-last-two : (x y : List Float) (n : ℕ) → 2 ≤ n → six ⊗ (s x y (n - 1) ⊖ s x y (n - 2)) ≡ u x y (n - 2)
 unfolding u

@@ -15,7 +15,7 @@ use Rattle.rules.specs.Ends.{dropped}
 use Rattle.rules.specs.Moments.{lower-row, upper-row, sub, diag, sup, rhs, inner}
 use Rattle.rules.specs.declared.End.{End}
 use Rattle.rules.specs.declared.End.the-variants.{NotAKnot, FirstDerivative, SecondDerivative}
-use Rattle.spline.specs.declared.EndRow.{EndRow}
+use Rattle.spline.specs.declared.rows.EndRow.{EndRow}
 use Rattle.solve.specs.Rows.{row, Outside, Solved}
 use Rattle.solve.proofs.Agreement.{same-thomas}
 use Rattle.spline.specs.Lanes.{lower-end-row, upper-end-row, samples-in, LaneGiven, InteriorRows, FirstRow, LastRow, InnerSolved}

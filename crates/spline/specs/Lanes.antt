@@ -13,7 +13,7 @@ use Rattle.rules.specs.declared.End.{End}
 use Rattle.rules.specs.declared.End.the-variants.{NotAKnot, FirstDerivative, SecondDerivative}
 use Rattle.rules.specs.declared.Condition.{Condition}
 use Rattle.rules.specs.declared.Row.{Row}
-use Rattle.spline.specs.declared.EndRow.{EndRow}
+use Rattle.spline.specs.declared.rows.EndRow.{EndRow}
 use Rattle.solve.specs.Rows.{row, Outside}
 
 -- an end's row, with how many unknowns its kind drops beside it

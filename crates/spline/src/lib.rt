@@ -1,259 +1,18 @@
-// The spline of one lane: rows, moments, knot slopes and the curve's value.
+// The spline of one lane and of one axis: moments, knot slopes and the curve's value.
 ghost use mathlib.Core.Path.{_≡_};
 ghost use Prim.Native.Nat.{_+_, _-_, _<_, _≤_};
 ghost use lib.ListN.{length};
-ghost use Rattle.rules.specs.Ends.{dropped, fewest-points};
-ghost use Rattle.spline.specs.Lanes.{lower-end-row, upper-end-row, samples-in, LaneGiven, InteriorRows, FirstRow, LastRow, periodic-row, lower-moment, upper-moment, OneStored, InnerSolved, MomentsSolved};
+ghost use Rattle.rules.specs.Ends.{fewest-points};
+ghost use Rattle.rules.specs.Curve.{knot-slope, knot-slopes, curve-in-cell};
+ghost use Rattle.rules.specs.Refusals.{outcome-refused};
+ghost use Rattle.rules.specs.Calls.{MomentsPromise, CurvePromise, SlopesPromise};
+ghost use Rattle.spline.specs.Lanes.{LaneGiven, MomentsSolved};
+ghost use Rattle.spline.specs.Work.{AxisLengths, MomentsWorked};
 use rules::Condition;
-use rules::End;
-use rules::Row;
+use rules::CurveAnswer;
 
-// Where each row of the scratch begins. The lane's samples stand at 0.
-const SUB: usize = 256;
-
-const DIAG: usize = 512;
-
-const SUP: usize = 768;
-
-const RHS: usize = 1024;
-
-const RESULT: usize = 1792;
-
-// An end's row, and beside it how many unknowns its kind drops: 1 for NotAKnot, whose row stands at the next knot, and 0 for any other.
-pub struct EndRow {
-    pub dropped: usize,
-    pub row: Row,
-}
-
-// The rows 1 to stop - 1, row j at knot start + j: what the steps before and after that knot give.
-fn interior_rows(w: &mut [f64], x: &[f64], start: usize, stop: usize)
-    requires { ⌜ LaneGiven (now w) (now x) × (start + stop < length (now x)) × (0 < stop) ⌝ }
-    ensures { λ _. ⌜ InteriorRows (now (w .entry)) (now (w .exit)) (now (x .entry)) (samples-in (now (w .entry)) (now (x .entry))) start stop ⌝ }
-{
-    let mut h = x[start + 1] - x[start];
-    let mut s = (w[start + 1] - w[start]) / h;
-    let mut j = 1;
-    while j < stop {
-        let i = start + j;
-        let next_h = x[i + 1] - x[i];
-        let next_s = (w[i + 1] - w[i]) / next_h;
-        w[255 + j] = h;
-        w[DIAG + j] = 2.0 * (h + next_h);
-        w[SUP + j] = next_h;
-        w[RHS + j] = 6.0 * (next_s - s);
-        h = next_h;
-        s = next_s;
-        j += 1;
-    }
-}
-
-// The row of the lower end, from knots and samples.
-fn lower_row(x: &[f64], y: &[f64], end: End) -> EndRow
-    requires { ⌜ (2 + dropped end ≤ length (now x)) × (length (now x) ≤ length (now y)) ⌝ }
-    ensures { λ r. ⌜ r ≡ lower-end-row (now (x .entry)) (now (y .entry)) end ⌝ }
-{
-    let h0 = x[1] - x[0];
-    let s0 = (y[1] - y[0]) / h0;
-    match end {
-        End::NotAKnot => {
-            let h1 = x[2] - x[1];
-            let s1 = (y[2] - y[1]) / h1;
-            EndRow {
-                dropped: 1,
-                row: Row {
-                    diagonal: (h0 + h1) * (h0 + 2.0 * h1),
-                    neighbour: h1 * h1 - h0 * h0,
-                    right: h1 * (6.0 * (s1 - s0)),
-                },
-            }
-        }
-        End::FirstDerivative(v) => EndRow {
-            dropped: 0,
-            row: Row {
-                diagonal: 2.0 * h0,
-                neighbour: h0,
-                right: 6.0 * (s0 - v),
-            },
-        },
-        End::SecondDerivative(v) => EndRow {
-            dropped: 0,
-            row: Row {
-                diagonal: 1.0,
-                neighbour: 0.0,
-                right: v,
-            },
-        },
-    }
-}
-
-// The row of the upper end: the mirror of the lower's.
-fn upper_row(x: &[f64], y: &[f64], end: End) -> EndRow
-    requires { ⌜ (2 + dropped end ≤ length (now x)) × (length (now x) ≤ length (now y)) ⌝ }
-    ensures { λ r. ⌜ r ≡ upper-end-row (now (x .entry)) (now (y .entry)) end ⌝ }
-{
-    let n = x.len() - 1;
-    let last = n - 1;
-    let h_last = x[last + 1] - x[last];
-    let s_last = (y[last + 1] - y[last]) / h_last;
-    match end {
-        End::NotAKnot => {
-            let before = n - 2;
-            let h_before = x[before + 1] - x[before];
-            let s_before = (y[before + 1] - y[before]) / h_before;
-            EndRow {
-                dropped: 1,
-                row: Row {
-                    diagonal: (h_before + h_last) * (2.0 * h_before + h_last),
-                    neighbour: h_before * h_before - h_last * h_last,
-                    right: h_before * (6.0 * (s_last - s_before)),
-                },
-            }
-        }
-        End::FirstDerivative(v) => EndRow {
-            dropped: 0,
-            row: Row {
-                diagonal: 2.0 * h_last,
-                neighbour: h_last,
-                right: 6.0 * (v - s_last),
-            },
-        },
-        End::SecondDerivative(v) => EndRow {
-            dropped: 0,
-            row: Row {
-                diagonal: 1.0,
-                neighbour: 0.0,
-                right: v,
-            },
-        },
-    }
-}
-
-// The first row of a solve is the lower end's.
-fn first_row(w: &mut [f64], lower: Row)
-    requires { ⌜ 2048 ≤ length (now w) ⌝ }
-    ensures { λ _. ⌜ FirstRow (now (w .entry)) (now (w .exit)) lower ⌝ }
-{
-    w[DIAG] = lower.diagonal;
-    w[SUP] = lower.neighbour;
-    w[RHS] = lower.right;
-}
-
-// The last row of a solve, row l, is the upper end's.
-fn last_row(w: &mut [f64], l: usize, upper: Row)
-    requires { ⌜ (2048 ≤ length (now w)) × (l < 256) ⌝ }
-    ensures { λ _. ⌜ LastRow (now (w .entry)) (now (w .exit)) l upper ⌝ }
-{
-    w[255 + l] = upper.neighbour;
-    w[DIAG + l] = upper.diagonal;
-    w[RHS + l] = upper.right;
-}
-
-// The first moment, where the lower end dropped it, from the two after it.
-fn drop_lower(w: &mut [f64], x: &[f64], lower: End)
-    requires { ⌜ (2048 ≤ length (now w)) × (2 + dropped lower ≤ length (now x)) ⌝ }
-    ensures { λ _. ⌜ OneStored (now (w .entry)) (now (w .exit)) 1792 (lower-moment (now (w .entry)) (now (x .entry)) lower) ⌝ }
-{
-    match lower {
-        End::NotAKnot => {
-            let h0 = x[1] - x[0];
-            let h1 = x[2] - x[1];
-            w[RESULT] = ((h0 + h1) * w[RESULT + 1] - h0 * w[RESULT + 2]) / h1;
-        }
-        End::FirstDerivative(_) => {}
-        End::SecondDerivative(_) => {}
-    }
-}
-
-// The last moment, where the upper end dropped it, from the two before it.
-fn drop_upper(w: &mut [f64], x: &[f64], upper: End)
-    requires { ⌜ (2048 ≤ length (now w)) × (2 + dropped upper ≤ length (now x)) × (length (now x) ≤ 256) ⌝ }
-    ensures { λ _. ⌜ OneStored (now (w .entry)) (now (w .exit)) (1792 + (length (now (x .entry)) - 1)) (upper-moment (now (w .entry)) (now (x .entry)) (length (now (x .entry)) - 1) upper) ⌝ }
-{
-    match upper {
-        End::NotAKnot => {
-            let n = x.len() - 1;
-            let last = n - 1;
-            let before = n - 2;
-            let h_last = x[last + 1] - x[last];
-            let h_before = x[before + 1] - x[before];
-            let m = (h_before + h_last) * w[RESULT + last] - h_last * w[RESULT + before];
-            w[RESULT + n] = m / h_before;
-        }
-        End::FirstDerivative(_) => {}
-        End::SecondDerivative(_) => {}
-    }
-}
-
-// The moments that the rows of both ends give, from the first knot that is not dropped on.
-fn inner_moments(w: &mut [f64], x: &[f64], lower: End, upper: End)
-    requires { ⌜ LaneGiven (now w) (now x) × (2 + dropped lower + dropped upper ≤ length (now x)) ⌝ }
-    ensures { λ _. ⌜ InnerSolved (now (w .entry)) (now (w .exit)) (now (x .entry)) lower upper ⌝ }
-{
-    let points = x.len();
-    let first = lower_row(x, &w[0..points], lower);
-    let last = upper_row(x, &w[0..points], upper);
-    let start = first.dropped;
-    let l = points - 1 - start - last.dropped;
-    interior_rows(w, x, start, l);
-    first_row(w, first.row);
-    last_row(w, l, last.row);
-    solve::thomas(w, l, RESULT + start);
-}
-
-// The moments of a lane under two ends.
-fn endpoint_moments(w: &mut [f64], x: &[f64], lower: End, upper: End)
-    requires { ⌜ LaneGiven (now w) (now x) × (2 + dropped lower + dropped upper ≤ length (now x)) ⌝ }
-    ensures { λ _. ⌜ MomentsSolved (now (w .entry)) (now (w .exit)) (now (x .entry)) (Condition.Endpoints lower upper) ⌝ }
-{
-    inner_moments(w, x, lower, upper);
-    drop_lower(w, x, lower);
-    drop_upper(w, x, upper);
-}
-
-// The first row of a periodic axis.
-fn periodic_row(x: &[f64], y: &[f64]) -> Row
-    requires { ⌜ (2 ≤ length (now x)) × (length (now x) ≤ length (now y)) ⌝ }
-    ensures { λ r. ⌜ r ≡ periodic-row (now (x .entry)) (now (y .entry)) ⌝ }
-{
-    let last = x.len() - 1 - 1;
-    let h0 = x[1] - x[0];
-    let s0 = (y[1] - y[0]) / h0;
-    let h_last = x[last + 1] - x[last];
-    let s_last = (y[last + 1] - y[last]) / h_last;
-    Row {
-        diagonal: 2.0 * (h_last + h0),
-        neighbour: h0,
-        right: 6.0 * (s0 - s_last),
-    }
-}
-
-// The moments of a periodic lane of more than one interval.
-fn cyclic_moments(w: &mut [f64], x: &[f64])
-    requires { ⌜ LaneGiven (now w) (now x) × (3 ≤ length (now x)) ⌝ }
-    ensures { λ _. ⌜ MomentsSolved (now (w .entry)) (now (w .exit)) (now (x .entry)) Condition.Periodic ⌝ }
-{
-    let points = x.len();
-    let n = points - 1;
-    let last = n - 1;
-    let row = periodic_row(x, &w[0..points]);
-    interior_rows(w, x, 0, n);
-    first_row(w, row);
-    solve::cyclic_thomas(w, last, x[last + 1] - x[last]);
-    w[RESULT + n] = w[RESULT];
-}
-
-// The moments of a periodic lane: two zeros for one interval.
-fn periodic_moments(w: &mut [f64], x: &[f64])
-    requires { ⌜ LaneGiven (now w) (now x) ⌝ }
-    ensures { λ _. ⌜ MomentsSolved (now (w .entry)) (now (w .exit)) (now (x .entry)) Condition.Periodic ⌝ }
-{
-    if x.len() < 3 {
-        w[RESULT] = 0.0;
-        w[RESULT + 1] = 0.0;
-    } else {
-        cyclic_moments(w, x);
-    }
-}
+pub mod lane;
+pub mod rows;
 
 // The moments of the lane whose samples stand in front of the scratch, under a condition. They go from RESULT on.
 // Not public: it requires a scratch of 2,048 numbers, 2 to 256 knots, and the fewest points of the condition.
@@ -262,7 +21,169 @@ pub fn compute_m(w: &mut [f64], x: &[f64], condition: Condition)
     ensures { λ _. ⌜ MomentsSolved (now (w .entry)) (now (w .exit)) (now (x .entry)) condition ⌝ }
 {
     match condition {
-        Condition::Endpoints(lower, upper) => endpoint_moments(w, x, lower, upper),
-        Condition::Periodic => periodic_moments(w, x),
+        Condition::Endpoints(lower, upper) => lane::endpoint_moments(w, x, lower, upper),
+        Condition::Periodic => lane::periodic_moments(w, x),
     }
+}
+
+// The slope of the curve at knot i. Not public: it requires a sample and a moment for each of at least two knots.
+pub fn knot_slope(x: &[f64], y: &[f64], m: &[f64], i: usize) -> f64
+    requires { ⌜ AxisLengths (now x) (now y) (now m) × (i < length (now x)) ⌝ }
+    ensures { λ r. ⌜ r ≡ knot-slope (now (x .entry)) (length (now (x .entry)) - 1) (now (y .entry)) (now (m .entry)) i ⌝ }
+{
+    let n = x.len() - 1;
+    if i < n {
+        let h = x[i + 1] - x[i];
+        (y[i + 1] - y[i]) / h - h * (2.0 * m[i] + m[i + 1]) / 6.0
+    } else {
+        let last = n - 1;
+        let h = x[last + 1] - x[last];
+        (y[last + 1] - y[last]) / h + h * (m[last] + 2.0 * m[n]) / 6.0
+    }
+}
+
+// The curve's value at a point, by the cubic of cell i. Not public: it requires a sample and a moment for each knot, and that the cell is one.
+pub fn curve_in_cell(x: &[f64], y: &[f64], m: &[f64], i: usize, point: f64) -> f64
+    requires { ⌜ AxisLengths (now x) (now y) (now m) × (i + 1 < length (now x)) ⌝ }
+    ensures { λ r. ⌜ r ≡ curve-in-cell (now (x .entry)) (now (y .entry)) (now (m .entry)) i point ⌝ }
+{
+    let h = x[i + 1] - x[i];
+    let dx = point - x[i];
+    let dx_r = h - dx;
+    let six_h = 6.0 * h;
+    let h2_over_six = h * h / 6.0;
+    m[i] * dx_r * dx_r * dx_r / six_h
+        + m[i + 1] * dx * dx * dx / six_h
+        + (y[i] - m[i] * h2_over_six) * dx_r / h
+        + (y[i + 1] - m[i + 1] * h2_over_six) * dx / h
+}
+
+// Whether a knot slope would be an infinity or NaN. Not public: it requires what `knot_slope` does.
+fn some_slope_refused(x: &[f64], y: &[f64], m: &[f64]) -> bool
+    requires { ⌜ AxisLengths (now x) (now y) (now m) ⌝ }
+    ensures { λ r. ⌜ r ≡ outcome-refused (knot-slopes (now (x .entry)) (length (now (x .entry)) - 1) (now (y .entry)) (now (m .entry))) ⌝ }
+{
+    let mut i = 0;
+    while i < x.len() {
+        if !base::is_finite(knot_slope(x, y, m, i)) {
+            return true;
+        }
+        i += 1;
+    }
+    false
+}
+
+// All the knot slopes. Not public: it requires what `knot_slope` does, and a place for each slope.
+fn store_slopes(x: &[f64], y: &[f64], m: &[f64], slopes: &mut [f64])
+    requires { ⌜ AxisLengths (now x) (now y) (now m) × (length (now slopes) ≡ length (now x)) ⌝ }
+    ensures { λ _. ⌜ now (slopes .exit) ≡ knot-slopes (now (x .entry)) (length (now (x .entry)) - 1) (now (y .entry)) (now (m .entry)) ⌝ }
+{
+    let mut i = 0;
+    while i < x.len() {
+        slopes[i] = knot_slope(x, y, m, i);
+        i += 1;
+    }
+}
+
+// PUBLIC. The knot slopes of the curve with these moments, stored when all are finite. Refuses 2 4 7 8 10; then the slopes stay as they were.
+pub fn knot_slopes(
+    points: usize,
+    knots: &[f64],
+    samples: &[f64],
+    moments: &[f64],
+    slopes: &mut [f64],
+) -> usize
+    ensures { λ r. ⌜ SlopesPromise points (now (knots .entry)) (now (samples .entry)) (now (moments .entry)) (now (slopes .entry)) r (now (slopes .exit)) ⌝ }
+{
+    let refusal = checks::slopes_refusal(points, knots, samples, moments.len(), slopes.len());
+    if refusal != 0 {
+        return refusal;
+    }
+    if some_slope_refused(knots, samples, moments) {
+        return 10;
+    }
+    store_slopes(knots, samples, moments, slopes);
+    0
+}
+
+// PUBLIC. The curve's value at a point, beyond the knots too. Refuses 2 4 7 8 10; then the value is +0.0.
+pub fn curve(
+    points: usize,
+    knots: &[f64],
+    samples: &[f64],
+    moments: &[f64],
+    point: f64,
+) -> CurveAnswer
+    ensures { λ r. ⌜ CurvePromise points (now (knots .entry)) (now (samples .entry)) (now (moments .entry)) point r ⌝ }
+{
+    let refusal = checks::curve_refusal(points, knots, samples, moments.len(), point);
+    if refusal != 0 {
+        return CurveAnswer {
+            refusal: refusal,
+            value: 0.0,
+        };
+    }
+    let cell = locate::locate_lower_index(knots, point);
+    let value = curve_in_cell(knots, samples, moments, cell, point);
+    if base::is_finite(value) {
+        CurveAnswer {
+            refusal: 0,
+            value: value,
+        }
+    } else {
+        CurveAnswer {
+            refusal: 10,
+            value: 0.0,
+        }
+    }
+}
+
+// The moments worked out in scratch and stored when all are finite; then all of scratch is +0.0. Not public: it requires what no refusal leaves.
+fn work_moments(
+    knots: &[f64],
+    samples: &[f64],
+    condition: Condition,
+    moments: &mut [f64],
+    scratch: &mut [f64],
+) -> usize
+    requires { ⌜ LaneGiven (now scratch) (now knots) × (fewest-points condition ≤ length (now knots)) ⌝ }
+    requires { ⌜ (length (now samples) ≡ length (now knots)) × (length (now moments) ≡ length (now knots)) ⌝ }
+    ensures { λ r. ⌜ MomentsWorked (now (knots .entry)) (now (samples .entry)) condition (now (moments .entry)) (now (scratch .entry)) r (now (moments .exit)) (now (scratch .exit)) ⌝ }
+{
+    let n = knots.len();
+    base::copy(&mut scratch[0..n], samples);
+    compute_m(scratch, knots, condition);
+    if base::any_not_finite(&scratch[1792..1792 + n]) {
+        base::clear(scratch);
+        return 10;
+    }
+    base::copy(moments, &scratch[1792..1792 + n]);
+    base::clear(scratch);
+    0
+}
+
+// PUBLIC. The moments of the curve through the samples under a condition, stored when all are finite. Refuses 2 4 5 7 8 9 10; then the
+// moments stay as they were. Scratch is untouched for 2 to 9, and all +0.0 after any work.
+pub fn moments(
+    points: usize,
+    knots: &[f64],
+    samples: &[f64],
+    condition: Condition,
+    moments: &mut [f64],
+    scratch: &mut [f64],
+) -> usize
+    ensures { λ r. ⌜ MomentsPromise points (now (knots .entry)) (now (samples .entry)) condition (now (moments .entry)) (now (scratch .entry)) r (now (moments .exit)) (now (scratch .exit)) ⌝ }
+{
+    let refusal = checks::moments_refusal(
+        points,
+        knots,
+        samples,
+        condition,
+        moments.len(),
+        scratch.len(),
+    );
+    if refusal != 0 {
+        return refusal;
+    }
+    work_moments(knots, samples, condition, moments, scratch)
 }

@@ -6,8 +6,8 @@ use Rattle.spline.proofs.compute_m.Statement.{statement}
 use Rattle.spline.proofs.compute_m.Tie as tie
 use Rattle.spline.proofs.compute_m.Reads as reads
 use Rattle.spline.proofs.compute_m.Lts as lts
-use Rattle.spline.proofs.endpoint_moments.Reads as endpoint-moments-reads
-use Rattle.spline.proofs.periodic_moments.Reads as periodic-moments-reads
+use Rattle.spline.proofs.lane.endpoint_moments.Reads as endpoint-moments-reads
+use Rattle.spline.proofs.lane.periodic_moments.Reads as periodic-moments-reads
 
 enum-known-condition : tie.Need-enum-known-condition
 enum-known-condition c = search needs
