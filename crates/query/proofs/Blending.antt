@@ -67,14 +67,14 @@ none-left left lowest widths ts cell e = rw e refl
 pub one-fewer :
     (left axes size : ℕ) (widths ts : ℕ → Float) (cell later : List Float) → left ≢ 0 → left ≤ axes → size ≡ 4 ^ (left - 1)
     → Removed cell later size (widths (axes - left)) (ts (axes - left))
-    → blend (left - 1) (axes - (left - 1)) widths ts (at (take (size - 0) later)) ≡ blend left (axes - left) widths ts (at cell)
+    → (r : Float) → r ≡ blend (left - 1) (axes - (left - 1)) widths ts (at (take (size - 0) later)) → r ≡ blend left (axes - left) widths ts (at cell)
 unfolding blend
-one-fewer zero axes size widths ts cell later some most e removed = absurd (some refl)
-one-fewer (suc left) axes size widths ts cell later some most e removed =
+one-fewer zero axes size widths ts cell later some most e removed r is = absurd (some refl)
+one-fewer (suc left) axes size widths ts cell later some most e removed r is =
     let less : suc left - 1 ≡ left = omega arith in
     let next : axes - left ≡ suc (axes - suc left) = omega arith in
     let s : size ≡ 4 ^ left = rw less at e in
-    rw (less, next, sub-zero)
+    rw (is, less, next, sub-zero)
     (blend-ext left (suc (axes - suc left)) widths widths ts ts
     (at (take size later))
     (without-lowest (4 ^ left) (widths (axes - suc left)) (ts (axes - suc left)) (at cell))
@@ -87,8 +87,8 @@ one-fewer (suc left) axes size widths ts cell later some most e removed =
 -- a gathered cell is blended as the tensor's
 pub gathered-blend :
     (g : Grid) (tensor : List Float) (lower : Place) (widths ts : ℕ → Float) (gathered : List Float) → Gathered g tensor lower gathered
-    → blend (g .axes) (g .axes - g .axes) widths ts (at gathered) ≡ blend (g .axes) 0 widths ts (cell g tensor lower)
-gathered-blend g tensor lower widths ts gathered given =
+    → (r : Float) → r ≡ blend (g .axes) (g .axes - g .axes) widths ts (at gathered) → r ≡ blend (g .axes) 0 widths ts (cell g tensor lower)
+gathered-blend g tensor lower widths ts gathered given r is =
     let first : g .axes - g .axes ≡ 0 = omega arith in
-    rw first
+    rw (is, first)
     (blend-ext (g .axes) 0 widths widths ts ts (at gathered) (cell g tensor lower) (λ i a b. refl) (λ i a b. refl) (given .number))

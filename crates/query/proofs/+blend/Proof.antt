@@ -1,6 +1,6 @@
 -- The measure is the number of axes that are left.
 use Prim.Native.Nat.{ℕ, _^_, _-_, _/_, _<_}
-use mathlib.Core.Path.{_≡_, _∙_}
+use mathlib.Core.Path.{_≡_}
 use native.Mathlib.Nat.{sub-zero}
 use native.Mathlib.Omega.{arith}
 use lib.ListN.{length}
@@ -64,7 +64,8 @@ pub +blend-spec : {M : Type 1} → statement M
     let removed = rest .before .before .before .before in
     let s = removed .before .before .before .before .before in
     let some = removed .before .before .before .if1 .left in
-    rest .blend .ensures
-    ∙ one-fewer (s .args .left) (s .args .axes) _ (widths (s .args .t4)) (ts (s .args .t4)) (s .args .cell .now) _ some (s .pre .1 .1)
+    one-fewer (s .args .left) (s .args .axes) _ (widths (s .args .t4)) (ts (s .args .t4)) (s .args .cell .now) _ some (s .pre .1 .1)
     (quarter (s .args .left) _ some (s .pre .1 .0))
-    (removed .remove-lowest .ensures))
+    (removed .remove-lowest .ensures)
+    _
+    (rest .blend .ensures))
