@@ -1,0 +1,49 @@
+-- A lane gathered, its moments computed, its slopes stored: the lane is solved.
+use native.Mathlib.Omega.{arith}
+use mathlib.Core.Path.{_≡_, refl, ap₂, _∙_}
+use mathlib.Core.List.{List}
+use Prim.Native.Nat.{ℕ, _+_, _-_, _*_, _<_, _≤_}
+use lib.ListN.{length, take, drop}
+use lib.Ieee.{Float}
+use Rattle.rules.specs.Numbers.{at, table}
+use Rattle.rules.specs.Moments.{moment, moments}
+use Rattle.rules.specs.Curve.{knot-slope, lane-slope}
+use Rattle.rules.specs.declared.Condition.{Condition}
+use Rattle.tensor.specs.Lanes.{Lies, Gathered, slope-of-rows, SlopesStored, LaneGiven, LaneSolved}
+use Rattle.tensor.proofs.Parts.{part-is-table}
+
+module _
+    (w₀ w₁ w₂ w₃ x : List Float) (condition : Condition) (from to step : ℕ)
+    (given : LaneGiven w₀ x condition from to step)
+    (gathered : Gathered w₀ w₁ (length x) from step)
+    (long : length w₂ ≡ length w₁)
+    (computed : (k : ℕ) → k < length x → at w₂ (1792 + k) ≡ moment x (take (length x) w₁) (length x - 1) condition k)
+    (rows-kept : (j : ℕ) → j < 256 → at w₂ j ≡ at w₁ j)
+    (tensor-kept : (j : ℕ) → 2048 ≤ j → at w₂ j ≡ at w₁ j)
+    (stored : SlopesStored w₂ w₃ x (length x) to step)
+  where
+  abbrev samples : List Float
+  samples = table (length x) (λ j. at w₀ (from + j * step))
+
+  samples-in : (w : List Float) → length w ≡ length w₀ → ((k : ℕ) → k < length x → at w k ≡ at w₁ k) → take (length x) w ≡ samples
+  samples-in w e same =
+      part-is-table w 0 (length x) (omega (arith, given .numbers .room, given .numbers .most)) (λ j. at w₀ (from + j * step))
+      (λ k h. let z : 0 + k ≡ k = omega arith in rw z (same k h ∙ gathered .samples k h))
+
+  moments-in : take (length x) (drop 1792 w₂) ≡ moments x (length x - 1) condition samples
+  unfolding moments
+  moments-in =
+      part-is-table w₂ 1792 (length x) (omega (arith, long, gathered .same-length, given .numbers .room, given .numbers .most)) _ computed
+      ∙ let e : length x - 1 + 1 ≡ length x = omega (arith, given .some-points) in
+      rw (e, samples-in w₁ (gathered .same-length) (λ k h. refl))
+
+  pub lane-solved : LaneSolved w₀ w₃ x condition from to step
+  unfolding lane-slope
+  lane-solved = record {
+    same-length = stored .same-length ∙ long ∙ gathered .same-length;
+    slopes = λ k h.
+        stored .slopes k h
+        ∙ ap₂ (λ (y m : List Float). knot-slope x (length x - 1) y m k)
+        (samples-in w₂ (long ∙ gathered .same-length) (λ j l. rows-kept j (omega (arith, given .numbers .most)))) moments-in;
+    kept = λ j h o. stored .kept j o ∙ tensor-kept j h ∙ gathered .kept j (omega arith);
+  }

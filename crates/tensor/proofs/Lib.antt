@@ -1,0 +1,10 @@
+pub mod Parts
+pub mod Gathering
+pub mod Storing
+pub mod Lane
+pub mod Starts
+pub mod Agreement
+pub mod Pass
+pub mod Refresh
+pub mod Count
+pub mod Outcome

@@ -1,0 +1,4 @@
+// The tensor of document 01.
+fn one() -> usize {
+    1
+}
