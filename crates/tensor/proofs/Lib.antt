@@ -8,3 +8,4 @@ pub mod Pass
 pub mod Refresh
 pub mod Count
 pub mod Outcome
+pub mod Axes

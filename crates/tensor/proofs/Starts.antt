@@ -9,11 +9,11 @@ use Rattle.rules.proofs.Places.{OnGrid, One, flat-below, flat-ext, unflat-last,
 use Rattle.tensor.specs.Passes.{lane-points, lane-place}
 
 module _ (n : ℕ → ℕ) (vary : ℕ → Bool) where
-  varying : (j : ℕ) → vary j ≡ true → lane-points n vary j ≡ n j
+  pub varying : (j : ℕ) → vary j ≡ true → lane-points n vary j ≡ n j
   unfolding lane-points
   varying j e = ap (λ (b : Bool). cond b (n j) 1) e
 
-  fixed-one : (j : ℕ) → vary j ≡ false → lane-points n vary j ≡ 1
+  pub fixed-one : (j : ℕ) → vary j ≡ false → lane-points n vary j ≡ 1
   unfolding lane-points
   fixed-one j e = ap (λ (b : Bool). cond b (n j) 1) e
 

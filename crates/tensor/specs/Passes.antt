@@ -15,6 +15,12 @@ use Rattle.checks.specs.Given.{InRange}
 
 -- ---- the lanes of a pass
 
+-- axes whose places are no more than a tensor's numbers
+pub record SizesGiven (axes : ℕ) (n : ℕ → ℕ) : Type 0 where
+  pub few-axes : axes ≤ 4
+  pub some-points : (j : ℕ) → j < axes → 0 < n j
+  pub small : product-below n axes ≤ most-in-a-tensor
+
 -- whether the lanes of a pass are bound to no index of the place on axis j
 unfoldable pub free : Bool → ℕ → ℕ → Bool
 free whole target j = whole || in-mask target j
@@ -60,6 +66,13 @@ pub record Given (g : Grid) (w : List Float) : Type 0 where
 -- the place lies on the grid
 abbrev pub On : Grid → Place → Type 0
 On g p = (j : ℕ) → j < g .axes → p j < points g j
+
+-- what a pass along axis i of the numbers at a mask is given
+pub record PassGiven (g : Grid) (w : List Float) (place : Place) (i mask : ℕ) : Type 0 where
+  pub given : Given g w
+  pub on-the-grid : On g place
+  pub in-use : i < g .axes
+  pub low : mask < 2 ^ i
 
 -- after a pass: the slopes of the lanes solved stand at the target, and every other number is kept
 pub record Passed (g : Grid) (w w′ : List Float) (whole : Bool) (place : Place) (i mask : ℕ) : Type 0 where

@@ -1,4 +1,3 @@
-// The tensor of document 01.
-fn one() -> usize {
-    1
-}
+// The tensor: every lane of a build, or those of a change that can differ, solved in the scratch behind its rows.
+pub mod lanes;
+pub mod passes;
