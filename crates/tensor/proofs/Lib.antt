@@ -9,3 +9,6 @@ pub mod Refresh
 pub mod Count
 pub mod Outcome
 pub mod Axes
+pub mod PassTurns
+pub mod MaskTurns
+pub mod AxisTurns

@@ -1,6 +1,6 @@
 -- One lane after another: what a pass leaves in the working tensor, on plain lists.
 use native.Mathlib.Omega.{arith}
-use native.Mathlib.Nat.{add-mul, mul-assoc, mul-pos, lt-of-lt-of-le, two-pow-succ, eq-or-lt-of-le, le-of-suc-le-suc}
+use native.Mathlib.Nat.{add-mul, mul-assoc, mul-pos, mul-le-mul, le-trans, le-refl, le-mul-of-pos-right, pow-le-pow-right, lt-of-lt-of-le, two-pow-succ, eq-or-lt-of-le}
 use mathlib.Core.Path.{_≡_, refl, sym, ap, ap₂, _∙_, subst}
 use mathlib.Core.Logic.{_≢_, ⊎-elim}
 use mathlib.Core.List.{List}
@@ -8,23 +8,30 @@ use mathlib.Core.Bool.{Bool, true, false, cond}
 use Prim.Native.Nat.{ℕ, zero, suc, _+_, _-_, _*_, _/_, _%_, _^_, _<_, _≤_}
 use native.Mathlib.Numerals.{add-one}
 use lib.Arith.{digits-lt, digits-div, digits-mod}
-use lib.Dec.{ltb, eqb}
-use borrow.Author.Tests.{eqb-false}
-use lib.ListN.{length}
+use lib.Dec.{ltb, eqb, lit<}
+use borrow.Author.Tests.{eqb-false, ltb-false}
+use lib.ListN.{length, take, drop, length-drop}
+use lib.Seq.{length-take-le}
 use lib.Pow.{pow-pos, pow-mono}
 use lib.Ieee.{Float}
 use Rattle.rules.specs.Numbers.{at, table}
-use Rattle.rules.specs.Ends.{condition-at}
-use Rattle.rules.specs.Sizes.{Grid, points, condition, knots, masks, tensor-length, Place, moved, flat, unflat, product-below, stride, spot}
+use Rattle.rules.specs.Ends.{zero-valued, condition-at, dropped, fewest-points}
+use Rattle.rules.specs.Sizes.{Grid, points, condition, knots, masks, Place, moved, flat, sum-below, product-below, stride, spot}
 use Rattle.rules.specs.Change.{agree}
 use Rattle.rules.specs.Curve.{lane-slope}
 use Rattle.rules.specs.Tensor.{slope-along}
+use Rattle.rules.specs.declared.End.{End}
+use Rattle.rules.specs.declared.End.the-variants.{NotAKnot, FirstDerivative, SecondDerivative}
+use Rattle.rules.specs.declared.Condition.{Condition}
+use Rattle.rules.specs.declared.Condition.the-variants.{Endpoints, Periodic}
 use Rattle.rules.proofs.Cases.{not-both}
 use Rattle.rules.proofs.Tables.{table-ext}
 use Rattle.rules.proofs.Places.{OnGrid, One, moved-on, moved-off, moved-on-grid, moved-own, moved-one, flat-below, flat-ext, flat-one, stride-along}
+use Rattle.checks.proofs.Products.{sum-within}
 use Rattle.tensor.specs.Lanes.{Lies, LaneGiven, LaneSolved}
-use Rattle.tensor.specs.Passes.{free, varies, lane-points, lane-place, solves, lanes-solved, working, On, Given, Passed}
+use Rattle.tensor.specs.Passes.{SizesGiven, free, varies, lane-points, lane-place, solves, lanes-solved, working, On, Given, PassGiven, Passed}
 use Rattle.tensor.proofs.Starts.{across, lane-number, number-below, start-on-grid, number-of-start, start-of-number}
+use Rattle.tensor.proofs.Axes.{stride-fits}
 use Rattle.tensor.proofs.Agreement.{agree-at, agree-all, varies-own, varies-other, varies-not-own, free-own}
 
 -- two numbers of two digits each that are equal have the same digits
@@ -47,10 +54,63 @@ stride-some n (suc d) i some = go (mul-pos (stride-some n d i (λ j l. some j (o
 pub target-below : (i mask d : ℕ) → i < d → mask < 2 ^ i → mask + 2 ^ i < 2 ^ d
 target-below i mask d l h = lt-of-lt-of-le (let s : mask + 2 ^ i < 2 ^ suc i = omega (arith, two-pow-succ i) in s) (pow-mono l)
 
-module _
-    (g : Grid) (whole : Bool) (place : Place) (i mask : ℕ)
-    (in-use : i < g .axes) (low : mask < 2 ^ i) (some : (j : ℕ) → j < g .axes → 0 < points g j) (on-place : On g place)
+-- a cross pass has as many rows
+fewest-at : (mask : ℕ) (ends : Condition) → fewest-points (condition-at mask ends) ≡ fewest-points ends
+fewest-at zero ends = refl
+fewest-at (suc mask) (Endpoints lower upper) = ap₂ (λ (a b : ℕ). 2 + a + b) (same lower) (same upper)
   where
+    same : (end : End) → dropped (zero-valued end) ≡ dropped end
+    same NotAKnot = refl
+    same (FirstDerivative v) = refl
+    same (SecondDerivative v) = refl
+fewest-at (suc mask) Periodic = refl
+
+-- the sizes of a grid that was not refused
+pub sizes-given : {g : Grid} {w : List Float} → Given g w → SizesGiven (g .axes) (points g)
+sizes-given {g} given = record {
+  few-axes = given .in-range .few-axes;
+  some-points = λ j l. omega (arith, given .in-range .some-points j l);
+  small = le-trans (le-mul-of-pos-right (product-below (points g) (g .axes)) (pow-pos (g .axes))) (given .small);
+}
+
+-- the knots of an axis, as the code finds them among all
+pub knots-are :
+    {g : Grid} {w : List Float} (i from n : ℕ) → Given g w → i < g .axes → from ≡ sum-below (points g) i → n ≡ points g i
+    → (from + n ≤ length (g .flat-knots)) × (take (from + n - from) (drop from (g .flat-knots)) ≡ knots g i) × (length (knots g i) ≡ points g i)
+knots-are {g} i from n given in-use from-is n-is =
+    let within = sum-within (points g) i (g .axes) in-use in
+    let e : from + n - from ≡ points g i = omega arith in
+    (
+      omega (arith, given .knots-exact),
+      rw (e, from-is),
+      length-take-le (points g i) (drop (sum-below (points g) i) (g .flat-knots)) (rw length-drop (omega (arith, given .knots-exact))),
+    )
+
+-- the number of the lane that a place lies on
+abbrev pub number-in : Grid → Bool → ℕ → ℕ → Place → ℕ
+number-in g whole i mask p = lane-number (points g) (varies whole (mask + 2 ^ i) i) (g .axes) p
+
+-- the lanes below t are solved
+pub record Turn (g : Grid) (whole : Bool) (place : Place) (i mask : ℕ) (w₀ w : List Float) (t : ℕ) : Type 0 where
+  pub given : PassGiven g w₀ place i mask
+  pub most : t ≤ lanes-solved (points g) (g .axes) whole i mask
+  pub same-length : length w ≡ length w₀
+  pub slopes : (p : Place) → On g p → solves g whole place (mask + 2 ^ i) p ≡ true → number-in g whole i mask p < t
+      → working g w p (mask + 2 ^ i) ≡ slope-along g i mask (λ q. working g w₀ q mask) p
+  pub kept : (p : Place) (m : ℕ) → On g p → m < masks g
+      → (m ≡ mask + 2 ^ i → solves g whole place (mask + 2 ^ i) p ≡ true → number-in g whole i mask p < t → ⊥)
+      → working g w p m ≡ working g w₀ p m
+
+module _ (g : Grid) (whole : Bool) (place : Place) (i mask : ℕ) (w₀ : List Float) (pass : PassGiven g w₀ place i mask) where
+  in-use : i < g .axes
+  in-use = pass .in-use
+
+  low : mask < 2 ^ i
+  low = pass .low
+
+  some : (j : ℕ) → j < g .axes → 0 < points g j
+  some j below = omega (arith, pass .given .in-range .some-points j below)
+
   abbrev n : ℕ → ℕ
   n = points g
 
@@ -77,7 +137,7 @@ module _
   step = stride n d i * masks g
 
   fixed-on : On g fixed
-  fixed-on = moved-on-grid n d i 0 place on-place (some i in-use)
+  fixed-on = moved-on-grid n d i 0 place (pass .on-the-grid) (some i in-use)
 
   start-on : (t : ℕ) → On g (start t)
   start-on t = start-on-grid n vary fixed d t fixed-on
@@ -110,25 +170,49 @@ module _
       ∙ moved-stands p f (p i) m e
 
   -- the lane's numbers lie in the scratch behind the rows
-  pub lane-lies :
-      (w : List Float) (t m : ℕ) → Given g w → m < masks g → Lies w (points g i) (2048 + (begin t * masks g + m)) step
-  lane-lies w t m given small = record {
-    room = omega (arith, given .room);
-    most = given .in-range .few-points i in-use;
+  lane-lies : (w : List Float) (t m : ℕ) → length w ≡ length w₀ → m < masks g → Lies w (points g i) (2048 + (begin t * masks g + m)) step
+  lane-lies w t m long small = record {
+    room = omega (arith, pass .given .room);
+    most = pass .given .in-range .few-points i in-use;
     behind = omega arith;
     within = λ k h.
         subst (λ (x : ℕ). x < length w) (moved-stands (start t) (begin t) k m (start-begins t))
         (let b = digits-lt (flat-below n d (moved (start t) i k) (moved-on-grid n d i k (start t) (start-on t) h)) small in
-        omega (arith, given .room));
+        omega (arith, pass .given .room));
   }
 
-  pub lane-apart : 1 ≤ step
+  lane-apart : 1 ≤ step
   lane-apart = mul-pos (stride-some n d i some) (pow-pos d)
+
+  pub lane-given :
+      (w x : List Float) (t : ℕ) → length w ≡ length w₀ → length x ≡ points g i
+      → LaneGiven w x (condition-at mask (condition g i)) (2048 + (begin t * masks g + mask)) (2048 + (begin t * masks g + target)) step
+  lane-given w x t long x-long =
+      let top = target-below i mask d in-use low in
+      record {
+        some-points = omega (arith, pass .given .in-range .some-points i in-use);
+        enough-points = omega (arith, fewest-at mask (condition g i), ltb-false (points g i) (fewest-points (condition g i)) (pass .given .enough-points i in-use));
+        apart = lane-apart;
+        numbers = rw x-long (lane-lies w t mask long (omega arith));
+        slopes = rw x-long (lane-lies w t target long top);
+      }
+
+  pub begin-fits : (t : ℕ) → begin t * masks g + target < 4096
+  begin-fits t = lt-of-lt-of-le (digits-lt (flat-below n d (start t) (start-on t)) (target-below i mask d in-use low)) (pass .given .small)
+
+  few-masks : masks g ≤ 16
+  few-masks = pow-le-pow-right (lit< tt) {i = d} {j = 4} (pass .given .in-range .few-axes)
+
+  pub target-fits : target < 16
+  target-fits = omega (arith, target-below i mask d in-use low, few-masks)
+
+  pub step-fits : step ≤ 65536
+  step-fits = mul-le-mul (stride-fits n i d d (sizes-given (pass .given)) (le-refl d)) few-masks
 
   -- ---- which places lie on a lane
 
   abbrev number-of : Place → ℕ
-  number-of p = lane-number n vary d p
+  number-of p = number-in g whole i mask p
 
   -- a place that is solved starts, moved to index 0, where the lane of its number starts
   begins-at : (p : Place) → On g p → solves g whole place target p ≡ true → flat n d (moved p i 0) ≡ begin (number-of p)
@@ -178,18 +262,9 @@ module _
 
   -- ---- the turns
 
-  pub record Turn (w₀ w : List Float) (t : ℕ) : Type 0 where
-    pub given : Given g w₀
-    pub most : t ≤ lanes-solved n d whole i mask
-    pub same-length : length w ≡ length w₀
-    pub slopes : (p : Place) → On g p → solves g whole place target p ≡ true → number-of p < t
-        → working g w p target ≡ slope-along g i mask (λ q. working g w₀ q mask) p
-    pub kept : (p : Place) (m : ℕ) → On g p → m < masks g → (m ≡ target → solves g whole place target p ≡ true → number-of p < t → ⊥)
-        → working g w p m ≡ working g w₀ p m
-
-  pub turn-first : (w : List Float) → Given g w → Turn w w 0
-  turn-first w given = record {
-    given = given;
+  pub turn-first : Turn g whole place i mask w₀ w₀ 0
+  turn-first = record {
+    given = pass;
     most = omega arith;
     same-length = refl;
     slopes = λ p on e lt. absurd (omega arith);
@@ -197,7 +272,7 @@ module _
   }
 
   module _
-      (w₀ w w′ x : List Float) (t : ℕ) (turn : Turn w₀ w t) (lt : t < lanes-solved n d whole i mask)
+      (w w′ x : List Float) (t : ℕ) (turn : Turn g whole place i mask w₀ w t) (lt : t < lanes-solved n d whole i mask)
       (x-is : x ≡ knots g i) (x-long : length x ≡ points g i)
       (solved : LaneSolved w w′ x (condition-at mask (condition g i)) (2048 + (begin t * masks g + mask)) (2048 + (begin t * masks g + target)) step)
     where
@@ -223,9 +298,9 @@ module _
         ∙ turn .kept (moved p i k) mask (moved-on-grid n d i k p on h) (omega (arith, target-below i mask d in-use low))
         (λ same. absurd (omega (arith, pow-pos i))))))
 
-    pub turn-next : Turn w₀ w′ (t + 1)
+    pub turn-next : Turn g whole place i mask w₀ w′ (t + 1)
     turn-next = record {
-      given = turn .given;
+      given = pass;
       most = omega arith;
       same-length = solved .same-length ∙ turn .same-length;
       slopes = λ p on e less. ⊎-elim
@@ -239,9 +314,9 @@ module _
           ∙ turn .kept p m on small (λ a b c. h a b (omega arith));
     }
 
-  pub turn-last : (w₀ w : List Float) (t : ℕ) → Turn w₀ w t → lanes-solved n d whole i mask ≤ t → Passed g w₀ w whole place i mask
+  pub turn-last : (w : List Float) (t : ℕ) → Turn g whole place i mask w₀ w t → lanes-solved n d whole i mask ≤ t → Passed g w₀ w whole place i mask
   unfolding lanes-solved
-  turn-last w₀ w t turn ge = record {
+  turn-last w t turn ge = record {
     same-length = turn .same-length;
     slopes = λ p on e. turn .slopes p on e (lt-of-lt-of-le (number-below n vary d p on) ge);
     kept = λ p m on small h.

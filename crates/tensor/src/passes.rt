@@ -8,6 +8,7 @@ ghost use Rattle.rules.specs.Sizes.{place-of, moved, sum-below, product-below, 
 ghost use Rattle.checks.specs.Given.{grid, points-of, InRange};
 ghost use Rattle.tensor.specs.Passes.{varies, lane-points, lane-place, lanes-solved, lanes-on-axis, lanes-below, SizesGiven, PassGiven, Given, On, Passed, AxisPassed, Refreshed};
 
+use crate::lanes::solve_lane;
 use rules::Axis;
 use rules::Condition;
 
@@ -120,4 +121,81 @@ fn condition_at(mask: usize, condition: Condition) -> Condition
     ensures { λ r. ⌜ r ≡ condition-at mask condition ⌝ }
 {
     if mask == 0 { condition } else { condition.crossed() }
+}
+
+// One pass. It answers how many lanes it solved.
+fn solve_lanes(
+    w: &mut [f64],
+    axes: usize,
+    all: [Axis; 4],
+    knots: &[f64],
+    place: [usize; 4],
+    whole: bool,
+    axis: usize,
+    mask: usize,
+) -> usize
+    requires { ⌜ PassGiven (grid axes all (now knots)) (now w) (place-of place) axis mask ⌝ }
+    ensures { λ r. ⌜ Passed (grid axes all (now (knots .entry))) (now (w .entry)) (now (w .exit)) whole (place-of place) axis mask × (r ≡ lanes-solved (points-of all) axes whole axis mask) ⌝ }
+{
+    let entry = all[axis];
+    let n = entry.points;
+    let first = knots_before(all, axis);
+    let x = &knots[first..first + n];
+    let ends = entry.condition;
+    let condition = condition_at(mask, ends);
+    let masks = power(axes);
+    let target = mask + power(axis);
+    let step = stride(axes, all, axis) * masks;
+    let lanes = lane_count(axes, all, whole, target, axis);
+    let mut t = 0;
+    while t < lanes {
+        let start = lane_start(axes, all, place, whole, target, axis, t) * masks;
+        solve_lane(w, x, condition, 2048 + (start + mask), 2048 + (start + target), step);
+        t += 1;
+    }
+    t
+}
+
+// The passes along an axis, of each mask of the axes below it. It answers how many lanes they solved.
+fn solve_masks(
+    w: &mut [f64],
+    axes: usize,
+    all: [Axis; 4],
+    knots: &[f64],
+    place: [usize; 4],
+    whole: bool,
+    axis: usize,
+) -> usize
+    requires { ⌜ PassGiven (grid axes all (now knots)) (now w) (place-of place) axis 0 ⌝ }
+    ensures { λ r. ⌜ AxisPassed (grid axes all (now (knots .entry))) (now (w .entry)) (now (w .exit)) whole (place-of place) axis (2 ^ axis) × (r ≡ lanes-on-axis (points-of all) axes whole axis) ⌝ }
+{
+    let masks = power(axis);
+    let mut lanes = 0;
+    let mut mask = 0;
+    while mask < masks {
+        lanes += solve_lanes(w, axes, all, knots, place, whole, axis, mask);
+        mask += 1;
+    }
+    lanes
+}
+
+// The passes along each axis, in rising order. It answers how many lanes they solved.
+pub fn solve_axes(
+    w: &mut [f64],
+    axes: usize,
+    all: [Axis; 4],
+    knots: &[f64],
+    place: [usize; 4],
+    whole: bool,
+) -> usize
+    requires { ⌜ Given (grid axes all (now knots)) (now w) × On (grid axes all (now knots)) (place-of place) ⌝ }
+    ensures { λ r. ⌜ Refreshed (grid axes all (now (knots .entry))) (now (w .entry)) (now (w .exit)) whole (place-of place) axes × (r ≡ lanes-below (points-of all) axes whole axes) ⌝ }
+{
+    let mut lanes = 0;
+    let mut axis = 0;
+    while axis < axes {
+        lanes += solve_masks(w, axes, all, knots, place, whole, axis);
+        axis += 1;
+    }
+    lanes
 }
