@@ -1,0 +1,6 @@
+pub mod Interior
+pub mod Ends
+pub mod Stores
+pub mod RowsOfBothEnds
+pub mod Endpoints
+pub mod PeriodicLane
