@@ -6,20 +6,27 @@ use Prim.Native.Nat.{ℕ, _+_, _-_, _*_, _<_, _≤_}
 use lib.ListN.{length, take, drop}
 use lib.Ieee.{Float}
 use Rattle.rules.specs.Numbers.{at, table}
-use Rattle.rules.specs.Moments.{moment, moments}
+use Rattle.rules.specs.Moments.{moments}
 use Rattle.rules.specs.Curve.{knot-slope, lane-slope}
 use Rattle.rules.specs.declared.Condition.{Condition}
+use Rattle.spline.specs.Lanes.{MomentsSolved}
 use Rattle.tensor.specs.Lanes.{Lies, Gathered, slope-of-rows, SlopesStored, LaneGiven, LaneSolved}
 use Rattle.tensor.proofs.Parts.{part-is-table}
+
+-- a lane lies as well in a list of the same length
+pub still-lies : {w : List Float} (w′ : List Float) {n from step : ℕ} → length w′ ≡ length w → Lies w n from step → Lies w′ n from step
+still-lies w′ long lies = record {
+  room = omega (arith, lies .room);
+  most = lies .most;
+  behind = lies .behind;
+  within = λ k h. omega (arith, lies .within k h);
+}
 
 module _
     (w₀ w₁ w₂ w₃ x : List Float) (condition : Condition) (from to step : ℕ)
     (given : LaneGiven w₀ x condition from to step)
     (gathered : Gathered w₀ w₁ (length x) from step)
-    (long : length w₂ ≡ length w₁)
-    (computed : (k : ℕ) → k < length x → at w₂ (1792 + k) ≡ moment x (take (length x) w₁) (length x - 1) condition k)
-    (rows-kept : (j : ℕ) → j < 256 → at w₂ j ≡ at w₁ j)
-    (tensor-kept : (j : ℕ) → 2048 ≤ j → at w₂ j ≡ at w₁ j)
+    (computed : MomentsSolved w₁ w₂ x condition)
     (stored : SlopesStored w₂ w₃ x (length x) to step)
   where
   abbrev samples : List Float
@@ -33,17 +40,17 @@ module _
   moments-in : take (length x) (drop 1792 w₂) ≡ moments x (length x - 1) condition samples
   unfolding moments
   moments-in =
-      part-is-table w₂ 1792 (length x) (omega (arith, long, gathered .same-length, given .numbers .room, given .numbers .most)) _ computed
+      part-is-table w₂ 1792 (length x) (omega (arith, computed .same-length, gathered .same-length, given .numbers .room, given .numbers .most)) _ (computed .result)
       ∙ let e : length x - 1 + 1 ≡ length x = omega (arith, given .some-points) in
       rw (e, samples-in w₁ (gathered .same-length) (λ k h. refl))
 
   pub lane-solved : LaneSolved w₀ w₃ x condition from to step
   unfolding lane-slope
   lane-solved = record {
-    same-length = stored .same-length ∙ long ∙ gathered .same-length;
+    same-length = stored .same-length ∙ computed .same-length ∙ gathered .same-length;
     slopes = λ k h.
         stored .slopes k h
         ∙ ap₂ (λ (y m : List Float). knot-slope x (length x - 1) y m k)
-        (samples-in w₂ (long ∙ gathered .same-length) (λ j l. rows-kept j (omega (arith, given .numbers .most)))) moments-in;
-    kept = λ j h o. stored .kept j o ∙ tensor-kept j h ∙ gathered .kept j (omega arith);
+        (samples-in w₂ (computed .same-length ∙ gathered .same-length) (λ j l. computed .kept j (λ k b. omega (arith, given .numbers .most)))) moments-in;
+    kept = λ j h o. stored .kept j o ∙ computed .kept j (λ k b. omega arith) ∙ gathered .kept j (omega arith);
   }

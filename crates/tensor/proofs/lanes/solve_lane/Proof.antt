@@ -1,21 +1,32 @@
 use borrow.Author.Needs.{needs}
+use mathlib.Core.Path.{_∙_}
+use Rattle.tensor.proofs.Lane.{still-lies, lane-solved}
 use Rattle.tensor.proofs.lanes.solve_lane.Statement.{statement}
 use Rattle.tensor.proofs.lanes.solve_lane.Tie as tie
-use Rattle.tensor.proofs.lanes.solve_lane.Reads as reads
-use Rattle.tensor.proofs.lanes.solve_lane.Lts as lts
-use Rattle.tensor.proofs.lanes.gather.Reads as gather-reads
 
--- src/lanes.rt:33:5
 gather-requires : tie.Need-gather-requires
 gather-requires c κs = search needs
 
--- src/lanes.rt:22:1
+compute-m-requires : tie.Need-compute-m-requires
+compute-m-requires c κs = search needs
+
+store-slopes-requires : tie.Need-store-slopes-requires
+store-slopes-requires c κs =
+    let computed = c .before .before .before in
+    let gathered = computed .before .before .before .before in
+    let pre = gathered .before .before .before .before .pre in
+    (still-lies _ (computed .compute-m .ensures .same-length ∙ gathered .gather .ensures .same-length) (pre .slopes), pre .apart, pre .some-points)
+
 same-length : tie.Need-same-length
 same-length c = search needs
 
--- src/lanes.rt:22:1
 returns : tie.Need-returns
-returns c = search needs
+returns c =
+    let stored = c .before .before in
+    let computed = stored .before .before .before .before in
+    let gathered = computed .before .before .before .before in
+    let pre = gathered .before .before .before .before .pre in
+    lane-solved _ _ _ _ _ _ _ _ _ pre (gathered .gather .ensures) (computed .compute-m .ensures) (stored .store-slopes .ensures)
 
 pub solve-lane-spec : {M : Type 1} → statement M
-solve-lane-spec = tie.close (tie.spec gather-requires same-length returns)
+solve-lane-spec = tie.close (tie.spec gather-requires compute-m-requires store-slopes-requires same-length returns)

@@ -18,7 +18,7 @@ abbrev μ-loop : tie.MeasureT-loop
 μ-loop w₀ axes all knots place whole lanes₀ axis₀ w lanes axis = axes - axis
 
 loop-holds : tie.Need-loop-holds Inv-loop μ-loop
-loop-holds c = turn-first _ _ _ _ (c .before .pre .0) (c .before .pre .1)
+loop-holds c = let pre = c .before .before .pre in turn-first _ _ _ _ (pre .0) (pre .1)
 
 solve-masks-requires : tie.Need-solve-masks-requires Inv-loop μ-loop
 solve-masks-requires c κs = let turn = c .before .before .loop .inv in pass-given _ _ _ _ _ _ _ turn (omega arith)
