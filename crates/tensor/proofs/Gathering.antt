@@ -12,13 +12,15 @@ use Rattle.tensor.specs.Lanes.{Lies, Gathered}
 
 pub record Turn (w₀ w : List Float) (n from step k : ℕ) : Type 0 where
   pub lies : Lies w₀ n from step
+  pub few : n ≤ 256
   pub most : k ≤ n
   pub same-length : length w ≡ length w₀
   pub done : Gathered w₀ w k from step
 
-pub turn-first : (w : List Float) (n from step : ℕ) → Lies w n from step → Turn w w n from step 0
-turn-first w n from step l = record {
+pub turn-first : (w : List Float) (n from step : ℕ) → Lies w n from step → n ≤ 256 → Turn w w n from step 0
+turn-first w n from step l few = record {
   lies = l;
+  few = few;
   most = omega arith;
   same-length = refl;
   done = record { same-length = refl; samples = λ k h. absurd (omega arith); kept = λ j h. refl };
@@ -32,14 +34,15 @@ turn-next w₀ w n from step k t lt =
     let here : Float = at w (from + k * step) in
     record {
       lies = l;
+      few = t .few;
       most = omega arith;
       same-length = simp length-set (t .same-length);
       done = record {
         same-length = simp length-set (t .same-length);
         samples = below-more _ k
             (λ j h. getD-set-other w k j here nan (omega arith) ∙ t .done .samples j h)
-            (getD-set-same w k here nan (omega (arith, t .same-length, l .room, l .most)) ∙ t .done .kept (from + k * step) (omega (arith, l .behind)));
-        kept = λ j h. getD-set-other w k j here nan (omega (arith, l .most)) ∙ t .done .kept j h;
+            (getD-set-same w k here nan (omega (arith, t .same-length, l .room, t .few)) ∙ t .done .kept (from + k * step) (omega (arith, l .behind)));
+        kept = λ j h. getD-set-other w k j here nan (omega (arith, t .few)) ∙ t .done .kept j h;
       };
     }
 

@@ -8,9 +8,8 @@ use mathlib.Core.Bool.{Bool, true, false, cond}
 use Prim.Native.Nat.{ℕ, zero, suc, _+_, _-_, _*_, _/_, _%_, _^_, _<_, _≤_}
 use lib.Arith.{digits-lt}
 use lib.Dec.{ltb}
-use lib.ListN.{length, set, take, drop}
+use lib.ListN.{take, drop}
 use lib.Pow.{pow-pos}
-use lib.Seq.{getD-set-same, getD-set-other}
 use lib.Ieee.{Float, nan}
 use borrow.Author.Tests.{ltb-true, ltb-false}
 use Rattle.rules.specs.Numbers.{at, table}
@@ -117,42 +116,43 @@ module _ (g : Grid) where
         after .done p mask on small small
         ∙ refreshed-is-changed changed v (λ q m. at old (spot g q m)) (working g w) stored kept (g .axes) mask p (omega arith) small small on)
 
-  -- ---- before the passes of a change
+  -- ---- the working tensor before the passes
+
+  inside : (p : Place) (mask : ℕ) → On g p → mask < masks g → spot g p mask < tensor-length g
+  inside p mask on small = digits-lt (flat-below (points g) (g .axes) p on) small
+
+  -- the samples stored at mask 0
+  pub samples-stored :
+      (w samples : List Float) → ((f : ℕ) → f < samples-length g → at w (2048 + f * masks g) ≡ at samples f)
+      → (p : Place) → On g p → working g w p 0 ≡ sample g samples p
+  unfolding sample
+  samples-stored w samples stored p on = rw add-zero (stored (flat (points g) (g .axes) p) (flat-below (points g) (g .axes) p on))
 
   -- a new sample over a copy of the tensor
   module _
-      (w old : List Float) (changed : Place) (v : Float) (given : Given g w) (on-changed : On g changed)
-      (copied : (e : ℕ) → e < tensor-length g → at w (2048 + e) ≡ at old e)
+      (w old : List Float) (changed : Place) (v : Float) (on-changed : On g changed)
+      (new : at w (2048 + spot g changed 0) ≡ v)
+      (copied : (e : ℕ) → e < tensor-length g → e ≢ spot g changed 0 → at w (2048 + e) ≡ at old e)
     where
-    abbrev here : ℕ
-    here = 2048 + spot g changed 0
+    one-spot : (p : Place) (mask : ℕ) → mask < masks g → spot g p mask ≡ spot g changed 0 → (flat (points g) (g .axes) p ≡ flat (points g) (g .axes) changed) × (mask ≡ 0)
+    one-spot p mask small e = digits-one (masks g) (flat (points g) (g .axes) p) (flat (points g) (g .axes) changed) mask 0 small (pow-pos (g .axes)) e
 
-    inside : (p : Place) (mask : ℕ) → On g p → mask < masks g → spot g p mask < tensor-length g
-    inside p mask on small = digits-lt (flat-below (points g) (g .axes) p on) small
-
-    -- what stands at the changed place and mask 0 is the number of that place and mask
-    one-spot : (p : Place) (mask : ℕ) → mask < masks g → 2048 + spot g p mask ≡ here → (flat (points g) (g .axes) p ≡ flat (points g) (g .axes) changed) × (mask ≡ 0)
-    one-spot p mask small e =
-        digits-one (masks g) (flat (points g) (g .axes) p) (flat (points g) (g .axes) changed) mask 0 small (pow-pos (g .axes)) (omega (arith, e))
-
-    pub sample-stored : (p : Place) → On g p → working g (set w here v) p 0 ≡ with-sample g (λ q. at old (spot g q 0)) changed v p
+    pub sample-stored : (p : Place) → On g p → working g w p 0 ≡ with-sample g (λ q. at old (spot g q 0)) changed v p
     unfolding with-sample
     sample-stored p on = go (agree (λ j. false) (g .axes) p changed) refl
       where
-        go : (b : Bool) → agree (λ j. false) (g .axes) p changed ≡ b → at (set w here v) (2048 + spot g p 0) ≡ cond b v (at old (spot g p 0))
+        go : (b : Bool) → agree (λ j. false) (g .axes) p changed ≡ b → working g w p 0 ≡ cond b v (at old (spot g p 0))
         go true e =
-            ap (λ (f : ℕ). at (set w here v) (2048 + (f * masks g + 0)))
+            ap (λ (f : ℕ). at w (2048 + (f * masks g + 0)))
             (flat-ext (points g) (g .axes) p changed (λ j below. agree-at (λ k. false) p changed (g .axes) e j below refl))
-            ∙ getD-set-same w here v nan (omega (arith, inside changed 0 on-changed (pow-pos (g .axes)), given .room))
+            ∙ new
         go false e =
-            getD-set-other w here (2048 + spot g p 0) v nan (λ same.
+            copied (spot g p 0) (inside p 0 on (pow-pos (g .axes))) (λ same.
             not-both (agree (λ j. false) (g .axes) p changed)
             (agree-all (λ k. false) p changed (g .axes) (λ j below off.
             flat-one (points g) (g .axes) p changed on on-changed (one-spot p 0 (pow-pos (g .axes)) same .0) j below))
             e)
-            ∙ copied (spot g p 0) (inside p 0 on (pow-pos (g .axes)))
 
-    pub others-kept : (p : Place) (mask : ℕ) → On g p → mask < masks g → 0 < mask → working g (set w here v) p mask ≡ at old (spot g p mask)
+    pub others-kept : (p : Place) (mask : ℕ) → On g p → mask < masks g → 0 < mask → working g w p mask ≡ at old (spot g p mask)
     others-kept p mask on small some =
-        getD-set-other w here (2048 + spot g p mask) v nan (λ same. absurd (omega (arith, one-spot p mask small same .1)))
-        ∙ copied (spot g p mask) (inside p mask on small)
+        copied (spot g p mask) (inside p mask on small) (λ same. absurd (omega (arith, one-spot p mask small same .1)))

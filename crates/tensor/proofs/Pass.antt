@@ -173,7 +173,6 @@ module _ (g : Grid) (whole : Bool) (place : Place) (i mask : ℕ) (w₀ : List F
   lane-lies : (w : List Float) (t m : ℕ) → length w ≡ length w₀ → m < masks g → Lies w (points g i) (2048 + (begin t * masks g + m)) step
   lane-lies w t m long small = record {
     room = omega (arith, pass .given .room);
-    most = pass .given .in-range .few-points i in-use;
     behind = omega arith;
     within = λ k h.
         subst (λ (x : ℕ). x < length w) (moved-stands (start t) (begin t) k m (start-begins t))
@@ -191,6 +190,7 @@ module _ (g : Grid) (whole : Bool) (place : Place) (i mask : ℕ) (w₀ : List F
       let top = target-below i mask d in-use low in
       record {
         some-points = omega (arith, pass .given .in-range .some-points i in-use);
+        few-points = omega (arith, pass .given .in-range .few-points i in-use);
         enough-points = omega (arith, fewest-at mask (condition g i), ltb-false (points g i) (fewest-points (condition g i)) (pass .given .enough-points i in-use));
         apart = lane-apart;
         numbers = rw x-long (lane-lies w t mask long (omega arith));

@@ -13,7 +13,6 @@ use Rattle.rules.specs.declared.Condition.{Condition}
 -- n numbers behind the rows, number k at from + k * step
 pub record Lies (w : List Float) (n from step : ℕ) : Type 0 where
   pub room : 2048 ≤ length w
-  pub most : n ≤ 256
   pub behind : 2048 ≤ from
   pub within : (k : ℕ) → k < n → from + k * step < length w
 
@@ -27,15 +26,16 @@ pub record Gathered (w w′ : List Float) (n from step : ℕ) : Type 0 where
 abbrev pub slope-of-rows : List Float → List Float → ℕ → Float
 slope-of-rows w x k = knot-slope x (length x - 1) (take (length x) w) (take (length x) (drop 1792 w)) k
 
--- the first n knot slopes in a lane
-pub record SlopesStored (w w′ x : List Float) (n to step : ℕ) : Type 0 where
+-- the first n of some numbers stored step apart
+pub record Stored (w w′ : List Float) (numbers : ℕ → Float) (n to step : ℕ) : Type 0 where
   pub same-length : length w′ ≡ length w
-  pub slopes : (k : ℕ) → k < n → at w′ (to + k * step) ≡ slope-of-rows w x k
+  pub values : (k : ℕ) → k < n → at w′ (to + k * step) ≡ numbers k
   pub kept : (j : ℕ) → ((k : ℕ) → k < n → j ≢ to + k * step) → at w′ j ≡ at w j
 
 -- a lane to be solved, of numbers at `from` and slopes at `to`
 pub record LaneGiven (w x : List Float) (condition : Condition) (from to step : ℕ) : Type 0 where
   pub some-points : 2 ≤ length x
+  pub few-points : length x ≤ 256
   pub enough-points : fewest-points condition ≤ length x
   pub apart : 1 ≤ step
   pub numbers : Lies w (length x) from step

@@ -2,7 +2,7 @@
 ghost use mathlib.Core.Path.{_≡_};
 ghost use Prim.Native.Nat.{_<_, _≤_};
 ghost use lib.ListN.{length};
-ghost use Rattle.tensor.specs.Lanes.{Lies, Gathered, slope-of-rows, SlopesStored, LaneGiven, LaneSolved};
+ghost use Rattle.tensor.specs.Lanes.{Lies, Gathered, slope-of-rows, Stored, LaneGiven, LaneSolved};
 
 use rules::Condition;
 
@@ -11,7 +11,7 @@ const MOMENTS: usize = 1792;
 
 // The lane's n numbers go to the row of samples.
 fn gather(w: &mut [f64], n: usize, from: usize, step: usize)
-    requires { ⌜ Lies (now w) n from step ⌝ }
+    requires { ⌜ Lies (now w) n from step × (n ≤ 256) ⌝ }
     ensures { λ _. ⌜ Gathered (now (w .entry)) (now (w .exit)) n from step ⌝ }
 {
     let mut k = 0;
@@ -32,8 +32,8 @@ fn slope(w: &[f64], x: &[f64], k: usize) -> f64
 
 // The knot slopes go to `to`, to + step, ..
 fn store_slopes(w: &mut [f64], x: &[f64], to: usize, step: usize)
-    requires { ⌜ Lies (now w) (length (now x)) to step × (1 ≤ step) × (2 ≤ length (now x)) ⌝ }
-    ensures { λ _. ⌜ SlopesStored (now (w .entry)) (now (w .exit)) (now (x .entry)) (length (now (x .entry))) to step ⌝ }
+    requires { ⌜ Lies (now w) (length (now x)) to step × (1 ≤ step) × (2 ≤ length (now x)) × (length (now x) ≤ 256) ⌝ }
+    ensures { λ _. ⌜ Stored (now (w .entry)) (now (w .exit)) (slope-of-rows (now (w .entry)) (now (x .entry))) (length (now (x .entry))) to step ⌝ }
 {
     let mut k = 0;
     while k < x.len() {

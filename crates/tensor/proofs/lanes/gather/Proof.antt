@@ -17,7 +17,7 @@ inside : (c : tie.In-loop Inv-loop μ-loop) → c .before .before .args .from + 
 inside c = c .before .loop .inv .lies .within (c .before .loop .k) (c .loop-test .taken)
 
 loop-holds : tie.Need-loop-holds Inv-loop μ-loop
-loop-holds c = turn-first _ _ _ _ (c .pre)
+loop-holds c = turn-first _ _ _ _ (c .pre .0) (c .pre .1)
 
 mul-w : tie.Need-mul-w Inv-loop μ-loop
 mul-w c = omega (arith, inside c)

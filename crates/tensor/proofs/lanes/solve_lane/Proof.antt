@@ -15,7 +15,7 @@ store-slopes-requires c κs =
     let computed = c .before .before .before in
     let gathered = computed .before .before .before .before in
     let pre = gathered .before .before .before .before .pre in
-    (still-lies _ (computed .compute-m .ensures .same-length ∙ gathered .gather .ensures .same-length) (pre .slopes), pre .apart, pre .some-points)
+    (still-lies _ (computed .compute-m .ensures .same-length ∙ gathered .gather .ensures .same-length) (pre .slopes), pre .apart, pre .some-points, pre .few-points)
 
 same-length : tie.Need-same-length
 same-length c = search needs
