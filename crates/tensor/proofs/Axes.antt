@@ -154,3 +154,19 @@ module _ (n : ℕ → ℕ) (vary : ℕ → Bool) (place : Place) (axis : ℕ) wh
 
       pub fixed-fits : vary last ≡ false → last ≢ axis → r ≡ start last t → r * n last + place last < 4096
       fixed-fits e other is = rw (lane-fixed r e other is) (start-below axes t given on)
+
+-- ---- the flat number of a place, axis after axis
+
+module _ (n : ℕ → ℕ) (place : Place) (number j : ℕ) (so-far : number ≡ flat n j place) where
+  pub number-more : number * n j + place j ≡ flat n (j + 1) place
+  unfolding flat
+  number-more = rw (add-one, so-far)
+
+  pub number-fits : (axes : ℕ) → SizesGiven axes n → OnGrid n axes place → j < axes → number * n j + place j < 4096
+  number-fits axes given on l =
+      let fewer = sizes-fewer given (j + 1) (omega arith) in
+      rw number-more (lt-of-lt-of-le (flat-below n (j + 1) place (λ k below. on k (omega arith))) (fewer .small))
+
+pub number-none : (n : ℕ → ℕ) (place : Place) → 0 ≡ flat n 0 place
+unfolding flat
+number-none n place = refl

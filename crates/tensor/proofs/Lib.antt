@@ -12,3 +12,8 @@ pub mod Axes
 pub mod PassTurns
 pub mod MaskTurns
 pub mod AxisTurns
+pub mod Loading
+pub mod Finishing
+pub mod Promises
+pub mod Building
+pub mod Changing

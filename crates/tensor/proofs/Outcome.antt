@@ -55,22 +55,22 @@ module _ (g : Grid) where
       (stored : (p : Place) → On g p → old′ p 0 ≡ with-sample g (λ q. old q 0) changed v p)
       (kept : (p : Place) (mask : ℕ) → On g p → mask < masks g → 0 < mask → old′ p mask ≡ old p mask)
     where
-    refreshed-is-changed :
-        (i mask : ℕ) (p : Place) → i ≤ g .axes → mask < 2 ^ i → mask < masks g → On g p
-        → refreshed g false changed old′ i mask p ≡ changed-entry g changed v old i mask p
-    unfolding refreshed changed-entry solves can-differ free
-    refreshed-is-changed zero mask p le lt small on = stored p on
-    refreshed-is-changed (suc i) mask p le lt small on =
-        arms-ext (ltb mask (2 ^ i))
-        (λ low. refreshed-is-changed i mask p (omega arith) (ltb-true mask (2 ^ i) low) small on)
-        (λ high.
-        arms-ext (can-differ g changed i (mask - 2 ^ i) p)
-        (λ solved.
-        slope-along-ext g i (mask - 2 ^ i) (refreshed g false changed old′ i (mask - 2 ^ i)) (changed-entry g changed v old i (mask - 2 ^ i)) p p refl
-        (λ k below.
-        refreshed-is-changed i (mask - 2 ^ i) (moved p i k) (omega arith) (rest-below i mask lt high) (omega arith)
-        (moved-on-grid (points g) (g .axes) i k p on below)))
-        (λ left. kept p mask on small (omega (arith, pow-pos i, ltb-false mask (2 ^ i) high))))
+      refreshed-is-changed :
+          (i mask : ℕ) (p : Place) → i ≤ g .axes → mask < 2 ^ i → mask < masks g → On g p
+          → refreshed g false changed old′ i mask p ≡ changed-entry g changed v old i mask p
+      unfolding refreshed changed-entry solves can-differ free
+      refreshed-is-changed zero mask p le lt small on = stored p on
+      refreshed-is-changed (suc i) mask p le lt small on =
+          arms-ext (ltb mask (2 ^ i))
+          (λ low. refreshed-is-changed i mask p (omega arith) (ltb-true mask (2 ^ i) low) small on)
+          (λ high.
+          arms-ext (can-differ g changed i (mask - 2 ^ i) p)
+          (λ solved.
+          slope-along-ext g i (mask - 2 ^ i) (refreshed g false changed old′ i (mask - 2 ^ i)) (changed-entry g changed v old i (mask - 2 ^ i)) p p refl
+          (λ k below.
+          refreshed-is-changed i (mask - 2 ^ i) (moved p i k) (omega arith) (rest-below i mask lt high) (omega arith)
+          (moved-on-grid (points g) (g .axes) i k p on below)))
+          (λ left. kept p mask on small (omega (arith, pow-pos i, ltb-false mask (2 ^ i) high))))
 
   -- ---- the working tensor as a list
 
@@ -134,25 +134,25 @@ module _ (g : Grid) where
       (new : at w (2048 + spot g changed 0) ≡ v)
       (copied : (e : ℕ) → e < tensor-length g → e ≢ spot g changed 0 → at w (2048 + e) ≡ at old e)
     where
-    one-spot : (p : Place) (mask : ℕ) → mask < masks g → spot g p mask ≡ spot g changed 0 → (flat (points g) (g .axes) p ≡ flat (points g) (g .axes) changed) × (mask ≡ 0)
-    one-spot p mask small e = digits-one (masks g) (flat (points g) (g .axes) p) (flat (points g) (g .axes) changed) mask 0 small (pow-pos (g .axes)) e
+      one-spot : (p : Place) (mask : ℕ) → mask < masks g → spot g p mask ≡ spot g changed 0 → (flat (points g) (g .axes) p ≡ flat (points g) (g .axes) changed) × (mask ≡ 0)
+      one-spot p mask small e = digits-one (masks g) (flat (points g) (g .axes) p) (flat (points g) (g .axes) changed) mask 0 small (pow-pos (g .axes)) e
 
-    pub sample-stored : (p : Place) → On g p → working g w p 0 ≡ with-sample g (λ q. at old (spot g q 0)) changed v p
-    unfolding with-sample
-    sample-stored p on = go (agree (λ j. false) (g .axes) p changed) refl
-      where
-        go : (b : Bool) → agree (λ j. false) (g .axes) p changed ≡ b → working g w p 0 ≡ cond b v (at old (spot g p 0))
-        go true e =
-            ap (λ (f : ℕ). at w (2048 + (f * masks g + 0)))
-            (flat-ext (points g) (g .axes) p changed (λ j below. agree-at (λ k. false) p changed (g .axes) e j below refl))
-            ∙ new
-        go false e =
-            copied (spot g p 0) (inside p 0 on (pow-pos (g .axes))) (λ same.
-            not-both (agree (λ j. false) (g .axes) p changed)
-            (agree-all (λ k. false) p changed (g .axes) (λ j below off.
-            flat-one (points g) (g .axes) p changed on on-changed (one-spot p 0 (pow-pos (g .axes)) same .0) j below))
-            e)
+      pub sample-stored : (p : Place) → On g p → working g w p 0 ≡ with-sample g (λ q. at old (spot g q 0)) changed v p
+      unfolding with-sample
+      sample-stored p on = go (agree (λ j. false) (g .axes) p changed) refl
+        where
+          go : (b : Bool) → agree (λ j. false) (g .axes) p changed ≡ b → working g w p 0 ≡ cond b v (at old (spot g p 0))
+          go true e =
+              ap (λ (f : ℕ). at w (2048 + (f * masks g + 0)))
+              (flat-ext (points g) (g .axes) p changed (λ j below. agree-at (λ k. false) p changed (g .axes) e j below refl))
+              ∙ new
+          go false e =
+              copied (spot g p 0) (inside p 0 on (pow-pos (g .axes))) (λ same.
+              not-both (agree (λ j. false) (g .axes) p changed)
+              (agree-all (λ k. false) p changed (g .axes) (λ j below off.
+              flat-one (points g) (g .axes) p changed on on-changed (one-spot p 0 (pow-pos (g .axes)) same .0) j below))
+              e)
 
-    pub others-kept : (p : Place) (mask : ℕ) → On g p → mask < masks g → 0 < mask → working g w p mask ≡ at old (spot g p mask)
-    others-kept p mask on small some =
-        copied (spot g p mask) (inside p mask on small) (λ same. absurd (omega (arith, one-spot p mask small same .1)))
+      pub others-kept : (p : Place) (mask : ℕ) → On g p → mask < masks g → 0 < mask → working g w p mask ≡ at old (spot g p mask)
+      others-kept p mask on small some =
+          copied (spot g p mask) (inside p mask on small) (λ same. absurd (omega (arith, one-spot p mask small same .1)))

@@ -79,8 +79,7 @@ pub knots-are :
     → (from + n ≤ length (g .flat-knots)) × (take (from + n - from) (drop from (g .flat-knots)) ≡ knots g i) × (length (knots g i) ≡ points g i)
 knots-are {g} i from n given in-use from-is n-is =
     let within = sum-within (points g) i (g .axes) in-use in
-    let e : from + n - from ≡ points g i = omega arith in
-    (
+    let e : from + n - from ≡ points g i = omega arith in (
       omega (arith, given .knots-exact),
       rw (e, from-is),
       length-take-le (points g i) (drop (sum-below (points g) i) (g .flat-knots)) (rw length-drop (omega (arith, given .knots-exact))),
@@ -276,43 +275,43 @@ module _ (g : Grid) (whole : Bool) (place : Place) (i mask : ℕ) (w₀ : List F
       (x-is : x ≡ knots g i) (x-long : length x ≡ points g i)
       (solved : LaneSolved w w′ x (condition-at mask (condition g i)) (2048 + (begin t * masks g + mask)) (2048 + (begin t * masks g + target)) step)
     where
-    -- a number that no slope of lane t takes the place of
-    other : (p : Place) (m : ℕ) → On g p → m < masks g → (m ≡ target → solves g whole place target p ≡ true → number-of p ≡ t → ⊥)
-        → working g w′ p m ≡ working g w p m
-    other p m on small not-here =
-        solved .kept (2048 + spot g p m) (omega arith) (λ k h e.
-        let here = of-lane p m t k on small lt (omega (arith, x-long)) e in
-        not-here (here .0) (here .1) (here .2))
+      -- a number that no slope of lane t takes the place of
+      other : (p : Place) (m : ℕ) → On g p → m < masks g → (m ≡ target → solves g whole place target p ≡ true → number-of p ≡ t → ⊥)
+          → working g w′ p m ≡ working g w p m
+      other p m on small not-here =
+          solved .kept (2048 + spot g p m) (omega arith) (λ k h e.
+          let here = of-lane p m t k on small lt (omega (arith, x-long)) e in
+          not-here (here .0) (here .1) (here .2))
 
-    here : (p : Place) → On g p → solves g whole place target p ≡ true → number-of p ≡ t
-        → working g w′ p target ≡ slope-along g i mask (λ q. working g w₀ q mask) p
-    unfolding slope-along
-    here p on e is =
-        let f : flat n d (moved p i 0) ≡ begin t = begins-at p on e ∙ ap begin is in
-        ap (at w′) (own-stands p (begin t) target f)
-        ∙ solved .slopes (p i) (omega (arith, on i in-use, x-long))
-        ∙ rw (x-long, x-is)
-        (ap (λ (y : List Float). lane-slope (knots g i) (points g i - 1) (condition-at mask (condition g i)) y (p i))
-        (table-ext (points g i) _ _ (λ k h.
-        ap (at w) (sym (moved-stands p (begin t) k mask f))
-        ∙ turn .kept (moved p i k) mask (moved-on-grid n d i k p on h) (omega (arith, target-below i mask d in-use low))
-        (λ same. absurd (omega (arith, pow-pos i))))))
+      here : (p : Place) → On g p → solves g whole place target p ≡ true → number-of p ≡ t
+          → working g w′ p target ≡ slope-along g i mask (λ q. working g w₀ q mask) p
+      unfolding slope-along
+      here p on e is =
+          let f : flat n d (moved p i 0) ≡ begin t = begins-at p on e ∙ ap begin is in
+          ap (at w′) (own-stands p (begin t) target f)
+          ∙ solved .slopes (p i) (omega (arith, on i in-use, x-long))
+          ∙ rw (x-long, x-is)
+          (ap (λ (y : List Float). lane-slope (knots g i) (points g i - 1) (condition-at mask (condition g i)) y (p i))
+          (table-ext (points g i) _ _ (λ k h.
+          ap (at w) (sym (moved-stands p (begin t) k mask f))
+          ∙ turn .kept (moved p i k) mask (moved-on-grid n d i k p on h) (omega (arith, target-below i mask d in-use low))
+          (λ same. absurd (omega (arith, pow-pos i))))))
 
-    pub turn-next : Turn g whole place i mask w₀ w′ (t + 1)
-    turn-next = record {
-      given = pass;
-      most = omega arith;
-      same-length = solved .same-length ∙ turn .same-length;
-      slopes = λ p on e less. ⊎-elim
-          (λ is. here p on e is)
-          (λ before.
-          other p target on (target-below i mask d in-use low) (λ a b c. absurd (omega arith))
-          ∙ turn .slopes p on e before)
-          (eq-or-lt-of-le (let l : number-of p ≤ t = omega arith in l));
-      kept = λ p m on small h.
-          other p m on small (λ a b c. h a b (omega arith))
-          ∙ turn .kept p m on small (λ a b c. h a b (omega arith));
-    }
+      pub turn-next : Turn g whole place i mask w₀ w′ (t + 1)
+      turn-next = record {
+        given = pass;
+        most = omega arith;
+        same-length = solved .same-length ∙ turn .same-length;
+        slopes = λ p on e less. ⊎-elim
+            (λ is. here p on e is)
+            (λ before.
+            other p target on (target-below i mask d in-use low) (λ a b c. absurd (omega arith))
+            ∙ turn .slopes p on e before)
+            (eq-or-lt-of-le (let l : number-of p ≤ t = omega arith in l));
+        kept = λ p m on small h.
+            other p m on small (λ a b c. h a b (omega arith))
+            ∙ turn .kept p m on small (λ a b c. h a b (omega arith));
+      }
 
   pub turn-last : (w : List Float) (t : ℕ) → Turn g whole place i mask w₀ w t → lanes-solved n d whole i mask ≤ t → Passed g w₀ w whole place i mask
   unfolding lanes-solved

@@ -3,7 +3,6 @@ ghost use mathlib.Core.Path.{_≡_};
 ghost use Prim.Native.Nat.{_<_, _≤_};
 ghost use lib.ListN.{length};
 ghost use Rattle.tensor.specs.Lanes.{Lies, Gathered, slope-of-rows, Stored, LaneGiven, LaneSolved};
-
 use rules::Condition;
 
 // Where the moments begin.

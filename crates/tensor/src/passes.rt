@@ -7,13 +7,12 @@ ghost use Rattle.rules.specs.Ends.{condition-at};
 ghost use Rattle.rules.specs.Sizes.{place-of, moved, sum-below, product-below, flat, stride, in-mask};
 ghost use Rattle.checks.specs.Given.{grid, points-of, InRange};
 ghost use Rattle.tensor.specs.Passes.{varies, lane-points, lane-place, lanes-solved, lanes-on-axis, lanes-below, SizesGiven, PassGiven, Given, On, Passed, AxisPassed, Refreshed};
-
 use crate::lanes::solve_lane;
 use rules::Axis;
 use rules::Condition;
 
 // 2 to the power i.
-fn power(i: usize) -> usize
+pub fn power(i: usize) -> usize
     requires { ⌜ i ≤ 4 ⌝ }
     ensures { λ r. ⌜ r ≡ 2 ^ i ⌝ }
 {
@@ -120,7 +119,11 @@ fn knots_before(all: [Axis; 4], axis: usize) -> usize
 fn condition_at(mask: usize, condition: Condition) -> Condition
     ensures { λ r. ⌜ r ≡ condition-at mask condition ⌝ }
 {
-    if mask == 0 { condition } else { condition.crossed() }
+    if mask == 0 {
+        condition
+    } else {
+        condition.crossed()
+    }
 }
 
 // One pass. It answers how many lanes it solved.
@@ -150,7 +153,14 @@ fn solve_lanes(
     let mut t = 0;
     while t < lanes {
         let start = lane_start(axes, all, place, whole, target, axis, t) * masks;
-        solve_lane(w, x, condition, 2048 + (start + mask), 2048 + (start + target), step);
+        solve_lane(
+            w,
+            x,
+            condition,
+            2048 + (start + mask),
+            2048 + (start + target),
+            step,
+        );
         t += 1;
     }
     t

@@ -33,9 +33,9 @@ loop-again c =
     let so-far = called .before .before .loop .inv .1 in (
       omega arith,
       ⊎-elim
-      (λ arm. arm .3 ∙ lanes-times _ _ given _ _ _ so-far (sym (called .varies .ensures) ∙ arm .0 .taken))
-      (λ arm. arm .1 ∙ lanes-same _ _ given _ _ _ so-far (sym (called .varies .ensures) ∙ arm .0 .left))
-      (c .if1 .came),
+          (λ arm. arm .3 ∙ lanes-times _ _ given _ _ _ so-far (sym (called .varies .ensures) ∙ arm .0 .taken))
+          (λ arm. arm .1 ∙ lanes-same _ _ given _ _ _ so-far (sym (called .varies .ensures) ∙ arm .0 .left))
+          (c .if1 .came),
     )
 
 returns : tie.Need-returns Inv-loop μ-loop

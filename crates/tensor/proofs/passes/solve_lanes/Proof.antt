@@ -113,8 +113,7 @@ loop-holds c =
     let condition = masks .before in
     let knots = condition .before .before in
     let start = knots .before .before .before .before in
-    let found = knots-are (start .args .axis) _ _ (start .pre .given) (start .pre .in-use) (knots .knots-before .ensures) refl in
-    (
+    let found = knots-are (start .args .axis) _ _ (start .pre .given) (start .pre .in-use) (knots .knots-before .ensures) refl in (
       record {
         pass = start .pre;
         x-is = found .1;
