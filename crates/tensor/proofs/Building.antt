@@ -1,27 +1,38 @@
 -- The promise of `build`: refused before the work begins, or the tensor of the samples, looked at and stored.
 use native.Mathlib.Omega.{arith}
-use mathlib.Core.Path.{_≡_, sym, ap, _∙_, subst}
+use mathlib.Core.Path.{_≡_, refl, sym, ap, _∙_, subst}
 use mathlib.Core.Logic.{_≢_}
 use mathlib.Core.Bool.{true}
-use mathlib.Core.List.{List}
-use Prim.Native.Nat.{ℕ, _+_, _*_, _<_}
+use mathlib.Core.List.{List, [], _∷_}
+use Prim.Native.Nat.{ℕ, zero, suc, _+_, _*_, _<_}
 use lib.ListN.{length, take, drop}
 use lib.Pow.{pow-pos}
 use lib.Arith.{digits-lt}
 use lib.Ieee.{Float}
 use Rattle.rules.specs.Numbers.{at}
-use Rattle.rules.specs.Sizes.{Grid, masks, samples-length, tensor-length, Place}
+use Rattle.rules.specs.Sizes.{Grid, masks, samples-length, tensor-length, Place, place-of}
 use Rattle.rules.specs.Tensor.{tensor}
 use Rattle.rules.specs.Calls.{BuildPromise}
 use Rattle.checks.specs.Check.{build-check}
 use Rattle.checks.specs.Given.{BuildGiven}
 use Rattle.checks.proofs.ThenOutcome.{refused, build-outcome}
 use Rattle.tensor.specs.Lanes.{Lies, Stored}
-use Rattle.tensor.specs.Passes.{Given, Refreshed}
+use Rattle.tensor.specs.Passes.{Given, On, Refreshed}
 use Rattle.tensor.specs.Working.{outcome-in, Finished}
 use Rattle.tensor.proofs.MaskTurns.{given-again}
 use Rattle.tensor.proofs.Outcome.{built, samples-stored}
 use Rattle.tensor.proofs.Promises.{given-of, answer-is, output-is, scratch-is}
+
+-- the place that a build starts from, of which no lane of it is bound to an index
+origin : (j : ℕ) → place-of (0 ∷ 0 ∷ 0 ∷ 0 ∷ []) j ≡ 0
+origin zero = refl
+origin (suc zero) = refl
+origin (suc (suc zero)) = refl
+origin (suc (suc (suc zero))) = refl
+origin (suc (suc (suc (suc j)))) = refl
+
+pub origin-on : {g : Grid} {w : List Float} → Given g w → On g (place-of (0 ∷ 0 ∷ 0 ∷ 0 ∷ []))
+origin-on given j below = omega (arith, origin j, given .in-range .some-points j below)
 
 module _ (g : Grid) (samples tensor-out scratch : List Float) where
   pub build-refused : (r : ℕ) → r ≡ build-check g samples (length tensor-out) (length scratch) → r ≢ 0 → BuildPromise g samples tensor-out scratch r tensor-out scratch

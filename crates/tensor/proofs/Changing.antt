@@ -1,16 +1,17 @@
 -- The promise of `change`: refused before the work begins, or the changed tensor, looked at and stored, with the lanes counted.
 use native.Mathlib.Omega.{arith}
+use native.Mathlib.Nat.{add-zero}
 use mathlib.Core.Path.{_≡_, refl, sym, ap, ap₂, _∙_, subst}
 use mathlib.Core.Logic.{_≢_}
 use mathlib.Core.Bool.{false}
 use mathlib.Core.List.{List}
-use Prim.Native.Nat.{ℕ, zero, suc, _+_, _<_}
+use Prim.Native.Nat.{ℕ, zero, suc, _+_, _<_, _*_}
 use lib.ListN.{length, take, drop}
 use lib.Pow.{pow-pos}
 use lib.Arith.{digits-lt}
 use lib.Ieee.{Float}
 use Rattle.rules.specs.Numbers.{at}
-use Rattle.rules.specs.Sizes.{Grid, points, tensor-length, Place, spot}
+use Rattle.rules.specs.Sizes.{Grid, points, tensor-length, Place, spot, masks, flat}
 use Rattle.rules.specs.Change.{changed-tensor, change-lanes}
 use Rattle.rules.specs.Calls.{counted, change-answer, ChangePromise}
 use Rattle.rules.specs.declared.ChangeAnswer.{ChangeAnswer}
@@ -45,10 +46,17 @@ module _ (g : Grid) (tensor-lent scratch : List Float) (changed : Place) (v : Fl
     pub change-given-passes : Given g scratch
     change-given-passes = given-of (known .grid-given) (known .solve-given)
 
+    -- where the new sample goes, as the code computes it
+    pub spot-is : (number power : ℕ) → number ≡ flat (points g) (g .axes) changed → power ≡ masks g → number * power ≡ spot g changed 0
+    spot-is number power e f = rw (e, f, add-zero)
+
     pub changed-inside : spot g changed 0 < length tensor-lent
     changed-inside =
         subst (λ (n : ℕ). spot g changed 0 < n) (sym (known .grid-given .tensor-exact))
         (digits-lt (flat-below (points g) (g .axes) changed (known .on-the-grid)) (pow-pos (g .axes)))
+
+    pub changed-small : spot g changed 0 < 4096
+    changed-small = omega (arith, changed-inside, known .grid-given .tensor-exact, known .grid-given .small)
 
     module _
         (r at-spot lanes : ℕ) (w w′ tensor-later scratch-later : List Float) (passed : change-check g tensor-lent (length scratch) changed v ≡ 0)
