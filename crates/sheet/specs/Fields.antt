@@ -1,0 +1,96 @@
+-- "The packed sheet": its fields in their order, and the parts that they are.
+use mathlib.Core.Bool.{cond}
+use mathlib.Core.List.{List, [], _++_}
+use Prim.Native.Nat.{ℕ, zero, suc, _+_, _*_}
+use lib.Dec.{ltb}
+use lib.Ieee.{Float}
+use Rattle.rules.specs.Numbers.{table}
+use Rattle.rules.specs.Sizes.{most-axes, unused-axis, Grid, samples-length}
+use Rattle.rules.specs.declared.Axis.{Axis}
+use Rattle.sheet.specs.Bits.{field, number, numbers}
+use Rattle.sheet.specs.Kinds.{values-of, condition-of}
+
+-- "edition (4 bits, is 1)"
+abbrev pub edition : List ℕ → ℕ
+edition bytes = field bytes 0 4
+
+-- "axes (3 bits)"
+abbrev pub axes : List ℕ → ℕ
+axes bytes = field bytes 4 3
+
+-- ---- "then for each axis": the fields of the axis that begins at bit `at`
+
+module _ (bytes : List ℕ) (at : ℕ) where
+  -- "points minus 1 (8)"
+  unfoldable pub points-at : ℕ
+  points-at = field bytes at 8 + 1
+
+  -- "lower kind (2), upper kind (2)"
+  abbrev pub lower-kind : ℕ
+  lower-kind = field bytes (at + 8) 2
+
+  abbrev pub upper-kind : ℕ
+  upper-kind = field bytes (at + 10) 2
+
+  -- "a 64-bit f64 pattern for each end of kind 1 or 2 (lower first)": how many there are, and their numbers
+  unfoldable pub values-at : ℕ
+  unfolding values-of
+  values-at = values-of lower-kind + values-of upper-kind
+
+  abbrev pub lower-value : Float
+  lower-value = number bytes (at + 12)
+
+  abbrev pub upper-value : Float
+  upper-value = number bytes (at + 12 + 64 * values-of lower-kind)
+
+  -- the axis: its points, and its ends with their numbers
+  unfoldable pub axis-at : Axis
+  unfolding points-at values-of condition-of
+  axis-at = record { points = points-at; condition = condition-of lower-kind lower-value upper-kind upper-value }
+
+  -- "the knots (64 each)": where they begin, what they are, and where the axis ends
+  unfoldable pub knots-begin : ℕ
+  unfolding values-at
+  knots-begin = at + 12 + 64 * values-at
+
+  unfoldable pub knots-at : List Float
+  unfolding points-at knots-begin
+  knots-at = numbers bytes knots-begin points-at
+
+  unfoldable pub axis-end : ℕ
+  unfolding points-at knots-begin
+  axis-end = knots-begin + 64 * points-at
+
+-- ---- the sheet
+
+-- where axis i begins: the first after edition and axes, each other one after the one before it
+unfoldable pub axis-begin : List ℕ → ℕ → ℕ
+unfolding axis-end
+axis-begin bytes zero = 7
+axis-begin bytes (suc i) = axis-end bytes (axis-begin bytes i)
+
+-- the four axes: "Axes not in use [..] come back with 0 points and NotAKnot at both ends"
+unfoldable pub entries : List ℕ → List Axis
+unfolding axis-begin axis-at
+entries bytes = table most-axes (λ i. cond (ltb i (axes bytes)) (axis-at bytes (axis-begin bytes i)) unused-axis)
+
+-- "Knots (axis after axis)": those of the first i axes
+unfoldable pub knots-below : List ℕ → ℕ → List Float
+unfolding axis-begin knots-at
+knots-below bytes zero = []
+knots-below bytes (suc i) = knots-below bytes i ++ knots-at bytes (axis-begin bytes i)
+
+-- the parts: axes, ends and knots, and the samples below
+unfoldable pub sheet-grid : List ℕ → Grid
+unfolding entries knots-below
+sheet-grid bytes = record { axes = axes bytes; entries = entries bytes; flat-knots = knots-below bytes (axes bytes) }
+
+-- "after all axes the samples (64 each)": where they begin, what they are, and where the last ends
+abbrev pub samples-begin : List ℕ → ℕ
+samples-begin bytes = axis-begin bytes (axes bytes)
+
+abbrev pub sheet-samples : List ℕ → List Float
+sheet-samples bytes = numbers bytes (samples-begin bytes) (samples-length (sheet-grid bytes))
+
+abbrev pub samples-end : List ℕ → ℕ
+samples-end bytes = samples-begin bytes + 64 * samples-length (sheet-grid bytes)
