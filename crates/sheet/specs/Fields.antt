@@ -8,7 +8,7 @@ use Rattle.rules.specs.Numbers.{table}
 use Rattle.rules.specs.Sizes.{most-axes, unused-axis, Grid, samples-length}
 use Rattle.rules.specs.declared.Axis.{Axis}
 use Rattle.sheet.specs.Bits.{field, number, numbers}
-use Rattle.sheet.specs.Kinds.{values-of, condition-of}
+use Rattle.sheet.specs.Kinds.{values-of, end-of, condition-of}
 
 -- "edition (4 bits, is 1)"
 abbrev pub edition : List ℕ → ℕ
@@ -45,8 +45,11 @@ module _ (bytes : List ℕ) (at : ℕ) where
 
   -- the axis: its points, and its ends with their numbers
   unfoldable pub axis-at : Axis
-  unfolding points-at values-of condition-of
-  axis-at = record { points = points-at; condition = condition-of lower-kind lower-value upper-kind upper-value }
+  unfolding points-at values-of end-of condition-of
+  axis-at = record {
+    points = points-at;
+    condition = condition-of lower-kind (end-of lower-kind lower-value) (end-of upper-kind upper-value);
+  }
 
   -- "the knots (64 each)": where they begin, what they are, and where the axis ends
   unfoldable pub knots-begin : ℕ
@@ -69,10 +72,10 @@ unfolding axis-end
 axis-begin bytes zero = 7
 axis-begin bytes (suc i) = axis-end bytes (axis-begin bytes i)
 
--- the four axes: "Axes not in use [..] come back with 0 points and NotAKnot at both ends"
-unfoldable pub entries : List ℕ → List Axis
+-- the four axes with the first n in use: "Axes not in use [..] come back with 0 points and NotAKnot at both ends"
+unfoldable pub entries : List ℕ → ℕ → List Axis
 unfolding axis-begin axis-at
-entries bytes = table most-axes (λ i. cond (ltb i (axes bytes)) (axis-at bytes (axis-begin bytes i)) unused-axis)
+entries bytes n = table most-axes (λ i. cond (ltb i n) (axis-at bytes (axis-begin bytes i)) unused-axis)
 
 -- "Knots (axis after axis)": those of the first i axes
 unfoldable pub knots-below : List ℕ → ℕ → List Float
@@ -83,7 +86,7 @@ knots-below bytes (suc i) = knots-below bytes i ++ knots-at bytes (axis-begin by
 -- the parts: axes, ends and knots, and the samples below
 unfoldable pub sheet-grid : List ℕ → Grid
 unfolding entries knots-below
-sheet-grid bytes = record { axes = axes bytes; entries = entries bytes; flat-knots = knots-below bytes (axes bytes) }
+sheet-grid bytes = record { axes = axes bytes; entries = entries bytes (axes bytes); flat-knots = knots-below bytes (axes bytes) }
 
 -- "after all axes the samples (64 each)": where they begin, what they are, and where the last ends
 abbrev pub samples-begin : List ℕ → ℕ

@@ -7,8 +7,8 @@ use Rattle.rules.specs.declared.End.{End}
 use Rattle.rules.specs.declared.End.the-variants.{NotAKnot, FirstDerivative, SecondDerivative}
 use Rattle.rules.specs.declared.Condition.{Condition}
 use Rattle.rules.specs.declared.Condition.the-variants.{Endpoints, Periodic}
-use Rattle.sheet.specs.declared.Class.{Class}
-use Rattle.sheet.specs.declared.Class.the-variants.{None, Build, Sheet, Unknown}
+use Rattle.sheet.specs.declared.kinds.Class.{Class}
+use Rattle.sheet.specs.declared.kinds.Class.the-variants.{None, Build, Sheet, Unknown}
 
 -- "a 64-bit f64 pattern for each end of kind 1 or 2": how many patterns a kind has
 unfoldable pub values-of : ℕ → ℕ
@@ -18,11 +18,9 @@ values-of kind = cond (leb 1 kind && leb kind 2) 1 0
 unfoldable pub end-of : ℕ → Float → End
 end-of kind value = cond (eqb kind 1) (FirstDerivative value) (cond (eqb kind 2) (SecondDerivative value) NotAKnot)
 
--- the condition of two kinds, with their numbers
-unfoldable pub condition-of : ℕ → Float → ℕ → Float → Condition
-unfolding end-of
-condition-of lower lower-value upper upper-value =
-    cond (eqb lower 3) Periodic (Endpoints (end-of lower lower-value) (end-of upper upper-value))
+-- the condition of two ends, where `kind` is that of the lower one: 3 stands at both ends
+unfoldable pub condition-of : ℕ → End → End → Condition
+condition-of kind lower upper = cond (eqb kind 3) Periodic (Endpoints lower upper)
 
 -- 13: "kind 3 at one end only"
 unfoldable pub periodic-at-one-end : ℕ → ℕ → Bool

@@ -3,3 +3,4 @@ pub mod Kinds
 pub mod Fields
 pub mod Faults
 pub mod Read
+pub mod Within

@@ -41,6 +41,6 @@ module _ (bytes : List ℕ) (knots-lent samples-lent : List Float) where
 
   -- "Only success changes them"
   pub record ReadPromise (given : ReadAnswer) (knots-later samples-later : List Float) : Type 0 where
-    pub answer : given ≡ answer-of read-refusal (axes bytes) (entries bytes)
+    pub answer : given ≡ answer-of read-refusal (axes bytes) (entries bytes (axes bytes))
     pub knots : knots-later ≡ stored read-refusal knots-lent (over (knots-below bytes (axes bytes)) knots-lent)
     pub samples : samples-later ≡ stored read-refusal samples-lent (over (sheet-samples bytes) samples-lent)

@@ -1,0 +1,36 @@
+-- What the functions that are not public require of the bits they read: that they are there, and that their places are small numbers.
+use mathlib.Core.Path.{_≡_}
+use mathlib.Core.List.{List}
+use Prim.Native.Nat.{ℕ, _+_, _*_, _<_, _≤_}
+use lib.ListN.{length, getD}
+use Rattle.rules.specs.Sizes.{most-axes, unused-axis}
+use Rattle.rules.specs.declared.Axis.{Axis}
+use Rattle.sheet.specs.Fields.{axis-end, axis-begin, entries}
+use Rattle.sheet.specs.Faults.{axes-fault}
+use Rattle.sheet.specs.declared.axes.Walk.{Walk}
+
+-- the k bits from bit `at` on
+pub record Within (bytes : List ℕ) (at k : ℕ) : Type 0 where
+  pub room : at + k ≤ 8 * length bytes
+  pub small : at + k ≤ 1048576
+
+-- all of the axis that begins at bit `at`
+pub record Whole (bytes : List ℕ) (at : ℕ) : Type 0 where
+  pub room : axis-end bytes at ≤ 8 * length bytes
+  pub small : at ≤ 131072
+
+-- what a walk over n axes has found: the first fault, 0 for none, and where there is none the axes, and the bit after the last
+pub record Walked (bytes : List ℕ) (n : ℕ) (walk : Walk) : Type 0 where
+  pub fault : walk .refusal ≡ axes-fault bytes n
+  pub all : walk .refusal ≡ 0 → walk .all ≡ entries bytes n
+  pub end : walk .refusal ≡ 0 → walk .at ≡ axis-begin bytes n
+
+-- axes that were walked over without a fault
+pub record Sound (bytes : List ℕ) (n : ℕ) : Type 0 where
+  pub few : n ≤ most-axes
+  pub faultless : axes-fault bytes n ≡ 0
+
+-- axes that have at most 256 points each
+pub record Counted (all : List Axis) (n : ℕ) : Type 0 where
+  pub few : n ≤ most-axes
+  pub most : (i : ℕ) → i < n → getD all i unused-axis .points ≤ 256
