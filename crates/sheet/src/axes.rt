@@ -123,7 +123,7 @@ pub fn unused() -> Axis
 }
 
 // Looks at the axes, up to the first fault.
-pub fn walk(bytes: &[u8], axes: usize) -> Walk
+pub fn walk_axes(bytes: &[u8], axes: usize) -> Walk
     requires { ⌜ axes ≤ 4 ⌝ }
     ensures { λ r. ⌜ Walked (now (bytes .entry)) axes r ⌝ }
 {
