@@ -1,3 +1,5 @@
 pub mod Shifts
 pub mod Runs
+pub mod Extents
+pub mod AxisFaults
 pub mod Examples

@@ -139,7 +139,11 @@ pub fn walk_axes(bytes: &[u8], axes: usize) -> Walk
         at = after(bytes, at);
         i += 1;
     }
-    Walk { refusal: 0, all, at }
+    Walk {
+        refusal: 0,
+        all,
+        at,
+    }
 }
 
 // How many samples there are: the product of the points.

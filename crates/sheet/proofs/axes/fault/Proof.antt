@@ -1,0 +1,121 @@
+use mathlib.Core.Path.{_≡_, sym, ap, ap₂, _∙_}
+use mathlib.Core.Bool.{true, false}
+use mathlib.Core.List.{List}
+use Prim.Native.Nat.{ℕ, _+_, _*_, _≤_}
+use native.Mathlib.Omega.{arith}
+use borrow.Author.Tests.{ltb-true, ltb-false}
+use lib.ListN.{length}
+use Rattle.sheet.specs.Kinds.{periodic-at-one-end}
+use Rattle.sheet.specs.Fields.{points-at, lower-kind, upper-kind, values-at}
+use Rattle.sheet.proofs.Extents.{Extent, extent}
+use Rattle.sheet.proofs.AxisFaults.{no-points, few-points, no-lower-kind, no-upper-kind, one-periodic, patterns}
+use borrow.Author.Needs.{needs}
+use Rattle.sheet.proofs.axes.fault.Statement.{statement}
+use Rattle.sheet.proofs.axes.fault.Tie as tie
+
+abbrev list : tie.Start → List ℕ
+list start = start .args .bytes .now
+
+abbrev place : tie.Start → ℕ
+place start = start .args .at
+
+known : (start : tie.Start) → Extent (list start) (place start)
+known start = extent _ _
+
+-- what each test that was passed has shown
+points-room : (c : tie.Else1) → let start = c .before .before .before in place start + 8 ≤ 8 * length (list start)
+points-room c = ltb-false _ _ (sym (c .before .is-short .ensures) ∙ c .if1 .left)
+
+enough : (c : tie.Else2) → let start = c .before .before .before .before .before in 2 ≤ points-at (list start) (place start)
+enough c = omega arith
+
+lower-room : (c : tie.Else3) → let start = c .before .before .before .before .before .before .before in place start + 8 + 2 ≤ 8 * length (list start)
+lower-room c = ltb-false _ _ (sym (c .before .is-short2 .ensures) ∙ c .if3 .left)
+
+upper-room : (c : tie.Else4) → let start = c .before .before .before .before .before .before .before .before .before .before in place start + 10 + 2 ≤ 8 * length (list start)
+upper-room c = ltb-false _ _ (sym (c .before .is-short3 .ensures) ∙ c .if4 .left)
+
+kinds : (c : tie.After-is-periodic-at-one-end) → let start = c .before .before .before .before .before .before .before .before .before .before .before .before in c .is-periodic-at-one-end .result ≡ periodic-at-one-end (lower-kind (list start) (place start)) (upper-kind (list start) (place start))
+kinds c = cc
+
+kinds-agree : (c : tie.Else5) → let start = c .before .before .before .before .before .before .before .before .before .before .before .before .before in periodic-at-one-end (lower-kind (list start) (place start)) (upper-kind (list start) (place start)) ≡ false
+kinds-agree c = sym (kinds (c .before)) ∙ c .if5 .left
+
+returns : tie.Need-returns
+returns c = no-points _ _ (ltb-true _ _ (sym (c .before .is-short .ensures) ∙ c .if1 .taken))
+
+points-requires : tie.Need-points-requires
+points-requires c κs = record { room = points-room c; small = omega arith }
+
+returns-2 : tie.Need-returns-2
+returns-2 c = few-points _ _ (points-room (c .before .before)) (omega arith)
+
+returns-3 : tie.Need-returns-3
+returns-3 c =
+    no-lower-kind _ _ (enough (c .before .before)) (points-room (c .before .before .before .before))
+    (ltb-true _ _ (sym (c .before .is-short2 .ensures) ∙ c .if3 .taken))
+
+field-at-requires : tie.Need-field-at-requires
+field-at-requires c κs = (record { room = lower-room c; small = omega arith }, omega arith)
+
+returns-4 : tie.Need-returns-4
+returns-4 c =
+    no-upper-kind _ _ (enough (c .before .before .before .before .before)) (lower-room (c .before .before .before))
+    (ltb-true _ _ (sym (c .before .is-short3 .ensures) ∙ c .if4 .taken))
+
+field-at-requires-2 : tie.Need-field-at-requires-2
+field-at-requires-2 c κs = (record { room = upper-room c; small = omega arith }, omega arith)
+
+returns-5 : tie.Need-returns-5
+returns-5 c =
+    let upper = c .before .before .before in
+    one-periodic _ _ (enough (upper .before .before .before .before .before)) (upper-room upper)
+    (sym (kinds (c .before)) ∙ c .if5 .taken)
+
+values-requires : tie.Need-values-requires
+values-requires c κs = let room = upper-room (c .before .before .before) in record { room = omega arith; small = omega arith }
+
+add-are-short-2 : tie.Need-add-are-short-2
+add-are-short-2 c = let reach = known (c .before .before .before .before .before .before .before .before .before .before .before .before .before .before) in omega arith
+
+are-short-requires : tie.Need-are-short-requires
+are-short-requires c κs = let reach = known (c .before .before .before .before .before .before .before .before .before .before .before .before .before .before) in (omega arith, omega arith)
+
+returns-6 : tie.Need-returns-6
+returns-6 c =
+    let agreed = c .before .before .before in
+    let upper = agreed .before .before .before in
+    patterns _ _ (enough (upper .before .before .before .before .before)) (upper-room upper) (kinds-agree agreed) true (cc)
+
+returns-7 : tie.Need-returns-7
+returns-7 c =
+    let agreed = c .before .before .before in
+    let upper = agreed .before .before .before in
+    patterns _ _ (enough (upper .before .before .before .before .before)) (upper-room upper) (kinds-agree agreed) false (cc)
+
+pub fault-spec : {M : Type 1} → statement M
+fault-spec =
+    tie.close
+    (tie.spec
+    (λ c κs. search needs)
+    returns
+    points-requires
+    returns-2
+    (λ c. search needs)
+    (λ c κs. search needs)
+    returns-3
+    (λ c. search needs)
+    field-at-requires
+    (λ c. search needs)
+    (λ c κs. search needs)
+    returns-4
+    (λ c. search needs)
+    field-at-requires-2
+    (λ c κs. search needs)
+    returns-5
+    (λ c. search needs)
+    values-requires
+    add-are-short-2
+    are-short-requires
+    returns-6
+    returns-7)
