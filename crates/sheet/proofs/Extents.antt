@@ -27,7 +27,7 @@ pub record Extent (bytes : List ℕ) (at : ℕ) : Type 0 where
   pub end : axis-end bytes at ≡ knots-begin bytes at + 64 * points-at bytes at
 
 pub extent : (bytes : List ℕ) (at : ℕ) → Extent bytes at
-unfolding axis-end
+unfolding points-at values-at knots-begin axis-end
 extent bytes at = record {
   points-least = omega arith;
   points-most = omega (arith, field-below bytes at 8);

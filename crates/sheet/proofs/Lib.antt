@@ -5,4 +5,5 @@ pub mod AxisFaults
 pub mod Walks
 pub mod Products
 pub mod Stores
+pub mod Samples
 pub mod Examples

@@ -50,7 +50,7 @@ pub record Turn (bytes : List ℕ) (n : ℕ) (knots₀ knots : List Float) (at f
   pub done : knots ≡ over (knots-below bytes i) knots₀
 
 pub turn-first : (bytes : List ℕ) (n : ℕ) (knots : List Float) → Sound bytes n → length knots ≡ 1024 → Turn bytes n knots knots 7 0 0
-unfolding knots-below
+unfolding axis-begin knots-below
 turn-first bytes n knots s e = record {
   sound = s;
   lent = e;

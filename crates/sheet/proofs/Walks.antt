@@ -98,7 +98,7 @@ pub record Turn (bytes : List ℕ) (n : ℕ) (all : List Axis) (at i : ℕ) : Ty
   pub done : all ≡ entries bytes i
 
 pub turn-first : (bytes : List ℕ) (n : ℕ) → n ≤ 4 → Turn bytes n (replicate 4 unused-axis) 7 0
-unfolding axes-fault entries
+unfolding axes-fault axis-begin entries
 turn-first bytes n few = record {
   few = few;
   most = omega arith;

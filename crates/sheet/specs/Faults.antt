@@ -19,7 +19,6 @@ or-else (suc fault) later = suc fault
 -- the fault of the axis that begins at bit `at`. "2 met at its field"; 13 once the upper kind has been read; then the patterns, "64 each",
 -- of the ends and of the knots
 unfoldable pub axis-fault : List ℕ → ℕ → ℕ
-unfolding points-at values-at periodic-at-one-end
 axis-fault bytes at =
     cond (short bytes at 8) 11
     (cond (points-refused (points-at bytes at)) 2
@@ -30,19 +29,16 @@ axis-fault bytes at =
 
 -- the first fault of the first i axes
 unfoldable pub axes-fault : List ℕ → ℕ → ℕ
-unfolding axis-begin axis-fault
 axes-fault bytes zero = 0
 axes-fault bytes (suc i) = or-else (axes-fault bytes i) (axis-fault bytes (axis-begin bytes i))
 
 -- 14: "after the last sample 8 or more bits, or a bit that isn't zero", of what follows bit `at`
 unfoldable pub tail-refused : List ℕ → ℕ → Bool
-unfolding bit
 tail-refused bytes at =
     leb 8 (8 * length bytes - at) || any (λ k. not (eqb (bit bytes (at + k)) 0)) (8 * length bytes - at)
 
 -- what is met after the last axis: "3 after the last axis", the samples, the tail
 unfoldable pub samples-fault : List ℕ → ℕ
-unfolding sheet-grid axis-begin tail-refused
 samples-fault bytes =
     cond (tensor-refused (sheet-grid bytes)) 3
     (cond (numbers-short bytes (samples-begin bytes) (samples-length (sheet-grid bytes))) 11
@@ -50,7 +46,6 @@ samples-fault bytes =
 
 -- all of it: edition, axes ("1 [..] met at [its] field"), each axis, and what follows them
 unfoldable pub sheet-refusal : List ℕ → ℕ
-unfolding field sheet-grid axes-fault samples-fault
 sheet-refusal bytes =
     cond (short bytes 0 4) 11
     (cond (not (eqb (edition bytes) 1)) 12

@@ -34,7 +34,6 @@ module _ (bytes : List ℕ) (at : ℕ) where
 
   -- "a 64-bit f64 pattern for each end of kind 1 or 2 (lower first)": how many there are, and their numbers
   unfoldable pub values-at : ℕ
-  unfolding values-of
   values-at = values-of lower-kind + values-of upper-kind
 
   abbrev pub lower-value : Float
@@ -45,7 +44,6 @@ module _ (bytes : List ℕ) (at : ℕ) where
 
   -- the axis: its points, and its ends with their numbers
   unfoldable pub axis-at : Axis
-  unfolding points-at values-of end-of condition-of
   axis-at = record {
     points = points-at;
     condition = condition-of lower-kind (end-of lower-kind lower-value) (end-of upper-kind upper-value);
@@ -53,39 +51,32 @@ module _ (bytes : List ℕ) (at : ℕ) where
 
   -- "the knots (64 each)": where they begin, what they are, and where the axis ends
   unfoldable pub knots-begin : ℕ
-  unfolding values-at
   knots-begin = at + 12 + 64 * values-at
 
   unfoldable pub knots-at : List Float
-  unfolding points-at knots-begin
   knots-at = numbers bytes knots-begin points-at
 
   unfoldable pub axis-end : ℕ
-  unfolding points-at knots-begin
   axis-end = knots-begin + 64 * points-at
 
 -- ---- the sheet
 
 -- where axis i begins: the first after edition and axes, each other one after the one before it
 unfoldable pub axis-begin : List ℕ → ℕ → ℕ
-unfolding axis-end
 axis-begin bytes zero = 7
 axis-begin bytes (suc i) = axis-end bytes (axis-begin bytes i)
 
 -- the four axes with the first n in use: "Axes not in use [..] come back with 0 points and NotAKnot at both ends"
 unfoldable pub entries : List ℕ → ℕ → List Axis
-unfolding axis-begin axis-at
 entries bytes n = table most-axes (λ i. cond (ltb i n) (axis-at bytes (axis-begin bytes i)) unused-axis)
 
 -- "Knots (axis after axis)": those of the first i axes
 unfoldable pub knots-below : List ℕ → ℕ → List Float
-unfolding axis-begin knots-at
 knots-below bytes zero = []
 knots-below bytes (suc i) = knots-below bytes i ++ knots-at bytes (axis-begin bytes i)
 
 -- the parts: axes, ends and knots, and the samples below
 unfoldable pub sheet-grid : List ℕ → Grid
-unfolding entries knots-below
 sheet-grid bytes = record { axes = axes bytes; entries = entries bytes (axes bytes); flat-knots = knots-below bytes (axes bytes) }
 
 -- "after all axes the samples (64 each)": where they begin, what they are, and where the last ends

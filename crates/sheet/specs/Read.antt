@@ -8,7 +8,7 @@ use lib.Ieee.{Float}
 use Rattle.rules.specs.Numbers.{table}
 use Rattle.rules.specs.Sizes.{most-axes, unused-axis, Grid}
 use Rattle.rules.specs.Refusals.{length-refused}
-use Rattle.rules.specs.Calls.{stored, counted}
+use Rattle.rules.specs.Calls.{stored}
 use Rattle.rules.specs.declared.Axis.{Axis}
 use Rattle.sheet.specs.Fields.{axes, entries, knots-below, sheet-grid, sheet-samples}
 use Rattle.sheet.specs.Faults.{sheet-refusal}
@@ -18,14 +18,14 @@ use Rattle.sheet.specs.declared.ReadAnswer.{ReadAnswer}
 abbrev pub buffer-length : ℕ
 buffer-length = 1024
 
--- "on a refusal all four [axes] come back with 0 points and NotAKnot at both ends"
-abbrev pub four-axes : ℕ → List Axis → List Axis
-four-axes zero all = all
-four-axes (suc refusal) all = table most-axes (λ i. unused-axis)
+-- "on a refusal all four [axes] come back with 0 points and NotAKnot at both ends; on a refusal the number of axes is 0 too"
+abbrev pub refused-answer : ℕ → ReadAnswer
+refused-answer refusal = record { refusal = refusal; axes = 0; all = table most-axes (λ i. unused-axis) }
 
 -- the answer of a refusal, 0 for none, and what was found
 abbrev pub answer-of : ℕ → ℕ → List Axis → ReadAnswer
-answer-of refusal axes all = record { refusal = refusal; axes = counted refusal axes; all = four-axes refusal all }
+answer-of zero axes all = record { refusal = 0; axes = axes; all = all }
+answer-of (suc refusal) axes all = refused-answer (suc refusal)
 
 -- "only in the places needed": the first places have the new numbers, the others what they had
 abbrev pub over : List Float → List Float → List Float
@@ -34,7 +34,6 @@ over new old = new ++ drop (length new) old
 module _ (bytes : List ℕ) (knots-lent samples-lent : List Float) where
   -- "another length is 4, before any field"
   unfoldable pub read-refusal : ℕ
-  unfolding sheet-refusal
   read-refusal =
       cond (length-refused (length knots-lent) buffer-length || length-refused (length samples-lent) buffer-length) 4
       (sheet-refusal bytes)

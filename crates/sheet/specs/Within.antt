@@ -3,9 +3,9 @@ use mathlib.Core.Path.{_≡_}
 use mathlib.Core.List.{List}
 use Prim.Native.Nat.{ℕ, _+_, _*_, _<_, _≤_}
 use lib.ListN.{length, getD}
-use Rattle.rules.specs.Sizes.{most-axes, unused-axis}
+use Rattle.rules.specs.Sizes.{most-axes, unused-axis, samples-length}
 use Rattle.rules.specs.declared.Axis.{Axis}
-use Rattle.sheet.specs.Fields.{axis-end, axis-begin, entries}
+use Rattle.sheet.specs.Fields.{axes, axis-end, axis-begin, entries, sheet-grid, samples-begin}
 use Rattle.sheet.specs.Faults.{axes-fault}
 use Rattle.sheet.specs.declared.axes.Walk.{Walk}
 
@@ -34,3 +34,19 @@ pub record Sound (bytes : List ℕ) (n : ℕ) : Type 0 where
 pub record Counted (all : List Axis) (n : ℕ) : Type 0 where
   pub few : n ≤ most-axes
   pub most : (i : ℕ) → i < n → getD all i unused-axis .points ≤ 256
+
+-- as many axes as the sheet says, and not too many
+pub record Axes (bytes : List ℕ) (n : ℕ) : Type 0 where
+  pub least : 1 ≤ n
+  pub few : n ≤ most-axes
+  pub said : n ≡ axes bytes
+
+-- all axes were passed: n of them up to bit `at`, with as many samples
+pub record Ended (bytes : List ℕ) (at n count : ℕ) : Type 0 where
+  pub few : n ≤ most-axes
+  pub said : n ≡ axes bytes
+  pub end : at ≡ samples-begin bytes
+  pub samples : count ≡ samples-length (sheet-grid bytes)
+  pub least : 0 < count
+  pub most : count ≤ 4294967296
+  pub small : at ≤ 131072
