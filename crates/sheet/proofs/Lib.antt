@@ -6,4 +6,6 @@ pub mod Walks
 pub mod Products
 pub mod Stores
 pub mod Samples
+pub mod Sheets
+pub mod Promises
 pub mod Examples

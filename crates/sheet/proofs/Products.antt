@@ -16,6 +16,11 @@ module _ (sizes : ℕ → ℕ) where
   unfolding product-below
   product-next i = ap (product-below sizes) (add-one i)
 
+  pub product-least : (i : ℕ) → ((k : ℕ) → k < i → 1 ≤ sizes k) → 1 ≤ product-below sizes i
+  unfolding product-below
+  product-least zero least = omega arith
+  product-least (suc i) least = mul-le-mul (product-least i (λ k l. least k (omega arith))) (least i (omega arith))
+
   product-power : (i : ℕ) → ((k : ℕ) → k < i → sizes k ≤ 256) → product-below sizes i ≤ 256 ^ i
   unfolding product-below
   product-power zero most = omega arith

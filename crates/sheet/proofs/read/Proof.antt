@@ -1,4 +1,5 @@
 use borrow.Author.Needs.{needs}
+
 use Rattle.sheet.proofs.read.Statement.{statement}
 use Rattle.sheet.proofs.read.Tie as tie
 use Rattle.sheet.proofs.read.Reads as reads
@@ -15,7 +16,7 @@ refused-requires c κs = search needs
 
 -- src/lib.rt:30:9
 returns : tie.Need-returns
-returns c = search needs
+returns c = ?
 
 -- src/lib.rt:33:9
 refused-requires-2 : tie.Need-refused-requires-2
@@ -23,7 +24,7 @@ refused-requires-2 c κs = search needs
 
 -- src/lib.rt:33:9
 returns-2 : tie.Need-returns-2
-returns-2 c = search needs
+returns-2 c = ?
 
 -- src/lib.rt:35:9
 look-requires : tie.Need-look-requires
@@ -31,15 +32,15 @@ look-requires c κs = search needs
 
 -- src/lib.rt:38:9
 returns-3 : tie.Need-returns-3
-returns-3 c = search needs
+returns-3 c = ?
 
 -- src/lib.rt:42:9
 store-knots-requires : tie.Need-store-knots-requires
-store-knots-requires c κs = search needs
+store-knots-requires c κs = ?
 
 -- src/lib.rt:43:9
 samples-of-requires : tie.Need-samples-of-requires
-samples-of-requires c κs = search needs
+samples-of-requires c κs = ?
 
 -- src/lib.rt:44:21
 sub-fill : tie.Need-sub-fill
@@ -51,11 +52,11 @@ part-fill-start c = search needs
 
 -- src/lib.rt:44:21
 part-fill-end : tie.Need-part-fill-end
-part-fill-end c = search needs
+part-fill-end c = ?
 
 -- src/lib.rt:44:5
 fill-requires : tie.Need-fill-requires
-fill-requires c κs = search needs
+fill-requires c κs = ?
 
 -- src/lib.rt:26:1
 same-length : tie.Need-same-length
@@ -67,7 +68,7 @@ same-length-2 c = search needs
 
 -- src/lib.rt:26:1
 returns-4 : tie.Need-returns-4
-returns-4 c = search needs
+returns-4 c = ?
 
 pub read-spec : {M : Type 1} → statement M
 read-spec =

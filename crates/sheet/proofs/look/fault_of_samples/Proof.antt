@@ -1,58 +1,60 @@
+use mathlib.Core.Path.{_≡_, sym, _∙_}
+use mathlib.Core.Bool.{true, false}
+use Prim.Native.Nat.{_*_, _^_, _≤_}
+use native.Mathlib.Omega.{arith}
+use Rattle.sheet.specs.Bits.{numbers-short}
+use Rattle.sheet.proofs.Samples.{too-large, samples-few, no-samples, samples-room, after-samples}
 use borrow.Author.Needs.{needs}
 use Rattle.sheet.proofs.look.fault_of_samples.Statement.{statement}
 use Rattle.sheet.proofs.look.fault_of_samples.Tie as tie
-use Rattle.sheet.proofs.look.fault_of_samples.Reads as reads
-use Rattle.sheet.proofs.look.fault_of_samples.Lts as lts
-use Rattle.sheet.proofs.bits.are_short.Reads as are-short-reads
-use Rattle.sheet.proofs.bits.raised.Reads as raised-reads
-use Rattle.sheet.proofs.look.has_more.Reads as has-more-reads
 
--- src/look.rt:45:15
-raised-requires : tie.Need-raised-requires
-raised-requires c κs = search needs
-
--- src/look.rt:46:9
 returns : tie.Need-returns
-returns c = search needs
+returns c = let start = c .before .before .before in too-large _ _ _ _ (start .pre) (omega arith)
 
--- src/look.rt:48:8
+-- what each test that was passed has shown
+small : (c : tie.Else1) → let args = c .before .before .before .args in args .count * 2 ^ args .n ≤ 4096
+small c = omega arith
+
+long : (c : tie.Else2) → let args = c .before .before .before .before .before .args in numbers-short (args .bytes .now) (args .at) (args .count) ≡ false
+long c = sym (c .before .are-short .ensures) ∙ c .if2 .left
+
 are-short-requires : tie.Need-are-short-requires
-are-short-requires c κs = search needs
+are-short-requires c κs = let few = samples-few _ _ _ _ (c .before .before .before .pre) (small c) in (omega arith, omega arith)
 
--- src/look.rt:49:9
 returns-2 : tie.Need-returns-2
-returns-2 c = search needs
+returns-2 c =
+    no-samples _ _ _ _ (c .before .before .before .before .before .pre) (small (c .before .before))
+    (sym (c .before .are-short .ensures) ∙ c .if2 .taken)
 
--- src/look.rt:51:29
-mul-has-more : tie.Need-mul-has-more
-mul-has-more c = search needs
-
--- src/look.rt:51:24
-add-has-more : tie.Need-add-has-more
-add-has-more c = search needs
-
--- src/look.rt:51:8
 has-more-requires : tie.Need-has-more-requires
-has-more-requires c κs = search needs
+has-more-requires c κs =
+    let start = c .before .before .before .before .before in
+    let few = samples-few _ _ _ _ (start .pre) (small (c .before .before)) in
+    let room = samples-room _ _ _ _ (start .pre) (small (c .before .before)) (long c) in
+    record { room = omega arith; small = omega arith }
 
--- src/look.rt:52:9
 returns-3 : tie.Need-returns-3
-returns-3 c = search needs
+returns-3 c =
+    let samples = c .before .before in
+    after-samples _ _ _ _ (samples .before .before .before .before .before .pre) (small (samples .before .before)) (long samples) true
+    (sym (c .before .has-more .ensures) ∙ c .if3 .taken)
 
--- src/look.rt:41:1
 returns-4 : tie.Need-returns-4
-returns-4 c = search needs
+returns-4 c =
+    let samples = c .before .before in
+    after-samples _ _ _ _ (samples .before .before .before .before .before .pre) (small (samples .before .before)) (long samples) false
+    (sym (c .before .has-more .ensures) ∙ c .if3 .left)
 
 pub fault-of-samples-spec : {M : Type 1} → statement M
 fault-of-samples-spec =
     tie.close
     (tie.spec
-    raised-requires
+    (λ c κs. search needs)
     returns
     are-short-requires
     returns-2
-    mul-has-more
-    add-has-more
+    (λ c. search needs)
+    (λ c. search needs)
     has-more-requires
     returns-3
     returns-4)

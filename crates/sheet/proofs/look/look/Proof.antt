@@ -1,4 +1,5 @@
 use borrow.Author.Needs.{needs}
+
 use Rattle.sheet.proofs.look.look.Statement.{statement}
 use Rattle.sheet.proofs.look.look.Tie as tie
 use Rattle.sheet.proofs.look.look.Reads as reads
@@ -18,11 +19,11 @@ refused-requires c κs = search needs
 
 -- src/look.rt:85:9
 returns : tie.Need-returns
-returns c = search needs
+returns c = ?
 
 -- src/look.rt:87:8
 field-at-requires : tie.Need-field-at-requires
-field-at-requires c κs = search needs
+field-at-requires c κs = ?
 
 -- src/look.rt:88:9
 refused-requires-2 : tie.Need-refused-requires-2
@@ -30,7 +31,7 @@ refused-requires-2 c κs = search needs
 
 -- src/look.rt:88:9
 returns-2 : tie.Need-returns-2
-returns-2 c = search needs
+returns-2 c = ?
 
 -- src/look.rt:90:8
 is-short-requires-2 : tie.Need-is-short-requires-2
@@ -42,11 +43,11 @@ refused-requires-3 c κs = search needs
 
 -- src/look.rt:91:9
 returns-3 : tie.Need-returns-3
-returns-3 c = search needs
+returns-3 c = ?
 
 -- src/look.rt:93:13
 field-at-requires-2 : tie.Need-field-at-requires-2
-field-at-requires-2 c κs = search needs
+field-at-requires-2 c κs = ?
 
 -- src/look.rt:95:18
 look-at-axes-requires : tie.Need-look-at-axes-requires
@@ -58,11 +59,11 @@ refused-requires-4 c κs = search needs
 
 -- src/look.rt:81:1
 returns-4 : tie.Need-returns-4
-returns-4 c = search needs
+returns-4 c = ?
 
 -- src/look.rt:81:1
 returns-5 : tie.Need-returns-5
-returns-5 c = search needs
+returns-5 c = ?
 
 pub look-spec : {M : Type 1} → statement M
 look-spec =

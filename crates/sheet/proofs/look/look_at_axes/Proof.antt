@@ -1,4 +1,5 @@
 use borrow.Author.Needs.{needs}
+
 use Rattle.sheet.proofs.look.look_at_axes.Statement.{statement}
 use Rattle.sheet.proofs.look.look_at_axes.Tie as tie
 use Rattle.sheet.proofs.look.look_at_axes.Reads as reads
@@ -18,15 +19,15 @@ refused-requires c κs = search needs
 
 -- src/look.rt:65:9
 returns : tie.Need-returns
-returns c = search needs
+returns c = ?
 
 -- src/look.rt:69:48
 samples-of-requires : tie.Need-samples-of-requires
-samples-of-requires c κs = search needs
+samples-of-requires c κs = ?
 
 -- src/look.rt:69:9
 fault-of-samples-requires : tie.Need-fault-of-samples-requires
-fault-of-samples-requires c κs = search needs
+fault-of-samples-requires c κs = ?
 
 -- src/look.rt:71:9
 refused-requires-2 : tie.Need-refused-requires-2
@@ -34,11 +35,11 @@ refused-requires-2 c κs = search needs
 
 -- src/look.rt:71:9
 returns-2 : tie.Need-returns-2
-returns-2 c = search needs
+returns-2 c = ?
 
 -- src/look.rt:58:1
 returns-3 : tie.Need-returns-3
-returns-3 c = search needs
+returns-3 c = ?
 
 pub look-at-axes-spec : {M : Type 1} → statement M
 look-at-axes-spec =
