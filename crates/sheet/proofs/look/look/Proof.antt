@@ -1,85 +1,90 @@
+use mathlib.Core.Logic.{⊎-elim}
+use mathlib.Core.Bool.{cond}
+use mathlib.Core.Path.{_≡_, sym, _∙_}
+use Prim.Native.Nat.{_+_, _*_, _≤_}
+use native.Mathlib.Omega.{arith}
+use borrow.Author.Tests.{ltb-true, ltb-false}
+use lib.ListN.{length}
+use Rattle.rules.specs.Refusals.{axes-refused}
+use Rattle.sheet.specs.Fields.{edition, axes, sheet-grid}
+use Rattle.sheet.specs.Faults.{or-else, axes-fault, samples-fault, sheet-refusal}
+use Rattle.sheet.proofs.Sheets.{no-edition, other-edition, no-axes, some-axes, axes-few, axes-many, axes-allowed}
 use borrow.Author.Needs.{needs}
-
 use Rattle.sheet.proofs.look.look.Statement.{statement}
 use Rattle.sheet.proofs.look.look.Tie as tie
-use Rattle.sheet.proofs.look.look.Reads as reads
-use Rattle.sheet.proofs.look.look.Lts as lts
-use Rattle.sheet.proofs.bits.field_at.Reads as field-at-reads
-use Rattle.sheet.proofs.bits.is_short.Reads as is-short-reads
-use Rattle.sheet.proofs.look.look_at_axes.Reads as look-at-axes-reads
-use Rattle.sheet.proofs.look.refused.Reads as refused-reads
 
--- src/look.rt:84:8
-is-short-requires : tie.Need-is-short-requires
-is-short-requires c κs = search needs
+-- what each test that was passed has shown
+edition-room : (c : tie.Else1) → 0 + 4 ≤ 8 * length (c .before .before .before .args .bytes .now)
+edition-room c = ltb-false _ _ (sym (c .before .is-short .ensures) ∙ c .if1 .left)
 
--- src/look.rt:85:9
-refused-requires : tie.Need-refused-requires
-refused-requires c κs = search needs
+edition-one : (c : tie.Else2) → edition (c .before .before .before .before .before .args .bytes .now) ≡ 1
+edition-one c = sym (c .before .field-at .ensures) ∙ c .if2 .left
 
--- src/look.rt:85:9
+axes-room : (c : tie.Else3) → 4 + 3 ≤ 8 * length (c .before .before .before .before .before .before .before .args .bytes .now)
+axes-room c = ltb-false _ _ (sym (c .before .is-short2 .ensures) ∙ c .if3 .left)
+
 returns : tie.Need-returns
-returns c = ?
+returns c = rw (no-edition _ (ltb-true _ _ (sym (c .before .before .is-short .ensures) ∙ c .before .if1 .taken))) (c .refused .ensures)
 
--- src/look.rt:87:8
 field-at-requires : tie.Need-field-at-requires
-field-at-requires c κs = ?
+field-at-requires c κs = (record { room = edition-room c; small = omega arith }, omega arith)
 
--- src/look.rt:88:9
-refused-requires-2 : tie.Need-refused-requires-2
-refused-requires-2 c κs = search needs
-
--- src/look.rt:88:9
 returns-2 : tie.Need-returns-2
-returns-2 c = ?
+returns-2 c =
+    let read = c .before .before in
+    rw (other-edition _ (edition-room (read .before)) (λ e. c .before .if2 .taken (read .field-at .ensures ∙ e))) (c .refused2 .ensures)
 
--- src/look.rt:90:8
-is-short-requires-2 : tie.Need-is-short-requires-2
-is-short-requires-2 c κs = search needs
-
--- src/look.rt:91:9
-refused-requires-3 : tie.Need-refused-requires-3
-refused-requires-3 c κs = search needs
-
--- src/look.rt:91:9
 returns-3 : tie.Need-returns-3
-returns-3 c = ?
+returns-3 c =
+    let first = c .before .before .before in
+    rw (no-axes _ (edition-room (first .before .before)) (edition-one first) (ltb-true _ _ (sym (c .before .before .is-short2 .ensures) ∙ c .before .if3 .taken)))
+    (c .refused3 .ensures)
 
--- src/look.rt:93:13
 field-at-requires-2 : tie.Need-field-at-requires-2
-field-at-requires-2 c κs = ?
+field-at-requires-2 c κs = (record { room = axes-room c; small = omega arith }, omega arith)
 
--- src/look.rt:95:18
-look-at-axes-requires : tie.Need-look-at-axes-requires
-look-at-axes-requires c κs = search needs
+abbrev start : tie.After-field-at2 → tie.Start
+start c = c .before .before .before .before .before .before .before .before
 
--- src/look.rt:96:14
-refused-requires-4 : tie.Need-refused-requires-4
-refused-requires-4 c κs = search needs
+-- the number of axes was read
+number : (c : tie.After-field-at2) → let bytes = start c .args .bytes .now in sheet-refusal bytes ≡ cond (axes-refused (sheet-grid bytes)) 1 (or-else (axes-fault bytes (axes bytes)) (samples-fault bytes))
+number c =
+    let first = c .before .before .before in
+    some-axes _ (edition-room (first .before .before)) (edition-one first) (axes-room (c .before))
 
--- src/look.rt:81:1
 returns-4 : tie.Need-returns-4
-returns-4 c = ?
+returns-4 c =
+    let said = c .before .before .before in
+    let least : 1 ≤ axes (start said .args .bytes .now) = omega (arith, said .field-at2 .ensures) in
+    let most : axes (start said .args .bytes .now) ≤ 4 = omega (arith, said .field-at2 .ensures) in
+    rw (number said, axes-allowed _ least most, ← said .field-at2 .ensures) (c .look-at-axes .ensures)
 
--- src/look.rt:81:1
 returns-5 : tie.Need-returns-5
-returns-5 c = ?
+returns-5 c =
+    let said = c .before .before in
+    rw (
+      number said,
+      ⊎-elim (λ w. axes-few (start said .args .bytes .now) (omega (arith, said .field-at2 .ensures)))
+      (λ w. axes-many (start said .args .bytes .now) (omega (arith, said .field-at2 .ensures)))
+      (c .before .if4 .came),
+    )
+    (c .refused4 .ensures)
 
 pub look-spec : {M : Type 1} → statement M
 look-spec =
     tie.close
     (tie.spec
-    is-short-requires
-    refused-requires
+    (λ c κs. search needs)
+    (λ c κs. search needs)
     returns
     field-at-requires
-    refused-requires-2
+    (λ c κs. search needs)
     returns-2
-    is-short-requires-2
-    refused-requires-3
+    (λ c κs. search needs)
+    (λ c κs. search needs)
     returns-3
     field-at-requires-2
-    look-at-axes-requires
-    refused-requires-4
+    (λ c κs. search needs)
+    (λ c κs. search needs)
     returns-4
     returns-5)
