@@ -15,7 +15,10 @@ use Rattle.sheet.specs.Bits.{numbers}
 use Rattle.sheet.specs.Fields.{axes, entries, knots-below, sheet-grid, samples-begin, sheet-samples}
 use Rattle.sheet.specs.Faults.{or-else, sheet-refusal}
 use Rattle.sheet.specs.Read.{refused-answer, answer-of, over, read-refusal, ReadPromise}
+use Rattle.sheet.specs.Within.{Within}
 use Rattle.sheet.specs.declared.ReadAnswer.{ReadAnswer}
+use Rattle.sheet.proofs.Extents.{begin-most}
+use Rattle.sheet.proofs.Sheets.{Accepted, samples-room, samples-most}
 
 -- ---- answers
 
@@ -37,6 +40,24 @@ both-passed first later n all found z w e = rw (z, w, e)
 pub answer-refusal : (refusal n : ℕ) (all : List Axis) → answer-of refusal n all .refusal ≡ refusal
 answer-refusal zero n all = refl
 answer-refusal (suc refusal) n all = refl
+
+-- what an answer says of the sheet
+module _ (bytes : List ℕ) (given : ReadAnswer) (e : given ≡ answer-of (sheet-refusal bytes) (axes bytes) (entries bytes (axes bytes))) where
+  given-refusal : given .refusal ≡ sheet-refusal bytes
+  given-refusal = ap (λ (a : ReadAnswer). a .refusal) e ∙ answer-refusal (sheet-refusal bytes) (axes bytes) (entries bytes (axes bytes))
+
+  module _ (none : given .refusal ≡ 0) where
+    pub not-refused : sheet-refusal bytes ≡ 0
+    not-refused = sym given-refusal ∙ none
+
+    given-is : given ≡ answer-of 0 (axes bytes) (entries bytes (axes bytes))
+    given-is = rw not-refused at e
+
+    pub given-axes : given .axes ≡ axes bytes
+    given-axes = ap (λ (a : ReadAnswer). a .axes) given-is
+
+    pub given-all : given .all ≡ entries bytes (axes bytes)
+    given-all = ap (λ (a : ReadAnswer). a .all) given-is
 
 -- ---- the promise
 
@@ -63,46 +84,39 @@ module _ (bytes : List ℕ) (knots samples : List Float) where
     unfolding read-refusal
     refusal-is = rw (eq-eqb (length knots) 1024 k, eq-eqb (length samples) 1024 s)
 
-    given-refusal : given .refusal ≡ sheet-refusal bytes
-    given-refusal = ap (λ (a : ReadAnswer). a .refusal) e ∙ answer-refusal (sheet-refusal bytes) (axes bytes) (entries bytes (axes bytes))
-
     pub sheet-refused : (given .refusal ≡ 0 → ⊥) → ReadPromise bytes knots samples given knots samples
-    sheet-refused met = record {
-      answer = rw refusal-is e;
-      knots = rw refusal-is (stored-kept (sheet-refusal bytes) knots _ (λ z. met (given-refusal ∙ z)));
-      samples = rw refusal-is (stored-kept (sheet-refusal bytes) samples _ (λ z. met (given-refusal ∙ z)));
-    }
+    sheet-refused met =
+        let refused : sheet-refusal bytes ≡ 0 → ⊥ = λ z. met (given-refusal bytes given e ∙ z) in
+        record {
+          answer = rw refusal-is e;
+          knots = rw refusal-is (stored-kept (sheet-refusal bytes) knots _ refused);
+          samples = rw refusal-is (stored-kept (sheet-refusal bytes) samples _ refused);
+        }
 
-    module _ (none : given .refusal ≡ 0) where
-      pub not-refused : sheet-refusal bytes ≡ 0
-      not-refused = sym given-refusal ∙ none
+    pub sheet-read : given .refusal ≡ 0 → (knots-later samples-later : List Float)
+        → knots-later ≡ over (knots-below bytes (axes bytes)) knots
+        → samples-later ≡ over (sheet-samples bytes) samples
+        → ReadPromise bytes knots samples given knots-later samples-later
+    sheet-read none knots-later samples-later f g =
+        let z = not-refused bytes given e none in
+        record { answer = rw refusal-is e; knots = rw (refusal-is, z) f; samples = rw (refusal-is, z) g }
 
-      given-is : given ≡ answer-of 0 (axes bytes) (entries bytes (axes bytes))
-      given-is = rw not-refused at e
+-- ---- the samples
 
-      pub given-axes : given .axes ≡ axes bytes
-      given-axes = ap (λ (a : ReadAnswer). a .axes) given-is
+module _ (bytes : List ℕ) (samples : List Float) (at count : ℕ) (a : at ≡ samples-begin bytes) (c : count ≡ samples-length (sheet-grid bytes)) (room : count ≤ length samples) where
+  part-length : length (take (count - 0) samples) ≡ count
+  part-length = rw length-take (omega arith)
 
-      pub given-all : given .all ≡ entries bytes (axes bytes)
-      given-all = ap (λ (a : ReadAnswer). a .all) given-is
+  pub samples-within : Accepted bytes → Within bytes at (64 * length (take (count - 0) samples))
+  samples-within ok =
+      let there = samples-room bytes ok in
+      let few = samples-most bytes ok in
+      let near = begin-most bytes (axes bytes) in
+      rw part-length (record { room = omega arith; small = omega (arith, ok .said .few) })
 
-      pub sheet-read : (knots-later samples-later : List Float)
-          → knots-later ≡ over (knots-below bytes (axes bytes)) knots
-          → samples-later ≡ over (sheet-samples bytes) samples
-          → ReadPromise bytes knots samples given knots-later samples-later
-      sheet-read knots-later samples-later f g = record {
-        answer = rw refusal-is e;
-        knots = rw (refusal-is, not-refused) f;
-        samples = rw (refusal-is, not-refused) g;
-      }
-
--- the samples stand in the first places
-pub samples-stored : (bytes : List ℕ) (samples new : List Float) (at count : ℕ)
-    → at ≡ samples-begin bytes → count ≡ samples-length (sheet-grid bytes) → count ≤ length samples
-    → new ≡ numbers bytes at (length (take (count - 0) samples))
-    → new ++ drop (count - 0) samples ≡ over (sheet-samples bytes) samples
-samples-stored bytes samples new at count a c room e =
-    let q : count - 0 ≡ count = omega arith in
-    let l : length (take (count - 0) samples) ≡ count = rw length-take (omega arith) in
-    let n : new ≡ sheet-samples bytes = e ∙ rw (l, a, c) in
-    rw (q, n, length-table (samples-length (sheet-grid bytes)) _, c)
+  -- they stand in the first places
+  pub samples-stored : (new : List Float) → new ≡ numbers bytes at (length (take (count - 0) samples)) → new ++ drop (count - 0) samples ≡ over (sheet-samples bytes) samples
+  samples-stored new e =
+      let q : count - 0 ≡ count = omega arith in
+      let n : new ≡ sheet-samples bytes = e ∙ rw (part-length, a, c) in
+      rw (q, n, length-table (samples-length (sheet-grid bytes)) _, c)

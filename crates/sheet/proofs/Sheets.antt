@@ -60,6 +60,11 @@ module _ (bytes : List ℕ) where
 
 -- ---- the samples
 
+-- the product of the points is the number of samples
+pub count-is : (bytes : List ℕ) (all : List Axis) (n count : ℕ) → n ≡ axes bytes → all ≡ entries bytes (axes bytes) → count ≡ product-below (λ i. getD all i unused-axis .points) n → count ≡ samples-length (sheet-grid bytes)
+unfolding sheet-grid
+count-is bytes all n count said e samples = samples ∙ rw (e, said)
+
 entry-at : (bytes : List ℕ) (n i : ℕ) → n ≤ 4 → i < n → getD (entries bytes n) i unused-axis ≡ axis-at bytes (axis-begin bytes i)
 unfolding entries
 entry-at bytes n i few l =
@@ -82,7 +87,7 @@ module _ (bytes : List ℕ) (n : ℕ) (all : List Axis) (few : n ≤ 4) (e : all
     few = few;
     said = said;
     end = end ∙ rw said;
-    samples = samples ∙ rw (e, said);
+    samples = count-is bytes all n count said (e ∙ rw said) samples;
     least = rw samples (product-least (λ i. getD all i unused-axis .points) n (λ i l. let reach = extent bytes (axis-begin bytes i) in omega (arith, size i l)));
     most = rw samples (product-most (λ i. getD all i unused-axis .points) n few (counted .most));
     small = let most = begin-most bytes n in omega (arith, end);
@@ -138,9 +143,9 @@ few-samples sizes (suc (suc (suc zero))) least few most small = omega arith
 few-samples sizes (suc (suc (suc (suc zero)))) least few most small = omega arith
 few-samples sizes (suc (suc (suc (suc (suc n))))) least few most small = absurd (omega arith)
 
-count-is : (bytes : List ℕ) → samples-length (sheet-grid bytes) ≡ product-below (λ i. getD (entries bytes (axes bytes)) i unused-axis .points) (axes bytes)
+product-is : (bytes : List ℕ) → samples-length (sheet-grid bytes) ≡ product-below (λ i. getD (entries bytes (axes bytes)) i unused-axis .points) (axes bytes)
 unfolding sheet-grid
-count-is bytes = refl
+product-is bytes = refl
 
 module _ (bytes : List ℕ) (a : Accepted bytes) where
   pub sound : Sound bytes (axes bytes)
@@ -155,5 +160,5 @@ module _ (bytes : List ℕ) (a : Accepted bytes) where
 
   pub samples-room : samples-end bytes ≤ 8 * length bytes
   samples-room =
-      let t = ended bytes (axes bytes) (entries bytes (axes bytes)) (a .said .few) refl (samples-begin bytes) (samples-length (sheet-grid bytes)) refl refl (count-is bytes) in
+      let t = ended bytes (axes bytes) (entries bytes (axes bytes)) (a .said .few) refl (samples-begin bytes) (samples-length (sheet-grid bytes)) refl refl (product-is bytes) in
       ltb-false _ _ (short-together bytes (samples-begin bytes) (samples-length (sheet-grid bytes)) (t .least) ∙ a .long)

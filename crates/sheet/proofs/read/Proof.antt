@@ -1,91 +1,98 @@
+use mathlib.Core.Path.{_≡_, _∙_}
+use mathlib.Core.List.{List}
+use Prim.Native.Nat.{ℕ, _≤_}
+use native.Mathlib.Omega.{arith}
+use lib.ListN.{length}
+use Rattle.rules.specs.Sizes.{samples-length}
+use Rattle.sheet.specs.Fields.{axes, entries, sheet-grid, samples-begin}
+use Rattle.sheet.proofs.Sheets.{Accepted, accepted, sound, counted, count-is, samples-most}
+use Rattle.sheet.proofs.Promises.{knots-refused, samples-refused, sheet-refused, not-refused, given-axes, given-all, samples-within, samples-stored, sheet-read}
 use borrow.Author.Needs.{needs}
-
 use Rattle.sheet.proofs.read.Statement.{statement}
 use Rattle.sheet.proofs.read.Tie as tie
-use Rattle.sheet.proofs.read.Reads as reads
-use Rattle.sheet.proofs.read.Lts as lts
-use Rattle.sheet.proofs.axes.samples_of.Reads as samples-of-reads
-use Rattle.sheet.proofs.axes.store_knots.Reads as store-knots-reads
-use Rattle.sheet.proofs.bits.fill.Reads as fill-reads
-use Rattle.sheet.proofs.look.look.Reads as look-reads
-use Rattle.sheet.proofs.look.refused.Reads as refused-reads
 
--- src/lib.rt:30:9
-refused-requires : tie.Need-refused-requires
-refused-requires c κs = search needs
-
--- src/lib.rt:30:9
 returns : tie.Need-returns
-returns c = ?
+returns c = knots-refused _ _ _ _ (c .before .if1 .taken) (c .refused .ensures)
 
--- src/lib.rt:33:9
-refused-requires-2 : tie.Need-refused-requires-2
-refused-requires-2 c κs = search needs
-
--- src/lib.rt:33:9
 returns-2 : tie.Need-returns-2
-returns-2 c = ?
+returns-2 c = samples-refused _ _ _ _ (c .before .before .if1 .left) (c .before .if2 .taken) (c .refused2 .ensures)
 
--- src/lib.rt:35:9
-look-requires : tie.Need-look-requires
-look-requires c κs = search needs
-
--- src/lib.rt:38:9
 returns-3 : tie.Need-returns-3
-returns-3 c = ?
+returns-3 c =
+    let look = c .before in
+    sheet-refused _ _ _ _ (look .before .before .if1 .left) (look .before .if2 .left) (look .look .ensures) (c .if3 .taken)
 
--- src/lib.rt:42:9
+-- ---- a sheet that is not refused
+
+abbrev sheet : tie.Else3 → List ℕ
+sheet c = c .before .before .before .before .before .before .before .args .bytes .now
+
+ok : (c : tie.Else3) → Accepted (sheet c)
+ok c = accepted _ (not-refused _ _ (c .before .look .ensures) (c .if3 .left))
+
+axes-are : (c : tie.Else3) → c .before .look .result .axes ≡ axes (sheet c)
+axes-are c = given-axes _ _ (c .before .look .ensures) (c .if3 .left)
+
+all-are : (c : tie.Else3) → c .before .look .result .all ≡ entries (sheet c) (axes (sheet c))
+all-are c = given-all _ _ (c .before .look .ensures) (c .if3 .left)
+
 store-knots-requires : tie.Need-store-knots-requires
-store-knots-requires c κs = ?
+store-knots-requires c κs =
+    let passed = c .before .before in
+    (rw (axes-are passed) (sound _ (ok passed)), passed .before .before .before .if1 .left)
 
--- src/lib.rt:43:9
 samples-of-requires : tie.Need-samples-of-requires
-samples-of-requires c κs = ?
+samples-of-requires c κs =
+    let passed = c .before .before .before .before .before in
+    rw (axes-are passed) (counted _ _ _ (ok passed .said .few) (all-are passed))
 
--- src/lib.rt:44:21
-sub-fill : tie.Need-sub-fill
-sub-fill c = search needs
+-- where the samples begin, how many there are, and that there is a place for each
+begin : (c : tie.After-samples-of) → let passed = c .before .before .before .before .before .before in c .before .before .before .store-knots .result ≡ samples-begin (sheet passed)
+begin c = let passed = c .before .before .before .before .before .before in rw (axes-are passed) at (c .before .before .before .store-knots .ensures .0)
 
--- src/lib.rt:44:21
-part-fill-start : tie.Need-part-fill-start
-part-fill-start c = search needs
+count : (c : tie.After-samples-of) → let passed = c .before .before .before .before .before .before in c .samples-of .result ≡ samples-length (sheet-grid (sheet passed))
+count c = let passed = c .before .before .before .before .before .before in count-is _ _ _ _ (axes-are passed) (all-are passed) (c .samples-of .ensures)
 
--- src/lib.rt:44:21
+room : (c : tie.After-samples-of) → let passed = c .before .before .before .before .before .before in c .samples-of .result ≤ length (passed .before .before .before .before .before .before .before .args .samples .now)
+room c =
+    let passed = c .before .before .before .before .before .before in
+    let most = samples-most _ (ok passed) in
+    let lent = passed .before .before .if2 .left in
+    omega (arith, count c)
+
 part-fill-end : tie.Need-part-fill-end
-part-fill-end c = ?
+part-fill-end c = let fits = room c in omega arith
 
--- src/lib.rt:44:5
 fill-requires : tie.Need-fill-requires
-fill-requires c κs = ?
+fill-requires c κs =
+    let here = c .before in
+    samples-within _ _ _ _ (begin here) (count here) (room here) (ok (here .before .before .before .before .before .before))
 
--- src/lib.rt:26:1
-same-length : tie.Need-same-length
-same-length c = search needs
-
--- src/lib.rt:26:1
-same-length-2 : tie.Need-same-length-2
-same-length-2 c = search needs
-
--- src/lib.rt:26:1
 returns-4 : tie.Need-returns-4
-returns-4 c = ?
+returns-4 c =
+    let here = c .before .before .before .before in
+    let passed = here .before .before .before .before .before .before in
+    let look = passed .before in
+    sheet-read _ _ _ _ (look .before .before .if1 .left) (look .before .if2 .left) (look .look .ensures) (passed .if3 .left) _ _
+    (rw (axes-are passed) at (here .before .before .before .store-knots .ensures .1))
+    (samples-stored _ _ _ _ (begin here) (count here) (room here) _ (c .before .before .fill .ensures))
 
 pub read-spec : {M : Type 1} → statement M
 read-spec =
     tie.close
     (tie.spec
-    refused-requires
+    (λ c κs. search needs)
     returns
-    refused-requires-2
+    (λ c κs. search needs)
     returns-2
-    look-requires
+    (λ c κs. search needs)
     returns-3
     store-knots-requires
     samples-of-requires
-    sub-fill
-    part-fill-start
+    (λ c. search needs)
+    (λ c. search needs)
     part-fill-end
     fill-requires
-    same-length
-    same-length-2
+    (λ c. search needs)
+    (λ c. search needs)
     returns-4)

@@ -65,8 +65,8 @@ returns-5 c =
     rw (
       number said,
       ⊎-elim (λ w. axes-few (start said .args .bytes .now) (omega (arith, said .field-at2 .ensures)))
-      (λ w. axes-many (start said .args .bytes .now) (omega (arith, said .field-at2 .ensures)))
-      (c .before .if4 .came),
+          (λ w. axes-many (start said .args .bytes .now) (omega (arith, said .field-at2 .ensures)))
+          (c .before .if4 .came),
     )
     (c .refused4 .ensures)
 
