@@ -8,4 +8,5 @@ pub mod Stores
 pub mod Samples
 pub mod Sheets
 pub mod Promises
+pub mod Unique
 pub mod Examples

@@ -15,31 +15,32 @@ returns : tie.Need-returns
 returns c = knots-refused _ _ _ _ (c .before .if1 .taken) (c .refused .ensures)
 
 returns-2 : tie.Need-returns-2
-returns-2 c = samples-refused _ _ _ _ (c .before .before .if1 .left) (c .before .if2 .taken) (c .refused2 .ensures)
+returns-2 c = samples-refused _ _ _ _ (omega arith) (c .before .if2 .taken) (c .refused2 .ensures)
 
 returns-3 : tie.Need-returns-3
-returns-3 c =
-    let look = c .before in
-    sheet-refused _ _ _ _ (look .before .before .if1 .left) (look .before .if2 .left) (look .look .ensures) (c .if3 .taken)
+returns-3 c = sheet-refused _ _ _ _ (omega arith) (omega arith) (c .before .look .ensures) (λ z. omega arith)
 
 -- ---- a sheet that is not refused
 
 abbrev sheet : tie.Else3 → List ℕ
 sheet c = c .before .before .before .before .before .before .before .args .bytes .now
 
+none : (c : tie.Else3) → c .before .look .result .refusal ≡ 0
+none c = omega arith
+
 ok : (c : tie.Else3) → Accepted (sheet c)
-ok c = accepted _ (not-refused _ _ (c .before .look .ensures) (c .if3 .left))
+ok c = accepted _ (not-refused _ _ (c .before .look .ensures) (none c))
 
 axes-are : (c : tie.Else3) → c .before .look .result .axes ≡ axes (sheet c)
-axes-are c = given-axes _ _ (c .before .look .ensures) (c .if3 .left)
+axes-are c = given-axes _ _ (c .before .look .ensures) (none c)
 
 all-are : (c : tie.Else3) → c .before .look .result .all ≡ entries (sheet c) (axes (sheet c))
-all-are c = given-all _ _ (c .before .look .ensures) (c .if3 .left)
+all-are c = given-all _ _ (c .before .look .ensures) (none c)
 
 store-knots-requires : tie.Need-store-knots-requires
 store-knots-requires c κs =
     let passed = c .before .before in
-    (rw (axes-are passed) (sound _ (ok passed)), passed .before .before .before .if1 .left)
+    (rw (axes-are passed) (sound _ (ok passed)), omega arith)
 
 samples-of-requires : tie.Need-samples-of-requires
 samples-of-requires c κs =
@@ -72,8 +73,7 @@ returns-4 : tie.Need-returns-4
 returns-4 c =
     let here = c .before .before .before .before in
     let passed = here .before .before .before .before .before .before in
-    let look = passed .before in
-    sheet-read _ _ _ _ (look .before .before .if1 .left) (look .before .if2 .left) (look .look .ensures) (passed .if3 .left) _ _
+    sheet-read _ _ _ _ (omega arith) (omega arith) (passed .before .look .ensures) (none passed) _ _
     (rw (axes-are passed) at (here .before .before .before .store-knots .ensures .1))
     (samples-stored _ _ _ _ (begin here) (count here) (room here) _ (c .before .before .fill .ensures))
 

@@ -1,13 +1,14 @@
+use native.Mathlib.Omega.{arith}
 use Rattle.sheet.proofs.Samples.{many-left, few-left}
 use borrow.Author.Needs.{needs}
 use Rattle.sheet.proofs.look.has_more.Statement.{statement}
 use Rattle.sheet.proofs.look.has_more.Tie as tie
 
 returns : tie.Need-returns
-returns c = many-left _ _ (c .if1 .taken)
+returns c = many-left _ _ (omega arith)
 
 returns-2 : tie.Need-returns-2
-returns-2 c = few-left _ _ (c .before .if1 .left) _ (c .field-at .ensures)
+returns-2 c = few-left _ _ (omega arith) _ (c .field-at .ensures)
 
 pub has-more-spec : {M : Type 1} → statement M
 has-more-spec =
