@@ -1,6 +1,6 @@
 -- The answers that the reader gives, and its promise for each way that it ends.
 use mathlib.Core.Path.{_≡_, refl, sym, ap, _∙_}
-use mathlib.Core.Bool.{Bool, true, false, cond}
+use mathlib.Core.Bool.{_||_}
 use mathlib.Core.List.{List, _++_}
 use Prim.Native.Nat.{ℕ, zero, suc, _+_, _-_, _*_, _≤_}
 use native.Mathlib.Omega.{arith}
@@ -8,6 +8,7 @@ use borrow.Author.Tests.{eq-eqb, ne-eqb}
 use lib.ListN.{length, take, drop, length-take}
 use lib.Ieee.{Float}
 use Rattle.base.proofs.Tables.{length-table}
+use Rattle.rules.specs.Refusals.{length-refused}
 use Rattle.rules.specs.Calls.{stored}
 use Rattle.rules.specs.Sizes.{samples-length}
 use Rattle.rules.specs.declared.Axis.{Axis}
@@ -18,6 +19,7 @@ use Rattle.sheet.specs.Read.{refused-answer, answer-of, over, read-refus
 use Rattle.sheet.specs.Within.{Within}
 use Rattle.sheet.specs.declared.ReadAnswer.{ReadAnswer}
 use Rattle.sheet.proofs.Extents.{begin-most}
+use Rattle.sheet.proofs.Walks.{passed}
 use Rattle.sheet.proofs.Sheets.{Accepted, samples-room, samples-most}
 
 -- ---- answers
@@ -66,6 +68,15 @@ stored-kept zero old new met = absurd (met refl)
 stored-kept (suc refusal) old new met = refl
 
 module _ (bytes : List ℕ) (knots samples : List Float) where
+  -- where both buffers have their length, the refusal is the sheet's
+  pub refusal-is : length knots ≡ 1024 → length samples ≡ 1024 → read-refusal bytes knots samples ≡ sheet-refusal bytes
+  unfolding read-refusal
+  refusal-is k s = rw (eq-eqb (length knots) 1024 k, eq-eqb (length samples) 1024 s)
+
+  pub lengths-passed : read-refusal bytes knots samples ≡ 0 → sheet-refusal bytes ≡ 0
+  unfolding read-refusal
+  lengths-passed e = passed (length-refused (length knots) 1024 || length-refused (length samples) 1024) 3 (sheet-refusal bytes) e .1
+
   pub knots-refused : (given : ReadAnswer) → (length knots ≡ 1024 → ⊥) → given ≡ refused-answer 4 → ReadPromise bytes knots samples given knots samples
   unfolding read-refusal
   knots-refused given other e =
@@ -80,17 +91,13 @@ module _ (bytes : List ℕ) (knots samples : List Float) where
       record { answer = rw (m, n) e; knots = rw (m, n) refl; samples = rw (m, n) refl }
 
   module _ (given : ReadAnswer) (k : length knots ≡ 1024) (s : length samples ≡ 1024) (e : given ≡ answer-of (sheet-refusal bytes) (axes bytes) (entries bytes (axes bytes))) where
-    refusal-is : read-refusal bytes knots samples ≡ sheet-refusal bytes
-    unfolding read-refusal
-    refusal-is = rw (eq-eqb (length knots) 1024 k, eq-eqb (length samples) 1024 s)
-
     pub sheet-refused : (given .refusal ≡ 0 → ⊥) → ReadPromise bytes knots samples given knots samples
     sheet-refused met =
         let refused : sheet-refusal bytes ≡ 0 → ⊥ = λ z. met (given-refusal bytes given e ∙ z) in
         record {
-          answer = rw refusal-is e;
-          knots = rw refusal-is (stored-kept (sheet-refusal bytes) knots _ refused);
-          samples = rw refusal-is (stored-kept (sheet-refusal bytes) samples _ refused);
+          answer = rw (refusal-is k s) e;
+          knots = rw (refusal-is k s) (stored-kept (sheet-refusal bytes) knots _ refused);
+          samples = rw (refusal-is k s) (stored-kept (sheet-refusal bytes) samples _ refused);
         }
 
     pub sheet-read : given .refusal ≡ 0 → (knots-later samples-later : List Float)
@@ -99,7 +106,7 @@ module _ (bytes : List ℕ) (knots samples : List Float) where
         → ReadPromise bytes knots samples given knots-later samples-later
     sheet-read none knots-later samples-later f g =
         let z = not-refused bytes given e none in
-        record { answer = rw refusal-is e; knots = rw (refusal-is, z) f; samples = rw (refusal-is, z) g }
+        record { answer = rw (refusal-is k s) e; knots = rw (refusal-is k s, z) f; samples = rw (refusal-is k s, z) g }
 
 -- ---- the samples
 
