@@ -8,5 +8,6 @@ pub mod Stores
 pub mod Samples
 pub mod Sheets
 pub mod Promises
+pub mod Parts
 pub mod Unique
 pub mod Examples

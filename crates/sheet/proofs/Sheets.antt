@@ -71,7 +71,7 @@ entry-at bytes n i few l =
     at-table 4 (λ k. cond (ltb k n) (axis-at bytes (axis-begin bytes k)) unused-axis) i unused-axis (omega arith) ∙ rw (lt-ltb i n l)
 
 module _ (bytes : List ℕ) (n : ℕ) (all : List Axis) (few : n ≤ 4) (e : all ≡ entries bytes n) where
-  size : (i : ℕ) → i < n → getD all i unused-axis .points ≡ points-at bytes (axis-begin bytes i)
+  pub size : (i : ℕ) → i < n → getD all i unused-axis .points ≡ points-at bytes (axis-begin bytes i)
   unfolding axis-at
   size i l = rw (e, entry-at bytes n i few l)
 

@@ -28,7 +28,7 @@ over-more first more old a k e f =
       append-assoc first more,
     )
 
-knots-below-next : (bytes : List ℕ) (i : ℕ) → knots-below bytes (suc i) ≡ knots-below bytes i ++ knots-at bytes (axis-begin bytes i)
+pub knots-below-next : (bytes : List ℕ) (i : ℕ) → knots-below bytes (suc i) ≡ knots-below bytes i ++ knots-at bytes (axis-begin bytes i)
 unfolding knots-below
 knots-below-next bytes i = refl
 
@@ -36,7 +36,7 @@ knots-at-is : (bytes : List ℕ) (at : ℕ) → knots-at bytes at ≡ numbers by
 unfolding knots-at
 knots-at-is bytes at = refl
 
-length-knots-at : (bytes : List ℕ) (at : ℕ) → length (knots-at bytes at) ≡ points-at bytes at
+pub length-knots-at : (bytes : List ℕ) (at : ℕ) → length (knots-at bytes at) ≡ points-at bytes at
 length-knots-at bytes at = rw (knots-at-is bytes at) (length-table (points-at bytes at) _)
 
 pub record Turn (bytes : List ℕ) (n : ℕ) (knots₀ knots : List Float) (at from i : ℕ) : Type 0 where

@@ -65,10 +65,10 @@ each-faultless bytes (suc n) i e l =
     (λ m. each-faultless bytes n i (both .0) m)
     (eq-or-lt-of-le (le-of-suc-le-suc l))
 
--- all of an axis without a fault is there
-faultless-room : (bytes : List ℕ) (at : ℕ) → axis-fault bytes at ≡ 0 → axis-end bytes at ≤ 8 * length bytes
+-- an axis without a fault has enough points, and all of it is there
+pub faultless-axis : (bytes : List ℕ) (at : ℕ) → axis-fault bytes at ≡ 0 → (points-refused (points-at bytes at) ≡ false) × (axis-end bytes at ≤ 8 * length bytes)
 unfolding axis-fault
-faultless-room bytes at e =
+faultless-axis bytes at e =
     let n = values-at bytes at + points-at bytes at in
     let a = passed (short bytes at 8) 10 _ e in
     let b = passed (points-refused (points-at bytes at)) 1 _ (a .1) in
@@ -78,12 +78,12 @@ faultless-room bytes at e =
     let g = passed (numbers-short bytes (at + 12) n) 10 0 (f .1) in
     let reach = extent bytes at in
     let room : at + 12 + 64 * n ≤ 8 * length bytes = ltb-false _ _ (short-together bytes (at + 12) n (omega arith) ∙ g .0) in
-    omega arith
+    (b .0, omega arith)
 
 -- one of the four axes that has no fault is there, at a small place
 pub whole : (bytes : List ℕ) (i : ℕ) → i < 4 → axis-fault bytes (axis-begin bytes i) ≡ 0 → Whole bytes (axis-begin bytes i)
 whole bytes i few e = record {
-  room = faultless-room bytes (axis-begin bytes i) e;
+  room = faultless-axis bytes (axis-begin bytes i) e .1;
   small = let most = begin-most bytes i in omega arith;
 }
 

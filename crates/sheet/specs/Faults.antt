@@ -7,7 +7,7 @@ use lib.ListN.{length}
 use Rattle.rules.specs.Numbers.{any}
 use Rattle.rules.specs.Sizes.{samples-length}
 use Rattle.rules.specs.Refusals.{axes-refused, points-refused, tensor-refused}
-use Rattle.sheet.specs.Bits.{bit, field, short, numbers-short}
+use Rattle.sheet.specs.Bits.{bit, short, numbers-short}
 use Rattle.sheet.specs.Kinds.{periodic-at-one-end}
 use Rattle.sheet.specs.Fields.{edition, axes, points-at, lower-kind, upper-kind, values-at, axis-begin, sheet-grid, samples-begin, samples-end}
 
@@ -16,8 +16,8 @@ abbrev pub or-else : ℕ → ℕ → ℕ
 or-else zero later = later
 or-else (suc fault) later = suc fault
 
--- the fault of the axis that begins at bit `at`. "2 met at its field"; 13 once the upper kind has been read; then the patterns, "64 each",
--- of the ends and of the knots
+-- the fault of the axis that begins at bit `at`: "2 [is] met at [its] field", 13 once the upper kind has been read; then come the patterns of
+-- the ends and the knots, of which the first that needs more bits than remain is the fault
 unfoldable pub axis-fault : List ℕ → ℕ → ℕ
 axis-fault bytes at =
     cond (short bytes at 8) 11
@@ -44,7 +44,7 @@ samples-fault bytes =
     (cond (numbers-short bytes (samples-begin bytes) (samples-length (sheet-grid bytes))) 11
     (cond (tail-refused bytes (samples-end bytes)) 14 0))
 
--- all of it: edition, axes ("1 [..] met at [its] field"), each axis, and what follows them
+-- all of it: the edition, the number of axes ("1 [is] met at [its] field"), each axis, and what follows them
 unfoldable pub sheet-refusal : List ℕ → ℕ
 sheet-refusal bytes =
     cond (short bytes 0 4) 11

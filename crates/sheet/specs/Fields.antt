@@ -75,7 +75,7 @@ unfoldable pub knots-below : List ℕ → ℕ → List Float
 knots-below bytes zero = []
 knots-below bytes (suc i) = knots-below bytes i ++ knots-at bytes (axis-begin bytes i)
 
--- the parts: axes, ends and knots, and the samples below
+-- the parts of a sheet: its axes with their ends and knots, and below its samples
 unfoldable pub sheet-grid : List ℕ → Grid
 sheet-grid bytes = record { axes = axes bytes; entries = entries bytes (axes bytes); flat-knots = knots-below bytes (axes bytes) }
 

@@ -1,4 +1,5 @@
--- What the functions that are not public require of the bits they read: that they are there, and that their places are small numbers.
+-- What the functions that are not public require and ensure: that the bits they read are there, that places are small numbers, and what was
+-- found so far.
 use mathlib.Core.Path.{_≡_}
 use mathlib.Core.List.{List}
 use Prim.Native.Nat.{ℕ, _+_, _*_, _<_, _≤_}

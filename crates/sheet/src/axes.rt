@@ -1,11 +1,9 @@
 // The axes of a sheet, one after the other. None of these is public: each requires that the bits it reads are there.
 ghost use mathlib.Core.Path.{_≡_};
-ghost use Prim.Native.Nat.{_+_, _*_, _<_, _≤_};
+ghost use Prim.Native.Nat.{_≤_};
 ghost use lib.ListN.{length, getD};
 ghost use Rattle.rules.specs.Sizes.{unused-axis, product-below};
-ghost use Rattle.sheet.specs.Bits.{field};
-ghost use Rattle.sheet.specs.Kinds.{condition-of, end-of};
-ghost use Rattle.sheet.specs.Fields.{points-at, lower-kind, upper-kind, lower-value, upper-value, values-at, axis-at, knots-begin, axis-end, axis-begin, knots-below};
+ghost use Rattle.sheet.specs.Fields.{points-at, values-at, axis-at, knots-begin, axis-end, axis-begin, knots-below};
 ghost use Rattle.sheet.specs.Faults.{axis-fault};
 ghost use Rattle.sheet.specs.Read.{over};
 ghost use Rattle.sheet.specs.Within.{Within, Whole, Walked, Sound, Counted};
@@ -81,7 +79,7 @@ fn knots_from(bytes: &[u8], at: usize) -> usize
     at + 12 + 64 * values(bytes, at)
 }
 
-// The ends of the axis at bit `at`. Two patterns at least stand behind the kinds, so the numbers are read first and asked for after.
+// The ends of the axis at bit `at`. Knots follow, so there are patterns to read even where a kind has none.
 fn condition(bytes: &[u8], at: usize) -> Condition
     requires { ⌜ Whole (now bytes) at ⌝ }
     ensures { λ r. ⌜ r ≡ axis-at (now (bytes .entry)) at .condition ⌝ }

@@ -1,7 +1,7 @@
 // Fields of a list of bytes, most significant bit first, from any bit on. None of these is public: each requires that its bits are there,
 // or that their places are small numbers.
 ghost use mathlib.Core.Path.{_≡_};
-ghost use Prim.Native.Nat.{ℕ, _+_, _-_, _*_, _/_, _%_, _^_, _<_, _≤_};
+ghost use Prim.Native.Nat.{_+_, _-_, _*_, _/_, _%_, _^_, _<_, _≤_};
 ghost use lib.ListN.{length};
 ghost use Rattle.sheet.specs.Bits.{field, short, number, numbers, numbers-short};
 ghost use Rattle.sheet.specs.Within.{Within};

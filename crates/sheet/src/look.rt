@@ -1,7 +1,5 @@
 // All of a sheet looked at, up to its first fault, before anything is stored.
 ghost use mathlib.Core.Path.{_≡_};
-ghost use Prim.Native.Nat.{_+_, _*_, _<_, _≤_};
-ghost use lib.ListN.{length};
 ghost use Rattle.sheet.specs.Fields.{axes, entries};
 ghost use Rattle.sheet.specs.Faults.{or-else, axes-fault, tail-refused, samples-fault, sheet-refusal};
 ghost use Rattle.sheet.specs.Read.{answer-of, refused-answer};
