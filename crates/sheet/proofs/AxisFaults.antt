@@ -1,19 +1,17 @@
 -- The fault of an axis, test by test, and what holds of an axis that has none.
-use mathlib.Core.Path.{_≡_, refl, sym, _∙_}
+use mathlib.Core.Path.{_≡_}
 use mathlib.Core.Bool.{Bool, true, false, cond}
 use mathlib.Core.List.{List}
-use Prim.Native.Nat.{ℕ, zero, suc, _+_, _*_, _<_, _≤_}
+use Prim.Native.Nat.{ℕ, _+_, _*_, _<_, _≤_}
 use native.Mathlib.Omega.{arith}
-use borrow.Author.Tests.{lt-ltb, le-ltb, ltb-false}
-use lib.Dec.{ltb}
+use borrow.Author.Tests.{lt-ltb, le-ltb}
 use lib.ListN.{length}
 use Rattle.rules.specs.Refusals.{points-refused}
 use Rattle.sheet.specs.Bits.{short, numbers-short}
 use Rattle.sheet.specs.Kinds.{periodic-at-one-end}
-use Rattle.sheet.specs.Fields.{points-at, lower-kind, upper-kind, values-at, axis-end}
+use Rattle.sheet.specs.Fields.{points-at, lower-kind, upper-kind, values-at}
 use Rattle.sheet.specs.Faults.{axis-fault}
-use Rattle.sheet.proofs.Runs.{short-together}
-use Rattle.sheet.proofs.Extents.{Extent, extent}
+use Rattle.sheet.proofs.Extents.{extent}
 
 module _ (bytes : List ℕ) (at : ℕ) where
   abbrev bits : ℕ

@@ -6,7 +6,7 @@ use lib.ListN.{replicate}
 use lib.Ieee.{binary64, ofBits}
 use Rattle.rules.specs.Numbers.{plus-zero, one, any}
 use Rattle.rules.specs.Ends.{natural}
-use Rattle.rules.specs.Sizes.{unused-axis, Grid, product-below}
+use Rattle.rules.specs.Sizes.{unused-axis, product-below}
 use Rattle.sheet.specs.Bits.{bit, field}
 use Rattle.sheet.specs.Kinds.{values-of, end-of, condition-of, periodic-at-one-end}
 use Rattle.sheet.specs.Fields.{points-at, values-at, axis-at, knots-begin, knots-at, axis-end, axis-begin, entries, knots-below, sheet-grid, sheet-samples}

@@ -1,8 +1,8 @@
 -- The parts of a sheet that is not refused are what a build asks for: it refuses none of their sizes and lengths, and they have places in the buffers.
-use mathlib.Core.Path.{_≡_, refl, sym, ap, ap₂, _∙_}
+use mathlib.Core.Path.{_≡_, refl}
 use mathlib.Core.Bool.{Bool, false}
-use mathlib.Core.List.{List, _++_}
-use Prim.Native.Nat.{ℕ, zero, suc, _+_, _*_, _<_, _≤_}
+use mathlib.Core.List.{List}
+use Prim.Native.Nat.{ℕ, zero, suc, _*_, _<_, _≤_}
 use native.Mathlib.Omega.{arith}
 use borrow.Author.Tests.{le-ltb}
 use lib.ListN.{length, take, drop, getD, length-append}
@@ -10,13 +10,12 @@ use lib.Seq.{take-at}
 use lib.Ieee.{Float}
 use Rattle.base.proofs.Tables.{length-table}
 use Rattle.rules.specs.Numbers.{any}
-use Rattle.rules.specs.Sizes.{unused-axis, Grid, points, sum-below, knots-length, samples-length}
+use Rattle.rules.specs.Sizes.{unused-axis, points, sum-below, knots-length, samples-length}
 use Rattle.rules.specs.Refusals.{axes-refused, points-refused, some-points-refused, tensor-refused}
-use Rattle.sheet.specs.Bits.{number}
-use Rattle.sheet.specs.Fields.{axes, points-at, axis-begin, entries, knots-below, sheet-grid, samples-begin, sheet-samples}
-use Rattle.sheet.specs.Faults.{axes-fault, sheet-refusal}
+use Rattle.sheet.specs.Fields.{axes, points-at, axis-begin, entries, knots-below, sheet-grid, sheet-samples}
+use Rattle.sheet.specs.Faults.{sheet-refusal}
 use Rattle.sheet.specs.Read.{over}
-use Rattle.sheet.proofs.Extents.{Extent, extent}
+use Rattle.sheet.proofs.Extents.{extent}
 use Rattle.sheet.proofs.Walks.{each-faultless, faultless-axis}
 use Rattle.sheet.proofs.Stores.{knots-below-next, length-knots-at}
 use Rattle.sheet.proofs.Sheets.{Accepted, accepted, axes-allowed, size, samples-most}

@@ -1,6 +1,6 @@
 -- Runs of bits: a run is a first run and a second, a run within one byte is a part of it, and what fits.
 use mathlib.Core.Path.{_≡_, refl, sym, ap, _∙_}
-use mathlib.Core.Bool.{Bool, true, false, _||_}
+use mathlib.Core.Bool.{_||_}
 use mathlib.Core.List.{List}
 use Prim.Native.Nat.{ℕ, zero, suc, _+_, _-_, _*_, _/_, _%_, _^_, _<_, _≤_}
 use native.Mathlib.Nat.{pow-succ', pow-suc, add-zero, add-suc, add-assoc, mul-assoc, mod-one, div-div-eq-div-mul}

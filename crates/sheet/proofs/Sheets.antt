@@ -1,6 +1,6 @@
 -- The refusal of a sheet, test by test, what holds of a sheet that is not refused, and how many samples it has.
-use mathlib.Core.Path.{_≡_, refl, sym, ap, _∙_}
-use mathlib.Core.Bool.{Bool, true, false, not, cond, _||_}
+use mathlib.Core.Path.{_≡_, refl, _∙_}
+use mathlib.Core.Bool.{true, false, not, cond}
 use mathlib.Core.List.{List}
 use Prim.Native.Nat.{ℕ, zero, suc, _+_, _*_, _^_, _<_, _≤_}
 use native.Mathlib.Omega.{arith}
@@ -9,7 +9,7 @@ use lib.Dec.{ltb, eqb}
 use lib.ListN.{length, getD}
 use Rattle.base.proofs.Scan.{neither}
 use Rattle.base.proofs.Tables.{at-table}
-use Rattle.rules.specs.Sizes.{unused-axis, product-below, samples-length, tensor-length}
+use Rattle.rules.specs.Sizes.{unused-axis, product-below, samples-length}
 use Rattle.rules.specs.Refusals.{axes-refused, tensor-refused}
 use Rattle.rules.specs.declared.Axis.{Axis}
 use Rattle.sheet.specs.Bits.{short, numbers-short}
@@ -17,7 +17,7 @@ use Rattle.sheet.specs.Fields.{edition, axes, points-at, axis-at, axis-b
 use Rattle.sheet.specs.Faults.{or-else, axes-fault, tail-refused, samples-fault, sheet-refusal}
 use Rattle.sheet.specs.Within.{Axes, Counted, Ended, Sound}
 use Rattle.sheet.proofs.Runs.{short-together}
-use Rattle.sheet.proofs.Extents.{Extent, extent, begin-most}
+use Rattle.sheet.proofs.Extents.{extent, begin-most}
 use Rattle.sheet.proofs.Walks.{passed, or-else-passed}
 use Rattle.sheet.proofs.Products.{product-least, product-most}
 

@@ -1,18 +1,18 @@
 -- The turns of the walk that stores the knots, on plain lists: those of the axes that were passed stand in the first places.
 use mathlib.Core.Path.{_≡_, refl, sym, ap, _∙_}
-use mathlib.Core.List.{List, [], _∷_, _++_, append-assoc}
-use Prim.Native.Nat.{ℕ, zero, suc, _+_, _-_, _*_, _<_, _≤_}
+use mathlib.Core.List.{List, _++_, append-assoc}
+use Prim.Native.Nat.{ℕ, suc, _+_, _-_, _*_, _<_, _≤_}
 use native.Mathlib.Numerals.{add-one}
 use native.Mathlib.Omega.{arith}
 use lib.ListN.{length, take, drop, length-append, length-take, length-drop}
 use lib.Seq.{take-at, drop-at, drop-drop}
 use lib.Ieee.{Float}
 use Rattle.base.proofs.Tables.{length-table}
-use Rattle.sheet.specs.Bits.{number, numbers}
+use Rattle.sheet.specs.Bits.{numbers}
 use Rattle.sheet.specs.Fields.{points-at, knots-at, knots-begin, axis-end, axis-begin, knots-below}
 use Rattle.sheet.specs.Read.{over}
 use Rattle.sheet.specs.Within.{Whole, Sound}
-use Rattle.sheet.proofs.Extents.{Extent, extent, begin-most}
+use Rattle.sheet.proofs.Extents.{extent}
 use Rattle.sheet.proofs.Walks.{each-faultless, whole, begin-next}
 
 -- numbers behind those that stand in the first places

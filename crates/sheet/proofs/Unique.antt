@@ -1,5 +1,5 @@
 -- The reader's promise has one answer, what it accepts has exactly the parts of the definition, and it refuses no sheet that the definition accepts.
-use mathlib.Core.Path.{_≡_, refl, sym, ap, _∙_}
+use mathlib.Core.Path.{_≡_, sym, ap, _∙_}
 use mathlib.Core.List.{List}
 use Prim.Native.Nat.{ℕ}
 use lib.ListN.{length}

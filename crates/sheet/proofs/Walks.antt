@@ -16,9 +16,9 @@ use Rattle.sheet.specs.Bits.{short, numbers-short}
 use Rattle.sheet.specs.Kinds.{periodic-at-one-end}
 use Rattle.sheet.specs.Fields.{points-at, lower-kind, upper-kind, values-at, axis-at, axis-end, axis-begin, entries}
 use Rattle.sheet.specs.Faults.{or-else, axis-fault, axes-fault}
-use Rattle.sheet.specs.Within.{Whole, Walked, Sound}
+use Rattle.sheet.specs.Within.{Whole, Walked}
 use Rattle.sheet.proofs.Runs.{short-together}
-use Rattle.sheet.proofs.Extents.{Extent, extent, begin-most}
+use Rattle.sheet.proofs.Extents.{extent, begin-most}
 
 -- ---- faults one after the other
 

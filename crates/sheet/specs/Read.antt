@@ -6,11 +6,11 @@ use Prim.Native.Nat.{ℕ, zero, suc}
 use lib.ListN.{length, drop}
 use lib.Ieee.{Float}
 use Rattle.rules.specs.Numbers.{table}
-use Rattle.rules.specs.Sizes.{most-axes, unused-axis, Grid}
+use Rattle.rules.specs.Sizes.{most-axes, unused-axis}
 use Rattle.rules.specs.Refusals.{length-refused}
 use Rattle.rules.specs.Calls.{stored}
 use Rattle.rules.specs.declared.Axis.{Axis}
-use Rattle.sheet.specs.Fields.{axes, entries, knots-below, sheet-grid, sheet-samples}
+use Rattle.sheet.specs.Fields.{axes, entries, knots-below, sheet-samples}
 use Rattle.sheet.specs.Faults.{sheet-refusal}
 use Rattle.sheet.specs.declared.ReadAnswer.{ReadAnswer}
 

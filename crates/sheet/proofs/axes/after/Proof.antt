@@ -1,6 +1,5 @@
 use native.Mathlib.Omega.{arith}
 use Rattle.sheet.proofs.Extents.{Extent, extent}
-use borrow.Author.Needs.{needs}
 use Rattle.sheet.proofs.axes.after.Statement.{statement}
 use Rattle.sheet.proofs.axes.after.Tie as tie
 

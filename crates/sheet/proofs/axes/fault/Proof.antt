@@ -1,4 +1,4 @@
-use mathlib.Core.Path.{_≡_, sym, ap, ap₂, _∙_}
+use mathlib.Core.Path.{_≡_, sym, _∙_}
 use mathlib.Core.Bool.{true, false}
 use mathlib.Core.List.{List}
 use Prim.Native.Nat.{ℕ, _+_, _*_, _≤_}
@@ -6,7 +6,7 @@ use native.Mathlib.Omega.{arith}
 use borrow.Author.Tests.{ltb-true, ltb-false}
 use lib.ListN.{length}
 use Rattle.sheet.specs.Kinds.{periodic-at-one-end}
-use Rattle.sheet.specs.Fields.{points-at, lower-kind, upper-kind, values-at}
+use Rattle.sheet.specs.Fields.{points-at, lower-kind, upper-kind}
 use Rattle.sheet.proofs.Extents.{Extent, extent}
 use Rattle.sheet.proofs.AxisFaults.{no-points, few-points, no-lower-kind, no-upper-kind, one-periodic, patterns}
 use borrow.Author.Needs.{needs}

@@ -1,4 +1,4 @@
-use mathlib.Core.Path.{_≡_, sym, _∙_}
+use mathlib.Core.Path.{sym, _∙_}
 use Prim.Native.Nat.{_-_}
 use Rattle.sheet.proofs.Walks.{Turn, turn-first, turn-fault, turn-whole, turn-next, turn-last}
 use borrow.Author.Needs.{needs}

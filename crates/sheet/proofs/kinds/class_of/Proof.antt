@@ -1,7 +1,6 @@
 use native.Mathlib.Omega.{arith}
 use borrow.Author.Tests.{lt-ltb, le-ltb}
 use Rattle.sheet.specs.Kinds.{class}
-use borrow.Author.Needs.{needs}
 use Rattle.sheet.proofs.kinds.class_of.Statement.{statement}
 use Rattle.sheet.proofs.kinds.class_of.Tie as tie
 

@@ -1,6 +1,5 @@
 use borrow.Author.Tests.{ne-eqb}
 use Rattle.sheet.specs.Kinds.{end-of}
-use borrow.Author.Needs.{needs}
 use Rattle.sheet.proofs.kinds.end_of_kind.Statement.{statement}
 use Rattle.sheet.proofs.kinds.end_of_kind.Tie as tie
 

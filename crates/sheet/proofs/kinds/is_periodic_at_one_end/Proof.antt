@@ -1,6 +1,5 @@
 use borrow.Author.Tests.{ne-eqb}
 use Rattle.sheet.specs.Kinds.{periodic-at-one-end}
-use borrow.Author.Needs.{needs}
 use Rattle.sheet.proofs.kinds.is_periodic_at_one_end.Statement.{statement}
 use Rattle.sheet.proofs.kinds.is_periodic_at_one_end.Tie as tie
 

@@ -1,7 +1,6 @@
 use native.Mathlib.Omega.{arith}
 use borrow.Author.Tests.{le-leb, lt-leb}
 use Rattle.sheet.specs.Kinds.{values-of}
-use borrow.Author.Needs.{needs}
 use Rattle.sheet.proofs.kinds.values_of_kind.Statement.{statement}
 use Rattle.sheet.proofs.kinds.values_of_kind.Tie as tie
 
