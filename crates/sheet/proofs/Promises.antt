@@ -110,20 +110,19 @@ module _ (bytes : List ℕ) (knots samples : List Float) where
 
 -- ---- the samples
 
-module _ (bytes : List ℕ) (samples : List Float) (at count : ℕ) (a : at ≡ samples-begin bytes) (c : count ≡ samples-length (sheet-grid bytes)) (room : count ≤ length samples) where
-  part-length : length (take (count - 0) samples) ≡ count
-  part-length = rw length-take (omega arith)
-
-  pub samples-within : Accepted bytes → Within bytes at (64 * length (take (count - 0) samples))
+module _ (bytes : List ℕ) (at count : ℕ) (a : at ≡ samples-begin bytes) (c : count ≡ samples-length (sheet-grid bytes)) where
+  pub samples-within : Accepted bytes → Within bytes at (64 * count)
   samples-within ok =
       let there = samples-room bytes ok in
       let few = samples-most bytes ok in
       let near = begin-most bytes (axes bytes) in
-      rw part-length (record { room = omega arith; small = omega (arith, ok .said .few) })
+      record { room = omega arith; small = omega (arith, ok .said .few) }
 
   -- they stand in the first places
-  pub samples-stored : (new : List Float) → new ≡ numbers bytes at (length (take (count - 0) samples)) → new ++ drop (count - 0) samples ≡ over (sheet-samples bytes) samples
-  samples-stored new e =
-      let q : count - 0 ≡ count = omega arith in
-      let n : new ≡ sheet-samples bytes = e ∙ rw (part-length, a, c) in
-      rw (q, n, length-table (samples-length (sheet-grid bytes)) _, c)
+  pub samples-stored : (samples new : List Float) → count ≤ length samples → new ≡ numbers bytes at (length (take (count - 0) samples))
+      → new ++ drop (count - 0) samples ≡ over (sheet-samples bytes) samples
+  samples-stored samples new room e =
+      let part : length (take (count - 0) samples) ≡ count = rw length-take (omega arith) in
+      let same : new ≡ sheet-samples bytes = e ∙ rw (part, a, c) in
+      let all : count - 0 ≡ count = omega arith in
+      rw (all, same, length-table (samples-length (sheet-grid bytes)) _, c)

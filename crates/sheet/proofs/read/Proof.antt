@@ -2,7 +2,7 @@ use mathlib.Core.Path.{_≡_}
 use mathlib.Core.List.{List}
 use Prim.Native.Nat.{ℕ, _≤_}
 use native.Mathlib.Omega.{arith}
-use lib.ListN.{length}
+use lib.ListN.{length-take}
 use Rattle.rules.specs.Sizes.{samples-length}
 use Rattle.sheet.specs.Fields.{axes, entries, sheet-grid, samples-begin}
 use Rattle.sheet.proofs.Sheets.{Accepted, accepted, sound, counted, count-is, samples-most}
@@ -54,28 +54,26 @@ begin c = let passed = c .before .before .before .before .before .before in rw (
 count : (c : tie.After-samples-of) → let passed = c .before .before .before .before .before .before in c .samples-of .result ≡ samples-length (sheet-grid (sheet passed))
 count c = let passed = c .before .before .before .before .before .before in count-is _ _ _ _ (axes-are passed) (all-are passed) (c .samples-of .ensures)
 
-room : (c : tie.After-samples-of) → let passed = c .before .before .before .before .before .before in c .samples-of .result ≤ length (passed .before .before .before .before .before .before .before .args .samples .now)
-room c =
-    let passed = c .before .before .before .before .before .before in
-    let most = samples-most _ (ok passed) in
-    let lent = passed .before .before .if2 .left in
-    omega (arith, count c)
+few : (c : tie.After-samples-of) → c .samples-of .result ≤ 1024
+few c = let most = samples-most _ (ok (c .before .before .before .before .before .before)) in omega (arith, count c)
 
 part-fill-end : tie.Need-part-fill-end
-part-fill-end c = let fits = room c in omega arith
+part-fill-end c = let most = few c in omega arith
 
 fill-requires : tie.Need-fill-requires
 fill-requires c κs =
     let here = c .before in
-    samples-within _ _ _ _ (begin here) (count here) (room here) (ok (here .before .before .before .before .before .before))
+    let there = samples-within _ _ _ (begin here) (count here) (ok (here .before .before .before .before .before .before)) in
+    rw length-take (record { room = omega arith; small = omega arith })
 
 returns-4 : tie.Need-returns-4
 returns-4 c =
     let here = c .before .before .before .before in
     let passed = here .before .before .before .before .before .before in
+    let most = few here in
     sheet-read _ _ _ _ (omega arith) (omega arith) (passed .before .look .ensures) (none passed) _ _
     (rw (axes-are passed) at (here .before .before .before .store-knots .ensures .1))
-    (samples-stored _ _ _ _ (begin here) (count here) (room here) _ (c .before .before .fill .ensures))
+    (samples-stored _ _ _ (begin here) (count here) (passed .before .before .before .before .before .before .before .args .samples .now) _ (omega arith) (c .before .before .fill .ensures))
 
 pub read-spec : {M : Type 1} → statement M
 read-spec =
