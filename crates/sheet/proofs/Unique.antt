@@ -24,9 +24,9 @@ pub read-accepts :
     → ReadPromise bytes knots samples a k s
     → a .refusal ≡ 0
     → (sheet-refusal bytes ≡ 0)
-        × (a ≡ record { refusal = 0; axes = axes bytes; all = entries bytes (axes bytes) })
-        × (k ≡ over (knots-below bytes (axes bytes)) knots)
-        × (s ≡ over (sheet-samples bytes) samples)
+    × (a ≡ record { refusal = 0; axes = axes bytes; all = entries bytes (axes bytes) })
+    × (k ≡ over (knots-below bytes (axes bytes)) knots)
+    × (s ≡ over (sheet-samples bytes) samples)
 read-accepts bytes knots samples a k s p none =
     let z : read-refusal bytes knots samples ≡ 0 = sym (sym none ∙ ap (λ (r : ReadAnswer). r .refusal) (p .answer) ∙ answer-refusal _ _ _) in
     (lengths-passed bytes knots samples z, rw z at (p .answer), rw z at (p .knots), rw z at (p .samples))

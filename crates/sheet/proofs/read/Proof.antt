@@ -39,41 +39,44 @@ all-are c = given-all _ _ (c .before .look .ensures) (none c)
 
 store-knots-requires : tie.Need-store-knots-requires
 store-knots-requires c κs =
-    let passed = c .before .before in
-    (rw (axes-are passed) (sound _ (ok passed)), omega arith)
+    let here = c .before .before in
+    (rw (axes-are here) (sound _ (ok here)), omega arith)
 
 samples-of-requires : tie.Need-samples-of-requires
 samples-of-requires c κs =
-    let passed = c .before .before .before .before .before in
-    rw (axes-are passed) (counted _ _ _ (ok passed .said .few) (all-are passed))
+    let here = c .before .before .before .before .before in
+    rw (axes-are here) (counted _ _ _ (ok here .said .few) (all-are here))
+
+abbrev passed : tie.After-samples-of → tie.Else3
+passed c = c .before .before .before .before .before .before
 
 -- where the samples begin, how many there are, and that there is a place for each
-begin : (c : tie.After-samples-of) → let passed = c .before .before .before .before .before .before in c .before .before .before .store-knots .result ≡ samples-begin (sheet passed)
-begin c = let passed = c .before .before .before .before .before .before in rw (axes-are passed) at (c .before .before .before .store-knots .ensures .0)
+begin : (c : tie.After-samples-of) → c .before .before .before .store-knots .result ≡ samples-begin (sheet (passed c))
+begin c = rw (axes-are (passed c)) at (c .before .before .before .store-knots .ensures .0)
 
-count : (c : tie.After-samples-of) → let passed = c .before .before .before .before .before .before in c .samples-of .result ≡ samples-length (sheet-grid (sheet passed))
-count c = let passed = c .before .before .before .before .before .before in count-is _ _ _ _ (axes-are passed) (all-are passed) (c .samples-of .ensures)
+count : (c : tie.After-samples-of) → c .samples-of .result ≡ samples-length (sheet-grid (sheet (passed c)))
+count c = count-is _ _ _ _ (axes-are (passed c)) (all-are (passed c)) (c .samples-of .ensures)
 
 few : (c : tie.After-samples-of) → c .samples-of .result ≤ 1024
-few c = let most = samples-most _ (ok (c .before .before .before .before .before .before)) in omega (arith, count c)
+few c = let most = samples-most _ (ok (passed c)) in omega (arith, count c)
 
 part-fill-end : tie.Need-part-fill-end
 part-fill-end c = let most = few c in omega arith
 
 fill-requires : tie.Need-fill-requires
 fill-requires c κs =
-    let here = c .before in
-    let there = samples-within _ _ _ (begin here) (count here) (ok (here .before .before .before .before .before .before)) in
+    let there = samples-within _ _ _ (begin (c .before)) (count (c .before)) (ok (passed (c .before))) in
     rw length-take (record { room = omega arith; small = omega arith })
 
 returns-4 : tie.Need-returns-4
 returns-4 c =
     let here = c .before .before .before .before in
-    let passed = here .before .before .before .before .before .before in
+    let look = passed here .before in
+    let start = look .before .before .before .before .before .before in
     let most = few here in
-    sheet-read _ _ _ _ (omega arith) (omega arith) (passed .before .look .ensures) (none passed) _ _
-    (rw (axes-are passed) at (here .before .before .before .store-knots .ensures .1))
-    (samples-stored _ _ _ (begin here) (count here) (passed .before .before .before .before .before .before .before .args .samples .now) _ (omega arith) (c .before .before .fill .ensures))
+    sheet-read _ _ _ _ (omega arith) (omega arith) (look .look .ensures) (none (passed here)) _ _
+    (rw (axes-are (passed here)) at (here .before .before .before .store-knots .ensures .1))
+    (samples-stored _ _ _ (begin here) (count here) (start .args .samples .now) _ (omega arith) (c .before .before .fill .ensures))
 
 pub read-spec : {M : Type 1} → statement M
 read-spec =
