@@ -1,5 +1,5 @@
 use mathlib.Core.Path.{_≡_, sym, _∙_}
-use mathlib.Core.Bool.{true, false}
+use mathlib.Core.Bool.{Bool, true, false}
 use mathlib.Core.List.{List}
 use Prim.Native.Nat.{ℕ, _+_, _*_, _≤_}
 use native.Mathlib.Omega.{arith}
@@ -22,23 +22,42 @@ place start = start .args .at
 known : (start : tie.Start) → Extent (list start) (place start)
 known start = extent _ _
 
+-- the start, seen from past each test
+abbrev past-points : tie.Else1 → tie.Start
+past-points c = c .before .before .before
+
+abbrev past-count : tie.Else2 → tie.Start
+past-count c = past-points (c .before .before)
+
+abbrev past-lower : tie.Else3 → tie.Start
+past-lower c = past-count (c .before .before)
+
+abbrev past-upper : tie.Else4 → tie.Start
+past-upper c = past-lower (c .before .before .before)
+
+abbrev past-kinds : tie.Else5 → tie.Start
+past-kinds c = past-upper (c .before .before .before)
+
 -- what each test that was passed has shown
-points-room : (c : tie.Else1) → let start = c .before .before .before in place start + 8 ≤ 8 * length (list start)
+points-room : (c : tie.Else1) → place (past-points c) + 8 ≤ 8 * length (list (past-points c))
 points-room c = ltb-false _ _ (sym (c .before .is-short .ensures) ∙ c .if1 .left)
 
-enough : (c : tie.Else2) → let start = c .before .before .before .before .before in 2 ≤ points-at (list start) (place start)
+enough : (c : tie.Else2) → 2 ≤ points-at (list (past-count c)) (place (past-count c))
 enough c = omega arith
 
-lower-room : (c : tie.Else3) → let start = c .before .before .before .before .before .before .before in place start + 8 + 2 ≤ 8 * length (list start)
+lower-room : (c : tie.Else3) → place (past-lower c) + 8 + 2 ≤ 8 * length (list (past-lower c))
 lower-room c = ltb-false _ _ (sym (c .before .is-short2 .ensures) ∙ c .if3 .left)
 
-upper-room : (c : tie.Else4) → let start = c .before .before .before .before .before .before .before .before .before .before in place start + 10 + 2 ≤ 8 * length (list start)
+upper-room : (c : tie.Else4) → place (past-upper c) + 10 + 2 ≤ 8 * length (list (past-upper c))
 upper-room c = ltb-false _ _ (sym (c .before .is-short3 .ensures) ∙ c .if4 .left)
 
-kinds : (c : tie.After-is-periodic-at-one-end) → let start = c .before .before .before .before .before .before .before .before .before .before .before .before in c .is-periodic-at-one-end .result ≡ periodic-at-one-end (lower-kind (list start) (place start)) (upper-kind (list start) (place start))
+abbrev one-end : tie.Start → Bool
+one-end start = periodic-at-one-end (lower-kind (list start) (place start)) (upper-kind (list start) (place start))
+
+kinds : (c : tie.After-is-periodic-at-one-end) → c .is-periodic-at-one-end .result ≡ one-end (past-upper (c .before .before))
 kinds c = cc
 
-kinds-agree : (c : tie.Else5) → let start = c .before .before .before .before .before .before .before .before .before .before .before .before .before in periodic-at-one-end (lower-kind (list start) (place start)) (upper-kind (list start) (place start)) ≡ false
+kinds-agree : (c : tie.Else5) → one-end (past-kinds c) ≡ false
 kinds-agree c = sym (kinds (c .before)) ∙ c .if5 .left
 
 returns : tie.Need-returns
@@ -76,10 +95,10 @@ values-requires : tie.Need-values-requires
 values-requires c κs = let room = upper-room (c .before .before .before) in record { room = omega arith; small = omega arith }
 
 add-are-short-2 : tie.Need-add-are-short-2
-add-are-short-2 c = let reach = known (c .before .before .before .before .before .before .before .before .before .before .before .before .before .before) in omega arith
+add-are-short-2 c = let reach = known (past-kinds (c .before)) in omega arith
 
 are-short-requires : tie.Need-are-short-requires
-are-short-requires c κs = let reach = known (c .before .before .before .before .before .before .before .before .before .before .before .before .before .before) in (omega arith, omega arith)
+are-short-requires c κs = let reach = known (past-kinds (c .before)) in (omega arith, omega arith)
 
 returns-6 : tie.Need-returns-6
 returns-6 c =
