@@ -71,15 +71,15 @@ turn-next w₀ w l k t lt =
       between =
           below-more _ k
           (λ j b a. other (1024 + j) (omega arith) ∙ t .between j b a)
-          (λ a. getD-set-same w (1024 + k) plus-zero nan (omega (arith, t .same-length, t .given)));
+          (λ a. getD-set-same w (1024 + k) plus-zero nan (omega arith));
       kept = λ j o. other j (o k (omega arith)) ∙ t .kept j o;
     }
 
 pub turn-last : (w₀ w : List Float) (l k : ℕ) (gamma corner : Float) → Turn w₀ w l k → l ≤ k
     → UVec w₀ (set (set w 1024 gamma) (1024 + l) corner) l gamma corner
 turn-last w₀ w l k gamma corner t ge =
-    let more : 0 < l = omega (arith, t .least, t .most) in
-    let inside : 1024 + l < length w = omega (arith, t .same-length, t .given) in
+    let more : 0 < l = omega arith in
+    let inside : 1024 + l < length w = omega arith in
     let other = at-other w 1024 l gamma corner more inside in
     record {
       same-length = simp length-set (t .same-length);

@@ -7,13 +7,13 @@ use mathlib.Core.List.{List}
 use Prim.Native.Nat.{ℕ, zero, suc, _+_, _<_, _≤_}
 use native.Mathlib.Nat.{eq-or-lt-of-le}
 use lib.Dec.{eqb}
-use lib.ListN.{length, set, length-set}
+use lib.ListN.{set, length-set}
 use lib.Seq.{getD-set-same, getD-set-other}
 use lib.Ieee.{Float, nan, neg}
 use borrow.Author.Tests.{eq-eqb, ne-eqb}
-use Rattle.rules.specs.Numbers.{at, _⊕_, _⊖_, _⊗_, _⊘_, plus-zero}
-use Rattle.rules.specs.Solve.{thomas, diag-mod, u-vec, y, z, factor, cyclic-thomas}
-use Rattle.solve.specs.Rows.{row, of-rows, Outside, Given, Solved}
+use Rattle.rules.specs.Numbers.{at, _⊕_, _⊖_, _⊗_, _⊘_}
+use Rattle.rules.specs.Solve.{diag-mod, u-vec, y, z, factor, cyclic-thomas}
+use Rattle.solve.specs.Rows.{row, of-rows, Given, Solved}
 use Rattle.solve.specs.Cyclic.{DiagMod, UVec, factor-of, Subtracted, CyclicSolved}
 use Rattle.solve.proofs.Agreement.{same-thomas}
 
@@ -53,62 +53,63 @@ module _
     (f-is : f ≡ factor-of w₄ l (neg (at w₀ 512)) corner)
     (subtracted : Subtracted w₄ w₅ (l + 1) f)
   where
-  same-diag : (k : ℕ) → k ≤ l → row w₁ 512 k ≡ of-rows diag-mod w₀ corner l k
-  unfolding diag-mod
-  same-diag =
-      by-ends (row w₁ 512) _ _ _ l (modified .first) (modified .last)
-      (λ k a b. modified .kept (512 + k) (omega arith) (omega arith))
+    same-diag : (k : ℕ) → k ≤ l → row w₁ 512 k ≡ of-rows diag-mod w₀ corner l k
+    unfolding diag-mod
+    same-diag =
+        by-ends (row w₁ 512) _ _ _ l (modified .first) (modified .last)
+        (λ k a b. modified .kept (512 + k) (omega arith) (omega arith))
 
-  same-rhs : (k : ℕ) → k ≤ l → row w₃ 1024 k ≡ of-rows u-vec w₀ corner l k
-  unfolding u-vec
-  same-rhs = by-ends (row w₃ 1024) _ _ _ l (right .first) (right .last) (right .between)
+    same-rhs : (k : ℕ) → k ≤ l → row w₃ 1024 k ≡ of-rows u-vec w₀ corner l k
+    unfolding u-vec
+    same-rhs = by-ends (row w₃ 1024) _ _ _ l (right .first) (right .last) (right .between)
 
-  before-right : (j : ℕ) → j < 1024 → at w₃ j ≡ at w₁ j
-  before-right j h = right .kept j (omega arith) ∙ first .kept j (omega arith) (omega arith)
+    before-right : (j : ℕ) → j < 1024 → at w₃ j ≡ at w₁ j
+    before-right j h = right .kept j (omega arith) ∙ first .kept j (omega arith) (omega arith)
 
-  y-is : (k : ℕ) → k ≤ l → row w₄ 1792 k ≡ of-rows y w₀ corner l k
-  unfolding y
-  y-is k h =
-      second .kept (1792 + k) (omega arith) (omega (arith, given))
-      ∙ right .kept (1792 + k) (omega (arith, given))
-      ∙ first .result k h
-      ∙ same-thomas _ _ _ _ _ _ _ _ l
-      (λ i a. modified .kept (256 + i) (omega (arith, given)) (omega (arith, given)))
-      same-diag
-      (λ i a. modified .kept (768 + i) (omega (arith, given)) (omega (arith, given)))
-      (λ i a. modified .kept (1024 + i) (omega (arith, given)) (omega (arith, given)))
-      k
+    y-is : (k : ℕ) → k ≤ l → row w₄ 1792 k ≡ of-rows y w₀ corner l k
+    unfolding y
+    y-is k h =
+        second .kept (1792 + k) (omega arith) (omega arith)
+        ∙ right .kept (1792 + k) (omega arith)
+        ∙ first .result k h
+        ∙ same-thomas _ _ _ _ _ _ _ _ l
+        (λ i a. modified .kept (256 + i) (omega arith) (omega arith))
+        same-diag
+        (λ i a. modified .kept (768 + i) (omega arith) (omega arith))
+        (λ i a. modified .kept (1024 + i) (omega arith) (omega arith))
+        k
 
-  z-is : (k : ℕ) → k ≤ l → row w₄ 1024 k ≡ of-rows z w₀ corner l k
-  unfolding z
-  z-is k h =
-      second .result k h
-      ∙ same-thomas _ _ _ _ _ _ _ _ l
-      (λ i a. before-right (256 + i) (omega (arith, given)) ∙ modified .kept (256 + i) (omega (arith, given)) (omega (arith, given)))
-      (λ i a. before-right (512 + i) (omega (arith, given)) ∙ same-diag i a)
-      (λ i a. before-right (768 + i) (omega (arith, given)) ∙ modified .kept (768 + i) (omega (arith, given)) (omega (arith, given)))
-      same-rhs
-      k
+    z-is : (k : ℕ) → k ≤ l → row w₄ 1024 k ≡ of-rows z w₀ corner l k
+    unfolding z
+    z-is k h =
+        second .result k h
+        ∙ same-thomas _ _ _ _ _ _ _ _ l
+        (λ i a. before-right (256 + i) (omega arith) ∙ modified .kept (256 + i) (omega arith) (omega arith))
+        (λ i a. before-right (512 + i) (omega arith) ∙ same-diag i a)
+        (λ i a. before-right (768 + i) (omega arith) ∙ modified .kept (768 + i) (omega arith) (omega arith))
+        same-rhs
+        k
 
-  factor-is : f ≡ of-rows factor w₀ corner l
-  unfolding factor
-  factor-is = cc (f-is, y-is 0 (omega arith), y-is l (omega arith), z-is 0 (omega arith), z-is l (omega arith))
+    factor-is : f ≡ of-rows factor w₀ corner l
+    unfolding factor
+    factor-is = cc (f-is, y-is 0 (omega arith), y-is l (omega arith), z-is 0 (omega arith), z-is l (omega arith))
 
-  pub cyclic-solved : CyclicSolved w₀ w₅ l corner
-  cyclic-solved = record {
-    same-length =
-        subtracted .same-length ∙ second .same-length ∙ right .same-length ∙ first .same-length ∙ modified .same-length;
-    result = λ k h.
-        cc
-        (subtracted .result k (omega arith),
-        y-is k h,
-        z-is k h,
-        factor-is,
-        by-two-solves (row w₀ 256) (row w₀ 512) (row w₀ 768) (row w₀ 1024) corner l k more);
-    kept = λ j o p.
-        subtracted .kept j (λ k h. omega (arith, p (768 + k) (omega (arith, given))))
-        ∙ second .kept j (λ k h. omega (arith, p (256 + k) (omega arith))) (λ k h. p k (omega (arith, given)))
-        ∙ right .kept j (λ k h. p k (omega (arith, given)))
-        ∙ first .kept j (λ k h. omega (arith, p (256 + k) (omega arith))) (λ k h. omega (arith, p (768 + k) (omega (arith, given))))
-        ∙ modified .kept j (omega (arith, o 0 (omega arith))) (o l (omega (arith, given)));
-  }
+    pub cyclic-solved : CyclicSolved w₀ w₅ l corner
+    cyclic-solved = record {
+      same-length =
+          subtracted .same-length ∙ second .same-length ∙ right .same-length ∙ first .same-length ∙ modified .same-length;
+      result = λ k h.
+          cc (
+            subtracted .result k (omega arith),
+            y-is k h,
+            z-is k h,
+            factor-is,
+            by-two-solves (row w₀ 256) (row w₀ 512) (row w₀ 768) (row w₀ 1024) corner l k more,
+          );
+      kept = λ j o p.
+          subtracted .kept j (λ k h. omega (arith, p (768 + k) (omega arith)))
+          ∙ second .kept j (λ k h. omega (arith, p (256 + k) (omega arith))) (λ k h. p k (omega arith))
+          ∙ right .kept j (λ k h. p k (omega arith))
+          ∙ first .kept j (λ k h. omega (arith, p (256 + k) (omega arith))) (λ k h. omega (arith, p (768 + k) (omega arith)))
+          ∙ modified .kept j (omega (arith, o 0 (omega arith))) (o l (omega arith));
+    }

@@ -1,28 +1,27 @@
--- The turns of `subtract`, on plain lists.
+-- The turns of `subtract`, on plain lists: they leave y less factor times z.
 use native.Mathlib.Omega.{arith}
 use mathlib.Core.Path.{_≡_, refl, _∙_}
 use mathlib.Core.Logic.{_≢_}
 use mathlib.Core.List.{List}
-use Prim.Native.Nat.{ℕ, suc, _+_, _<_, _≤_}
-use lib.ListN.{length, set, length-set}
+use Prim.Native.Nat.{ℕ, _+_, _<_, _≤_}
+use lib.ListN.{set, length-set}
 use lib.Seq.{getD-set-same, getD-set-other}
 use lib.Ieee.{Float, nan}
 use borrow.Author.Count.{below-more}
 use Rattle.rules.specs.Numbers.{at, _⊖_, _⊗_}
-use Rattle.solve.specs.Rows.{row, Outside, Given}
+use Rattle.solve.specs.Rows.{row, Given}
 use Rattle.solve.specs.Cyclic.{Subtracted}
 
+-- the numbers before number k are done
 pub record Turn (w₀ w : List Float) (l : ℕ) (factor : Float) (k : ℕ) : Type 0 where
   pub given : Given w₀ l
   pub most : k ≤ l + 1
-  pub same-length : length w ≡ length w₀
   pub done : Subtracted w₀ w k factor
 
 pub turn-first : (w : List Float) (l : ℕ) (factor : Float) → Given w l → Turn w w l factor 0
 turn-first w l factor g = record {
   given = g;
   most = omega arith;
-  same-length = refl;
   done = record { same-length = refl; result = λ k h. absurd (omega arith); kept = λ j o. refl };
 }
 
@@ -38,22 +37,22 @@ module _ (w₀ w : List Float) (l : ℕ) (factor : Float) (k : ℕ) (t : Turn w�
 
   here-is : row w₁ 1792 k ≡ row w₀ 1792 k ⊖ factor ⊗ row w₀ 1024 k
   here-is =
-      cc
-      (getD-set-same w (1792 + k) here nan (omega (arith, t .same-length, t .given)),
-      t .done .kept (1792 + k) (omega arith),
-      t .done .kept (1024 + k) (omega (arith, t .given)))
+      cc (
+        getD-set-same w (1792 + k) here nan (omega arith),
+        t .done .kept (1792 + k) (omega arith),
+        t .done .kept (1024 + k) (omega arith),
+      )
 
   pub turn-next : Turn w₀ w₁ l factor (k + 1)
   turn-next = record {
     given = t .given;
     most = omega arith;
-    same-length = simp length-set (t .same-length);
     done = record {
-      same-length = simp length-set (t .same-length);
+      same-length = simp length-set (t .done .same-length);
       result = below-more _ k (λ j h. other (1792 + j) (omega arith) ∙ t .done .result j h) here-is;
       kept = λ j o. other j (o k (omega arith)) ∙ t .done .kept j (λ i h. o i (omega arith));
     };
   }
 
 pub turn-last : (w₀ w : List Float) (l : ℕ) (factor : Float) (k : ℕ) → Turn w₀ w l factor k → l < k → Subtracted w₀ w (l + 1) factor
-turn-last w₀ w l factor k t gt = let e : k ≡ l + 1 = omega (arith, t .most) in rw e at (t .done)
+turn-last w₀ w l factor k t gt = let e : k ≡ l + 1 = omega arith in rw e at (t .done)

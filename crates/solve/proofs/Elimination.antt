@@ -52,19 +52,18 @@ module _ (w₀ w : List Float) (l : ℕ) (divisor d : Float) (k : ℕ) (t : Turn
   other j a b = getD-set-other w₁ (1536 + k) j d nan b ∙ getD-set-other w (1280 + k) j c nan a
 
   outside : (j : ℕ) → Outside 1280 512 j → at w₂ j ≡ at w₀ j
-  outside j o =
-      other j (o k (omega (arith, t .given .fit))) (omega (arith, o (256 + k) (omega (arith, t .given .fit)))) ∙ t .kept j o
+  outside j o = other j (o k (omega arith)) (omega (arith, o (256 + k) (omega arith))) ∙ t .kept j o
 
   at-first : at w₂ (1280 + k) ≡ c
   at-first =
-      getD-set-other w₁ (1536 + k) (1280 + k) d nan (omega arith) ∙ getD-set-same w (1280 + k) c nan (omega (arith, t .same-length))
+      getD-set-other w₁ (1536 + k) (1280 + k) d nan (omega arith) ∙ getD-set-same w (1280 + k) c nan (omega arith)
 
   at-second : at w₂ (1536 + k) ≡ d
-  at-second = getD-set-same w₁ (1536 + k) d nan (simp length-set (omega (arith, t .same-length)))
+  at-second = getD-set-same w₁ (1536 + k) d nan (simp length-set (omega arith))
 
   c-is : c ≡ of-rows cp w₀ k
   unfolding cp
-  c-is = cc (t .kept (768 + k) (omega (arith, t .given .fit)), t .divisor-is)
+  c-is = cc (t .kept (768 + k) (omega arith), t .divisor-is)
 
   abbrev next-divisor : Float
   next-divisor = at w₂ (512 + (k + 1)) ⊖ at w (256 + k) ⊗ c
@@ -75,18 +74,18 @@ module _ (w₀ w : List Float) (l : ℕ) (divisor d : Float) (k : ℕ) (t : Turn
   next-divisor-is : next-divisor ≡ of-rows Solve.w w₀ (k + 1)
   unfolding Solve.w cp
   next-divisor-is =
-      rw add-one
-      (cc (outside (512 + suc k) (omega (arith, t .given .fit)), t .kept (256 + k) (omega (arith, t .given .fit)), c-is))
+      rw add-one (cc (outside (512 + suc k) (omega arith), t .kept (256 + k) (omega arith), c-is))
 
   next-d-is : next-d ≡ of-rows dp w₀ (k + 1)
   unfolding dp
   next-d-is =
       rw add-one
-      (cc
-      (outside (1024 + suc k) (omega (arith, t .given .fit)),
-      t .kept (256 + k) (omega (arith, t .given .fit)),
-      t .d-is,
-      rw add-one at next-divisor-is))
+      (cc (
+        outside (1024 + suc k) (omega arith),
+        t .kept (256 + k) (omega arith),
+        t .d-is,
+        rw add-one at next-divisor-is,
+      ))
 
   pub turn-next : Turn w₀ w₂ l next-divisor next-d (k + 1)
   turn-next = record {
@@ -95,21 +94,21 @@ module _ (w₀ w : List Float) (l : ℕ) (divisor d : Float) (k : ℕ) (t : Turn
     same-length = simp length-set (t .same-length);
     divisor-is = next-divisor-is;
     d-is = next-d-is;
-    first = below-more _ k (λ j h. other (1280 + j) (omega arith) (omega (arith, t .given .fit)) ∙ t .first j h) (at-first ∙ c-is);
-    second = below-more _ k (λ j h. other (1536 + j) (omega (arith, t .given .fit)) (omega arith) ∙ t .second j h) (at-second ∙ t .d-is);
+    first = below-more _ k (λ j h. other (1280 + j) (omega arith) (omega arith) ∙ t .first j h) (at-first ∙ c-is);
+    second = below-more _ k (λ j h. other (1536 + j) (omega arith) (omega arith) ∙ t .second j h) (at-second ∙ t .d-is);
     kept = outside;
   }
 
 -- after the loop: the second row's last number
 pub turn-last : (w₀ w : List Float) (l : ℕ) (divisor d : Float) (k : ℕ) → Turn w₀ w l divisor d k → l ≤ k → Eliminated w₀ (set w (1536 + l) d) l
 turn-last w₀ w l divisor d k t ge =
-    let e : k ≡ l = omega (arith, t .most) in
+    let e : k ≡ l = omega arith in
     let other : (j : ℕ) → j ≢ 1536 + l → at (set w (1536 + l) d) j ≡ at w j = λ j n. getD-set-other w (1536 + l) j d nan n in
     record {
       same-length = simp length-set (t .same-length);
-      first = λ j h. other (1280 + j) (omega (arith, t .given .fit)) ∙ t .first j (omega arith);
+      first = λ j h. other (1280 + j) (omega arith) ∙ t .first j (omega arith);
       second = λ j h. below-more (λ (i : ℕ). row (set w (1536 + l) d) 1536 i ≡ of-rows dp w₀ i) k
           (λ i g. other (1536 + i) (omega arith) ∙ t .second i g)
-          (rw e (getD-set-same w (1536 + l) d nan (omega (arith, t .same-length, t .given)) ∙ rw e at (t .d-is))) j (omega arith);
-      kept = λ j o. other j (omega (arith, o (256 + l) (omega (arith, t .given .fit)))) ∙ t .kept j o;
+          (rw e (getD-set-same w (1536 + l) d nan (omega arith) ∙ rw e at (t .d-is))) j (omega arith);
+      kept = λ j o. other j (omega (arith, o (256 + l) (omega arith))) ∙ t .kept j o;
     }

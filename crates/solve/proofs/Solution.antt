@@ -2,11 +2,11 @@
 use native.Mathlib.Omega.{arith}
 use mathlib.Core.Path.{_≡_, _∙_}
 use mathlib.Core.List.{List}
-use Prim.Native.Nat.{ℕ, zero, suc, _+_, _-_, _<_, _≤_}
+use Prim.Native.Nat.{ℕ, zero, suc, _-_, _≤_}
 use lib.Ieee.{Float}
-use Rattle.rules.specs.Numbers.{at, _⊖_, _⊗_}
-use Rattle.rules.specs.Solve.{cp, dp, before-last, thomas}
-use Rattle.solve.specs.Rows.{row, of-rows, Outside, Place, Eliminated, Substituted, Solved}
+use Rattle.rules.specs.Numbers.{at}
+use Rattle.rules.specs.Solve.{before-last, thomas}
+use Rattle.solve.specs.Rows.{row, of-rows, Eliminated, Substituted, Solved}
 
 module _ (w₀ w₁ w₂ : List Float) (l to : ℕ) (forth : Eliminated w₀ w₁ l) (back : Substituted w₁ w₂ l to 0) where
   before : (j : ℕ) → j ≤ l → row w₂ to (l - j) ≡ of-rows before-last w₀ l j
@@ -16,11 +16,12 @@ module _ (w₀ w₁ w₂ : List Float) (l to : ℕ) (forth : Eliminated w₀ w�
       rw e (back .last ∙ forth .second l (omega arith))
   before (suc j) h =
       let e : suc (l - suc j) ≡ l - j = omega arith in
-      cc
-      (back .next (l - suc j) (omega arith) (omega arith),
-      forth .second (l - suc j) (omega arith),
-      forth .first (l - suc j) (omega arith),
-      before j (omega arith))
+      cc (
+        back .next (l - suc j) (omega arith) (omega arith),
+        forth .second (l - suc j) (omega arith),
+        forth .first (l - suc j) (omega arith),
+        before j (omega arith),
+      )
 
   pub solved : Solved w₀ w₂ l to
   unfolding thomas

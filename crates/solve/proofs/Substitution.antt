@@ -1,4 +1,4 @@
--- The turns of `substitute`, on plain lists: with x stored at row k, the rows from k on are done.
+-- The turns of `substitute`, on plain lists: each number of the result comes from the one after it.
 use native.Mathlib.Omega.{arith}
 use mathlib.Core.Path.{_≡_, refl, sym, subst, _∙_}
 use mathlib.Core.Logic.{_≢_, ⊎-elim}
@@ -9,8 +9,9 @@ use lib.ListN.{length, set, length-set}
 use lib.Seq.{getD-set-same, getD-set-other}
 use lib.Ieee.{Float, nan}
 use Rattle.rules.specs.Numbers.{at, _⊖_, _⊗_}
-use Rattle.solve.specs.Rows.{row, Outside, Given, Place, Substituted}
+use Rattle.solve.specs.Rows.{row, Given, Place, Substituted}
 
+-- once x is stored at row k, the rows from k on are done
 pub record Turn (w₀ w : List Float) (l to : ℕ) (x : Float) (k : ℕ) : Type 0 where
   pub given : Given w₀ l
   pub place : Place l to
@@ -43,12 +44,10 @@ module _ (w₀ w : List Float) (l to : ℕ) (x : Float) (k : ℕ) (t : Turn w₀
   w₂ = set w₁ (to + (k - 1)) next-x
 
   at-x : at w₁ (to + k) ≡ x
-  at-x = getD-set-same w (to + k) x nan (omega (arith, t .given .room, t .place .inside, t .same-length, t .most))
+  at-x = getD-set-same w (to + k) x nan (omega arith)
 
   at-next : at w₂ (to + (k - 1)) ≡ next-x
-  at-next =
-      getD-set-same w₁ (to + (k - 1)) next-x nan
-      (simp length-set (omega (arith, t .given .room, t .place .inside, t .same-length, t .most)))
+  at-next = getD-set-same w₁ (to + (k - 1)) next-x nan (simp length-set (omega arith))
 
   other : (j : ℕ) → j ≢ to + (k - 1) → at w₂ j ≡ at w₁ j
   other j n = getD-set-other w₁ (to + (k - 1)) j next-x nan n
@@ -60,7 +59,7 @@ module _ (w₀ w : List Float) (l to : ℕ) (x : Float) (k : ℕ) (t : Turn w₀
   next-x-is : next-x ≡ row w₀ 1536 (k - 1) ⊖ row w₀ 1280 (k - 1) ⊗ at w₂ (to + k)
   next-x-is =
       let e : 1280 + (256 + (k - 1)) ≡ 1536 + (k - 1) = omega arith in
-      cc (helper (256 + (k - 1)) (omega (arith, t .given .fit, t .most)), helper (k - 1) (omega (arith, t .given .fit, t .most)), at-x, other (to + k) (omega arith))
+      cc (helper (256 + (k - 1)) (omega arith), helper (k - 1) (omega arith), at-x, other (to + k) (omega arith))
 
   next-here : row w₂ to (k - 1) ≡ row w₀ 1536 (k - 1) ⊖ row w₀ 1280 (k - 1) ⊗ row w₂ to (suc (k - 1))
   next-here = let e : suc (k - 1) ≡ k = omega arith in rw e (at-next ∙ next-x-is)
@@ -69,16 +68,16 @@ module _ (w₀ w : List Float) (l to : ℕ) (x : Float) (k : ℕ) (t : Turn w₀
   turn-next = record {
     given = t .given;
     place = t .place;
-    most = omega (arith, t .most);
+    most = omega arith;
     same-length = simp length-set (t .same-length);
     done = record {
       same-length = simp length-set (t .same-length);
-      last = other (to + l) (omega (arith, t .most)) ∙ t .done .last;
+      last = other (to + l) (omega arith) ∙ t .done .last;
       next = λ j a b. ⊎-elim
           (λ e. subst (λ (i : ℕ). row w₂ to i ≡ row w₀ 1536 i ⊖ row w₀ 1280 i ⊗ row w₂ to (suc i)) e next-here)
           (λ above. rw (other (to + j) (omega arith), other (to + suc j) (omega arith)) (t .done .next j (omega arith) b))
           (eq-or-lt-of-le a);
-      kept = λ j o. other j (o (k - 1) (omega (arith, t .most))) ∙ t .done .kept j o;
+      kept = λ j o. other j (o (k - 1) (omega arith)) ∙ t .done .kept j o;
     };
   }
 

@@ -1,20 +1,26 @@
-// The solves of the Rust, over rows of the scratch. The last row of a solve is row l; row k has sub (k - 1), diag k, sup k and rhs k.
-// None of these is public: each requires a scratch of at least 2,048 numbers and l < 256.
+// The solves of the Rust, over rows of the scratch. Row k of a solve has sub (k - 1), diag k, sup k and rhs k; the last row is row l.
+// No function here is public: each requires a scratch of at least 2,048 numbers and l below 256.
 ghost use mathlib.Core.Path.{_≡_};
 ghost use Prim.Native.Nat.{_+_, _<_};
 ghost use Rattle.solve.specs.Rows.{Given, Place, Eliminated, Substituted, Solved};
 ghost use Rattle.solve.specs.Cyclic.{DiagMod, UVec, factor-of, Subtracted, CyclicSolved};
 
-// Where each row begins.
+// Where each row begins, and the result of `cyclic_thomas`.
 const SUB: usize = 256;
+
 const DIAG: usize = 512;
+
 const SUP: usize = 768;
+
 const RHS: usize = 1024;
+
 const CP: usize = 1280;
+
 const DP: usize = 1536;
+
 const RESULT: usize = 1792;
 
-// The two helper rows of `thomas`, from the first row on. The last cp is not read, and is left as it was.
+// The helper rows of `thomas`, the first row first. The last cp is never read, and is left as it was.
 fn eliminate(w: &mut [f64], l: usize)
     requires { ⌜ Given (now w) l ⌝ }
     ensures { λ _. ⌜ Eliminated (now (w .entry)) (now (w .exit)) l ⌝ }
@@ -34,7 +40,7 @@ fn eliminate(w: &mut [f64], l: usize)
     w[DP + l] = d;
 }
 
-// The result of `thomas` from the helper rows, the last row first.
+// The result of `thomas` from its helper rows, the last row first.
 fn substitute(w: &mut [f64], l: usize, to: usize)
     requires { ⌜ Given (now w) l × Place l to ⌝ }
     ensures { λ _. ⌜ Substituted (now (w .entry)) (now (w .exit)) l to 0 ⌝ }
@@ -49,7 +55,8 @@ fn substitute(w: &mut [f64], l: usize, to: usize)
     w[to] = x;
 }
 
-// The solve of a tridiagonal matrix. The result goes from `to` on, and may take the place of a row that the way back no longer reads.
+// The solve of a tridiagonal matrix, its result from `to` on. It requires that the result lies before the tensor and outside the helper
+// rows; it may lie over the rows that were solved.
 pub fn thomas(w: &mut [f64], l: usize, to: usize)
     requires { ⌜ Given (now w) l × Place l to ⌝ }
     ensures { λ _. ⌜ Solved (now (w .entry)) (now (w .exit)) l to ⌝ }
@@ -81,7 +88,7 @@ fn u_vec(w: &mut [f64], l: usize, gamma: f64, corner: f64)
     w[RHS + l] = corner;
 }
 
-// How much of z is taken from y.
+// How many times z is taken from y.
 fn factor(w: &[f64], l: usize, gamma: f64, corner: f64) -> f64
     requires { ⌜ Given (now w) l ⌝ }
     ensures { λ r. ⌜ r ≡ factor-of (now (w .entry)) l gamma corner ⌝ }
@@ -104,8 +111,8 @@ fn subtract(w: &mut [f64], l: usize, factor: f64)
     }
 }
 
-// The solve of a matrix with `corner` in the first row's last place and the last row's first, by two solves without it: y for the right
-// side, z for the corners. The result goes from RESULT on; diag and rhs are overwritten.
+// The solve of a tridiagonal matrix with `corner` in the first row's last place and the last row's first, its result from RESULT on.
+// Two solves without the corners make it, y for the right side and z for the corners; diag and rhs are overwritten.
 pub fn cyclic_thomas(w: &mut [f64], l: usize, corner: f64)
     requires { ⌜ Given (now w) l ⌝ }
     ensures { λ _. ⌜ CyclicSolved (now (w .entry)) (now (w .exit)) l corner ⌝ }

@@ -3,8 +3,6 @@ use native.Mathlib.Omega.{arith}
 use lib.ListN.{length-set}
 use Rattle.solve.proofs.diag_mod.Statement.{statement}
 use Rattle.solve.proofs.diag_mod.Tie as tie
-use Rattle.solve.proofs.diag_mod.Reads as reads
-use Rattle.solve.proofs.diag_mod.Lts as lts
 use Rattle.solve.proofs.Corners.{without-corners}
 
 slice-read-w-2 : tie.Need-slice-read-w-2

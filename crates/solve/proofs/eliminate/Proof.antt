@@ -1,7 +1,5 @@
 use Rattle.solve.proofs.eliminate.Statement.{statement}
 use Rattle.solve.proofs.eliminate.Tie as tie
-use Rattle.solve.proofs.eliminate.Reads as reads
-use Rattle.solve.proofs.eliminate.Lts as lts
 use borrow.Author.Needs.{needs}
 use native.Mathlib.Omega.{arith}
 use Prim.Native.Nat.{_-_}

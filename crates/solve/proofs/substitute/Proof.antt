@@ -1,7 +1,5 @@
 use Rattle.solve.proofs.substitute.Statement.{statement}
 use Rattle.solve.proofs.substitute.Tie as tie
-use Rattle.solve.proofs.substitute.Reads as reads
-use Rattle.solve.proofs.substitute.Lts as lts
 use borrow.Author.Needs.{needs}
 use native.Mathlib.Omega.{arith}
 use lib.ListN.{length-set}

@@ -2,8 +2,6 @@ use borrow.Author.Needs.{needs}
 use Prim.Native.Nat.{_+_, _-_}
 use Rattle.solve.proofs.subtract.Statement.{statement}
 use Rattle.solve.proofs.subtract.Tie as tie
-use Rattle.solve.proofs.subtract.Reads as reads
-use Rattle.solve.proofs.subtract.Lts as lts
 use Rattle.solve.proofs.Difference.{Turn, turn-first, turn-next, turn-last}
 
 abbrev Inv-loop : tie.InvT-loop

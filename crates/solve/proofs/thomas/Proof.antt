@@ -1,10 +1,6 @@
 use borrow.Author.Needs.{needs}
 use Rattle.solve.proofs.thomas.Statement.{statement}
 use Rattle.solve.proofs.thomas.Tie as tie
-use Rattle.solve.proofs.thomas.Reads as reads
-use Rattle.solve.proofs.thomas.Lts as lts
-use Rattle.solve.proofs.eliminate.Reads as eliminate-reads
-use Rattle.solve.proofs.substitute.Reads as substitute-reads
 use Rattle.solve.proofs.Solution.{solved}
 
 returns : tie.Need-returns

@@ -4,8 +4,6 @@ use Prim.Native.Nat.{_-_}
 use lib.ListN.{length-set}
 use Rattle.solve.proofs.u_vec.Statement.{statement}
 use Rattle.solve.proofs.u_vec.Tie as tie
-use Rattle.solve.proofs.u_vec.Reads as reads
-use Rattle.solve.proofs.u_vec.Lts as lts
 use Rattle.solve.proofs.Corners.{Turn, turn-first, turn-next, turn-last}
 
 abbrev Inv-loop : tie.InvT-loop

@@ -1,0 +1,4 @@
+pub mod Products
+pub mod Rows
+pub mod ThenOutcome
+pub mod Accepted

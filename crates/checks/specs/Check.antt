@@ -1,0 +1,113 @@
+-- What each public call looks at before it works: the rows of rules' Calls without the last, which looks at an outcome. Of a slice that the call will write, only the length is given.
+use mathlib.Core.Bool.{Bool, cond, _||_}
+use mathlib.Core.List.{List, [], _∷_, _++_}
+use Prim.Native.Nat.{ℕ}
+use lib.ListN.{length}
+use lib.Ieee.{Float}
+use Rattle.rules.specs.Sizes.{scratch-of-rows, Grid, knots-length, samples-length, tensor-length, scratch-length, Place}
+use Rattle.rules.specs.Refusals.{axes-refused, points-refused, some-points-refused, tensor-refused, length-refused, scratch-refused, place-refused, number-refused, some-number-refused, ends-refused, some-ends-refused, knots-refused, some-knots-refused, fewness-refused, some-fewness-refused}
+use Rattle.rules.specs.declared.Axis.{Axis}
+use Rattle.rules.specs.declared.Condition.{Condition}
+use Rattle.checks.specs.Given.{sizes-of}
+
+-- a row of the table of refusals: its number, and whether it applies
+pub record Refusal : Type 0 where
+  pub number : ℕ
+  pub applies : Bool
+
+abbrev pub row : ℕ → Bool → Refusal
+row number applies = record { number = number; applies = applies }
+
+-- the number of the first row that applies, and what comes later where none does
+abbrev pub lowest : List Refusal → ℕ → ℕ
+lowest [] later = later
+lowest (refusal ∷ rows) later = cond (refusal .applies) (refusal .number) (lowest rows later)
+
+-- ---- the calls on one axis of n points
+
+module _ (n : ℕ) (knots samples : List Float) where
+  abbrev pub moments-rows : Condition → ℕ → ℕ → List Refusal
+  moments-rows condition moments-given scratch-given =
+      row 2 (points-refused n)
+      ∷ row 4 (length-refused (length knots) n || length-refused (length samples) n || length-refused moments-given n)
+      ∷ row 5 (scratch-refused scratch-given scratch-of-rows)
+      ∷ row 7 (some-number-refused knots || ends-refused condition || some-number-refused samples)
+      ∷ row 8 (knots-refused knots n)
+      ∷ row 9 (fewness-refused condition n)
+      ∷ []
+
+  unfoldable pub moments-check : Condition → ℕ → ℕ → ℕ
+  moments-check condition moments-given scratch-given = lowest (moments-rows condition moments-given scratch-given) 0
+
+  abbrev pub curve-rows : ℕ → Float → List Refusal
+  curve-rows moments-given point =
+      row 2 (points-refused n)
+      ∷ row 4 (length-refused (length knots) n || length-refused (length samples) n || length-refused moments-given n)
+      ∷ row 7 (some-number-refused knots || some-number-refused samples || number-refused point)
+      ∷ row 8 (knots-refused knots n)
+      ∷ []
+
+  unfoldable pub curve-check : ℕ → Float → ℕ
+  curve-check moments-given point = lowest (curve-rows moments-given point) 0
+
+  abbrev pub slopes-rows : ℕ → ℕ → List Refusal
+  slopes-rows moments-given slopes-given =
+      row 2 (points-refused n)
+      ∷ row 4 (length-refused (length knots) n || length-refused (length samples) n || length-refused moments-given n || length-refused slopes-given n)
+      ∷ row 7 (some-number-refused knots || some-number-refused samples)
+      ∷ row 8 (knots-refused knots n)
+      ∷ []
+
+  unfoldable pub slopes-check : ℕ → ℕ → ℕ
+  slopes-check moments-given slopes-given = lowest (slopes-rows moments-given slopes-given) 0
+
+-- ---- the calls on a grid
+
+-- the rows of every one of them, which need no knots
+abbrev pub sizes-rows : Grid → List Refusal
+sizes-rows g = row 1 (axes-refused g) ∷ row 2 (some-points-refused g) ∷ row 3 (tensor-refused g) ∷ []
+
+unfoldable pub sizes-check : ℕ → List Axis → ℕ
+sizes-check axes entries = lowest (sizes-rows (sizes-of axes entries)) 0
+
+module _ (g : Grid) where
+  abbrev pub build-rows : List Float → ℕ → ℕ → List Refusal
+  build-rows samples tensor-given scratch-given =
+      sizes-rows g ++ (
+      row 4 (length-refused (length (g .flat-knots)) (knots-length g) || length-refused (length samples) (samples-length g) || length-refused tensor-given (tensor-length g))
+      ∷ row 5 (scratch-refused scratch-given (scratch-length g))
+      ∷ row 7 (some-number-refused (g .flat-knots) || some-ends-refused g || some-number-refused samples)
+      ∷ row 8 (some-knots-refused g)
+      ∷ row 9 (some-fewness-refused g)
+      ∷ []
+      )
+
+  unfoldable pub build-check : List Float → ℕ → ℕ → ℕ
+  build-check samples tensor-given scratch-given = lowest (build-rows samples tensor-given scratch-given) 0
+
+  abbrev pub change-rows : List Float → ℕ → Place → Float → List Refusal
+  change-rows tensor scratch-given changed v =
+      sizes-rows g ++ (
+      row 4 (length-refused (length (g .flat-knots)) (knots-length g) || length-refused (length tensor) (tensor-length g))
+      ∷ row 5 (scratch-refused scratch-given (scratch-length g))
+      ∷ row 6 (place-refused g changed)
+      ∷ row 7 (some-number-refused (g .flat-knots) || some-ends-refused g || number-refused v || some-number-refused tensor)
+      ∷ row 8 (some-knots-refused g)
+      ∷ row 9 (some-fewness-refused g)
+      ∷ []
+      )
+
+  unfoldable pub change-check : List Float → ℕ → Place → Float → ℕ
+  change-check tensor scratch-given changed v = lowest (change-rows tensor scratch-given changed v) 0
+
+  abbrev pub query-rows : ℕ → List Float → List Refusal
+  query-rows tensor-given coordinates =
+      sizes-rows g ++ (
+      row 4 (length-refused (length (g .flat-knots)) (knots-length g) || length-refused tensor-given (tensor-length g) || length-refused (length coordinates) (g .axes))
+      ∷ row 7 (some-number-refused (g .flat-knots) || some-number-refused coordinates)
+      ∷ row 8 (some-knots-refused g)
+      ∷ []
+      )
+
+  unfoldable pub query-check : ℕ → List Float → ℕ
+  query-check tensor-given coordinates = lowest (query-rows tensor-given coordinates) 0

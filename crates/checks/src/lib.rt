@@ -1,0 +1,197 @@
+// Refusals 1 to 9 as code: for each public call the lowest number that it meets before it works, and 0 where there is none. Of a slice that the call will write, only the length is looked at.
+ghost use mathlib.Core.Path.{_≡_};
+ghost use Rattle.rules.specs.Sizes.{place-of};
+ghost use Rattle.checks.specs.Given.{grid};
+ghost use Rattle.checks.specs.Check.{moments-check, curve-check, slopes-check, build-check, change-check, query-check};
+use rules::Axis;
+use rules::Condition;
+
+pub mod ends;
+pub mod lengths;
+pub mod numbers;
+pub mod rising;
+pub mod sizes;
+
+// What the curve's moments meet: 2, 4, 5, 7, 8, 9, or 0.
+pub fn moments_refusal(
+    points: usize,
+    knots: &[f64],
+    samples: &[f64],
+    condition: Condition,
+    moments_length: usize,
+    scratch_length: usize,
+) -> usize
+    ensures { λ r. ⌜ r ≡ moments-check points (now (knots .entry)) (now (samples .entry)) condition «moments_length» «scratch_length» ⌝ }
+{
+    if sizes::points_refused(points) {
+        return 2;
+    }
+    if lengths::axis_refused(points, knots.len(), samples.len(), moments_length) {
+        return 4;
+    }
+    if scratch_length < 2048 {
+        return 5;
+    }
+    if numbers::moments_refused(knots, condition, samples) {
+        return 7;
+    }
+    if rising::knots_refused(knots) {
+        return 8;
+    }
+    if ends::fewness_refused(condition, points) {
+        return 9;
+    }
+    0
+}
+
+// What the curve's value meets: 2, 4, 7, 8, or 0.
+pub fn curve_refusal(
+    points: usize,
+    knots: &[f64],
+    samples: &[f64],
+    moments_length: usize,
+    point: f64,
+) -> usize
+    ensures { λ r. ⌜ r ≡ curve-check points (now (knots .entry)) (now (samples .entry)) «moments_length» point ⌝ }
+{
+    if sizes::points_refused(points) {
+        return 2;
+    }
+    if lengths::axis_refused(points, knots.len(), samples.len(), moments_length) {
+        return 4;
+    }
+    if numbers::curve_refused(knots, samples, point) {
+        return 7;
+    }
+    if rising::knots_refused(knots) {
+        return 8;
+    }
+    0
+}
+
+// What the knot slopes meet: 2, 4, 7, 8, or 0.
+pub fn slopes_refusal(
+    points: usize,
+    knots: &[f64],
+    samples: &[f64],
+    moments_length: usize,
+    slopes_length: usize,
+) -> usize
+    ensures { λ r. ⌜ r ≡ slopes-check points (now (knots .entry)) (now (samples .entry)) «moments_length» «slopes_length» ⌝ }
+{
+    if sizes::points_refused(points) {
+        return 2;
+    }
+    if lengths::slopes_refused(
+        points,
+        knots.len(),
+        samples.len(),
+        moments_length,
+        slopes_length,
+    ) {
+        return 4;
+    }
+    if numbers::slices_refused(knots, samples) {
+        return 7;
+    }
+    if rising::knots_refused(knots) {
+        return 8;
+    }
+    0
+}
+
+// What a build meets: 1, 2, 3, 4, 5, 7, 8, 9, or 0.
+pub fn build_refusal(
+    axes: usize,
+    all: [Axis; 4],
+    knots: &[f64],
+    samples: &[f64],
+    tensor_length: usize,
+    scratch_length: usize,
+) -> usize
+    ensures { λ r. ⌜ r ≡ build-check (grid axes all (now (knots .entry))) (now (samples .entry)) «tensor_length» «scratch_length» ⌝ }
+{
+    let refusal = sizes::sizes_refusal(axes, all);
+    if refusal != 0 {
+        return refusal;
+    }
+    if lengths::build_refused(axes, all, knots.len(), samples.len(), tensor_length) {
+        return 4;
+    }
+    if lengths::scratch_refused(axes, all, scratch_length) {
+        return 5;
+    }
+    if numbers::build_refused(axes, all, knots, samples) {
+        return 7;
+    }
+    if rising::some_knots_refused(axes, all, knots) {
+        return 8;
+    }
+    if ends::some_fewness_refused(axes, all) {
+        return 9;
+    }
+    0
+}
+
+// What a change meets: 1, 2, 3, 4, 5, 6, 7, 8, 9, or 0.
+pub fn change_refusal(
+    axes: usize,
+    all: [Axis; 4],
+    knots: &[f64],
+    tensor: &[f64],
+    scratch_length: usize,
+    place: [usize; 4],
+    sample: f64,
+) -> usize
+    ensures { λ r. ⌜ r ≡ change-check (grid axes all (now (knots .entry))) (now (tensor .entry)) «scratch_length» (place-of place) sample ⌝ }
+{
+    let refusal = sizes::sizes_refusal(axes, all);
+    if refusal != 0 {
+        return refusal;
+    }
+    if lengths::change_refused(axes, all, knots.len(), tensor.len()) {
+        return 4;
+    }
+    if lengths::scratch_refused(axes, all, scratch_length) {
+        return 5;
+    }
+    if sizes::place_refused(axes, all, place) {
+        return 6;
+    }
+    if numbers::change_refused(axes, all, knots, sample, tensor) {
+        return 7;
+    }
+    if rising::some_knots_refused(axes, all, knots) {
+        return 8;
+    }
+    if ends::some_fewness_refused(axes, all) {
+        return 9;
+    }
+    0
+}
+
+// What a query meets: 1, 2, 3, 4, 7, 8, or 0.
+pub fn query_refusal(
+    axes: usize,
+    all: [Axis; 4],
+    knots: &[f64],
+    tensor_length: usize,
+    coordinates: &[f64],
+) -> usize
+    ensures { λ r. ⌜ r ≡ query-check (grid axes all (now (knots .entry))) «tensor_length» (now (coordinates .entry)) ⌝ }
+{
+    let refusal = sizes::sizes_refusal(axes, all);
+    if refusal != 0 {
+        return refusal;
+    }
+    if lengths::query_refused(axes, all, knots.len(), tensor_length, coordinates.len()) {
+        return 4;
+    }
+    if numbers::slices_refused(knots, coordinates) {
+        return 7;
+    }
+    if rising::some_knots_refused(axes, all, knots) {
+        return 8;
+    }
+    0
+}

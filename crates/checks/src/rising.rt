@@ -1,0 +1,55 @@
+// Refusal 8.
+ghost use mathlib.Core.Path.{_≡_};
+ghost use mathlib.Core.Bool.{not, _||_};
+ghost use lib.ListN.{length};
+ghost use lib.Ieee.{lt};
+ghost use lib.Ieee.Scale.{finite};
+ghost use Rattle.rules.specs.Numbers.{_⊖_};
+ghost use Rattle.rules.specs.Sizes.{knots-length};
+ghost use Rattle.rules.specs.Refusals.{knots-refused, some-knots-refused};
+ghost use Rattle.checks.specs.Given.{grid, sizes-of, points-of, InRange};
+use rules::Axis;
+
+// Whether a knot does not rise to the next, or the step between them overflows.
+pub fn step_refused(knot: f64, next: f64) -> bool
+    ensures { λ r. ⌜ r ≡ (not (lt knot next) || not (finite (next ⊖ knot))) ⌝ }
+{
+    if knot < next {
+        !base::is_finite(next - knot)
+    } else {
+        true
+    }
+}
+
+// Whether an axis's knots are refused: one does not rise to the next, or a step overflows.
+pub fn knots_refused(knots: &[f64]) -> bool
+    ensures { λ r. ⌜ r ≡ knots-refused (now (knots .entry)) (length (now (knots .entry))) ⌝ }
+{
+    let mut i = 0;
+    while i + 1 < knots.len() {
+        if step_refused(knots[i], knots[i + 1]) {
+            return true;
+        }
+        i += 1;
+    }
+    false
+}
+
+// Whether the knots of an axis in use are. Not public: what refusals 1, 2 and 4 leave is required.
+pub fn some_knots_refused(axes: usize, all: [Axis; 4], knots: &[f64]) -> bool
+    requires { ⌜ (InRange axes (points-of all)) × (length (now knots) ≡ knots-length (sizes-of axes all)) ⌝ }
+    ensures { λ r. ⌜ r ≡ some-knots-refused (grid axes all (now (knots .entry))) ⌝ }
+{
+    let mut start = 0;
+    let mut i = 0;
+    while i < axes {
+        let axis = all[i];
+        let end = start + axis.points;
+        if knots_refused(&knots[start..end]) {
+            return true;
+        }
+        start = end;
+        i += 1;
+    }
+    false
+}

@@ -1,0 +1,6 @@
+pub mod Halving
+mod Split
+pub mod Among
+pub mod Accepted
+mod Answered
+pub mod Unheld

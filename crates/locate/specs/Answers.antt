@@ -1,0 +1,29 @@
+-- What the cell and its label are, of any knots and of those that document 01 accepts.
+use mathlib.Core.Path.{_≡_}
+use mathlib.Core.Bool.{true}
+use mathlib.Core.List.{List}
+use Prim.Native.Nat.{ℕ, _+_, _-_, _<_}
+use lib.ListN.{length}
+use lib.Ieee.{Float, lt}
+use lib.Ieee.Scale.{finite}
+use Rattle.rules.specs.Numbers.{at}
+use Rattle.rules.specs.Locate.{locate, label}
+use Rattle.locate.specs.Cell.{lower-index, label-of}
+
+-- n knots, all finite, each below the next
+pub record Rising (knots : List Float) (n : ℕ) : Type 0 where
+  pub count : length knots ≡ n
+  pub finite : (k : ℕ) → k < n → finite (at knots k) ≡ true
+  pub rise : (k : ℕ) → k + 1 < n → lt (at knots k) (at knots (k + 1)) ≡ true
+
+-- the cell of a point: on rising knots document 01's
+pub record Located (knots : List Float) (point : Float) (cell : ℕ) : Type 0 where
+  pub found : cell ≡ lower-index knots point
+  pub inside : cell + 1 < length knots
+  pub rising : {n : ℕ} → Rising knots n → finite point ≡ true → cell ≡ locate knots (n - 1) point
+
+-- the label of that cell: on rising knots document 01's
+pub record Labelled (knots : List Float) (point : Float) (cell r : ℕ) : Type 0 where
+  pub found : r ≡ label-of knots point cell
+  pub inside : r + 1 < length knots
+  pub rising : {n : ℕ} → Rising knots n → finite point ≡ true → cell ≡ locate knots (n - 1) point → r ≡ label knots (n - 1) point

@@ -1,0 +1,51 @@
+-- The search of the Rust's `locate_lower_index`, and the label of its cell, for any knots at all. In quotes stand the words of the Rust and of request W1.
+use mathlib.Core.Bool.{cond, _&&_}
+use mathlib.Core.List.{List}
+use Prim.Native.Nat.{ℕ, zero, suc, _+_, _-_, _/_, min}
+use lib.Dec.{ltb}
+use lib.ListN.{length}
+use lib.Ieee.{Float, lt, le, eq}
+use Rattle.rules.specs.Numbers.{at}
+
+-- "low + (high - low) / 2"
+abbrev pub middle : ℕ → ℕ → ℕ
+middle low high = low + (high - low) / 2
+
+-- where the search between low and high ends, after as many halvings at most
+unfoldable pub halving : List Float → Float → ℕ → ℕ → ℕ → ℕ
+halving knots point zero low high = low
+halving knots point (suc halvings) low high =
+    cond (ltb low high)
+    (cond (le point (at knots (middle low high)))
+    (halving knots point halvings low (middle low high))
+    (halving knots point halvings (middle low high + 1) high))
+    low
+
+-- "The search takes at most 8 halvings an axis"
+abbrev pub most-halvings : ℕ
+most-halvings = 8
+
+-- one back from where the search ended, where that knot is at or above the point
+unfoldable pub one-back : List Float → Float → ℕ → ℕ
+one-back knots point low = cond (ltb 0 low && le point (at knots low)) (low - 1) low
+
+-- what the Rust answers: the last knot, past the last cell, where the point or that knot is a NaN
+unfoldable pub rust-index : List Float → Float → ℕ
+unfolding halving one-back
+rust-index knots point =
+    cond (lt point (at knots 0)) 0
+    (cond (le (at knots (length knots - 1)) point) (length knots - 2)
+    (one-back knots point (halving knots point most-halvings 0 (length knots - 1))))
+
+-- "held to points minus 2"
+abbrev pub held : ℕ → ℕ → ℕ
+held index points = min index (points - 2)
+
+-- the cell: "the search runs as in the Rust, its index held to points minus 2"
+unfoldable pub lower-index : List Float → Float → ℕ
+unfolding rust-index
+lower-index knots point = held (rust-index knots point) (length knots)
+
+-- the label: "the cell, or one more when the point equals the cell's upper knot, held likewise"
+unfoldable pub label-of : List Float → Float → ℕ → ℕ
+label-of knots point cell = held (cond (eq point (at knots (cell + 1))) (cell + 1) cell) (length knots)

@@ -1,0 +1,243 @@
+//! A call with everything that it is given and lent.
+
+use crate::lent::{Lent, Word};
+
+/// The calls of the archive.
+#[derive(Debug, Clone, Copy, PartialEq, Eq)]
+pub enum Call {
+    Moments,
+    Curve,
+    Slopes,
+    Build,
+    Change,
+    Query,
+    Read,
+    SheetTensor,
+}
+
+impl Call {
+    /// The names of the arguments in their order.
+    pub fn arguments(self) -> &'static [&'static str] {
+        match self {
+            Call::Moments => &[
+                "points", "knots", "samples", "kinds", "values", "moments", "scratch",
+            ],
+            Call::Curve => &["points", "knots", "samples", "moments", "point", "value"],
+            Call::Slopes => &["points", "knots", "samples", "moments", "slopes"],
+            Call::Build => &[
+                "axes", "points", "kinds", "values", "knots", "samples", "tensor", "scratch",
+            ],
+            Call::Change => &[
+                "axes", "points", "kinds", "values", "knots", "tensor", "scratch", "place",
+                "sample", "lanes",
+            ],
+            Call::Query => &[
+                "axes",
+                "points",
+                "knots",
+                "tensor",
+                "coordinates",
+                "value",
+                "labels",
+            ],
+            Call::Read => &[
+                "bytes", "knots", "samples", "axes", "points", "kinds", "values",
+            ],
+            Call::SheetTensor => &["bytes", "knots", "samples", "tensor", "scratch", "length"],
+        }
+    }
+
+    /// The names of the slices that the call may write.
+    pub fn written(self) -> &'static [&'static str] {
+        match self {
+            Call::Moments => &["moments", "scratch"],
+            Call::Curve => &["value"],
+            Call::Slopes => &["slopes"],
+            Call::Build => &["tensor", "scratch"],
+            Call::Change => &["tensor", "scratch", "lanes"],
+            Call::Query => &["value", "labels"],
+            Call::Read => &["knots", "samples", "axes", "points", "kinds", "values"],
+            Call::SheetTensor => &["knots", "samples", "tensor", "scratch", "length"],
+        }
+    }
+
+    /// Whether floats come from patterns, of which a NaN keeps no payload.
+    pub fn reads_patterns(self) -> bool {
+        matches!(self, Call::Read | Call::SheetTensor)
+    }
+}
+
+/// One argument of a call.
+#[derive(Debug, Clone)]
+pub enum Argument {
+    Number(usize),
+    Float(f64),
+    Numbers(Lent<usize>),
+    Floats(Lent<f64>),
+    Bytes(Lent<u8>),
+}
+
+impl Argument {
+    /// A lent slice of whole numbers.
+    pub fn of_numbers(contents: &[usize]) -> Self {
+        Argument::Numbers(Lent::new(contents))
+    }
+
+    /// A lent slice of floats.
+    pub fn of_floats(contents: &[f64]) -> Self {
+        Argument::Floats(Lent::new(contents))
+    }
+
+    /// A lent slice of bytes.
+    pub fn of_bytes(contents: &[u8]) -> Self {
+        Argument::Bytes(Lent::new(contents))
+    }
+
+    pub fn number(&self) -> usize {
+        match self {
+            Argument::Number(number) => *number,
+            other => panic!("a whole number is meant, not {other:?}"),
+        }
+    }
+
+    pub fn float(&self) -> f64 {
+        match self {
+            Argument::Float(float) => *float,
+            other => panic!("a float is meant, not {other:?}"),
+        }
+    }
+
+    pub fn numbers(&self) -> &[usize] {
+        match self {
+            Argument::Numbers(lent) => lent.slice(),
+            other => panic!("whole numbers are meant, not {other:?}"),
+        }
+    }
+
+    pub fn numbers_mut(&mut self) -> &mut [usize] {
+        match self {
+            Argument::Numbers(lent) => lent.slice_mut(),
+            other => panic!("whole numbers are meant, not {other:?}"),
+        }
+    }
+
+    pub fn floats(&self) -> &[f64] {
+        match self {
+            Argument::Floats(lent) => lent.slice(),
+            other => panic!("floats are meant, not {other:?}"),
+        }
+    }
+
+    pub fn floats_mut(&mut self) -> &mut [f64] {
+        match self {
+            Argument::Floats(lent) => lent.slice_mut(),
+            other => panic!("floats are meant, not {other:?}"),
+        }
+    }
+
+    pub fn bytes(&self) -> &[u8] {
+        match self {
+            Argument::Bytes(lent) => lent.slice(),
+            other => panic!("bytes are meant, not {other:?}"),
+        }
+    }
+
+    pub fn bytes_mut(&mut self) -> &mut [u8] {
+        match self {
+            Argument::Bytes(lent) => lent.slice_mut(),
+            other => panic!("bytes are meant, not {other:?}"),
+        }
+    }
+
+    /// The length of a lent slice.
+    pub fn length(&self) -> usize {
+        match self {
+            Argument::Numbers(lent) => lent.slice().len(),
+            Argument::Floats(lent) => lent.slice().len(),
+            Argument::Bytes(lent) => lent.slice().len(),
+            other => panic!("a slice is meant, not {other:?}"),
+        }
+    }
+
+    /// Makes a lent slice longer or shorter.
+    pub fn resize(&mut self, length: usize) {
+        match self {
+            Argument::Numbers(lent) => lent.resize(length),
+            Argument::Floats(lent) => lent.resize(length),
+            Argument::Bytes(lent) => lent.resize(length),
+            other => panic!("a slice is meant, not {other:?}"),
+        }
+    }
+}
+
+/// The 64 bits of each item.
+fn words_of<T: Word>(items: &[T]) -> Vec<u64> {
+    items.iter().map(|item| item.word()).collect()
+}
+
+impl Argument {
+    /// The words of an argument, of a slice without its guards.
+    pub fn words(&self) -> Vec<u64> {
+        match self {
+            Argument::Number(number) => words_of(&[*number]),
+            Argument::Float(float) => words_of(&[*float]),
+            Argument::Numbers(lent) => words_of(lent.slice()),
+            Argument::Floats(lent) => words_of(lent.slice()),
+            Argument::Bytes(lent) => words_of(lent.slice()),
+        }
+    }
+
+    /// The words of an argument, of a slice with its guards.
+    pub fn words_with_guards(&self) -> Vec<u64> {
+        match self {
+            Argument::Numbers(lent) => words_of(lent.whole()),
+            Argument::Floats(lent) => words_of(lent.whole()),
+            Argument::Bytes(lent) => words_of(lent.whole()),
+            _ => self.words(),
+        }
+    }
+}
+
+/// A call and its arguments.
+#[derive(Debug, Clone)]
+pub struct Case {
+    pub call: Call,
+    pub arguments: Vec<Argument>,
+}
+
+impl Case {
+    /// A call with its arguments in order.
+    pub fn new(call: Call, arguments: Vec<Argument>) -> Self {
+        assert_eq!(call.arguments().len(), arguments.len());
+        Self { call, arguments }
+    }
+
+    fn position(&self, name: &str) -> Option<usize> {
+        let names = self.call.arguments();
+        names.iter().position(|argument| *argument == name)
+    }
+
+    /// Whether the call has an argument of this name.
+    pub fn has(&self, name: &str) -> bool {
+        self.position(name).is_some()
+    }
+
+    /// The argument of this name.
+    pub fn argument(&self, name: &str) -> &Argument {
+        let position = self.position(name).expect("the call has this argument");
+        &self.arguments[position]
+    }
+
+    /// The argument of this name, to be changed.
+    pub fn argument_mut(&mut self, name: &str) -> &mut Argument {
+        let position = self.position(name).expect("the call has this argument");
+        &mut self.arguments[position]
+    }
+}
+
+/// Something that answers calls.
+pub trait Calls {
+    /// The refusal number, with the lent slices as the call leaves them; or none
+    /// where this call is not answered at all.
+    fn run(&self, case: &mut Case) -> Option<usize>;
+}

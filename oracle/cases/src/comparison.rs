@@ -1,0 +1,193 @@
+//! Runs cases against the reading and against a subject, and compares.
+
+use crate::case::{Argument, Calls, Case};
+use crate::examples::examples;
+use crate::faults::spoil;
+use crate::generator::{self, Kind, KINDS};
+use crate::grid::Grid;
+use crate::lending;
+use crate::lent::Word;
+use crate::numbers::ordinary;
+use crate::random::Random;
+use crate::reading_calls::Reading;
+use crate::report::{describe, Report};
+
+/// A seed, and how many cases of each kind.
+#[derive(Debug, Clone)]
+pub struct Plan {
+    pub seed: u64,
+    pub cases: [u64; KINDS.len()],
+}
+
+/// A list of changes is some 25 calls, so there are fewer lists.
+const CHANGES_IN_A_LIST: u64 = 25;
+
+impl Plan {
+    /// About so many calls of each kind, and the examples once.
+    pub fn of_each_kind(seed: u64, calls: u64) -> Self {
+        let cases = KINDS.map(|kind| match kind {
+            Kind::Example => 1,
+            Kind::ChangeList => calls.div_ceil(CHANGES_IN_A_LIST),
+            _ => calls,
+        });
+        Self { seed, cases }
+    }
+
+    /// Cases of one kind only.
+    pub fn of_kind(seed: u64, kind: Kind, number: u64) -> Self {
+        let mut cases = [0; KINDS.len()];
+        cases[kind as usize] = number;
+        Self { seed, cases }
+    }
+}
+
+/// Compares every kind of the plan.
+pub fn compare_all(subject: &dyn Calls, plan: &Plan) -> Report {
+    let mut report = Report::default();
+    for kind in KINDS {
+        compare_kind(subject, plan, kind, &mut report);
+    }
+    report
+}
+
+/// Compares the cases of one kind.
+fn compare_kind(subject: &dyn Calls, plan: &Plan, kind: Kind, report: &mut Report) {
+    for number in 0..plan.cases[kind as usize] {
+        let random = &mut Random::of_case(plan.seed, kind as u64, number);
+        let mut run = Run {
+            subject,
+            kind,
+            title: format!("{} {number} of seed {}", kind.name(), plan.seed),
+            report,
+        };
+        match kind {
+            Kind::Example => run.compare_examples(),
+            Kind::ChangeList => run.change_list(random),
+            _ => {
+                run.compare(&generator::single(kind, number as usize, random));
+            }
+        }
+    }
+}
+
+/// One case under comparison.
+struct Run<'a> {
+    subject: &'a dyn Calls,
+    kind: Kind,
+    title: String,
+    report: &'a mut Report,
+}
+
+impl Run<'_> {
+    /// Runs a call on both sides. Gives the refusal, the case as the subject left
+    /// it (the reading where there is no subject), and whether they are the same.
+    fn compare(&mut self, given: &Case) -> (usize, Case, bool) {
+        let mut expected = given.clone();
+        let refusal = Reading.run(&mut expected).expect("the reading answers all");
+        let counts = self.report.of_mut(self.kind);
+        counts.calls += 1;
+        counts.refusals[refusal] += 1;
+        let mut found = given.clone();
+        let Some(answer) = self.subject.run(&mut found) else {
+            return (refusal, expected, true);
+        };
+        self.report.of_mut(self.kind).compared += 1;
+        let same = answer == refusal && same_arguments(&expected, &found);
+        if !same {
+            let title = self.title.as_str();
+            self.report.difference(self.kind, || {
+                describe(title, given, (refusal, &expected), (answer, &found))
+            });
+        }
+        (refusal, found, same)
+    }
+
+    fn compare_examples(&mut self) {
+        for example in examples() {
+            self.compare(&example);
+        }
+    }
+
+    /// A list of changes from a built tensor. After each change the tensor is
+    /// the fresh build of the samples that then stand. Spoiled changes stand
+    /// between them; what they are lent is thrown away.
+    fn change_list(&mut self, random: &mut Random) {
+        let grid = Grid::generate(random);
+        let mut samples: Vec<f64> = (0..grid.samples()).map(|_| ordinary(random)).collect();
+        let (refusal, mut tensor) = fresh_build(random, &grid, &samples);
+        if refusal != 0 {
+            return;
+        }
+        for _ in 0..random.between(10, 40) {
+            let mut given = generator::change_of(random, &grid, &tensor);
+            if random.percent(38) {
+                spoil(random, &mut given);
+                self.compare(&given);
+                continue;
+            }
+            let (refusal, found, same) = self.compare(&given);
+            let mut changed = samples.clone();
+            changed[sample_number(&grid, &given)] = given.argument("sample").float();
+            let fresh = fresh_build(random, &grid, &changed);
+            if !same || !self.is_fresh(&given, (refusal, &found), fresh) {
+                return;
+            }
+            if refusal == 0 {
+                samples = changed;
+                tensor = found.argument("tensor").floats().to_vec();
+            }
+        }
+    }
+
+    /// Whether a change gave what the fresh build of the changed samples gives.
+    fn is_fresh(&mut self, given: &Case, found: (usize, &Case), fresh: (usize, Vec<f64>)) -> bool {
+        let (refusal, tensor) = fresh;
+        let mut expected = found.1.clone();
+        if refusal == 0 {
+            let slots = expected.argument_mut("tensor").floats_mut();
+            slots.copy_from_slice(&tensor);
+        }
+        let same = refusal == found.0 && same_arguments(&expected, found.1);
+        if !same {
+            let title = format!("{}, held against a fresh build", self.title);
+            self.report.difference(self.kind, || {
+                describe(&title, given, (refusal, &expected), found)
+            });
+        }
+        same
+    }
+}
+
+/// The refusal and the tensor of the reading's build.
+fn fresh_build(random: &mut Random, grid: &Grid, samples: &[f64]) -> (usize, Vec<f64>) {
+    let mut case = lending::build(random, grid, samples);
+    let refusal = Reading.run(&mut case).expect("the reading answers all");
+    (refusal, case.argument("tensor").floats().to_vec())
+}
+
+/// The number of the sample that a change is about.
+fn sample_number(grid: &Grid, change: &Case) -> usize {
+    let place = change.argument("place").numbers();
+    let axes = grid.points[..grid.axes].iter().zip(place);
+    axes.fold(0, |number, (points, index)| number * points + index)
+}
+
+/// Whether two cases stand the same after a call, guards and inputs too.
+fn same_arguments(expected: &Case, found: &Case) -> bool {
+    let one_nan = expected.call.reads_patterns();
+    let mut pairs = expected.arguments.iter().zip(&found.arguments);
+    pairs.all(|pair| match pair {
+        (Argument::Floats(expected), Argument::Floats(found)) => {
+            let mut pairs = expected.whole().iter().zip(found.whole());
+            pairs.all(|(expected, found)| {
+                let both_nan = expected.is_nan() && found.is_nan();
+                expected.word() == found.word() || (one_nan && both_nan)
+            })
+        }
+        (Argument::Numbers(expected), Argument::Numbers(found)) => {
+            expected.whole() == found.whole()
+        }
+        (Argument::Bytes(expected), Argument::Bytes(found)) => expected.whole() == found.whole(),
+        _ => true,
+    })
+}

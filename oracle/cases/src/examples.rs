@@ -1,0 +1,153 @@
+//! The examples with numbers of document 01, as cases.
+
+use crate::case::{Argument, Calls, Case};
+use crate::grid::Grid;
+use crate::lending;
+use crate::random::Random;
+use crate::reading_calls::Reading;
+use crate::sheet::example_sheet;
+
+const NOT_A_KNOT: u8 = 0;
+const FIRST: u8 = 1;
+const SECOND: u8 = 2;
+const PERIODIC: u8 = 3;
+
+/// Every example, in the order of the document.
+pub fn examples() -> Vec<Case> {
+    // Only what the answers are written over is random.
+    let random = &mut Random::new(0);
+    let mut cases = Vec::new();
+    cases.extend(natural(random));
+    cases.extend(first_derivatives(random));
+    cases.extend(not_a_knot(random));
+    cases.extend(periodic(random));
+    cases.extend(square(random));
+    cases.extend(labels(random));
+    cases.extend(fewest_points(random));
+    cases.extend(knots_that_do_not_rise(random));
+    cases.extend(limits(random));
+    cases.extend([
+        lending::read(random, &example_sheet()),
+        lending::sheet_tensor(random, &example_sheet(), 4),
+        lending::read(random, &[]),
+        lending::sheet_tensor(random, &[], 4),
+    ]);
+    cases
+}
+
+/// One axis with both ends of given kinds and value zero.
+fn line(knots: &[f64], kinds: [u8; 2]) -> Grid {
+    grid(&[knots], kinds)
+}
+
+/// Axes that all have the same ends.
+fn grid(knots: &[&[f64]], kinds: [u8; 2]) -> Grid {
+    let mut grid = Grid {
+        axes: knots.len(),
+        points: [0; 4],
+        kinds: [0; 8],
+        values: [0.0; 8],
+        knots: knots.concat(),
+    };
+    for (axis, knots) in knots.iter().enumerate() {
+        grid.points[axis] = knots.len();
+        grid.kinds[2 * axis..2 * axis + 2].copy_from_slice(&kinds);
+    }
+    grid
+}
+
+/// What the reading leaves in a slice of a case.
+fn left_in(case: &Case, name: &str) -> Vec<f64> {
+    let mut case = case.clone();
+    Reading.run(&mut case);
+    case.argument(name).floats().to_vec()
+}
+
+/// Moments, slopes and the curve at some points.
+fn curve(random: &mut Random, line: &Grid, samples: &[f64], points: &[f64]) -> Vec<Case> {
+    let solve = lending::moments(random, line, samples);
+    let moments = left_in(&solve, "moments");
+    let slopes = lending::slopes(random, &line.knots, samples, &moments);
+    let mut cases = vec![solve, slopes];
+    for point in points {
+        let case = lending::curve(random, &line.knots, samples, &moments, *point);
+        cases.push(case);
+    }
+    cases
+}
+
+fn natural(random: &mut Random) -> Vec<Case> {
+    let line = line(&[0.0, 1.0, 2.0], [SECOND; 2]);
+    curve(random, &line, &[0.0, 1.0, 0.0], &[0.5, f64::NAN])
+}
+
+fn first_derivatives(random: &mut Random) -> Vec<Case> {
+    let line = line(&[0.0, 1.0], [FIRST; 2]);
+    curve(random, &line, &[0.0, 1.0], &[0.5])
+}
+
+fn not_a_knot(random: &mut Random) -> Vec<Case> {
+    let line = line(&[0.0, 1.0, 2.0, 3.0], [NOT_A_KNOT; 2]);
+    curve(random, &line, &[1.0, 3.0, 5.0, 7.0], &[1.5, 4.0])
+}
+
+fn periodic(random: &mut Random) -> Vec<Case> {
+    let line = line(&[0.0, 1.0], [PERIODIC; 2]);
+    curve(random, &line, &[0.0, 5.0], &[])
+}
+
+/// The square of two natural axes: its build, a query and a change.
+fn square(random: &mut Random) -> Vec<Case> {
+    let square = grid(&[&[0.0, 1.0], &[0.0, 1.0]], [SECOND; 2]);
+    let build = lending::build(random, &square, &[0.0, 0.0, 0.0, 1.0]);
+    let tensor = left_in(&build, "tensor");
+    let query = lending::query(random, &square, &tensor, &[0.5, 0.5]);
+    let nowhere = lending::query(random, &square, &tensor, &[0.5, f64::NAN]);
+    let change = lending::change(random, &square, &tensor, [0, 1, 0, 0], 2.0);
+    vec![build, query, nowhere, change]
+}
+
+fn labels(random: &mut Random) -> Vec<Case> {
+    let line = line(&[0.0, 1.0, 2.0], [SECOND; 2]);
+    let tensor = [0.0, 1.5, 1.0, 0.0, 0.0, -1.5];
+    let mut at = |point: f64| lending::query(random, &line, &tensor, &[point]);
+    vec![at(1.0), at(2.0), at(-1.0)]
+}
+
+/// NotAKnot with one point too few, and with just enough.
+fn fewest_points(random: &mut Random) -> Vec<Case> {
+    let knots = [0.0, 1.0, 2.0, 3.0];
+    let mut solve = |points: usize, kinds: [u8; 2]| {
+        let knots = &knots[..points];
+        lending::moments(random, &line(knots, kinds), knots)
+    };
+    vec![
+        solve(3, [NOT_A_KNOT; 2]),
+        solve(4, [NOT_A_KNOT; 2]),
+        solve(2, [NOT_A_KNOT, FIRST]),
+        solve(3, [NOT_A_KNOT, FIRST]),
+        solve(2, [SECOND, NOT_A_KNOT]),
+        solve(3, [SECOND, NOT_A_KNOT]),
+    ]
+}
+
+fn knots_that_do_not_rise(random: &mut Random) -> Vec<Case> {
+    let pairs = [[0.0, 0.0], [0.0, -0.0], [-1e308, 1e308]];
+    let mut solve = |knots: [f64; 2]| {
+        let line = line(&knots, [SECOND; 2]);
+        lending::moments(random, &line, &[0.0, 1.0])
+    };
+    pairs.map(&mut solve).into()
+}
+
+/// Tensors of 4,096 and 4,100 numbers, and five axes.
+fn limits(random: &mut Random) -> Vec<Case> {
+    let knots: Vec<f64> = (0..41).map(|knot| knot as f64).collect();
+    let mut build = |first: usize, second: usize| {
+        let grid = grid(&[&knots[..first], &knots[..second]], [SECOND; 2]);
+        lending::build(random, &grid, &vec![0.0; first * second])
+    };
+    let mut five = build(2, 2);
+    *five.argument_mut("axes") = Argument::Number(5);
+    vec![build(32, 32), build(25, 41), five]
+}

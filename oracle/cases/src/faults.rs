@@ -1,0 +1,269 @@
+//! Faults put into a case that would be accepted without them.
+
+use crate::case::{Argument, Call, Case};
+use crate::numbers::not_finite;
+use crate::random::Random;
+
+type Fault = fn(&mut Random, &mut Case);
+
+/// Shapes whose tensor would pass 4,096 numbers.
+const TOO_LARGE: [&[usize]; 8] = [
+    &[25, 41],
+    &[32, 33],
+    &[256, 5],
+    &[8, 8, 9],
+    &[2, 3, 86],
+    &[4, 4, 4, 5],
+    &[2, 2, 2, 33],
+    &[256, 256, 256, 256],
+];
+
+/// Counts of points that no axis may have.
+const OFF_POINTS: [usize; 6] = [0, 1, 1, 257, 257, usize::MAX];
+
+/// Numbers so large that what follows from them seldom stays finite.
+const LARGEST: [f64; 4] = [f64::MAX, -f64::MAX, 1.1e308, -1e307];
+
+/// The faults of moments.
+const OF_MOMENTS: &[Fault] = &[
+    points_off,
+    length_off,
+    scratch_short,
+    number_not_finite,
+    knots_not_rising,
+    too_few_points,
+    kind_off,
+    overflow,
+];
+
+/// The faults of the curve and its slopes.
+const OF_CURVE: &[Fault] = &[
+    points_off,
+    length_off,
+    number_not_finite,
+    knots_not_rising,
+    overflow,
+];
+
+/// The faults of a build and a change.
+const OF_TENSOR: &[Fault] = &[
+    axes_off,
+    points_off,
+    shape_too_large,
+    length_off,
+    scratch_short,
+    place_off,
+    number_not_finite,
+    knots_not_rising,
+    too_few_points,
+    kind_off,
+    overflow,
+];
+
+/// The faults of a query.
+const OF_QUERY: &[Fault] = &[
+    axes_off,
+    points_off,
+    shape_too_large,
+    length_off,
+    number_not_finite,
+    knots_not_rising,
+    overflow,
+];
+
+/// The faults of a call, apart from lists of a fixed length and damaged sheets.
+fn faults_of(call: Call) -> &'static [Fault] {
+    match call {
+        Call::Moments => OF_MOMENTS,
+        Call::Curve | Call::Slopes => OF_CURVE,
+        Call::Build | Call::Change => OF_TENSOR,
+        Call::Query => OF_QUERY,
+        Call::Read => &[length_off],
+        Call::SheetTensor => &[length_off, scratch_short],
+    }
+}
+
+/// Puts one to three faults into a case. The lists of fixed length come last,
+/// because the other faults count on them.
+pub fn spoil(random: &mut Random, case: &mut Case) {
+    let faults = faults_of(case.call);
+    for _ in 0..random.pick(&[1, 1, 1, 1, 2, 2, 3]) {
+        random.pick(faults)(random, case);
+    }
+    if random.percent(6) {
+        fixed_length_off(random, case);
+    }
+}
+
+/// How many axes the case names, at most four.
+fn axes_in_use(case: &Case) -> usize {
+    if case.has("axes") {
+        case.argument("axes").number().min(4)
+    } else {
+        1
+    }
+}
+
+fn axes_off(random: &mut Random, case: &mut Case) {
+    let axes = random.pick(&[0, 5, 6, usize::MAX]);
+    *case.argument_mut("axes") = Argument::Number(axes);
+}
+
+fn points_off(random: &mut Random, case: &mut Case) {
+    let count = random.pick(&OFF_POINTS);
+    let axes = axes_in_use(case);
+    match case.argument_mut("points") {
+        Argument::Numbers(points) if axes > 0 => points.slice_mut()[random.below(axes)] = count,
+        Argument::Number(points) => *points = count,
+        _ => (),
+    }
+}
+
+fn shape_too_large(random: &mut Random, case: &mut Case) {
+    let shape = random.pick(&TOO_LARGE);
+    *case.argument_mut("axes") = Argument::Number(shape.len());
+    case.argument_mut("points").numbers_mut()[..shape.len()].copy_from_slice(shape);
+    if case.has("kinds") {
+        case.argument_mut("kinds").bytes_mut().fill(2);
+    }
+}
+
+/// The names among these that the call has.
+fn present(case: &Case, names: &[&'static str]) -> Vec<&'static str> {
+    let names = names.iter().copied();
+    names.filter(|name| case.has(name)).collect()
+}
+
+fn length_off_by_one(random: &mut Random, argument: &mut Argument) {
+    let length = argument.length();
+    let shorter = length.saturating_sub(1);
+    argument.resize(random.pick(&[shorter, length + 1]));
+}
+
+fn length_off(random: &mut Random, case: &mut Case) {
+    let names = [
+        "knots",
+        "samples",
+        "moments",
+        "slopes",
+        "tensor",
+        "coordinates",
+    ];
+    let name = random.pick(&present(case, &names));
+    length_off_by_one(random, case.argument_mut(name));
+}
+
+fn fixed_length_off(random: &mut Random, case: &mut Case) {
+    let names = [
+        "axes", "points", "kinds", "values", "place", "value", "labels", "lanes", "length",
+    ];
+    let mut fixed = present(case, &names);
+    fixed.retain(|name| !matches!(case.argument(name), Argument::Number(_)));
+    if !fixed.is_empty() {
+        let name = random.pick(&fixed);
+        length_off_by_one(random, case.argument_mut(name));
+    }
+}
+
+/// One short where the scratch was exact; else anything shorter.
+fn scratch_short(random: &mut Random, case: &mut Case) {
+    let scratch = case.argument_mut("scratch");
+    let length = scratch.length();
+    if length > 0 {
+        let any = random.below(length);
+        scratch.resize(random.pick(&[length - 1, length - 1, any]));
+    }
+}
+
+fn place_off(random: &mut Random, case: &mut Case) {
+    let axes = axes_in_use(case);
+    if !case.has("place") || axes == 0 {
+        return;
+    }
+    let axis = random.below(axes);
+    let points = case.argument("points").numbers()[axis];
+    let index = random.pick(&[points, points, points.saturating_add(1), usize::MAX]);
+    case.argument_mut("place").numbers_mut()[axis] = index;
+}
+
+/// Stores a float in some slot of the argument of a name.
+fn store(random: &mut Random, case: &mut Case, name: &str, number: f64) {
+    match case.argument_mut(name) {
+        Argument::Float(float) => *float = number,
+        Argument::Floats(lent) if !lent.slice().is_empty() => {
+            let slot = random.below(lent.slice().len());
+            lent.slice_mut()[slot] = number;
+        }
+        _ => (),
+    }
+}
+
+fn number_not_finite(random: &mut Random, case: &mut Case) {
+    let names = [
+        "knots",
+        "samples",
+        "moments",
+        "tensor",
+        "coordinates",
+        "values",
+        "point",
+        "sample",
+    ];
+    let name = random.pick(&present(case, &names));
+    let number = not_finite(random);
+    store(random, case, name, number);
+}
+
+fn overflow(random: &mut Random, case: &mut Case) {
+    let names = [
+        "samples",
+        "moments",
+        "tensor",
+        "coordinates",
+        "values",
+        "point",
+        "sample",
+    ];
+    let name = random.pick(&present(case, &names));
+    let number = random.pick(&LARGEST);
+    store(random, case, name, number);
+}
+
+fn knots_not_rising(random: &mut Random, case: &mut Case) {
+    let knots = case.argument_mut("knots").floats_mut();
+    if knots.len() < 2 {
+        return;
+    }
+    let lower = random.below(knots.len() - 1);
+    let (first, second) = (knots[lower], knots[lower + 1]);
+    let pairs = [
+        (first, first),
+        (second, first),
+        (0.0, -0.0),
+        (-0.0, 0.0),
+        (-1e308, 1e308),
+    ];
+    (knots[lower], knots[lower + 1]) = random.pick(&pairs);
+}
+
+fn too_few_points(random: &mut Random, case: &mut Case) {
+    let axes = axes_in_use(case);
+    if axes == 0 {
+        return;
+    }
+    let axis = random.below(axes);
+    let kinds = case.argument_mut("kinds").bytes_mut();
+    let pair = random.pick(&[[0, 0], [0, 0], [0, 1], [2, 0]]);
+    kinds[2 * axis..2 * axis + 2].copy_from_slice(&pair);
+}
+
+fn kind_off(random: &mut Random, case: &mut Case) {
+    let axes = axes_in_use(case);
+    if axes == 0 {
+        return;
+    }
+    let axis = random.below(axes);
+    let kinds = case.argument_mut("kinds").bytes_mut();
+    let pair = random.pick(&[[3, 0], [1, 3], [2, 3], [4, 0], [0, 4], [255, 255], [4, 4]]);
+    kinds[2 * axis..2 * axis + 2].copy_from_slice(&pair);
+}

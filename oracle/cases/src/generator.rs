@@ -1,0 +1,218 @@
+//! One case of each kind from a sequence of random numbers.
+
+use crate::case::Case;
+use crate::faults::spoil;
+use crate::grid::Grid;
+use crate::lending;
+use crate::numbers::list;
+use crate::random::Random;
+use crate::sheet::{damaged_sheet, good_sheet, swept_sheet};
+use reading::CURVE_SCRATCH;
+
+/// The kinds of cases: the examples of document 01, one kind for each call, and
+/// lists of changes.
+#[derive(Debug, Clone, Copy, PartialEq, Eq)]
+pub enum Kind {
+    Example,
+    Moments,
+    Curve,
+    Slopes,
+    Build,
+    Change,
+    ChangeList,
+    Query,
+    Read,
+    SheetTensor,
+}
+
+/// Every kind, in the order of the report.
+pub const KINDS: [Kind; 10] = [
+    Kind::Example,
+    Kind::Moments,
+    Kind::Curve,
+    Kind::Slopes,
+    Kind::Build,
+    Kind::Change,
+    Kind::ChangeList,
+    Kind::Query,
+    Kind::Read,
+    Kind::SheetTensor,
+];
+
+impl Kind {
+    /// The name that the runner prints and takes.
+    pub fn name(self) -> &'static str {
+        match self {
+            Kind::Example => "example",
+            Kind::Moments => "moments",
+            Kind::Curve => "curve",
+            Kind::Slopes => "slopes",
+            Kind::Build => "build",
+            Kind::Change => "change",
+            Kind::ChangeList => "change_list",
+            Kind::Query => "query",
+            Kind::Read => "read",
+            Kind::SheetTensor => "sheet_tensor",
+        }
+    }
+}
+
+/// So many cases in a hundred get a fault; some fail without one.
+const FAULTY: usize = 36;
+
+/// A damaged sheet is often still a good one for the reader, so it gets more
+/// faults; of what it accepts the build refuses some.
+const FAULTY_TO_READ: usize = 46;
+const FAULTY_TO_BUILD: usize = 30;
+
+/// The case of a kind that is a single call, by its number.
+pub fn single(kind: Kind, number: usize, random: &mut Random) -> Case {
+    match kind {
+        Kind::Moments => moments(random),
+        Kind::Curve => curve(random),
+        Kind::Slopes => slopes(random),
+        Kind::Build => build(random),
+        Kind::Change => change(random),
+        Kind::Query => query(random),
+        Kind::Read => read(random, number),
+        Kind::SheetTensor => sheet_tensor(random, number),
+        Kind::Example | Kind::ChangeList => panic!("more than one call: {}", kind.name()),
+    }
+}
+
+/// The moments of generated samples.
+fn moments(random: &mut Random) -> Case {
+    let line = Grid::line(random);
+    let samples = list(random, line.samples());
+    let case = lending::moments(random, &line, &samples);
+    spoiled_at_times(random, case)
+}
+
+/// The curve at a generated point.
+fn curve(random: &mut Random) -> Case {
+    let (line, samples, moments) = solved_curve(random);
+    let point = line.coordinates(random)[0];
+    let case = lending::curve(random, &line.knots, &samples, &moments, point);
+    spoiled_at_times(random, case)
+}
+
+/// The slopes of a generated curve.
+fn slopes(random: &mut Random) -> Case {
+    let (line, samples, moments) = solved_curve(random);
+    let case = lending::slopes(random, &line.knots, &samples, &moments);
+    spoiled_at_times(random, case)
+}
+
+/// The build of generated samples.
+fn build(random: &mut Random) -> Case {
+    let grid = Grid::generate(random);
+    let samples = list(random, grid.samples());
+    let case = lending::build(random, &grid, &samples);
+    spoiled_at_times(random, case)
+}
+
+/// A change in a generated tensor.
+fn change(random: &mut Random) -> Case {
+    let grid = Grid::generate(random);
+    let tensor = tensor(random, &grid);
+    let case = change_of(random, &grid, &tensor);
+    spoiled_at_times(random, case)
+}
+
+/// A change somewhere in a tensor on a grid.
+pub fn change_of(random: &mut Random, grid: &Grid, tensor: &[f64]) -> Case {
+    let place = grid.place(random);
+    let sample = list(random, 1)[0];
+    lending::change(random, grid, tensor, place, sample)
+}
+
+/// A query of a generated tensor.
+fn query(random: &mut Random) -> Case {
+    let grid = Grid::generate(random);
+    let tensor = tensor(random, &grid);
+    let coordinates = grid.coordinates(random);
+    let case = lending::query(random, &grid, &tensor, &coordinates);
+    spoiled_at_times(random, case)
+}
+
+/// A sheet to be read: first every cut and every single damaged bit of a small
+/// one, by the number of the case, and then generated ones.
+fn read(random: &mut Random, number: usize) -> Case {
+    if let Some(bytes) = swept_sheet(number) {
+        return lending::read(random, &bytes);
+    }
+    let lend = |random: &mut Random, bytes: &[u8], _| lending::read(random, bytes);
+    sheet_case(random, number, FAULTY_TO_READ, lend)
+}
+
+/// A sheet to be read and built.
+fn sheet_tensor(random: &mut Random, number: usize) -> Case {
+    sheet_case(random, number, FAULTY_TO_BUILD, lending::sheet_tensor)
+}
+
+fn spoiled_at_times(random: &mut Random, mut case: Case) -> Case {
+    if random.percent(FAULTY) {
+        spoil(random, &mut case);
+    }
+    case
+}
+
+/// A case of a sheet that is good or damaged, or whose other arguments are.
+fn sheet_case(
+    random: &mut Random,
+    number: usize,
+    faulty: usize,
+    lend: fn(&mut Random, &[u8], usize) -> Case,
+) -> Case {
+    let faulty = random.percent(faulty);
+    let damaged = faulty && random.percent(80);
+    let (bytes, tensor) = if damaged {
+        damaged_sheet(random, number)
+    } else {
+        good_sheet(random)
+    };
+    let mut case = lend(random, &bytes, tensor);
+    if faulty && (!damaged || random.percent(10)) {
+        spoil(random, &mut case);
+    }
+    case
+}
+
+/// A line, samples on it and their moments, which are now and then any numbers.
+fn solved_curve(random: &mut Random) -> (Grid, Vec<f64>, Vec<f64>) {
+    let line = Grid::line(random);
+    let points = line.points[0];
+    let samples = list(random, points);
+    let mut moments = list(random, points);
+    if random.percent(70) {
+        reading::moments(
+            points,
+            &line.knots,
+            &samples,
+            &line.kinds[..2],
+            &line.values[..2],
+            &mut moments,
+            &mut [0.0; CURVE_SCRATCH],
+        );
+    }
+    (line, samples, moments)
+}
+
+/// A tensor that was built where the samples allow it, or any numbers at all.
+fn tensor(random: &mut Random, grid: &Grid) -> Vec<f64> {
+    let mut tensor = list(random, grid.tensor());
+    if random.percent(60) {
+        let samples = list(random, grid.samples());
+        reading::build(
+            grid.axes,
+            &grid.points,
+            &grid.kinds,
+            &grid.values,
+            &grid.knots,
+            &samples,
+            &mut tensor,
+            &mut vec![0.0; grid.tensor() + CURVE_SCRATCH],
+        );
+    }
+    tensor
+}

@@ -1,0 +1,204 @@
+//! Axes that no call refuses: points, ends and knots.
+
+use crate::numbers::{edge, not_finite, ordinary};
+use crate::random::Random;
+
+/// Shapes whose tensor has 4,096 numbers or an axis of 256 points.
+const LARGE: [&[usize]; 12] = [
+    &[256],
+    &[255],
+    &[32, 32],
+    &[256, 4],
+    &[4, 256],
+    &[2, 256],
+    &[31, 33],
+    &[8, 8, 8],
+    &[2, 2, 128],
+    &[4, 4, 4, 4],
+    &[2, 2, 2, 32],
+    &[16, 4, 2, 2],
+];
+
+/// Axes as the calls take them; what stands past the axes in use is not read.
+#[derive(Debug, Clone)]
+pub struct Grid {
+    pub axes: usize,
+    pub points: [usize; 4],
+    pub kinds: [u8; 8],
+    pub values: [f64; 8],
+    pub knots: Vec<f64>,
+}
+
+impl Grid {
+    /// A grid of one to four axes.
+    pub fn generate(random: &mut Random) -> Self {
+        let shape = shape(random);
+        Self::of_shape(random, &shape)
+    }
+
+    /// A grid of one axis.
+    pub fn line(random: &mut Random) -> Self {
+        let points = match random.below(100) {
+            0 => random.pick(&[255, 256]),
+            1..=3 => random.between(9, 64),
+            4..=39 => random.between(2, 3),
+            _ => random.between(2, 8),
+        };
+        Self::of_shape(random, &[points])
+    }
+
+    /// A grid of a given shape, with kinds that its points allow.
+    pub fn of_shape(random: &mut Random, shape: &[usize]) -> Self {
+        let mut grid = Self {
+            axes: shape.len(),
+            points: [0; 4].map(|_| random.pick(&[0, 1, 2, 257, usize::MAX])),
+            kinds: [0; 8].map(|_| random.pick(&[0, 1, 2, 3, 4, 255])),
+            values: [0.0; 8].map(|_| not_finite(random)),
+            knots: Vec::new(),
+        };
+        for (axis, points) in shape.iter().enumerate() {
+            grid.points[axis] = *points;
+            grid.set_ends(random, axis);
+            let knots = rising_knots(random, *points);
+            grid.knots.extend(knots);
+        }
+        grid
+    }
+
+    /// Kinds that the axis has points for. A kind without a number keeps the one
+    /// that is not read.
+    fn set_ends(&mut self, random: &mut Random, axis: usize) {
+        let kinds = ends(random, self.points[axis]);
+        for (end, kind) in kinds.into_iter().enumerate() {
+            self.kinds[2 * axis + end] = kind;
+            if matches!(kind, 1 | 2) {
+                let number = ordinary(random);
+                self.values[2 * axis + end] = random.pick(&[number, number, 0.0, -0.0]);
+            }
+        }
+    }
+
+    /// How many samples the axes in use have.
+    pub fn samples(&self) -> usize {
+        self.points[..self.axes].iter().product()
+    }
+
+    /// How many numbers the tensor holds.
+    pub fn tensor(&self) -> usize {
+        self.samples() << self.axes
+    }
+
+    /// A coordinate for every axis: in a cell, on a knot or beyond the grid.
+    pub fn coordinates(&self, random: &mut Random) -> Vec<f64> {
+        let mut rest = self.knots.as_slice();
+        let mut coordinates = Vec::new();
+        for points in &self.points[..self.axes] {
+            let (knots, behind) = rest.split_at(*points);
+            coordinates.push(coordinate(random, knots));
+            rest = behind;
+        }
+        coordinates
+    }
+
+    /// A place on the grid; what stands past the axes in use is not read.
+    pub fn place(&self, random: &mut Random) -> [usize; 4] {
+        let mut place = [usize::MAX; 4];
+        for (index, points) in place.iter_mut().zip(&self.points[..self.axes]) {
+            *index = random.below(*points);
+        }
+        place
+    }
+}
+
+/// Kinds of both ends that so many points are enough for.
+fn ends(random: &mut Random, points: usize) -> [u8; 2] {
+    if random.percent(20) {
+        return [3, 3];
+    }
+    loop {
+        let kinds = [random.below(3) as u8, random.below(3) as u8];
+        let dropped = kinds.iter().filter(|kind| **kind == 0).count();
+        if dropped == 0 || points >= 2 + dropped {
+            return kinds;
+        }
+    }
+}
+
+/// The points of each axis: small, now and then a few more, seldom the most.
+fn shape(random: &mut Random) -> Vec<usize> {
+    if random.below(400) == 0 {
+        return random.pick(&LARGE).to_vec();
+    }
+    let axes = random.pick(&[1, 1, 1, 2, 2, 2, 2, 3, 3, 4]);
+    let most = [9, 5, 4, 3][axes - 1];
+    (0..axes).map(|_| random.between(2, most)).collect()
+}
+
+/// A point of one axis.
+fn coordinate(random: &mut Random, knots: &[f64]) -> f64 {
+    let lower = random.below(knots.len() - 1);
+    let step = knots[lower + 1] - knots[lower];
+    match random.below(10) {
+        0..=2 => random.pick(knots),
+        3 => knots[0] - step * random.between(1, 3) as f64,
+        4 => knots[knots.len() - 1] + step * random.between(1, 3) as f64,
+        5 if random.percent(20) => edge(random),
+        5 => ordinary(random),
+        _ => knots[lower] + step * (random.between(1, 15) as f64 / 16.0),
+    }
+}
+
+/// Knots that rise strictly, by finite steps.
+fn rising_knots(random: &mut Random, count: usize) -> Vec<f64> {
+    let knots = match random.below(20) {
+        0 => neighbours(random, count),
+        1 => stepped(random, count, -1.6e308, |_| 1.25e306),
+        2 => stepped(random, count, -0.0, |random| {
+            2f64.powi(random.between(0, 60) as i32 - 30)
+        }),
+        3..=9 => stepped(random, count, 0.0, |_| 1.0),
+        10..=13 => {
+            let first = ordinary(random);
+            stepped(random, count, first, |random| {
+                random.between(1, 12) as f64 / 4.0
+            })
+        }
+        _ => {
+            let first = ordinary(random);
+            stepped(random, count, first, |random| 0.01 + ordinary(random).abs())
+        }
+    };
+    let rising = knots.windows(2).all(|pair| pair[0] < pair[1]);
+    if rising {
+        knots
+    } else {
+        stepped(random, count, 0.0, |_| 1.0)
+    }
+}
+
+/// Knots from a first one, each a step above the one before.
+fn stepped(
+    random: &mut Random,
+    count: usize,
+    first: f64,
+    step: fn(&mut Random) -> f64,
+) -> Vec<f64> {
+    let mut knot = first;
+    let mut knots = vec![knot];
+    for _ in 1..count {
+        knot += step(random);
+        knots.push(knot);
+    }
+    knots
+}
+
+/// Knots with no number, or only a few, of the format between them.
+fn neighbours(random: &mut Random, count: usize) -> Vec<f64> {
+    let mut pattern = random.pick(&[0, 1.0f64.to_bits(), 1e-300f64.to_bits()]);
+    let mut knots = Vec::new();
+    for _ in 0..count {
+        knots.push(f64::from_bits(pattern));
+        pattern += random.between(1, 3) as u64;
+    }
+    knots
+}

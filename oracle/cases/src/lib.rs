@@ -1,0 +1,24 @@
+//! Generated calls, and their comparison with the reading of document 01.
+
+mod case;
+mod comparison;
+mod examples;
+mod faults;
+mod generator;
+mod grid;
+mod lending;
+mod lent;
+mod list;
+mod numbers;
+mod random;
+mod reading_calls;
+mod report;
+mod sheet;
+
+pub use case::{Argument, Call, Calls, Case};
+pub use comparison::{compare_all, Plan};
+pub use generator::{Kind, KINDS};
+pub use lent::Lent;
+pub use list::{list, CALLS};
+pub use reading_calls::Reading;
+pub use report::{Counts, Report};

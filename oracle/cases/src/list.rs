@@ -1,0 +1,137 @@
+//! A fixed list of cases with the reading's answers, for a program that replays
+//! them with no Rust at hand.
+//!
+//! Everything is a word of 64 bits, most significant byte first. The list is the
+//! number of cases and then the cases. A case is
+//!
+//! - the number of its call, in the order of [`CALLS`];
+//! - its arguments in order: a number or a float is one word; a slice is its
+//!   length, a form and what the form wants;
+//! - the refusal;
+//! - for each slice that the call may write, in order, a form and what it wants:
+//!   the slice after the call.
+//!
+//! Form 0 of an argument is a word for each item. Form 0 of a slice after the
+//! call is a count and so many words: the items at the front; those behind stand
+//! as they were given. Form 1 is a first word and a step, for both: each item is
+//! the one before plus the step. A byte is a word too.
+
+use crate::case::{Argument, Call, Calls, Case};
+use crate::examples::examples;
+use crate::generator::{single, Kind, KINDS};
+use crate::random::Random;
+use crate::reading_calls::Reading;
+
+/// The calls in the order of their numbers.
+pub const CALLS: [Call; 8] = [
+    Call::Moments,
+    Call::Curve,
+    Call::Slopes,
+    Call::Build,
+    Call::Change,
+    Call::Query,
+    Call::Read,
+    Call::SheetTensor,
+];
+
+/// How many accepted cases of each call the list has.
+const ACCEPTED: usize = 24;
+
+/// How many cases of each refusal of each call.
+const REFUSED: usize = 3;
+
+/// The most words of a case.
+const LONGEST_CASE: usize = 200;
+
+/// How many generated cases of a kind are looked at.
+const LOOKED_AT: u64 = 3_000;
+
+/// The words of the whole list: the examples of document 01, and generated cases.
+pub fn list(seed: u64) -> Vec<u64> {
+    let mut cases: Vec<Vec<u64>> = examples().iter().map(|case| answered(case).1).collect();
+    cases.retain(|words| words.len() <= LONGEST_CASE);
+    for kind in KINDS {
+        if !matches!(kind, Kind::Example | Kind::ChangeList) {
+            cases.extend(chosen(seed, kind));
+        }
+    }
+    let mut words = vec![cases.len() as u64];
+    words.extend(cases.concat());
+    words
+}
+
+/// The first cases of a kind, with enough of every refusal.
+fn chosen(seed: u64, kind: Kind) -> Vec<Vec<u64>> {
+    let mut wanted = [REFUSED; 15];
+    wanted[0] = ACCEPTED;
+    let mut chosen = Vec::new();
+    for number in 0..LOOKED_AT {
+        let mut random = Random::of_case(seed, kind as u64, number);
+        let (refusal, words) = answered(&single(kind, number as usize, &mut random));
+        if wanted[refusal] > 0 && words.len() <= LONGEST_CASE {
+            wanted[refusal] -= 1;
+            chosen.push(words);
+        }
+    }
+    chosen
+}
+
+/// The refusal and the words of a case.
+fn answered(given: &Case) -> (usize, Vec<u64>) {
+    let mut after = given.clone();
+    let refusal = Reading.run(&mut after).expect("the reading answers all");
+    (refusal, words(given, refusal, &after))
+}
+
+fn words(given: &Case, refusal: usize, after: &Case) -> Vec<u64> {
+    let number = CALLS.iter().position(|call| *call == given.call);
+    let mut words = vec![number.expect("every call has a number") as u64];
+    for argument in &given.arguments {
+        words.extend(argument_words(argument));
+    }
+    words.push(refusal as u64);
+    for name in given.call.written() {
+        let (given, after) = (given.argument(name).words(), after.argument(name).words());
+        words.extend(after_words(&given, &after));
+    }
+    words
+}
+
+fn argument_words(argument: &Argument) -> Vec<u64> {
+    let items = argument.words();
+    if matches!(argument, Argument::Number(_) | Argument::Float(_)) {
+        return items;
+    }
+    let mut words = vec![items.len() as u64];
+    match step(&items) {
+        Some(step) => words.extend([1, items[0], step]),
+        None => {
+            words.push(0);
+            words.extend(items);
+        }
+    }
+    words
+}
+
+fn after_words(given: &[u64], after: &[u64]) -> Vec<u64> {
+    let last_changed = (0..after.len()).rfind(|at| given[*at] != after[*at]);
+    let changed = last_changed.map_or(0, |last| last + 1);
+    match step(after) {
+        Some(step) if changed > 2 => vec![1, after[0], step],
+        _ => {
+            let mut words = vec![0, changed as u64];
+            words.extend(&after[..changed]);
+            words
+        }
+    }
+}
+
+/// The step of three or more items that are counted up by it.
+fn step(items: &[u64]) -> Option<u64> {
+    if items.len() < 3 {
+        return None;
+    }
+    let step = items[1].wrapping_sub(items[0]);
+    let counted = |pair: &[u64]| pair[0].wrapping_add(step) == pair[1];
+    items.windows(2).all(counted).then_some(step)
+}

@@ -1,0 +1,83 @@
+//! The reading of document 01 as something that answers calls.
+
+use crate::case::{Argument, Call, Calls, Case};
+
+/// The reading, which answers every call.
+pub struct Reading;
+
+impl Calls for Reading {
+    fn run(&self, case: &mut Case) -> Option<usize> {
+        let arguments = case.arguments.as_mut_slice();
+        let refusal = match case.call {
+            Call::Moments | Call::Curve | Call::Slopes => on_a_line(case.call, arguments),
+            Call::Build | Call::Change | Call::Query => on_a_grid(case.call, arguments),
+            Call::Read | Call::SheetTensor => on_a_sheet(case.call, arguments),
+        };
+        Some(refusal)
+    }
+}
+
+#[rustfmt::skip]
+fn on_a_line(call: Call, arguments: &mut [Argument]) -> usize {
+    match (call, arguments) {
+        (Call::Moments, [points, knots, samples, kinds, values, moments, scratch]) => {
+            reading::moments(
+                points.number(), knots.floats(), samples.floats(), kinds.bytes(),
+                values.floats(), moments.floats_mut(), scratch.floats_mut(),
+            )
+        }
+        (Call::Curve, [points, knots, samples, moments, point, value]) => reading::curve(
+            points.number(), knots.floats(), samples.floats(), moments.floats(),
+            point.float(), value.floats_mut(),
+        ),
+        (Call::Slopes, [points, knots, samples, moments, slopes]) => reading::slopes(
+            points.number(), knots.floats(), samples.floats(), moments.floats(),
+            slopes.floats_mut(),
+        ),
+        _ => panic!("a case has the arguments of its call"),
+    }
+}
+
+#[rustfmt::skip]
+fn on_a_grid(call: Call, arguments: &mut [Argument]) -> usize {
+    match (call, arguments) {
+        (Call::Build, [axes, points, kinds, values, knots, samples, tensor, scratch]) => {
+            reading::build(
+                axes.number(), points.numbers(), kinds.bytes(), values.floats(),
+                knots.floats(), samples.floats(), tensor.floats_mut(), scratch.floats_mut(),
+            )
+        }
+        (
+            Call::Change,
+            [axes, points, kinds, values, knots, tensor, scratch, place, sample, lanes],
+        ) => reading::change(
+            axes.number(), points.numbers(), kinds.bytes(), values.floats(),
+            knots.floats(), tensor.floats_mut(), scratch.floats_mut(), place.numbers(),
+            sample.float(), lanes.numbers_mut(),
+        ),
+        (Call::Query, [axes, points, knots, tensor, coordinates, value, labels]) => {
+            reading::query(
+                axes.number(), points.numbers(), knots.floats(), tensor.floats(),
+                coordinates.floats(), value.floats_mut(), labels.numbers_mut(),
+            )
+        }
+        _ => panic!("a case has the arguments of its call"),
+    }
+}
+
+#[rustfmt::skip]
+fn on_a_sheet(call: Call, arguments: &mut [Argument]) -> usize {
+    match (call, arguments) {
+        (Call::Read, [bytes, knots, samples, axes, points, kinds, values]) => reading::read(
+            bytes.bytes(), knots.floats_mut(), samples.floats_mut(), axes.numbers_mut(),
+            points.numbers_mut(), kinds.bytes_mut(), values.floats_mut(),
+        ),
+        (Call::SheetTensor, [bytes, knots, samples, tensor, scratch, length]) => {
+            reading::sheet_tensor(
+                bytes.bytes(), knots.floats_mut(), samples.floats_mut(), tensor.floats_mut(),
+                scratch.floats_mut(), length.numbers_mut(),
+            )
+        }
+        _ => panic!("a case has the arguments of its call"),
+    }
+}

@@ -1,0 +1,158 @@
+//! What a run has seen, and how a difference is printed.
+
+use crate::case::Case;
+use crate::generator::{Kind, KINDS};
+use crate::lent::GUARDS;
+use std::fmt::{self, Write};
+
+/// How many differing cases of a kind are printed in full.
+const PRINTED: u64 = 2;
+
+/// What was seen of one kind of case.
+#[derive(Debug, Clone, Default)]
+pub struct Counts {
+    /// Calls made to the reading.
+    pub calls: u64,
+    /// Calls whose answer was compared.
+    pub compared: u64,
+    /// How often each refusal was given; number 0 is acceptance.
+    pub refusals: [u64; 15],
+    /// Compared calls that were not the same.
+    pub differences: u64,
+}
+
+/// What was seen of every kind, and the first differing cases.
+#[derive(Debug, Default)]
+pub struct Report {
+    counts: [Counts; KINDS.len()],
+    differing: Vec<String>,
+}
+
+impl Report {
+    /// What was seen of one kind.
+    pub fn of(&self, kind: Kind) -> &Counts {
+        &self.counts[kind as usize]
+    }
+
+    pub(crate) fn of_mut(&mut self, kind: Kind) -> &mut Counts {
+        &mut self.counts[kind as usize]
+    }
+
+    /// What was seen of all kinds together.
+    pub fn total(&self) -> Counts {
+        let mut total = Counts::default();
+        for counts in &self.counts {
+            total.calls += counts.calls;
+            total.compared += counts.compared;
+            total.differences += counts.differences;
+            for (sum, seen) in total.refusals.iter_mut().zip(counts.refusals) {
+                *sum += seen;
+            }
+        }
+        total
+    }
+
+    pub(crate) fn difference(&mut self, kind: Kind, text: impl FnOnce() -> String) {
+        self.of_mut(kind).differences += 1;
+        if self.of(kind).differences <= PRINTED {
+            self.differing.push(text());
+        }
+    }
+}
+
+impl fmt::Display for Report {
+    fn fmt(&self, formatter: &mut fmt::Formatter<'_>) -> fmt::Result {
+        for text in &self.differing {
+            writeln!(formatter, "{text}")?;
+        }
+        for kind in KINDS {
+            write_counts(formatter, kind.name(), self.of(kind))?;
+        }
+        write_counts(formatter, "all", &self.total())
+    }
+}
+
+fn write_counts(formatter: &mut fmt::Formatter<'_>, name: &str, counts: &Counts) -> fmt::Result {
+    let accepted = counts.refusals[0];
+    let share = 100 * accepted / counts.calls.max(1);
+    write!(
+        formatter,
+        "{name}: {} calls, {accepted} accepted ({share} in 100), refused",
+        counts.calls
+    )?;
+    for (number, seen) in counts.refusals.iter().enumerate().skip(1) {
+        if *seen > 0 {
+            write!(formatter, " {number}:{seen}")?;
+        }
+    }
+    writeln!(
+        formatter,
+        "; {} compared, {} differences",
+        counts.compared, counts.differences
+    )
+}
+
+/// A case in full: what went in, and where the two outcomes part.
+pub(crate) fn describe(
+    title: &str,
+    given: &Case,
+    expected: (usize, &Case),
+    found: (usize, &Case),
+) -> String {
+    let mut text = format!(
+        "DIFFERENCE in {title}: {:?}\n  refusal: expected {}, found {}\n",
+        given.call, expected.0, found.0
+    );
+    for (position, name) in given.call.arguments().iter().enumerate() {
+        let patterns = abbreviated(&given.arguments[position].words());
+        text += &format!("  {name}: {patterns}\n");
+        let expected = expected.1.arguments[position].words_with_guards();
+        let found = found.1.arguments[position].words_with_guards();
+        text += &parting(&expected, &found);
+    }
+    text
+}
+
+/// Where two outcomes of a slice part first; a place below 0 is a guard.
+fn parting(expected: &[u64], found: &[u64]) -> String {
+    let mut parted = (0..expected.len()).filter(|at| expected[*at] != found[*at]);
+    let Some(first) = parted.next() else {
+        return String::new();
+    };
+    format!(
+        "    parts in {} places, first at {}: expected {:016x}, found {:016x}\n",
+        1 + parted.count(),
+        first as isize - GUARDS as isize,
+        expected[first],
+        found[first]
+    )
+}
+
+/// Hexadecimal patterns; a run of equal or counted-up ones is written once.
+fn abbreviated(words: &[u64]) -> String {
+    let mut text = String::new();
+    let mut at = 0;
+    while at < words.len() {
+        let run = run_length(&words[at..]);
+        let _ = write!(text, "{:x}", words[at]);
+        if run > 3 {
+            let _ = write!(text, "..{:x} ({run} of them)", words[at + run - 1]);
+            at += run;
+        } else {
+            at += 1;
+        }
+        text.push(' ');
+    }
+    text
+}
+
+/// How many words from the front are equal, or each one more than the last.
+fn run_length(words: &[u64]) -> usize {
+    let steps = |step: u64| {
+        let pairs = words.windows(2);
+        1 + pairs
+            .take_while(|pair| pair[0].wrapping_add(step) == pair[1])
+            .count()
+    };
+    steps(0).max(steps(1))
+}

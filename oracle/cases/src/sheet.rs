@@ -1,0 +1,167 @@
+//! Packed sheets: written from a grid and its samples, good and damaged.
+
+use crate::grid::Grid;
+use crate::numbers::{list, not_finite};
+use crate::random::Random;
+
+/// Shapes that a sheet may name and that 3 refuses.
+const TOO_LARGE: [&[usize]; 5] = [&[25, 41], &[32, 33], &[8, 8, 9], &[4, 4, 4, 5], &[256, 5]];
+
+/// The bits of a sheet, each field as a number and its width.
+type Fields = Vec<(u64, usize)>;
+
+/// A sheet that the reader accepts, with the length of its tensor.
+pub fn good_sheet(random: &mut Random) -> (Vec<u8>, usize) {
+    let (fields, tensor) = good_fields(random);
+    (pack(&fields), tensor)
+}
+
+fn good_fields(random: &mut Random) -> (Fields, usize) {
+    let mut grid = Grid::generate(random);
+    let mut samples = list(random, grid.samples());
+    if random.percent(12) {
+        spoil_for_build(random, &mut grid, &mut samples);
+    }
+    (fields(&grid, &samples), grid.tensor())
+}
+
+/// Faults that the reader hands on and the build refuses.
+fn spoil_for_build(random: &mut Random, grid: &mut Grid, samples: &mut [f64]) {
+    let knot = random.below(grid.knots.len());
+    match random.below(4) {
+        0 => grid.knots[knot] = not_finite(random),
+        1 => samples[random.below(samples.len())] = not_finite(random),
+        2 => grid.knots[knot] = grid.knots[0],
+        _ => grid.kinds = [0; 8],
+    }
+}
+
+fn fields(grid: &Grid, samples: &[f64]) -> Fields {
+    let mut fields = vec![(1, 4), (grid.axes as u64, 3)];
+    let mut knots = grid.knots.iter();
+    for axis in 0..grid.axes {
+        let ends = [2 * axis, 2 * axis + 1];
+        fields.push((grid.points[axis] as u64 - 1, 8));
+        fields.extend(ends.map(|end| (u64::from(grid.kinds[end]), 2)));
+        let numbered = ends
+            .into_iter()
+            .filter(|end| matches!(grid.kinds[*end], 1 | 2));
+        fields.extend(numbered.map(|end| (grid.values[end].to_bits(), 64)));
+        let own = knots.by_ref().take(grid.points[axis]);
+        fields.extend(own.map(|knot| (knot.to_bits(), 64)));
+    }
+    fields.extend(samples.iter().map(|sample| (sample.to_bits(), 64)));
+    fields
+}
+
+/// The fields one after the other, most significant bit first, and zero bits to
+/// the byte.
+fn pack(fields: &Fields) -> Vec<u8> {
+    let mut bytes = Vec::new();
+    let mut bits = 0;
+    for (number, width) in fields {
+        for place in (0..*width).rev() {
+            if bits % 8 == 0 {
+                bytes.push(0);
+            }
+            let bit = (number >> place & 1) as u8;
+            bytes[bits / 8] |= bit << (7 - bits % 8);
+            bits += 1;
+        }
+    }
+    bytes
+}
+
+/// The sheet of document 01: one natural axis with knots and samples 0 and 1.
+pub fn example_sheet() -> Vec<u8> {
+    let line = [0.0, 1.0];
+    let grid = Grid {
+        axes: 1,
+        points: [2, 0, 0, 0],
+        kinds: [2, 2, 0, 0, 0, 0, 0, 0],
+        values: [0.0; 8],
+        knots: line.to_vec(),
+    };
+    pack(&fields(&grid, &line))
+}
+
+/// The example cut at every length, and then with every single bit damaged.
+pub fn swept_sheet(number: usize) -> Option<Vec<u8>> {
+    let mut bytes = example_sheet();
+    if number <= bytes.len() {
+        bytes.truncate(number);
+        return Some(bytes);
+    }
+    let bit = number - bytes.len() - 1;
+    *bytes.get_mut(bit / 8)? ^= 0x80 >> (bit % 8);
+    Some(bytes)
+}
+
+/// A sheet with a fault; some faults leave a sheet that is still good.
+pub fn damaged_sheet(random: &mut Random, number: usize) -> (Vec<u8>, usize) {
+    let (mut fields, tensor) = good_fields(random);
+    let bytes = match random.below(12) {
+        0..=2 => {
+            replace_small_field(random, &mut fields);
+            pack(&fields)
+        }
+        3..=4 => too_large_sheet(random),
+        5..=7 => cut(pack(&fields), number),
+        8..=9 => flip_bits(random, pack(&fields)),
+        10 => mark_last_bits(random, pack(&fields)),
+        _ => lengthen(random, pack(&fields)),
+    };
+    (bytes, tensor)
+}
+
+/// Gives edition, axes, points or a kind another number.
+fn replace_small_field(random: &mut Random, fields: &mut Fields) {
+    let small: Vec<usize> = (0..fields.len()).filter(|at| fields[*at].1 < 64).collect();
+    let at = random.pick(&small);
+    let limit = 1 << fields[at].1;
+    let any = random.below(limit);
+    fields[at].0 = random.pick(&[0, limit - 1, any]) as u64;
+}
+
+fn too_large_sheet(random: &mut Random) -> Vec<u8> {
+    let shape = random.pick(&TOO_LARGE);
+    let grid = Grid::of_shape(random, shape);
+    let count = random.pick(&[0, 1, grid.samples()]);
+    pack(&fields(&grid, &list(random, count)))
+}
+
+/// Cuts at a length that goes through all of them as the cases are counted.
+fn cut(mut bytes: Vec<u8>, number: usize) -> Vec<u8> {
+    bytes.truncate(number % bytes.len());
+    bytes
+}
+
+fn flip_bits(random: &mut Random, mut bytes: Vec<u8>) -> Vec<u8> {
+    for _ in 0..random.between(1, 4) {
+        let near_front = random.percent(50);
+        let range = if near_front {
+            bytes.len().min(4)
+        } else {
+            bytes.len()
+        };
+        bytes[random.below(range)] ^= 1 << random.below(8);
+    }
+    bytes
+}
+
+fn mark_last_bits(random: &mut Random, mut bytes: Vec<u8>) -> Vec<u8> {
+    let last = bytes.len() - 1;
+    bytes[last] |= 1 << random.below(8);
+    bytes
+}
+
+/// Adds bytes behind the sheet; now and then more than may be read.
+fn lengthen(random: &mut Random, mut bytes: Vec<u8>) -> Vec<u8> {
+    let length = match random.below(40) {
+        0 => random.pick(&[65_535, 65_536, 65_537, 70_000]),
+        _ => bytes.len() + random.between(1, 9),
+    };
+    let filling = random.pick(&[0, 0, 1, 0x80, 0xFF]);
+    bytes.resize(length.max(bytes.len()), filling);
+    bytes
+}

@@ -1,0 +1,57 @@
+//! The generated cases reach every refusal, and most are accepted.
+
+use cases::{compare_all, Calls, Case, Kind, Plan, KINDS};
+
+/// Answers no call: the generator alone runs.
+struct Nobody;
+
+impl Calls for Nobody {
+    fn run(&self, _: &mut Case) -> Option<usize> {
+        None
+    }
+}
+
+/// The refusals that the calls of a kind have.
+fn refusals(kind: Kind) -> &'static [usize] {
+    match kind {
+        Kind::Example => &[1, 3, 7, 8, 9, 11],
+        Kind::Moments => &[2, 4, 5, 7, 8, 9, 10, 13],
+        Kind::Curve | Kind::Slopes => &[2, 4, 7, 8, 10],
+        Kind::Build => &[1, 2, 3, 4, 5, 7, 8, 9, 10, 13],
+        Kind::Change | Kind::ChangeList => &[1, 2, 3, 4, 5, 6, 7, 8, 9, 10, 13],
+        Kind::Query => &[1, 2, 3, 4, 7, 8, 10],
+        Kind::Read => &[1, 2, 3, 4, 11, 12, 13, 14],
+        Kind::SheetTensor => &[1, 2, 3, 4, 5, 7, 8, 9, 10, 11, 12, 13, 14],
+    }
+}
+
+#[test]
+fn every_refusal_is_seen_and_no_other() {
+    let report = compare_all(&Nobody, &Plan::of_each_kind(1, 4000));
+    for kind in KINDS {
+        let seen = &report.of(kind).refusals;
+        let numbers: Vec<usize> = (1..seen.len()).filter(|number| seen[*number] > 0).collect();
+        assert_eq!(numbers, refusals(kind), "{}", kind.name());
+    }
+}
+
+#[test]
+fn about_sixty_in_a_hundred_are_accepted() {
+    let report = compare_all(&Nobody, &Plan::of_each_kind(2, 4000));
+    for kind in KINDS.into_iter().filter(|kind| *kind != Kind::Example) {
+        let counts = report.of(kind);
+        let share = 100 * counts.refusals[0] / counts.calls;
+        assert!((50..=70).contains(&share), "{}: {share}", kind.name());
+    }
+    let total = report.total();
+    let share = 100 * total.refusals[0] / total.calls;
+    assert!((55..=65).contains(&share), "{share}");
+}
+
+#[test]
+fn a_change_is_the_fresh_build_of_the_samples_then_standing() {
+    let plan = Plan::of_kind(3, Kind::ChangeList, 1000);
+    let total = compare_all(&Nobody, &plan).total();
+    assert!(total.calls > 20_000);
+    assert_eq!(total.differences, 0);
+}

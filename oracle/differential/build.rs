@@ -1,0 +1,33 @@
+//! Links the archive when at least one of its calls is compared.
+
+use std::env;
+use std::path::{Path, PathBuf};
+
+fn main() {
+    println!("cargo::rerun-if-env-changed=HULLASHLAR_ARCHIVE_DIR");
+    println!("cargo::rerun-if-changed=build.rs");
+    let on = env::vars_os().any(|(name, _)| name.to_string_lossy().starts_with("CARGO_FEATURE_"));
+    if !on {
+        return;
+    }
+    let folder = archive_folder();
+    let archive = folder.join("libhost.a");
+    println!("cargo::rerun-if-changed={}", archive.display());
+    if !archive.is_file() {
+        println!(
+            "cargo::error=the archive is missing: {}; build it with `rt staticlib host`, \
+             or set HULLASHLAR_ARCHIVE_DIR to its folder",
+            archive.display()
+        );
+        return;
+    }
+    println!("cargo::rustc-link-search=native={}", folder.display());
+    println!("cargo::rustc-link-lib=static=host");
+}
+
+/// The folder of HULLASHLAR_ARCHIVE_DIR, or where the repository builds the archive.
+fn archive_folder() -> PathBuf {
+    let manifest = env::var("CARGO_MANIFEST_DIR").expect("cargo sets CARGO_MANIFEST_DIR");
+    let built = Path::new(&manifest).join("../../target/staticlib");
+    env::var_os("HULLASHLAR_ARCHIVE_DIR").map_or(built, PathBuf::from)
+}

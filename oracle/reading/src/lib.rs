@@ -1,0 +1,22 @@
+//! Document 01 read in Rust, with every call in the form that the archive
+//! exports. All float arithmetic is done by the unchanged functions of ninterp.
+//!
+//! Every call returns the refusal number, 0 for none, and leaves what it was
+//! lent as the document says.
+
+mod bits;
+mod curve;
+mod ends;
+mod query;
+mod refusals;
+mod shape;
+mod sheet;
+mod tensor;
+
+pub use curve::{curve, moments, slopes};
+pub use ends::{conditions, Condition};
+pub use query::query;
+pub use refusals::CURVE_SCRATCH;
+pub use shape::{Shape, LONGEST_TENSOR};
+pub use sheet::{read, sheet_tensor, BUFFER};
+pub use tensor::{build, change, lanes_of_build, lanes_of_change, solve_lane, solve_lanes, Lane};

@@ -1,0 +1,67 @@
+//! The call that asks a tensor for its value at a point.
+
+use crate::refusals::{all_finite, knots_rise, require, Refusal};
+use crate::shape::{views, Shape};
+use ninterp_unchanged::{evaluate_spline_corner_cached, ArrayD, IxDyn};
+
+/// The tensor's value at a point, with the cell label of every axis.
+pub fn query(
+    axes: usize,
+    points: &[usize],
+    knots: &[f64],
+    tensor: &[f64],
+    coordinates: &[f64],
+    value: &mut [f64],
+    labels: &mut [usize],
+) -> Refusal {
+    if points.len() != 4 || value.len() != 1 || labels.len() != 4 {
+        return 4;
+    }
+    value[0] = 0.0;
+    labels.fill(0);
+    match answer(axes, points, knots, tensor, coordinates) {
+        Ok((answer, cells)) => {
+            value[0] = answer;
+            labels[..cells.len()].copy_from_slice(&cells);
+            0
+        }
+        Err(refusal) => refusal,
+    }
+}
+
+/// The value and the labels of the axes in use, or the refusal.
+fn answer(
+    axes: usize,
+    points: &[usize],
+    knots: &[f64],
+    tensor: &[f64],
+    coordinates: &[f64],
+) -> Result<(f64, Vec<usize>), Refusal> {
+    let shape = Shape::checked(axes, points)?;
+    require(knots.len() == shape.knots_length(), 4)?;
+    require(tensor.len() == shape.tensor_length(), 4)?;
+    require(coordinates.len() == axes, 4)?;
+    require(all_finite(knots) && all_finite(coordinates), 7)?;
+    let knots = shape.knots_by_axis(knots);
+    require(knots.iter().all(|knots| knots_rise(knots)), 8)?;
+    let value = value_at(&shape, &knots, tensor, coordinates);
+    require(value.is_finite(), 10)?;
+    let cells = knots.iter().zip(coordinates);
+    let labels = cells.map(|(knots, point)| label(knots, *point)).collect();
+    Ok((value, labels))
+}
+
+/// The value as ninterp blends it, finite or not.
+fn value_at(shape: &Shape, knots: &[&[f64]], tensor: &[f64], coordinates: &[f64]) -> f64 {
+    let mut lengths = shape.points().to_vec();
+    lengths.push(shape.masks());
+    let tensor = ArrayD::from_shape_vec(IxDyn(&lengths), tensor.to_vec())
+        .expect("the tensor has its exact length");
+    evaluate_spline_corner_cached(&views(knots), tensor.view(), coordinates)
+}
+
+/// The last knot that is not above the point, kept within the cells.
+fn label(knots: &[f64], point: f64) -> usize {
+    let last = knots.iter().rposition(|knot| *knot <= point);
+    last.unwrap_or(0).min(knots.len() - 2)
+}

@@ -1,0 +1,124 @@
+//! The packed sheet: its reader, and the tensor of a sheet.
+
+use crate::bits::Bits;
+use crate::ends::{has_value, PERIODIC};
+use crate::refusals::{points_in_range, require, Refusal};
+use crate::shape::{Shape, LONGEST_TENSOR};
+use crate::tensor::build;
+
+/// The length of the lent buffers for knots and for samples.
+pub const BUFFER: usize = 1024;
+
+/// What a sheet says; axes not in use stay as they are here at first.
+#[derive(Default)]
+struct Sheet {
+    axes: usize,
+    points: [usize; 4],
+    kinds: [u8; 8],
+    values: [f64; 8],
+    knots: Vec<f64>,
+    samples: Vec<f64>,
+}
+
+/// Reads a sheet into lent buffers.
+pub fn read(
+    bytes: &[u8],
+    knots: &mut [f64],
+    samples: &mut [f64],
+    axes: &mut [usize],
+    points: &mut [usize],
+    kinds: &mut [u8],
+    values: &mut [f64],
+) -> Refusal {
+    if axes.len() != 1 || points.len() != 4 || kinds.len() != 8 || values.len() != 8 {
+        return 4;
+    }
+    let (sheet, refusal) = match read_sheet(bytes, knots, samples) {
+        Ok(sheet) => (sheet, 0),
+        Err(refusal) => (Sheet::default(), refusal),
+    };
+    axes[0] = sheet.axes;
+    points.copy_from_slice(&sheet.points);
+    kinds.copy_from_slice(&sheet.kinds);
+    values.copy_from_slice(&sheet.values);
+    refusal
+}
+
+/// Reads a sheet and builds its tensor into the first numbers of a lent one.
+pub fn sheet_tensor(
+    bytes: &[u8],
+    knots: &mut [f64],
+    samples: &mut [f64],
+    tensor: &mut [f64],
+    scratch: &mut [f64],
+    length: &mut [usize],
+) -> Refusal {
+    if length.len() != 1 {
+        return 4;
+    }
+    let built = require(tensor.len() == LONGEST_TENSOR, 4)
+        .and_then(|()| read_sheet(bytes, knots, samples))
+        .and_then(|sheet| build_sheet(&sheet, tensor, scratch));
+    length[0] = built.unwrap_or(0);
+    built.err().unwrap_or(0)
+}
+
+/// The sheet, once its knots and samples stand in the lent buffers.
+fn read_sheet(bytes: &[u8], knots: &mut [f64], samples: &mut [f64]) -> Result<Sheet, Refusal> {
+    require(knots.len() == BUFFER && samples.len() == BUFFER, 4)?;
+    let sheet = parse(bytes)?;
+    knots[..sheet.knots.len()].copy_from_slice(&sheet.knots);
+    samples[..sheet.samples.len()].copy_from_slice(&sheet.samples);
+    Ok(sheet)
+}
+
+/// The length of a sheet's tensor, once it stands in the lent one.
+fn build_sheet(sheet: &Sheet, tensor: &mut [f64], scratch: &mut [f64]) -> Result<usize, Refusal> {
+    let length = sheet.samples.len() << sheet.axes;
+    let refusal = build(
+        sheet.axes,
+        &sheet.points,
+        &sheet.kinds,
+        &sheet.values,
+        &sheet.knots,
+        &sheet.samples,
+        &mut tensor[..length],
+        scratch,
+    );
+    require(refusal == 0, refusal).map(|()| length)
+}
+
+/// The fields in reading order, each with the faults met there.
+fn parse(bytes: &[u8]) -> Result<Sheet, Refusal> {
+    let mut bits = Bits::new(bytes);
+    let mut sheet = Sheet::default();
+    require(bits.field(4)? == 1, 12)?;
+    let axes = bits.field(3)? as usize;
+    require((1..=4).contains(&axes), 1)?;
+    sheet.axes = axes;
+    for axis in 0..axes {
+        parse_axis(&mut bits, axis, &mut sheet)?;
+    }
+    let samples = Shape::checked(axes, &sheet.points)?.samples_length();
+    sheet.samples = bits.floats(samples)?;
+    let rest = bits.remaining();
+    require(rest < 8 && bits.field(rest)? == 0, 14)?;
+    Ok(sheet)
+}
+
+/// Points, kinds, end values and knots of one axis.
+fn parse_axis(bits: &mut Bits, axis: usize, sheet: &mut Sheet) -> Result<(), Refusal> {
+    let points = bits.field(8)? as usize + 1;
+    require(points_in_range(points), 2)?;
+    sheet.points[axis] = points;
+    let kinds = [bits.field(2)? as u8, bits.field(2)? as u8];
+    require((kinds[0] == PERIODIC) == (kinds[1] == PERIODIC), 13)?;
+    for (end, kind) in kinds.into_iter().enumerate() {
+        sheet.kinds[2 * axis + end] = kind;
+        if has_value(kind) {
+            sheet.values[2 * axis + end] = bits.float()?;
+        }
+    }
+    sheet.knots.extend(bits.floats(points)?);
+    Ok(())
+}
