@@ -8,7 +8,7 @@ use borrow.Author.Tests.{le-ltb}
 use lib.ListN.{length, take, drop, getD, length-append}
 use lib.Seq.{take-at}
 use lib.Ieee.{Float}
-use Rattle.base.proofs.Tables.{length-table}
+use Rattle.rules.proofs.Tables.{length-table}
 use Rattle.rules.specs.Numbers.{any}
 use Rattle.rules.specs.Sizes.{unused-axis, points, sum-below, knots-length, samples-length}
 use Rattle.rules.specs.Refusals.{axes-refused, points-refused, some-points-refused, tensor-refused}

@@ -7,7 +7,7 @@ use native.Mathlib.Omega.{arith}
 use borrow.Author.Tests.{eq-eqb, ne-eqb}
 use lib.ListN.{length, take, drop, length-take}
 use lib.Ieee.{Float}
-use Rattle.base.proofs.Tables.{length-table}
+use Rattle.rules.proofs.Tables.{length-table}
 use Rattle.rules.specs.Refusals.{length-refused}
 use Rattle.rules.specs.Calls.{stored}
 use Rattle.rules.specs.Sizes.{samples-length}

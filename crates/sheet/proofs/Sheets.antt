@@ -8,7 +8,7 @@ use borrow.Author.Tests.{lt-ltb, le-ltb, eq-eqb, ne-eqb, ltb-false, not-false, e
 use lib.Dec.{ltb, eqb}
 use lib.ListN.{length, getD}
 use Rattle.base.proofs.Scan.{neither}
-use Rattle.base.proofs.Tables.{at-table}
+use Rattle.rules.proofs.Tables.{at-table}
 use Rattle.rules.specs.Sizes.{unused-axis, product-below, samples-length}
 use Rattle.rules.specs.Refusals.{axes-refused, tensor-refused}
 use Rattle.rules.specs.declared.Axis.{Axis}

@@ -4,7 +4,7 @@ use native.Mathlib.Omega.{arith}
 use lib.ListN.{length, length-set}
 use lib.Ieee.{Float, nan}
 use Rattle.base.proofs.Front.{front, front-none, front-more, front-all}
-use Rattle.base.proofs.Tables.{length-table, at-table}
+use Rattle.rules.proofs.Tables.{length-table, at-table}
 use Rattle.sheet.specs.Bits.{number, numbers}
 use borrow.Author.Needs.{needs}
 use Rattle.sheet.proofs.bits.fill.Statement.{statement}
