@@ -1,4 +1,4 @@
-.PHONY: run test differential oracle-test replay-list
+.PHONY: run test differential oracle-test replay-list bench
 
 # Until the sheet program stands, the main job is the proof of every crate.
 run:
@@ -21,3 +21,8 @@ differential:
 # The Rust side's own tests: the unchanged files, the examples of document 01, the generator.
 oracle-test:
 	cd oracle && cargo test --offline
+
+# Measures the exported calls beside the Rust's functions and prints the tables of docs/BENCH.md; wants valgrind.
+bench:
+	rt staticlib host
+	cd oracle && cargo run --offline --release -p bench --features "$(CALLS)"
