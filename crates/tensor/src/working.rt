@@ -13,6 +13,10 @@ use rules::Axis;
 // Where the working tensor begins.
 const TENSOR: usize = 2048;
 
+// The refusal of an outcome, and none.
+const OUTCOME: usize = 10;
+const NONE: usize = 0;
+
 // The samples go to mask 0.
 pub fn store_samples(w: &mut [f64], samples: &[f64], masks: usize)
     requires { ⌜ Lies (now w) (length (now samples)) 2048 masks × (1 ≤ masks) ⌝ }
@@ -58,9 +62,9 @@ pub fn finish(tensor: &mut [f64], w: &mut [f64]) -> usize
     let end = TENSOR + tensor.len();
     if base::any_not_finite(&w[TENSOR..end]) {
         base::clear(w);
-        return 10;
+        return OUTCOME;
     }
     base::copy(tensor, &w[TENSOR..end]);
     base::clear(w);
-    0
+    NONE
 }

@@ -38,8 +38,7 @@ store-samples-requires : tie.Need-store-samples-requires
 store-samples-requires c κs =
     let power = c .before in
     let checked = power .before in
-    let args = start checked .args in
-    (
+    let args = start checked .args in (
       samples-lie _ _ (args .tensor .now) (args .scratch .now) (known checked) _ (power .power .ensures),
       rw (power .power .ensures) (pow-pos (args .axes)),
     )
@@ -57,12 +56,13 @@ finish-requires c κs =
     let solved = c .before .before .before .before in
     let stored = solved .before .before .before .before in
     let checked = stored .before .before .before in
-    omega
-    (arith,
-    solved .solve-axes .ensures .0 .same-length,
-    stored .store-samples .ensures .same-length,
-    known checked .grid-given .tensor-exact,
-    known checked .solve-given .scratch-enough)
+    omega (
+      arith,
+      solved .solve-axes .ensures .0 .same-length,
+      stored .store-samples .ensures .same-length,
+      known checked .grid-given .tensor-exact,
+      known checked .solve-given .scratch-enough,
+    )
 
 returns-2 : tie.Need-returns-2
 returns-2 c =
