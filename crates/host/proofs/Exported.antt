@@ -4,12 +4,15 @@ use mathlib.Core.List.{List, [], _∷_}
 use Prim.Native.Nat.{ℕ, zero, suc}
 use lib.ListN.{set}
 use lib.Ieee.{Float}
-use Rattle.rules.specs.Calls.{MomentsPromise, CurvePromise}
+use Rattle.rules.specs.Sizes.{Grid}
+use Rattle.rules.specs.Calls.{MomentsPromise, CurvePromise, QueryPromise}
 use Rattle.rules.specs.declared.Condition.{Condition}
 use Rattle.rules.specs.declared.CurveAnswer.{CurveAnswer}
-use Rattle.host.specs.Axes.{condition-given}
-use Rattle.host.specs.Exports.{before, kept, moments-own-refusal, curve-own-refusal, MomentsExport, CurveExport}
-use Rattle.host.proofs.Lengths.{curve-lengths}
+use Rattle.rules.specs.declared.QueryAnswer.{QueryAnswer}
+use Rattle.rules.specs.declared.Axis.{Axis}
+use Rattle.host.specs.Axes.{condition-given, axes-without-ends}
+use Rattle.host.specs.Exports.{before, kept, moments-own-refusal, curve-own-refusal, query-own-refusal, MomentsExport, CurveExport, QueryExport}
+use Rattle.host.proofs.Lengths.{curve-lengths, query-lengths}
 use Rattle.host.proofs.Slots.{one-stored}
 
 -- ---- the host refuses: its number is the answer, and each slice is as it was
@@ -68,3 +71,28 @@ module _ (n : ℕ) (knots samples moments-in : List Float) (point : Float) (valu
         left _ _ e none
         (one-stored value-lent (a .value) (curve-lengths value-lent (sym e ∙ none)) ∙ ap (λ (b : CurveAnswer). b .value ∷ []) (p .answer));
   }
+
+-- ---- the query
+
+module _ (axes : ℕ) (points : List ℕ) (knots tensor-lent coordinates value-lent : List Float) (labels-lent : List ℕ) {r : ℕ} (e : r ≡ query-own-refusal points value-lent labels-lent) where
+  pub query-refused : (r ≡ 0 → ⊥) → QueryExport axes points knots tensor-lent coordinates value-lent labels-lent r value-lent labels-lent
+  query-refused some = record {
+    answer = own-answer _ _ e some;
+    slot = untouched _ _ _ e some;
+    labels = untouched _ _ _ e some;
+  }
+
+  pub query-called :
+      r ≡ 0 → (all : List Axis) → all ≡ axes-without-ends axes points → (a : QueryAnswer) (labels-later : List ℕ) → labels-later ≡ a .labels
+      → QueryPromise (record { axes = axes; entries = all; flat-knots = knots }) tensor-lent coordinates a
+      → QueryExport axes points knots tensor-lent coordinates value-lent labels-lent (a .refusal) (set value-lent 0 (a .value)) labels-later
+  query-called none all given a labels-later stored p =
+      let q = (rw given at p) .answer in
+      record {
+        answer = call-answer _ e none (ap (λ (b : QueryAnswer). b .refusal) q);
+        slot =
+            left _ _ e none
+            (one-stored value-lent (a .value) (query-lengths points value-lent labels-lent (sym e ∙ none) .1)
+            ∙ ap (λ (b : QueryAnswer). b .value ∷ []) q);
+        labels = left _ _ e none (stored ∙ ap (λ (b : QueryAnswer). b .labels) q);
+      }

@@ -1,10 +1,23 @@
 // Every public call exported for C, over numbers and plain slices. Each returns its refusal's number, 0 for none. The host's own refusals, 4 and then 13, come before all others, and with them nothing is written.
+ghost use mathlib.Core.Path.{_≡_};
+ghost use lib.ListN.{length};
 ghost use Rattle.rules.specs.Calls.{SlopesPromise};
-ghost use Rattle.host.specs.Exports.{MomentsExport, CurveExport};
+ghost use Rattle.host.specs.Exports.{MomentsExport, CurveExport, QueryExport};
 
 pub mod axes;
 pub mod kinds;
 pub mod own;
+
+// The labels of an answer go to a slice. Not public: its length is required.
+fn store_labels(labels: &mut [usize], found: [usize; 4])
+    requires { ⌜ length (now labels) ≡ 4 ⌝ }
+    ensures { λ _. ⌜ now (labels .exit) ≡ found ⌝ }
+{
+    labels[0] = found[0];
+    labels[1] = found[1];
+    labels[2] = found[2];
+    labels[3] = found[3];
+}
 
 // The moments of the curve through the samples, one for each point, under the two ends given. Refuses 2 4 5 7 8 9 10, and 4 and 13 of its own.
 #[no_mangle]
@@ -60,4 +73,29 @@ pub extern "C" fn hullashlar_slopes(
     ensures { λ r. ⌜ SlopesPromise points (now (knots .entry)) (now (samples .entry)) (now (moments .entry)) (now (slopes .entry)) r (now (slopes .exit)) ⌝ }
 {
     spline::knot_slopes(points, knots, samples, moments, slopes)
+}
+
+// The surface's value at the coordinates, beyond the grid too, in a slot of one, and the cell label of each axis, 0 past those in use. Refuses 1 2 3 4 7 8 10, and then value and labels are 0; and 4 of its own.
+#[no_mangle]
+pub extern "C" fn hullashlar_query(
+    axes: usize,
+    points: &[usize],
+    knots: &[f64],
+    tensor: &[f64],
+    coordinates: &[f64],
+    value: &mut [f64],
+    labels: &mut [usize],
+) -> usize
+    ensures { λ r. ⌜ QueryExport axes (now (points .entry)) (now (knots .entry)) (now (tensor .entry)) (now (coordinates .entry)) (now (value .entry)) (now (labels .entry)) r (now (value .exit)) (now (labels .exit)) ⌝ }
+{
+    let refusal = own::query_own_refusal(points, value, labels);
+    if refusal != 0 {
+        return refusal;
+    }
+    let all = axes::axes_without_ends(axes, points);
+    let answer = query::query(axes, all, knots, tensor, coordinates);
+    value[0] = answer.value;
+    let found = answer.labels;
+    store_labels(labels, found);
+    answer.refusal
 }
