@@ -2,10 +2,9 @@
 ghost use mathlib.Core.Path.{_≡_};
 ghost use lib.ListN.{length};
 ghost use Rattle.rules.specs.Calls.{SlopesPromise};
-ghost use Rattle.host.specs.Exports.{MomentsExport, CurveExport, QueryExport};
+ghost use Rattle.host.specs.Exports.{MomentsExport, CurveExport, BuildExport, ChangeExport, QueryExport};
 
 pub mod axes;
-pub mod kinds;
 pub mod own;
 
 // The labels of an answer go to a slice. Not public: its length is required.
@@ -73,6 +72,55 @@ pub extern "C" fn hullashlar_slopes(
     ensures { λ r. ⌜ SlopesPromise points (now (knots .entry)) (now (samples .entry)) (now (moments .entry)) (now (slopes .entry)) r (now (slopes .exit)) ⌝ }
 {
     spline::knot_slopes(points, knots, samples, moments, slopes)
+}
+
+// The tensor of the samples on a grid. Refuses 1 2 3 4 5 7 8 9 10, and 4 and 13 of its own.
+#[no_mangle]
+pub extern "C" fn hullashlar_build(
+    axes: usize,
+    points: &[usize],
+    kinds: &[u8],
+    values: &[f64],
+    knots: &[f64],
+    samples: &[f64],
+    tensor: &mut [f64],
+    scratch: &mut [f64],
+) -> usize
+    ensures { λ r. ⌜ BuildExport axes (now (points .entry)) (now (kinds .entry)) (now (values .entry)) (now (knots .entry)) (now (samples .entry)) (now (tensor .entry)) (now (scratch .entry)) r (now (tensor .exit)) (now (scratch .exit)) ⌝ }
+{
+    let refusal = own::build_own_refusal(axes, points, kinds, values);
+    if refusal != 0 {
+        return refusal;
+    }
+    let all = axes::axes_given(axes, points, kinds, values);
+    tensor::build(axes, all, knots, samples, tensor, scratch)
+}
+
+// One sample changed in a tensor, with every lane solved again that can differ; how many were solved goes to a slot of one. Refuses 1 to 10, and then no lane was solved; and 4 and 13 of its own.
+#[no_mangle]
+pub extern "C" fn hullashlar_change(
+    axes: usize,
+    points: &[usize],
+    kinds: &[u8],
+    values: &[f64],
+    knots: &[f64],
+    tensor: &mut [f64],
+    scratch: &mut [f64],
+    place: &[usize],
+    sample: f64,
+    lanes: &mut [usize],
+) -> usize
+    ensures { λ r. ⌜ ChangeExport axes (now (points .entry)) (now (kinds .entry)) (now (values .entry)) (now (knots .entry)) (now (tensor .entry)) (now (scratch .entry)) (now (place .entry)) sample (now (lanes .entry)) r (now (tensor .exit)) (now (scratch .exit)) (now (lanes .exit)) ⌝ }
+{
+    let refusal = own::change_own_refusal(axes, points, kinds, values, place, lanes);
+    if refusal != 0 {
+        return refusal;
+    }
+    let all = axes::axes_given(axes, points, kinds, values);
+    let changed = axes::place_given(place);
+    let answer = tensor::change(axes, all, knots, tensor, scratch, changed, sample);
+    lanes[0] = answer.lanes;
+    answer.refusal
 }
 
 // The surface's value at the coordinates, beyond the grid too, in a slot of one, and the cell label of each axis, 0 past those in use. Refuses 1 2 3 4 7 8 10, and then value and labels are 0; and 4 of its own.
