@@ -18,8 +18,7 @@ use Rattle.rules.specs.Curve.{knot-slope, knot-slopes, curve-in-cell, curve}
 use Rattle.rules.specs.Calls.{stored, scratch-after, answered, moments-refusal, MomentsPromise, curve-refusal, curve-answer, CurvePromise, slopes-refusal, SlopesPromise}
 use Rattle.rules.specs.declared.Condition.{Condition}
 use Rattle.rules.specs.declared.CurveAnswer.{CurveAnswer}
-use Rattle.rules.proofs.Tables.{length-table, at-table}
-use Rattle.base.proofs.Tables.{table-is}
+use Rattle.rules.proofs.Tables.{length-table, at-table, table-is}
 use Rattle.checks.specs.Check.{moments-check, curve-check, slopes-check}
 use Rattle.checks.specs.Given.{AxisGiven, MomentsGiven, CurveGiven, SlopesGiven}
 use Rattle.checks.proofs.ThenOutcome.{ThenOutcome, Refused, refused, outcome, outcome-bad, outcome-good, moments-outcome, curve-outcome, slopes-outcome}
