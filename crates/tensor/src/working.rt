@@ -15,6 +15,7 @@ const TENSOR: usize = 2048;
 
 // The refusal of an outcome, and none.
 const OUTCOME: usize = 10;
+
 const NONE: usize = 0;
 
 // The samples go to mask 0.
