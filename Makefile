@@ -1,4 +1,4 @@
-.PHONY: run test
+.PHONY: run test differential oracle-test replay-list
 
 # Until the sheet program stands, the main job is the proof of every crate.
 run:
@@ -6,3 +6,18 @@ run:
 
 test:
 	.ci/run
+
+# The calls that are exported so far, and how many cases of each are compared with the Rust.
+CALLS = moments curve slopes
+CASES = --moments 60000 --curve 60000 --slopes 60000
+SEED = 20240917
+
+# Holds the exported calls against the Rust, bit for bit; fails where there is a difference.
+differential:
+	rt staticlib host
+	cd oracle && cargo run --offline --release -p differential --features "$(CALLS)" -- \
+	    --seed $(SEED) --cases 0 $(CASES)
+
+# The Rust side's own tests: the unchanged files, the examples of document 01, the generator.
+oracle-test:
+	cd oracle && cargo test --offline

@@ -1,5 +1,5 @@
 -- A check that gives no number: what is then known of all that a call was given.
-use mathlib.Core.Path.{_≡_, sym, _∙_}
+use mathlib.Core.Path.{_≡_}
 use mathlib.Core.Bool.{Bool, true, false, not, _||_}
 use mathlib.Core.List.{List}
 use Prim.Native.Nat.{ℕ, _+_, _-_, _<_}
@@ -16,7 +16,7 @@ use Rattle.rules.specs.Sizes.{most-in-a-tensor, scratch-of-rows, Grid, points, 
 use Rattle.rules.specs.Refusals.{axes-refused, points-refused, some-points-refused, tensor-refused, scratch-refused, number-refused, some-number-refused, ends-refused, some-ends-refused, step-refused, knots-refused, some-knots-refused, fewness-refused, some-fewness-refused}
 use Rattle.rules.specs.declared.Condition.{Condition}
 use Rattle.base.proofs.Scan.{neither, any-at}
-use Rattle.checks.specs.Given.{InRange, AxisGiven, MomentsGiven, CurveGiven, SlopesGiven, GridGiven, SolveGiven, BuildGiven, ChangeGiven, QueryGiven}
+use Rattle.checks.specs.Given.{AxisGiven, MomentsGiven, CurveGiven, SlopesGiven, GridGiven, SolveGiven, BuildGiven, ChangeGiven, QueryGiven}
 use Rattle.checks.specs.Check.{moments-rows, curve-rows, slopes-rows, build-rows, change-rows, query-rows, moments-check, curve-check, slopes-check, build-check, change-check, query-check}
 use Rattle.checks.proofs.Products.{sum-within}
 use Rattle.checks.proofs.Rows.{none-applies, axes-few, in-range, exact-2, exact-3, exact-4}

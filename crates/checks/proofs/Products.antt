@@ -1,6 +1,5 @@
 -- Sums and products of points in their range, and the bounds that keep them in 64 bits.
 use mathlib.Core.Path.{_≡_, refl}
-use mathlib.Core.Bool.{false}
 use mathlib.Core.Logic.{⊎-elim}
 use Prim.Native.Nat.{ℕ, zero, suc, _+_, _*_, _^_, _<_, _≤_}
 use native.Mathlib.Nat.{mul-le-mul, pow-succ', mul-comm, le-trans, le-refl, pow-le-pow-right, not-suc-le-zero, le-of-suc-le-suc, eq-or-lt-of-le, lt-of-le-of-lt}

@@ -9,7 +9,7 @@ use lib.Dec.{T, ltb, ltb→lt}
 use lib.Ieee.{Float}
 use borrow.Author.Tests.{ltb-false, eqb-true, not-false}
 use Rattle.rules.specs.Numbers.{any}
-use Rattle.rules.specs.Sizes.{most-axes, most-in-a-tensor, tensor-length}
+use Rattle.rules.specs.Sizes.{most-axes}
 use Rattle.rules.specs.Refusals.{points-refused, length-refused, knots-refused}
 use Rattle.rules.specs.declared.Axis.{Axis}
 use Rattle.base.proofs.Scan.{neither, any-at}

@@ -1,7 +1,7 @@
 -- What each public call looks at before it works: the rows of rules' Calls without the last, which looks at an outcome. Of a slice that the call will write, only the length is given.
-use mathlib.Core.Bool.{Bool, true, false, cond, _||_}
+use mathlib.Core.Bool.{Bool, cond, _||_}
 use mathlib.Core.List.{List, [], _∷_, _++_}
-use Prim.Native.Nat.{ℕ, zero, suc}
+use Prim.Native.Nat.{ℕ}
 use lib.ListN.{length}
 use lib.Ieee.{Float}
 use Rattle.rules.specs.Sizes.{scratch-of-rows, Grid, knots-length, samples-length, tensor-length, scratch-length, Place}

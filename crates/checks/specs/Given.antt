@@ -2,7 +2,7 @@
 use mathlib.Core.Path.{_≡_}
 use mathlib.Core.Bool.{false}
 use mathlib.Core.List.{List, []}
-use Prim.Native.Nat.{ℕ, _+_, _≤_, _<_}
+use Prim.Native.Nat.{ℕ, _≤_, _<_}
 use lib.ListN.{getD, length}
 use lib.Ieee.{Float}
 use Rattle.rules.specs.Sizes.{most-axes, fewest-on-an-axis, most-on-an-axis, most-in-a-tensor, scratch-of-rows, unused-axis, Grid, points, condition, knots-length, knots, samples-length, tensor-length, scratch-length, Place}

@@ -1,10 +1,9 @@
-// The ends' part of refusal 7, and refusal 9. Not public: the scans require few axes.
+// The ends' part of refusal 7, and refusal 9.
 ghost use mathlib.Core.Path.{_≡_};
-ghost use Prim.Native.Nat.{ℕ, _+_, _≤_};
-ghost use Rattle.rules.specs.Numbers.{any};
+ghost use Prim.Native.Nat.{_≤_};
 ghost use Rattle.rules.specs.Ends.{dropped, fewest-points};
-ghost use Rattle.rules.specs.Refusals.{end-refused, ends-refused, fewness-refused};
-ghost use Rattle.checks.specs.Given.{points-of, condition-of};
+ghost use Rattle.rules.specs.Refusals.{end-refused, ends-refused, some-ends-refused, fewness-refused, some-fewness-refused};
+ghost use Rattle.checks.specs.Given.{sizes-of};
 use rules::Axis;
 use rules::Condition;
 use rules::End;
@@ -20,7 +19,7 @@ pub fn end_refused(end: End) -> bool
     }
 }
 
-// Whether one of a condition's ends has.
+// Whether an end of a condition has a number that is infinite or NaN.
 pub fn ends_refused(condition: Condition) -> bool
     ensures { λ r. ⌜ r ≡ ends-refused condition ⌝ }
 {
@@ -36,10 +35,10 @@ pub fn ends_refused(condition: Condition) -> bool
     }
 }
 
-// Whether an end of an axis in use has.
+// Whether an end of an axis in use has. Not public: few axes are required.
 pub fn some_ends_refused(axes: usize, all: [Axis; 4]) -> bool
     requires { ⌜ axes ≤ 4 ⌝ }
-    ensures { λ r. ⌜ r ≡ any (λ i. ends-refused (condition-of all i)) axes ⌝ }
+    ensures { λ r. ⌜ r ≡ some-ends-refused (sizes-of axes all) ⌝ }
 {
     let mut i = 0;
     while i < axes {
@@ -81,10 +80,10 @@ pub fn fewness_refused(condition: Condition, points: usize) -> bool
     points < fewest_points(condition)
 }
 
-// Whether an axis in use has.
+// Whether an axis in use has too few points for its condition. Not public: few axes are required.
 pub fn some_fewness_refused(axes: usize, all: [Axis; 4]) -> bool
     requires { ⌜ axes ≤ 4 ⌝ }
-    ensures { λ r. ⌜ r ≡ any (λ i. fewness-refused (condition-of all i) (points-of all i)) axes ⌝ }
+    ensures { λ r. ⌜ r ≡ some-fewness-refused (sizes-of axes all) ⌝ }
 {
     let mut i = 0;
     while i < axes {

@@ -1,4 +1,4 @@
-// Refusals 4 and 5: each slice is given by its length alone. Not public: those of a grid require what refusals 1 and 2 leave.
+// Refusals 4 and 5: each slice is given by its length alone.
 ghost use mathlib.Core.Path.{_≡_};
 ghost use mathlib.Core.Bool.{_||_};
 ghost use Rattle.rules.specs.Sizes.{knots-length, samples-length, tensor-length, scratch-length};
@@ -27,7 +27,7 @@ pub fn axis_refused(points: usize, knots: usize, samples: usize, moments: usize)
     length_refused(moments, points)
 }
 
-// Whether these or the slopes do not.
+// Whether knots, samples, moments or slopes do not have one number for each point of an axis.
 pub fn slopes_refused(
     points: usize,
     knots: usize,
@@ -43,7 +43,7 @@ pub fn slopes_refused(
     length_refused(slopes, points)
 }
 
-// Whether knots, samples or tensor are not what a build asks for.
+// Whether knots, samples or tensor are not as long as a build asks for. Not public: what refusals 1 and 2 leave is required.
 pub fn build_refused(
     axes: usize,
     all: [Axis; 4],
@@ -63,7 +63,7 @@ pub fn build_refused(
     length_refused(tensor, sizes::tensor_length(axes, all))
 }
 
-// Whether knots or tensor are not what a change asks for.
+// Whether knots or tensor are not as long as a change asks for. Not public, as above.
 pub fn change_refused(axes: usize, all: [Axis; 4], knots: usize, tensor: usize) -> bool
     requires { ⌜ InRange axes (points-of all) ⌝ }
     ensures { λ r. ⌜ r ≡ (length-refused knots (knots-length (sizes-of axes all)) || length-refused tensor (tensor-length (sizes-of axes all))) ⌝ }
@@ -74,7 +74,7 @@ pub fn change_refused(axes: usize, all: [Axis; 4], knots: usize, tensor: usize) 
     length_refused(tensor, sizes::tensor_length(axes, all))
 }
 
-// Whether knots, tensor or coordinates are not what a query asks for.
+// Whether knots, tensor or coordinates are not as long as a query asks for. Not public, as above.
 pub fn query_refused(
     axes: usize,
     all: [Axis; 4],
@@ -91,7 +91,7 @@ pub fn query_refused(
     length_refused(coordinates, axes)
 }
 
-// Whether scratch is too short for the tensor and the rows.
+// Whether scratch is too short for the tensor and the rows. Not public, as above.
 pub fn scratch_refused(axes: usize, all: [Axis; 4], scratch: usize) -> bool
     requires { ⌜ InRange axes (points-of all) ⌝ }
     ensures { λ r. ⌜ r ≡ scratch-refused scratch (scratch-length (sizes-of axes all)) ⌝ }

@@ -1,4 +1,4 @@
-// Refusal 7: an infinity or NaN among the numbers that a call was given. Not public: those of a grid require few axes.
+// Refusal 7: an infinity or NaN among the numbers that a call was given.
 ghost use mathlib.Core.Path.{_≡_};
 ghost use mathlib.Core.Bool.{_||_};
 ghost use Prim.Native.Nat.{_≤_};
@@ -15,7 +15,7 @@ pub fn number_refused(number: f64) -> bool
     !base::is_finite(number)
 }
 
-// Whether one is among knots and samples, or among knots and coordinates.
+// Whether an infinity or NaN is among the knots or the others, which are samples or coordinates.
 pub fn slices_refused(knots: &[f64], others: &[f64]) -> bool
     ensures { λ r. ⌜ r ≡ (some-number-refused (now (knots .entry)) || some-number-refused (now (others .entry))) ⌝ }
 {
@@ -25,7 +25,7 @@ pub fn slices_refused(knots: &[f64], others: &[f64]) -> bool
     base::any_not_finite(others)
 }
 
-// Whether one is among knots, samples and the point of a curve.
+// Whether an infinity or NaN is among knots and samples, or is the point of a curve.
 pub fn curve_refused(knots: &[f64], samples: &[f64], point: f64) -> bool
     ensures { λ r. ⌜ r ≡ (some-number-refused (now (knots .entry)) || some-number-refused (now (samples .entry)) || number-refused point) ⌝ }
 {
@@ -35,7 +35,7 @@ pub fn curve_refused(knots: &[f64], samples: &[f64], point: f64) -> bool
     number_refused(point)
 }
 
-// Whether one is among knots, ends and samples of an axis.
+// Whether an infinity or NaN is among the knots, the ends and the samples of an axis.
 pub fn moments_refused(knots: &[f64], condition: Condition, samples: &[f64]) -> bool
     ensures { λ r. ⌜ r ≡ (some-number-refused (now (knots .entry)) || ends-refused condition || some-number-refused (now (samples .entry))) ⌝ }
 {
@@ -48,7 +48,7 @@ pub fn moments_refused(knots: &[f64], condition: Condition, samples: &[f64]) -> 
     base::any_not_finite(samples)
 }
 
-// Whether one is among the knots and the ends of a grid.
+// Whether an infinity or NaN is among the knots and the ends of a grid. Not public: few axes are required.
 fn grid_refused(axes: usize, all: [Axis; 4], knots: &[f64]) -> bool
     requires { ⌜ axes ≤ 4 ⌝ }
     ensures { λ r. ⌜ r ≡ (some-number-refused (now (knots .entry)) || some-ends-refused (sizes-of axes all)) ⌝ }
@@ -59,7 +59,7 @@ fn grid_refused(axes: usize, all: [Axis; 4], knots: &[f64]) -> bool
     ends::some_ends_refused(axes, all)
 }
 
-// Whether one is among the knots, the ends and the samples of a grid.
+// Whether an infinity or NaN is among the knots, the ends and the samples of a grid. Not public, as above.
 pub fn build_refused(axes: usize, all: [Axis; 4], knots: &[f64], samples: &[f64]) -> bool
     requires { ⌜ axes ≤ 4 ⌝ }
     ensures { λ r. ⌜ r ≡ (some-number-refused (now (knots .entry)) || some-ends-refused (sizes-of axes all) || some-number-refused (now (samples .entry))) ⌝ }
@@ -70,7 +70,7 @@ pub fn build_refused(axes: usize, all: [Axis; 4], knots: &[f64], samples: &[f64]
     base::any_not_finite(samples)
 }
 
-// Whether one is among the knots and the ends of a grid, is the new sample, or is in the tensor.
+// Whether an infinity or NaN is among the knots and the ends of a grid, is the new sample, or is in the tensor. Not public, as above.
 pub fn change_refused(
     axes: usize,
     all: [Axis; 4],

@@ -1,13 +1,13 @@
-// Refusal 8. Not public: the scan of all axes requires what refusals 1, 2 and 4 leave.
+// Refusal 8.
 ghost use mathlib.Core.Path.{_≡_};
 ghost use mathlib.Core.Bool.{not, _||_};
 ghost use lib.ListN.{length};
 ghost use lib.Ieee.{lt};
 ghost use lib.Ieee.Scale.{finite};
 ghost use Rattle.rules.specs.Numbers.{_⊖_};
-ghost use Rattle.rules.specs.Sizes.{sum-below};
+ghost use Rattle.rules.specs.Sizes.{knots-length};
 ghost use Rattle.rules.specs.Refusals.{knots-refused, some-knots-refused};
-ghost use Rattle.checks.specs.Given.{grid, points-of, InRange};
+ghost use Rattle.checks.specs.Given.{grid, sizes-of, points-of, InRange};
 use rules::Axis;
 
 // Whether a knot does not rise to the next, or the step between them overflows.
@@ -21,7 +21,7 @@ pub fn step_refused(knot: f64, next: f64) -> bool
     }
 }
 
-// Whether one of an axis's knots does not rise to the next, or a step overflows.
+// Whether an axis's knots are refused: one does not rise to the next, or a step overflows.
 pub fn knots_refused(knots: &[f64]) -> bool
     ensures { λ r. ⌜ r ≡ knots-refused (now (knots .entry)) (length (now (knots .entry))) ⌝ }
 {
@@ -35,9 +35,9 @@ pub fn knots_refused(knots: &[f64]) -> bool
     false
 }
 
-// Whether the knots of an axis in use are refused.
+// Whether the knots of an axis in use are. Not public: what refusals 1, 2 and 4 leave is required.
 pub fn some_knots_refused(axes: usize, all: [Axis; 4], knots: &[f64]) -> bool
-    requires { ⌜ (InRange axes (points-of all)) × (length (now knots) ≡ sum-below (points-of all) axes) ⌝ }
+    requires { ⌜ (InRange axes (points-of all)) × (length (now knots) ≡ knots-length (sizes-of axes all)) ⌝ }
     ensures { λ r. ⌜ r ≡ some-knots-refused (grid axes all (now (knots .entry))) ⌝ }
 {
     let mut start = 0;

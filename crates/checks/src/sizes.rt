@@ -1,12 +1,11 @@
-// Refusals 1 to 3 and 6, and the lengths that a grid asks for. Not public: most require what refusals 1 and 2 leave.
+// Refusals 1 to 3 and 6, and the lengths that a grid asks for.
 ghost use mathlib.Core.Path.{_≡_};
 ghost use mathlib.Core.Bool.{_||_};
-ghost use Prim.Native.Nat.{ℕ, _*_, _^_, _≤_};
-ghost use lib.Dec.{leb, ltb};
-ghost use Rattle.rules.specs.Numbers.{any};
-ghost use Rattle.rules.specs.Sizes.{most-axes, sum-below, product-below, place-of};
-ghost use Rattle.rules.specs.Refusals.{points-refused};
-ghost use Rattle.checks.specs.Given.{points-of, InRange};
+ghost use Prim.Native.Nat.{_^_, _≤_};
+ghost use lib.Dec.{ltb};
+ghost use Rattle.rules.specs.Sizes.{most-axes, knots-length, samples-length, tensor-length, place-of};
+ghost use Rattle.rules.specs.Refusals.{points-refused, some-points-refused, place-refused};
+ghost use Rattle.checks.specs.Given.{sizes-of, points-of, InRange};
 ghost use Rattle.checks.specs.Check.{sizes-check};
 use rules::Axis;
 
@@ -24,10 +23,10 @@ pub fn points_refused(points: usize) -> bool
     if points < 2 { true } else { 256 < points }
 }
 
-// Whether an axis in use has.
+// Whether an axis in use has fewer than 2 or more than 256 points. Not public: few axes are required.
 pub fn some_points_refused(axes: usize, all: [Axis; 4]) -> bool
     requires { ⌜ axes ≤ 4 ⌝ }
-    ensures { λ r. ⌜ r ≡ any (λ i. points-refused (points-of all i)) axes ⌝ }
+    ensures { λ r. ⌜ r ≡ some-points-refused (sizes-of axes all) ⌝ }
 {
     let mut i = 0;
     while i < axes {
@@ -40,7 +39,7 @@ pub fn some_points_refused(axes: usize, all: [Axis; 4]) -> bool
     false
 }
 
-// How many masks there are: 2 to the power of the axes.
+// How many masks there are: 2 to the power of the axes. Not public: few axes are required.
 pub fn masks(axes: usize) -> usize
     requires { ⌜ (1 ≤ axes) × (axes ≤ 4) ⌝ }
     ensures { λ r. ⌜ (r ≡ 2 ^ axes) × (r ≤ 16) ⌝ }
@@ -53,10 +52,10 @@ pub fn masks(axes: usize) -> usize
     }
 }
 
-// How many knots the axes in use have together.
+// How many knots the axes in use have together. Not public: what refusals 1 and 2 leave is required.
 pub fn knots_length(axes: usize, all: [Axis; 4]) -> usize
     requires { ⌜ InRange axes (points-of all) ⌝ }
-    ensures { λ r. ⌜ (r ≡ sum-below (points-of all) axes) × (r ≤ 1024) ⌝ }
+    ensures { λ r. ⌜ (r ≡ knots-length (sizes-of axes all)) × (r ≤ 1024) ⌝ }
 {
     let mut sum = 0;
     let mut i = 0;
@@ -68,10 +67,10 @@ pub fn knots_length(axes: usize, all: [Axis; 4]) -> usize
     sum
 }
 
-// How many places the grid has.
+// How many places the grid has, which is how many samples. Not public, as above.
 pub fn samples_length(axes: usize, all: [Axis; 4]) -> usize
     requires { ⌜ InRange axes (points-of all) ⌝ }
-    ensures { λ r. ⌜ (r ≡ product-below (points-of all) axes) × (r ≤ 4294967296) ⌝ }
+    ensures { λ r. ⌜ (r ≡ samples-length (sizes-of axes all)) × (r ≤ 4294967296) ⌝ }
 {
     let mut product = 1;
     let mut i = 0;
@@ -83,15 +82,15 @@ pub fn samples_length(axes: usize, all: [Axis; 4]) -> usize
     product
 }
 
-// How many numbers the tensor has: one for each place and mask.
+// How many numbers the tensor has: one for each place and mask. Not public, as above.
 pub fn tensor_length(axes: usize, all: [Axis; 4]) -> usize
     requires { ⌜ InRange axes (points-of all) ⌝ }
-    ensures { λ r. ⌜ (r ≡ product-below (points-of all) axes * 2 ^ axes) × (r ≤ 68719476736) ⌝ }
+    ensures { λ r. ⌜ (r ≡ tensor-length (sizes-of axes all)) × (r ≤ 68719476736) ⌝ }
 {
     samples_length(axes, all) * masks(axes)
 }
 
-// 1, 2, 3, or 0 for none of them.
+// What every call on a grid meets first: 1, 2, 3, or 0.
 pub fn sizes_refusal(axes: usize, all: [Axis; 4]) -> usize
     ensures { λ r. ⌜ r ≡ sizes-check axes all ⌝ }
 {
@@ -107,10 +106,10 @@ pub fn sizes_refusal(axes: usize, all: [Axis; 4]) -> usize
     0
 }
 
-// Whether a place is off the grid on an axis in use.
+// Whether a place is off the grid on an axis in use. Not public: few axes are required.
 pub fn place_refused(axes: usize, all: [Axis; 4], place: [usize; 4]) -> bool
     requires { ⌜ axes ≤ 4 ⌝ }
-    ensures { λ r. ⌜ r ≡ any (λ i. leb (points-of all i) (place-of place i)) axes ⌝ }
+    ensures { λ r. ⌜ r ≡ place-refused (sizes-of axes all) (place-of place) ⌝ }
 {
     let mut i = 0;
     while i < axes {

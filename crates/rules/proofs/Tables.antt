@@ -1,9 +1,10 @@
--- A table has at each index what its rule gives there, and two rules that agree make one table.
-use mathlib.Core.Path.{_≡_, refl, ap, _∙_}
+-- A table has at each index what its rule gives there; two rules that agree make one table, and a list is the table of its elements.
+use mathlib.Core.Path.{_≡_, refl, sym, ap, _∙_}
 use mathlib.Core.List.{List, [], _∷_}
 use Prim.Native.Nat.{ℕ, zero, suc, _+_, _<_}
 use native.Mathlib.Omega.{arith}
 use lib.ListN.{length, getD}
+use lib.Seq.{ext-getD}
 use Rattle.rules.specs.Numbers.{table, table-from}
 
 module _ {A : Type 0} where
@@ -30,3 +31,13 @@ module _ {A : Type 0} where
 
   pub table-ext : (n : ℕ) (f g : ℕ → A) → ((k : ℕ) → k < n → f k ≡ g k) → table n f ≡ table n g
   table-ext n f g same = table-from-ext n 0 f g (λ k lt. same k (omega arith))
+
+  -- a list is the table of its elements
+  pub table-of : (d : A) (l : List A) (n : ℕ) → length l ≡ n → l ≡ table n (λ k. getD l k d)
+  table-of d l n e =
+      ext-getD d l (table n (λ k. getD l k d)) (e ∙ sym (length-table n (λ k. getD l k d)))
+      (λ k h. sym (at-table n (λ j. getD l j d) k d (omega arith)))
+
+  -- a list whose elements are what a function gives is its table
+  pub table-is : (d : A) (l : List A) (n : ℕ) (f : ℕ → A) → length l ≡ n → ((k : ℕ) → k < n → getD l k d ≡ f k) → l ≡ table n f
+  table-is d l n f e same = table-of d l n e ∙ table-ext n (λ k. getD l k d) f same

@@ -4,3 +4,4 @@ pub mod Stores
 pub mod RowsOfBothEnds
 pub mod Endpoints
 pub mod PeriodicLane
+pub mod PublicCalls

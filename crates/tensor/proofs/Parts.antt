@@ -7,7 +7,7 @@ use lib.ListN.{length, take, drop, length-drop}
 use lib.Seq.{length-take-le, getD-take, getD-drop, ext-getD}
 use lib.Ieee.{Float, nan}
 use Rattle.rules.specs.Numbers.{at, table}
-use Rattle.base.proofs.Tables.{table-is}
+use Rattle.rules.proofs.Tables.{table-is}
 
 module _ (w : List Float) (a n : ℕ) (inside : a + n ≤ length w) where
   pub part-length : length (take n (drop a w)) ≡ n

@@ -1,6 +1,5 @@
 use lib.Ieee.{nanBits, isNan, ofBits}
 use Rattle.base.proofs.Finite.{below-infinity, not-below-infinity}
-use borrow.Author.Needs.{needs}
 use Rattle.base.proofs.is_finite.Statement.{statement}
 use Rattle.base.proofs.is_finite.Tie as tie
 

@@ -1,0 +1,4 @@
+pub mod Lengths
+pub mod Slots
+pub mod Exported
+pub mod Unique

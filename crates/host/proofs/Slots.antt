@@ -1,0 +1,28 @@
+-- Slices of one and of four numbers, stored to the last: what stands in them.
+use mathlib.Core.Path.{_≡_, refl}
+use mathlib.Core.List.{List, [], _∷_}
+use Prim.Native.Nat.{ℕ}
+use native.Mathlib.Omega.{arith}
+use lib.ListN.{length, getD, set}
+
+module _ {A : Type 0} where
+  pub one-stored : (l : List A) (a : A) → length l ≡ 1 → set l 0 a ≡ a ∷ []
+  one-stored [] a e = absurd (omega arith)
+  one-stored (x ∷ []) a e = refl
+  one-stored (x ∷ y ∷ l) a e = absurd (omega arith)
+
+  pub four-stored : (l : List A) (a b c d : A) → length l ≡ 4 → set (set (set (set l 0 a) 1 b) 2 c) 3 d ≡ a ∷ b ∷ c ∷ d ∷ []
+  four-stored [] a b c d e = absurd (omega arith)
+  four-stored (x ∷ []) a b c d e = absurd (omega arith)
+  four-stored (x ∷ y ∷ []) a b c d e = absurd (omega arith)
+  four-stored (x ∷ y ∷ z ∷ []) a b c d e = absurd (omega arith)
+  four-stored (x ∷ y ∷ z ∷ w ∷ []) a b c d e = refl
+  four-stored (x ∷ y ∷ z ∷ w ∷ v ∷ l) a b c d e = absurd (omega arith)
+
+  pub four-read : (l : List A) (d : A) → length l ≡ 4 → getD l 0 d ∷ getD l 1 d ∷ getD l 2 d ∷ getD l 3 d ∷ [] ≡ l
+  four-read [] d e = absurd (omega arith)
+  four-read (x ∷ []) d e = absurd (omega arith)
+  four-read (x ∷ y ∷ []) d e = absurd (omega arith)
+  four-read (x ∷ y ∷ z ∷ []) d e = absurd (omega arith)
+  four-read (x ∷ y ∷ z ∷ w ∷ []) d e = refl
+  four-read (x ∷ y ∷ z ∷ w ∷ v ∷ l) d e = absurd (omega arith)

@@ -1,0 +1,54 @@
+-- Each export has one answer: whatever satisfies its record, for the same inputs, is equal in its number and in all that was lent.
+use mathlib.Core.Path.{_≡_, sym, _∙_}
+use mathlib.Core.List.{List}
+use Prim.Native.Nat.{ℕ}
+use lib.Ieee.{Float}
+use Rattle.host.specs.Exports.{MomentsExport, CurveExport, BuildExport, ChangeExport, QueryExport}
+
+-- two things that equal a third
+same : {A : Type 0} {a b c : A} → a ≡ c → b ≡ c → a ≡ b
+same p q = p ∙ sym q
+
+pub moments-unique :
+    (n : ℕ) (knots samples : List Float) (kinds : List ℕ) (values moments-lent scratch-lent : List Float)
+    (r r′ : ℕ) (m m′ s s′ : List Float)
+    → MomentsExport n knots samples kinds values moments-lent scratch-lent r m s
+    → MomentsExport n knots samples kinds values moments-lent scratch-lent r′ m′ s′
+    → (r ≡ r′) × (m ≡ m′) × (s ≡ s′)
+moments-unique n knots samples kinds values moments-lent scratch-lent r r′ m m′ s s′ p q =
+    (same (p .answer) (q .answer), same (p .output) (q .output), same (p .scratch) (q .scratch))
+
+pub curve-unique :
+    (n : ℕ) (knots samples moments-in : List Float) (point : Float) (value-lent : List Float) (r r′ : ℕ) (v v′ : List Float)
+    → CurveExport n knots samples moments-in point value-lent r v
+    → CurveExport n knots samples moments-in point value-lent r′ v′
+    → (r ≡ r′) × (v ≡ v′)
+curve-unique n knots samples moments-in point value-lent r r′ v v′ p q =
+    (same (p .answer) (q .answer), same (p .slot) (q .slot))
+
+pub build-unique :
+    (axes : ℕ) (points kinds : List ℕ) (values knots samples tensor-lent scratch-lent : List Float)
+    (r r′ : ℕ) (t t′ s s′ : List Float)
+    → BuildExport axes points kinds values knots samples tensor-lent scratch-lent r t s
+    → BuildExport axes points kinds values knots samples tensor-lent scratch-lent r′ t′ s′
+    → (r ≡ r′) × (t ≡ t′) × (s ≡ s′)
+build-unique axes points kinds values knots samples tensor-lent scratch-lent r r′ t t′ s s′ p q =
+    (same (p .answer) (q .answer), same (p .output) (q .output), same (p .scratch) (q .scratch))
+
+pub change-unique :
+    (axes : ℕ) (points kinds : List ℕ) (values knots tensor-lent scratch-lent : List Float) (place : List ℕ) (sample : Float) (lanes-lent : List ℕ)
+    (r r′ : ℕ) (t t′ s s′ : List Float) (l l′ : List ℕ)
+    → ChangeExport axes points kinds values knots tensor-lent scratch-lent place sample lanes-lent r t s l
+    → ChangeExport axes points kinds values knots tensor-lent scratch-lent place sample lanes-lent r′ t′ s′ l′
+    → (r ≡ r′) × (t ≡ t′) × (s ≡ s′) × (l ≡ l′)
+change-unique axes points kinds values knots tensor-lent scratch-lent place sample lanes-lent r r′ t t′ s s′ l l′ p q =
+    (same (p .answer) (q .answer), same (p .output) (q .output), same (p .scratch) (q .scratch), same (p .slot) (q .slot))
+
+pub query-unique :
+    (axes : ℕ) (points : List ℕ) (knots tensor-lent coordinates value-lent : List Float) (labels-lent : List ℕ)
+    (r r′ : ℕ) (v v′ : List Float) (l l′ : List ℕ)
+    → QueryExport axes points knots tensor-lent coordinates value-lent labels-lent r v l
+    → QueryExport axes points knots tensor-lent coordinates value-lent labels-lent r′ v′ l′
+    → (r ≡ r′) × (v ≡ v′) × (l ≡ l′)
+query-unique axes points knots tensor-lent coordinates value-lent labels-lent r r′ v v′ l l′ p q =
+    (same (p .answer) (q .answer), same (p .slot) (q .slot), same (p .labels) (q .labels))

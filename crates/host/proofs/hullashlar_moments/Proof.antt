@@ -1,0 +1,31 @@
+use mathlib.Core.Path.{sym, _∙_}
+use native.Mathlib.Omega.{arith}
+use Rattle.host.proofs.Lengths.{moments-lengths}
+use Rattle.host.proofs.Exported.{moments-refused, moments-called}
+use borrow.Author.Needs.{needs}
+use Rattle.host.proofs.hullashlar_moments.Statement.{statement}
+use Rattle.host.proofs.hullashlar_moments.Tie as tie
+
+returns : tie.Need-returns
+returns c = moments-refused _ _ _ _ _ _ _ (c .before .moments-own-refusal .ensures) (c .if1 .taken)
+
+condition-given-requires : tie.Need-condition-given-requires
+condition-given-requires c κs = let lengths = moments-lengths _ _ (sym (c .before .moments-own-refusal .ensures) ∙ c .if1 .left) in (omega arith, omega arith)
+
+returns-2 : tie.Need-returns-2
+returns-2 c =
+    let d = c .before .before .before .before in
+    let g = d .before .before .before in
+    moments-called _ _ _ _ _ _ _ (g .before .before .moments-own-refusal .ensures) (g .before .if1 .left) _ (g .condition-given .ensures) (d .moments .ensures)
+
+pub hullashlar-moments-spec : {M : Type 1} → statement M
+hullashlar-moments-spec =
+    tie.close
+    (tie.spec
+    (λ c κs. search needs)
+    returns
+    condition-given-requires
+    (λ c κs. search needs)
+    (λ c. search needs)
+    (λ c. search needs)
+    returns-2)

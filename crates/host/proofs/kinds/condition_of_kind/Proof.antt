@@ -1,0 +1,16 @@
+use borrow.Author.Tests.{ne-eqb}
+use Rattle.host.specs.Kinds.{condition-of}
+use borrow.Author.Needs.{needs}
+use Rattle.host.proofs.kinds.condition_of_kind.Statement.{statement}
+use Rattle.host.proofs.kinds.condition_of_kind.Tie as tie
+
+returns : tie.Need-returns
+unfolding condition-of
+returns c = rw (c .match .keys1)
+
+returns-2 : tie.Need-returns-2
+unfolding condition-of
+returns-2 c = simp (ne-eqb _ _ (c .match .rest .1))
+
+pub condition-of-kind-spec : {M : Type 1} → statement M
+condition-of-kind-spec = tie.close (tie.spec returns returns-2)

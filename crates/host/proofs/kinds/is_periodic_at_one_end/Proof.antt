@@ -1,0 +1,16 @@
+use borrow.Author.Tests.{ne-eqb}
+use Rattle.host.specs.Kinds.{periodic-at-one-end}
+use borrow.Author.Needs.{needs}
+use Rattle.host.proofs.kinds.is_periodic_at_one_end.Statement.{statement}
+use Rattle.host.proofs.kinds.is_periodic_at_one_end.Tie as tie
+
+returns : tie.Need-returns
+unfolding periodic-at-one-end
+returns c = rw (c .match .keys1)
+
+returns-2 : tie.Need-returns-2
+unfolding periodic-at-one-end
+returns-2 c = simp (ne-eqb _ _ (c .match .rest .1))
+
+pub is-periodic-at-one-end-spec : {M : Type 1} → statement M
+is-periodic-at-one-end-spec = tie.close (tie.spec returns returns-2)

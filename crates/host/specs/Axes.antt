@@ -1,0 +1,65 @@
+-- How numbers and plain slices make conditions and the four axes, and what 13 is of them. Ends stand in one slice, kinds[2i] and values[2i] at the lower end of axis i, kinds[2i + 1] and values[2i + 1] at the upper.
+use mathlib.Core.Bool.{Bool, cond, _||_}
+use mathlib.Core.List.{List}
+use Prim.Native.Nat.{ℕ, _+_, _*_, min}
+use lib.Dec.{ltb}
+use lib.ListN.{getD}
+use lib.Ieee.{Float}
+use Rattle.rules.specs.Numbers.{at, table, any}
+use Rattle.rules.specs.Ends.{not-a-knot}
+use Rattle.rules.specs.Sizes.{most-axes, unused-axis, Grid}
+use Rattle.rules.specs.declared.Axis.{Axis}
+use Rattle.rules.specs.declared.Condition.{Condition}
+use Rattle.host.specs.Kinds.{end-of, condition-of, periodic-at-one-end}
+
+-- the kinds of the ends of axis i
+abbrev pub lower-kind : List ℕ → ℕ → ℕ
+lower-kind kinds i = getD kinds (2 * i) 0
+
+abbrev pub upper-kind : List ℕ → ℕ → ℕ
+upper-kind kinds i = getD kinds (2 * i + 1) 0
+
+-- the condition of axis i; a value is read only where its kind has one
+unfoldable pub condition-given : List ℕ → List Float → ℕ → Condition
+unfolding end-of condition-of
+condition-given kinds values i =
+    condition-of (lower-kind kinds i)
+    (end-of (lower-kind kinds i) (at values (2 * i)))
+    (end-of (upper-kind kinds i) (at values (2 * i + 1)))
+
+-- 13 of one axis: a kind that there is not, or Periodic at one end only
+unfoldable pub kinds-refused : ℕ → ℕ → Bool
+unfolding periodic-at-one-end
+kinds-refused lower upper = ltb 3 lower || ltb 3 upper || periodic-at-one-end lower upper
+
+-- 13 of the axes in use, of which there are four entries at most
+unfoldable pub some-kinds-refused : ℕ → List ℕ → Bool
+unfolding kinds-refused
+some-kinds-refused axes kinds = any (λ i. kinds-refused (lower-kind kinds i) (upper-kind kinds i)) (min axes most-axes)
+
+-- entry i of the four: "entries past the axes in use aren't read", and stand for the unused axis
+unfoldable pub axis-given : ℕ → List ℕ → List ℕ → List Float → ℕ → Axis
+unfolding condition-given
+axis-given axes points kinds values i =
+    cond (ltb i axes) (record { points = getD points i 0; condition = condition-given kinds values i }) unused-axis
+
+unfoldable pub axes-given : ℕ → List ℕ → List ℕ → List Float → List Axis
+unfolding axis-given
+axes-given axes points kinds values = table most-axes (axis-given axes points kinds values)
+
+-- the same of a query, which takes no ends
+unfoldable pub axis-without-ends : ℕ → List ℕ → ℕ → Axis
+axis-without-ends axes points i = cond (ltb i axes) (record { points = getD points i 0; condition = not-a-knot }) unused-axis
+
+unfoldable pub axes-without-ends : ℕ → List ℕ → List Axis
+unfolding axis-without-ends
+axes-without-ends axes points = table most-axes (axis-without-ends axes points)
+
+-- the grid of both
+abbrev pub grid-given : ℕ → List ℕ → List ℕ → List Float → List Float → Grid
+grid-given axes points kinds values knots =
+    record { axes = axes; entries = axes-given axes points kinds values; flat-knots = knots }
+
+abbrev pub grid-without-ends : ℕ → List ℕ → List Float → Grid
+grid-without-ends axes points knots =
+    record { axes = axes; entries = axes-without-ends axes points; flat-knots = knots }

@@ -1,0 +1,143 @@
+-- The exported calls: the host's own refusals, 4 and then 13, stand first, with nothing written. Where there is none, each call answers as `rules` promises for the axes given, and what it answers stands in the slices lent for it.
+use mathlib.Core.Path.{_≡_}
+use mathlib.Core.Bool.{cond, _||_}
+use mathlib.Core.List.{List, [], _∷_}
+use Prim.Native.Nat.{ℕ, zero, suc, _-_}
+use lib.ListN.{length}
+use lib.Ieee.{Float}
+use Rattle.rules.specs.Sizes.{most-axes, place-of}
+use Rattle.rules.specs.Refusals.{length-refused}
+use Rattle.rules.specs.Moments.{moments}
+use Rattle.rules.specs.Tensor.{tensor}
+use Rattle.rules.specs.Change.{changed-tensor}
+use Rattle.rules.specs.Calls.{stored, scratch-after, moments-refusal, curve-answer, build-refusal, change-refusal, change-answer, query-answer}
+use Rattle.host.specs.Axes.{lower-kind, upper-kind, condition-given, kinds-refused, some-kinds-refused, grid-given, grid-without-ends}
+
+-- the host's own refusal, 0 for none, before the call's
+abbrev pub before : ℕ → ℕ → ℕ
+before zero refusal = refusal
+before (suc own) refusal = suc own
+
+-- what stands in a lent slice afterwards: what it had, where the host itself refuses
+abbrev pub kept : {A : Type 0} → ℕ → List A → List A → List A
+kept zero lent later = later
+kept (suc own) lent later = lent
+
+-- how many ends the slices of a call on one axis hold, and those of a call with axes
+abbrev pub two-ends : ℕ
+two-ends = 2
+
+abbrev pub eight-ends : ℕ
+eight-ends = 8
+
+-- ---- the curve's moments
+
+-- 4 for the ends, and then 13
+unfoldable pub moments-own-refusal : List ℕ → List Float → ℕ
+unfolding kinds-refused
+moments-own-refusal kinds values =
+    cond (length-refused (length kinds) two-ends || length-refused (length values) two-ends) 4
+    (cond (kinds-refused (lower-kind kinds 0) (upper-kind kinds 0)) 13 0)
+
+module _ (n : ℕ) (knots samples : List Float) (kinds : List ℕ) (values moments-lent scratch-lent : List Float) where
+  abbrev given-moments-refusal : ℕ
+  given-moments-refusal = moments-refusal n knots samples (condition-given kinds values 0) moments-lent scratch-lent
+
+  pub record MomentsExport (refusal : ℕ) (moments-later scratch-later : List Float) : Type 0 where
+    pub answer : refusal ≡ before (moments-own-refusal kinds values) given-moments-refusal
+    pub output :
+        moments-later
+        ≡ kept (moments-own-refusal kinds values) moments-lent
+        (stored given-moments-refusal moments-lent (moments knots (n - 1) (condition-given kinds values 0) samples))
+    pub scratch :
+        scratch-later ≡ kept (moments-own-refusal kinds values) scratch-lent (scratch-after given-moments-refusal scratch-lent)
+
+-- ---- the curve's value
+
+-- 4 for the slot of the value
+unfoldable pub curve-own-refusal : List Float → ℕ
+curve-own-refusal value = cond (length-refused (length value) 1) 4 0
+
+module _ (n : ℕ) (knots samples moments-in : List Float) (point : Float) (value-lent : List Float) where
+  pub record CurveExport (refusal : ℕ) (value-later : List Float) : Type 0 where
+    pub answer :
+        refusal ≡ before (curve-own-refusal value-lent) (curve-answer n knots samples moments-in point .refusal)
+    pub slot :
+        value-later ≡ kept (curve-own-refusal value-lent) value-lent (curve-answer n knots samples moments-in point .value ∷ [])
+
+-- The knot slopes have no refusal of the host's own: their record is that of `rules`.
+
+-- ---- the build
+
+-- 4 for the four axes and their ends, and then 13
+unfoldable pub build-own-refusal : ℕ → List ℕ → List ℕ → List Float → ℕ
+unfolding some-kinds-refused
+build-own-refusal axes points kinds values =
+    cond (length-refused (length points) most-axes || length-refused (length kinds) eight-ends || length-refused (length values) eight-ends) 4
+    (cond (some-kinds-refused axes kinds) 13 0)
+
+module _ (axes : ℕ) (points kinds : List ℕ) (values knots samples tensor-lent scratch-lent : List Float) where
+  abbrev given-build-refusal : ℕ
+  given-build-refusal = build-refusal (grid-given axes points kinds values knots) samples tensor-lent scratch-lent
+
+  pub record BuildExport (refusal : ℕ) (tensor-later scratch-later : List Float) : Type 0 where
+    pub answer : refusal ≡ before (build-own-refusal axes points kinds values) given-build-refusal
+    pub output :
+        tensor-later
+        ≡ kept (build-own-refusal axes points kinds values) tensor-lent
+        (stored given-build-refusal tensor-lent (tensor (grid-given axes points kinds values knots) samples))
+    pub scratch :
+        scratch-later
+        ≡ kept (build-own-refusal axes points kinds values) scratch-lent (scratch-after given-build-refusal scratch-lent)
+
+-- ---- the change
+
+-- 4 for the place and the slot of the count too
+unfoldable pub change-own-refusal : ℕ → List ℕ → List ℕ → List Float → List ℕ → List ℕ → ℕ
+unfolding build-own-refusal
+change-own-refusal axes points kinds values place lanes =
+    cond (length-refused (length place) most-axes || length-refused (length lanes) 1) 4
+    (build-own-refusal axes points kinds values)
+
+module _ (axes : ℕ) (points kinds : List ℕ) (values knots tensor-lent scratch-lent : List Float) (place : List ℕ) (sample : Float) (lanes-lent : List ℕ) where
+  abbrev given-change-refusal : ℕ
+  given-change-refusal =
+      change-refusal (grid-given axes points kinds values knots) tensor-lent scratch-lent (place-of place) sample
+
+  abbrev change-own : ℕ
+  change-own = change-own-refusal axes points kinds values place lanes-lent
+
+  pub record ChangeExport (refusal : ℕ) (tensor-later scratch-later : List Float) (lanes-later : List ℕ) : Type 0 where
+    pub answer : refusal ≡ before change-own given-change-refusal
+    pub output :
+        tensor-later
+        ≡ kept change-own tensor-lent
+        (stored given-change-refusal tensor-lent
+        (changed-tensor (grid-given axes points kinds values knots) (place-of place) sample tensor-lent))
+    pub scratch : scratch-later ≡ kept change-own scratch-lent (scratch-after given-change-refusal scratch-lent)
+    pub slot :
+        lanes-later
+        ≡ kept change-own lanes-lent
+        (change-answer (grid-given axes points kinds values knots) tensor-lent scratch-lent (place-of place) sample .lanes ∷ [])
+
+-- ---- the query
+
+-- 4 for the points and the slots of value and labels
+unfoldable pub query-own-refusal : List ℕ → List Float → List ℕ → ℕ
+query-own-refusal points value labels =
+    cond (length-refused (length points) most-axes || length-refused (length value) 1 || length-refused (length labels) most-axes) 4 0
+
+module _ (axes : ℕ) (points : List ℕ) (knots tensor-lent coordinates value-lent : List Float) (labels-lent : List ℕ) where
+  pub record QueryExport (refusal : ℕ) (value-later : List Float) (labels-later : List ℕ) : Type 0 where
+    pub answer :
+        refusal
+        ≡ before (query-own-refusal points value-lent labels-lent)
+        (query-answer (grid-without-ends axes points knots) tensor-lent coordinates .refusal)
+    pub slot :
+        value-later
+        ≡ kept (query-own-refusal points value-lent labels-lent) value-lent
+        (query-answer (grid-without-ends axes points knots) tensor-lent coordinates .value ∷ [])
+    pub labels :
+        labels-later
+        ≡ kept (query-own-refusal points value-lent labels-lent) labels-lent
+        (query-answer (grid-without-ends axes points knots) tensor-lent coordinates .labels)

@@ -1,0 +1,87 @@
+// The host's own refusals, before anything else: 4 for a slice that is not as long as the ends, the axes or the answer want it, then 13 for the kinds of an axis in use, and 0 for none.
+ghost use mathlib.Core.Path.{_≡_};
+ghost use Rattle.host.specs.Exports.{moments-own-refusal, curve-own-refusal, build-own-refusal, change-own-refusal, query-own-refusal};
+use crate::axes::kinds_refused;
+use crate::axes::some_kinds_refused;
+use crate::axes::wide;
+
+// Of the curve's moments: two ends.
+pub fn moments_own_refusal(kinds: &[u8], values: &[f64]) -> usize
+    ensures { λ r. ⌜ r ≡ moments-own-refusal (now (kinds .entry)) (now (values .entry)) ⌝ }
+{
+    if kinds.len() != 2 {
+        return 4;
+    }
+    if values.len() != 2 {
+        return 4;
+    }
+    if kinds_refused(wide(kinds[0]), wide(kinds[1])) {
+        return 13;
+    }
+    0
+}
+
+// Of the curve's value: its slot.
+pub fn curve_own_refusal(value: &[f64]) -> usize
+    ensures { λ r. ⌜ r ≡ curve-own-refusal (now (value .entry)) ⌝ }
+{
+    if value.len() != 1 {
+        return 4;
+    }
+    0
+}
+
+// Of a build: four axes with eight ends.
+pub fn build_own_refusal(axes: usize, points: &[usize], kinds: &[u8], values: &[f64]) -> usize
+    ensures { λ r. ⌜ r ≡ build-own-refusal axes (now (points .entry)) (now (kinds .entry)) (now (values .entry)) ⌝ }
+{
+    if points.len() != 4 {
+        return 4;
+    }
+    if kinds.len() != 8 {
+        return 4;
+    }
+    if values.len() != 8 {
+        return 4;
+    }
+    if some_kinds_refused(axes, kinds) {
+        return 13;
+    }
+    0
+}
+
+// Of a change: the place and the slot of the count too.
+pub fn change_own_refusal(
+    axes: usize,
+    points: &[usize],
+    kinds: &[u8],
+    values: &[f64],
+    place: &[usize],
+    lanes: &[usize],
+) -> usize
+    ensures { λ r. ⌜ r ≡ change-own-refusal axes (now (points .entry)) (now (kinds .entry)) (now (values .entry)) (now (place .entry)) (now (lanes .entry)) ⌝ }
+{
+    if place.len() != 4 {
+        return 4;
+    }
+    if lanes.len() != 1 {
+        return 4;
+    }
+    build_own_refusal(axes, points, kinds, values)
+}
+
+// Of a query: the points and the slots of value and labels.
+pub fn query_own_refusal(points: &[usize], value: &[f64], labels: &[usize]) -> usize
+    ensures { λ r. ⌜ r ≡ query-own-refusal (now (points .entry)) (now (value .entry)) (now (labels .entry)) ⌝ }
+{
+    if points.len() != 4 {
+        return 4;
+    }
+    if value.len() != 1 {
+        return 4;
+    }
+    if labels.len() != 4 {
+        return 4;
+    }
+    0
+}

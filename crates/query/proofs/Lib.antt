@@ -1,0 +1,6 @@
+pub mod Removal
+pub mod Blending
+pub mod Corners
+pub mod Gathering
+pub mod Locating
+pub mod Answers

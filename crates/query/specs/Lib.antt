@@ -1,0 +1,4 @@
+pub mod Answer
+pub mod Blend
+pub mod Cell
+pub mod Located

@@ -1,0 +1,53 @@
+-- The fault of an axis, test by test, and what holds of an axis that has none.
+use mathlib.Core.Path.{_≡_}
+use mathlib.Core.Bool.{Bool, true, false, cond}
+use mathlib.Core.List.{List}
+use Prim.Native.Nat.{ℕ, _+_, _*_, _<_, _≤_}
+use native.Mathlib.Omega.{arith}
+use borrow.Author.Tests.{lt-ltb, le-ltb}
+use lib.ListN.{length}
+use Rattle.rules.specs.Refusals.{points-refused}
+use Rattle.sheet.specs.Bits.{short, numbers-short}
+use Rattle.sheet.specs.Kinds.{periodic-at-one-end}
+use Rattle.sheet.specs.Fields.{points-at, lower-kind, upper-kind, values-at}
+use Rattle.sheet.specs.Faults.{axis-fault}
+use Rattle.sheet.proofs.Extents.{extent}
+
+module _ (bytes : List ℕ) (at : ℕ) where
+  abbrev bits : ℕ
+  bits = 8 * length bytes
+
+  pub no-points : bits < at + 8 → 11 ≡ axis-fault bytes at
+  unfolding axis-fault
+  no-points gone = rw (lt-ltb bits (at + 8) gone)
+
+  pub few-points : at + 8 ≤ bits → points-at bytes at < 2 → 2 ≡ axis-fault bytes at
+  unfolding axis-fault
+  few-points room few = rw (le-ltb bits (at + 8) room, lt-ltb (points-at bytes at) 2 few)
+
+  module _ (enough : 2 ≤ points-at bytes at) where
+    enough-points : points-refused (points-at bytes at) ≡ false
+    enough-points =
+        let reach = extent bytes at in
+        rw (le-ltb (points-at bytes at) 2 (omega arith), le-ltb 256 (points-at bytes at) (omega arith))
+
+    pub no-lower-kind : at + 8 ≤ bits → bits < at + 8 + 2 → 11 ≡ axis-fault bytes at
+    unfolding axis-fault
+    no-lower-kind room gone = rw (le-ltb bits (at + 8) room, enough-points, lt-ltb bits (at + 8 + 2) gone)
+
+    pub no-upper-kind : at + 8 + 2 ≤ bits → bits < at + 10 + 2 → 11 ≡ axis-fault bytes at
+    unfolding axis-fault
+    no-upper-kind room gone =
+        rw (le-ltb bits (at + 8) (omega arith), enough-points, le-ltb bits (at + 8 + 2) room, lt-ltb bits (at + 10 + 2) gone)
+
+    module _ (room : at + 10 + 2 ≤ bits) where
+      pub one-periodic : periodic-at-one-end (lower-kind bytes at) (upper-kind bytes at) ≡ true → 13 ≡ axis-fault bytes at
+      unfolding axis-fault
+      one-periodic one =
+          rw (le-ltb bits (at + 8) (omega arith), enough-points, le-ltb bits (at + 8 + 2) (omega arith), le-ltb bits (at + 10 + 2) room, one)
+
+      pub patterns : periodic-at-one-end (lower-kind bytes at) (upper-kind bytes at) ≡ false
+          → (test : Bool) → numbers-short bytes (at + 12) (values-at bytes at + points-at bytes at) ≡ test → cond test 11 0 ≡ axis-fault bytes at
+      unfolding axis-fault
+      patterns none test short =
+          rw (le-ltb bits (at + 8) (omega arith), enough-points, le-ltb bits (at + 8 + 2) (omega arith), le-ltb bits (at + 10 + 2) room, none, short)

@@ -1,0 +1,78 @@
+-- The sheet of document 01's example, the empty one, and for each fault a sheet that has it: the rows of one theorem about the definitions.
+use mathlib.Core.Path.{_≡_, refl}
+use mathlib.Core.List.{List, [], _∷_, _++_}
+use Prim.Native.Nat.{ℕ}
+use lib.ListN.{replicate}
+use lib.Ieee.{binary64, ofBits}
+use Rattle.rules.specs.Numbers.{plus-zero, one, any}
+use Rattle.rules.specs.Ends.{natural}
+use Rattle.rules.specs.Sizes.{unused-axis, product-below}
+use Rattle.sheet.specs.Bits.{bit, field}
+use Rattle.sheet.specs.Kinds.{values-of, end-of, condition-of, periodic-at-one-end}
+use Rattle.sheet.specs.Fields.{points-at, values-at, axis-at, knots-begin, knots-at, axis-end, axis-begin, entries, knots-below, sheet-grid, sheet-samples}
+use Rattle.sheet.specs.Faults.{axis-fault, axes-fault, tail-refused, samples-fault, sheet-refusal}
+
+abbrev zero-bytes : ℕ → List ℕ
+zero-bytes n = replicate n 0
+
+-- "edition 1, one axis, 2 points, natural with +0 values, knots 0 and 1, samples 0 and 1": 403 bits, of which these are the first 400, and the last byte
+abbrev first-bytes : List ℕ
+first-bytes = 0x12 ∷ 0x03 ∷ 0x40 ∷ zero-bytes 23 ++ (0x07 ∷ 0xFE ∷ zero-bytes 14) ++ (0x07 ∷ 0xFE ∷ zero-bytes 6)
+
+abbrev example : List ℕ
+example = first-bytes ++ (0x00 ∷ [])
+
+-- two axes of 25 and of 41 points, all knots zero
+abbrev large : List ℕ
+large = 0x14 ∷ 0x30 ∷ zero-bytes 200 ++ (0x05 ∷ zero-bytes 329)
+
+pub record Examples : Type 0 where
+  pub accepted : sheet-refusal example ≡ 0
+  pub grid : sheet-grid example ≡ record {
+    axes = 1;
+    entries = record { points = 2; condition = natural } ∷ unused-axis ∷ unused-axis ∷ unused-axis ∷ [];
+    flat-knots = plus-zero ∷ one ∷ [];
+  }
+  pub samples : sheet-samples example ≡ plus-zero ∷ one ∷ []
+  -- "refused 11, which is the output for empty input"
+  pub empty : sheet-refusal [] ≡ 11
+  pub edition-two : sheet-refusal (0x20 ∷ []) ≡ 12
+  pub no-axes : sheet-refusal (0x10 ∷ []) ≡ 1
+  pub five-axes : sheet-refusal (0x1A ∷ []) ≡ 1
+  pub one-point : sheet-refusal (0x12 ∷ 0x00 ∷ []) ≡ 2
+  pub points-cut : sheet-refusal (0x12 ∷ []) ≡ 11
+  pub upper-kind-cut : sheet-refusal (0x12 ∷ 0x03 ∷ []) ≡ 11
+  -- 13 stands before the end values and the knots, of which there are none
+  pub lower-periodic : sheet-refusal (0x12 ∷ 0x03 ∷ 0x80 ∷ []) ≡ 13
+  pub upper-periodic : sheet-refusal (0x12 ∷ 0x02 ∷ 0x60 ∷ []) ≡ 13
+  pub twice-periodic : sheet-refusal (0x12 ∷ 0x03 ∷ 0xE0 ∷ []) ≡ 11
+  -- 3 stands before the samples, of which there are none
+  pub too-large : sheet-refusal large ≡ 3
+  pub last-byte-cut : sheet-refusal first-bytes ≡ 11
+  pub byte-after : sheet-refusal (example ++ (0x00 ∷ [])) ≡ 14
+  pub last-bit-set : sheet-refusal (first-bytes ++ (0x01 ∷ [])) ≡ 14
+  -- the last bit of the last sample is read as such
+  pub last-sample : sheet-samples (first-bytes ++ (0x20 ∷ [])) ≡ plus-zero ∷ ofBits binary64 0x3FF0_0000_0000_0001 ∷ []
+
+pub examples : Examples
+unfolding any product-below bit field values-of end-of condition-of periodic-at-one-end points-at values-at axis-at knots-begin knots-at axis-end axis-begin entries knots-below sheet-grid axis-fault axes-fault tail-refused samples-fault sheet-refusal
+examples = record {
+  accepted = refl;
+  grid = refl;
+  samples = refl;
+  empty = refl;
+  edition-two = refl;
+  no-axes = refl;
+  five-axes = refl;
+  one-point = refl;
+  points-cut = refl;
+  upper-kind-cut = refl;
+  lower-periodic = refl;
+  upper-periodic = refl;
+  twice-periodic = refl;
+  too-large = refl;
+  last-byte-cut = refl;
+  byte-after = refl;
+  last-bit-set = refl;
+  last-sample = refl;
+}

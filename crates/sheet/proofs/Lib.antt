@@ -1,0 +1,13 @@
+pub mod Shifts
+pub mod Runs
+pub mod Extents
+pub mod AxisFaults
+pub mod Walks
+pub mod Products
+pub mod Stores
+pub mod Samples
+pub mod Sheets
+pub mod Promises
+pub mod Parts
+pub mod Unique
+pub mod Examples

@@ -1,0 +1,164 @@
+-- The refusal of a sheet, test by test, what holds of a sheet that is not refused, and how many samples it has.
+use mathlib.Core.Path.{_≡_, refl, _∙_}
+use mathlib.Core.Bool.{true, false, not, cond}
+use mathlib.Core.List.{List}
+use Prim.Native.Nat.{ℕ, zero, suc, _+_, _*_, _^_, _<_, _≤_}
+use native.Mathlib.Omega.{arith}
+use borrow.Author.Tests.{lt-ltb, le-ltb, eq-eqb, ne-eqb, ltb-false, not-false, eqb-true}
+use lib.Dec.{ltb, eqb}
+use lib.ListN.{length, getD}
+use Rattle.base.proofs.Scan.{neither}
+use Rattle.rules.proofs.Tables.{at-table}
+use Rattle.rules.specs.Sizes.{unused-axis, product-below, samples-length}
+use Rattle.rules.specs.Refusals.{axes-refused, tensor-refused}
+use Rattle.rules.specs.declared.Axis.{Axis}
+use Rattle.sheet.specs.Bits.{short, numbers-short}
+use Rattle.sheet.specs.Fields.{edition, axes, points-at, axis-at, axis-begin, entries, sheet-grid, samples-begin, samples-end}
+use Rattle.sheet.specs.Faults.{or-else, axes-fault, tail-refused, samples-fault, sheet-refusal}
+use Rattle.sheet.specs.Within.{Axes, Counted, Ended, Sound}
+use Rattle.sheet.proofs.Runs.{short-together}
+use Rattle.sheet.proofs.Extents.{extent, begin-most}
+use Rattle.sheet.proofs.Walks.{passed, or-else-passed}
+use Rattle.sheet.proofs.Products.{product-least, product-most}
+
+-- ---- edition and axes
+
+module _ (bytes : List ℕ) where
+  abbrev bits : ℕ
+  bits = 8 * length bytes
+
+  pub no-edition : bits < 0 + 4 → sheet-refusal bytes ≡ 11
+  unfolding sheet-refusal
+  no-edition gone = rw (lt-ltb bits (0 + 4) gone)
+
+  module _ (room : 0 + 4 ≤ bits) where
+    pub other-edition : (edition bytes ≡ 1 → ⊥) → sheet-refusal bytes ≡ 12
+    unfolding sheet-refusal
+    other-edition other = rw (le-ltb bits (0 + 4) room, ne-eqb (edition bytes) 1 other)
+
+    module _ (first : edition bytes ≡ 1) where
+      pub no-axes : bits < 4 + 3 → sheet-refusal bytes ≡ 11
+      unfolding sheet-refusal
+      no-axes gone = rw (le-ltb bits (0 + 4) room, eq-eqb (edition bytes) 1 first, lt-ltb bits (4 + 3) gone)
+
+      pub some-axes : 4 + 3 ≤ bits
+          → sheet-refusal bytes ≡ cond (axes-refused (sheet-grid bytes)) 1 (or-else (axes-fault bytes (axes bytes)) (samples-fault bytes))
+      unfolding sheet-refusal
+      some-axes more = rw (le-ltb bits (0 + 4) room, eq-eqb (edition bytes) 1 first, le-ltb bits (4 + 3) more)
+
+  pub axes-few : axes bytes < 1 → axes-refused (sheet-grid bytes) ≡ true
+  unfolding sheet-grid
+  axes-few few = rw (lt-ltb (axes bytes) 1 few)
+
+  pub axes-many : 4 < axes bytes → axes-refused (sheet-grid bytes) ≡ true
+  unfolding sheet-grid
+  axes-many many = rw (le-ltb (axes bytes) 1 (omega arith), lt-ltb 4 (axes bytes) many)
+
+  pub axes-allowed : 1 ≤ axes bytes → axes bytes ≤ 4 → axes-refused (sheet-grid bytes) ≡ false
+  unfolding sheet-grid
+  axes-allowed least most = rw (le-ltb (axes bytes) 1 least, le-ltb 4 (axes bytes) most)
+
+-- ---- the samples
+
+-- the product of the points is the number of samples
+pub count-is : (bytes : List ℕ) (all : List Axis) (n count : ℕ) → n ≡ axes bytes → all ≡ entries bytes (axes bytes) → count ≡ product-below (λ i. getD all i unused-axis .points) n → count ≡ samples-length (sheet-grid bytes)
+unfolding sheet-grid
+count-is bytes all n count said e samples = samples ∙ rw (e, said)
+
+entry-at : (bytes : List ℕ) (n i : ℕ) → n ≤ 4 → i < n → getD (entries bytes n) i unused-axis ≡ axis-at bytes (axis-begin bytes i)
+unfolding entries
+entry-at bytes n i few l =
+    at-table 4 (λ k. cond (ltb k n) (axis-at bytes (axis-begin bytes k)) unused-axis) i unused-axis (omega arith) ∙ rw (lt-ltb i n l)
+
+module _ (bytes : List ℕ) (n : ℕ) (all : List Axis) (few : n ≤ 4) (e : all ≡ entries bytes n) where
+  pub size : (i : ℕ) → i < n → getD all i unused-axis .points ≡ points-at bytes (axis-begin bytes i)
+  unfolding axis-at
+  size i l = rw (e, entry-at bytes n i few l)
+
+  pub counted : Counted all n
+  counted = record {
+    few = few;
+    most = λ i l. let reach = extent bytes (axis-begin bytes i) in omega (arith, size i l);
+  }
+
+  pub ended : (at count : ℕ) → n ≡ axes bytes → at ≡ axis-begin bytes n → count ≡ product-below (λ i. getD all i unused-axis .points) n → Ended bytes at n count
+  unfolding sheet-grid
+  ended at count said end samples = record {
+    few = few;
+    said = said;
+    end = end ∙ rw said;
+    samples = count-is bytes all n count said (e ∙ rw said) samples;
+    least = rw samples (product-least (λ i. getD all i unused-axis .points) n (λ i l. let reach = extent bytes (axis-begin bytes i) in omega (arith, size i l)));
+    most = rw samples (product-most (λ i. getD all i unused-axis .points) n few (counted .most));
+    small = let most = begin-most bytes n in omega (arith, end);
+  }
+
+-- ---- a sheet that is not refused
+
+pub record Accepted (bytes : List ℕ) : Type 0 where
+  pub first : edition bytes ≡ 1
+  pub said : Axes bytes (axes bytes)
+  pub faultless : axes-fault bytes (axes bytes) ≡ 0
+  pub small : samples-length (sheet-grid bytes) * 2 ^ axes bytes ≤ 4096
+  pub long : numbers-short bytes (samples-begin bytes) (samples-length (sheet-grid bytes)) ≡ false
+  pub no-more : tail-refused bytes (samples-end bytes) ≡ false
+
+axes-passed : (bytes : List ℕ) → axes-refused (sheet-grid bytes) ≡ false → Axes bytes (axes bytes)
+unfolding sheet-grid
+axes-passed bytes e =
+    let both = neither (ltb (axes bytes) 1) (ltb 4 (axes bytes)) e in
+    record { least = ltb-false (axes bytes) 1 (both .0); few = ltb-false 4 (axes bytes) (both .1); said = refl }
+
+tensor-passed : (bytes : List ℕ) → tensor-refused (sheet-grid bytes) ≡ false → samples-length (sheet-grid bytes) * 2 ^ axes bytes ≤ 4096
+unfolding sheet-grid
+tensor-passed bytes e = ltb-false 4096 (samples-length (sheet-grid bytes) * 2 ^ axes bytes) e
+
+pub accepted : (bytes : List ℕ) → sheet-refusal bytes ≡ 0 → Accepted bytes
+unfolding sheet-refusal samples-fault
+accepted bytes e =
+    let a = passed (short bytes 0 4) 10 _ e in
+    let b = passed (not (eqb (edition bytes) 1)) 11 _ (a .1) in
+    let c = passed (short bytes 4 3) 10 _ (b .1) in
+    let d = passed (axes-refused (sheet-grid bytes)) 0 _ (c .1) in
+    let f = or-else-passed (axes-fault bytes (axes bytes)) _ (d .1) in
+    let g = passed (tensor-refused (sheet-grid bytes)) 2 _ (f .1) in
+    let h = passed (numbers-short bytes (samples-begin bytes) (samples-length (sheet-grid bytes))) 10 _ (g .1) in
+    let i = passed (tail-refused bytes (samples-end bytes)) 13 0 (h .1) in
+    record {
+      first = eqb-true (edition bytes) 1 (not-false (eqb (edition bytes) 1) (b .0));
+      said = axes-passed bytes (d .0);
+      faultless = f .0;
+      small = tensor-passed bytes (g .0);
+      long = h .0;
+      no-more = i .0;
+    }
+
+-- one axis has at most 256 samples, more axes have a quarter of the tensor's length at most
+few-samples : (sizes : ℕ → ℕ) (n : ℕ) → 1 ≤ n → n ≤ 4 → ((i : ℕ) → i < n → sizes i ≤ 256) → product-below sizes n * 2 ^ n ≤ 4096 → product-below sizes n ≤ 1024
+unfolding product-below
+few-samples sizes zero least few most small = absurd (omega arith)
+few-samples sizes (suc zero) least few most small = omega (arith, most 0 (omega arith))
+few-samples sizes (suc (suc zero)) least few most small = omega arith
+few-samples sizes (suc (suc (suc zero))) least few most small = omega arith
+few-samples sizes (suc (suc (suc (suc zero)))) least few most small = omega arith
+few-samples sizes (suc (suc (suc (suc (suc n))))) least few most small = absurd (omega arith)
+
+product-is : (bytes : List ℕ) → samples-length (sheet-grid bytes) ≡ product-below (λ i. getD (entries bytes (axes bytes)) i unused-axis .points) (axes bytes)
+unfolding sheet-grid
+product-is bytes = refl
+
+module _ (bytes : List ℕ) (a : Accepted bytes) where
+  pub sound : Sound bytes (axes bytes)
+  sound = record { few = a .said .few; faultless = a .faultless }
+
+  -- the samples of a sheet that is not refused have places in the buffer, and bits in the sheet
+  pub samples-most : samples-length (sheet-grid bytes) ≤ 1024
+  unfolding sheet-grid
+  samples-most =
+      few-samples (λ i. getD (entries bytes (axes bytes)) i unused-axis .points) (axes bytes) (a .said .least) (a .said .few)
+      (counted bytes (axes bytes) (entries bytes (axes bytes)) (a .said .few) refl .most) (a .small)
+
+  pub samples-room : samples-end bytes ≤ 8 * length bytes
+  samples-room =
+      let t = ended bytes (axes bytes) (entries bytes (axes bytes)) (a .said .few) refl (samples-begin bytes) (samples-length (sheet-grid bytes)) refl refl (product-is bytes) in
+      ltb-false _ _ (short-together bytes (samples-begin bytes) (samples-length (sheet-grid bytes)) (t .least) ∙ a .long)

@@ -1,0 +1,104 @@
+-- The turns of the walk that stores the knots, on plain lists: those of the axes that were passed stand in the first places.
+use mathlib.Core.Path.{_≡_, refl, sym, ap, _∙_}
+use mathlib.Core.List.{List, _++_, append-assoc}
+use Prim.Native.Nat.{ℕ, suc, _+_, _-_, _*_, _<_, _≤_}
+use native.Mathlib.Numerals.{add-one}
+use native.Mathlib.Omega.{arith}
+use lib.ListN.{length, take, drop, length-append, length-take, length-drop}
+use lib.Seq.{take-at, drop-at, drop-drop}
+use lib.Ieee.{Float}
+use Rattle.rules.proofs.Tables.{length-table}
+use Rattle.sheet.specs.Bits.{numbers}
+use Rattle.sheet.specs.Fields.{points-at, knots-at, knots-begin, axis-end, axis-begin, knots-below}
+use Rattle.sheet.specs.Read.{over}
+use Rattle.sheet.specs.Within.{Whole, Sound}
+use Rattle.sheet.proofs.Extents.{extent}
+use Rattle.sheet.proofs.Walks.{each-faultless, whole, begin-next}
+
+-- numbers behind those that stand in the first places
+over-more : (first more old : List Float) (a k : ℕ) → length first ≡ a → length more ≡ k
+    → take a (over first old) ++ (more ++ drop k (drop a (over first old))) ≡ over (first ++ more) old
+over-more first more old a k e f =
+    rw (
+      take-at first (drop (length first) old) a e,
+      drop-at first (drop (length first) old) a e,
+      drop-drop k (length first) old,
+      length-append first more,
+      ← f,
+      append-assoc first more,
+    )
+
+pub knots-below-next : (bytes : List ℕ) (i : ℕ) → knots-below bytes (suc i) ≡ knots-below bytes i ++ knots-at bytes (axis-begin bytes i)
+unfolding knots-below
+knots-below-next bytes i = refl
+
+knots-at-is : (bytes : List ℕ) (at : ℕ) → knots-at bytes at ≡ numbers bytes (knots-begin bytes at) (points-at bytes at)
+unfolding knots-at
+knots-at-is bytes at = refl
+
+pub length-knots-at : (bytes : List ℕ) (at : ℕ) → length (knots-at bytes at) ≡ points-at bytes at
+length-knots-at bytes at = rw (knots-at-is bytes at) (length-table (points-at bytes at) _)
+
+pub record Turn (bytes : List ℕ) (n : ℕ) (knots₀ knots : List Float) (at from i : ℕ) : Type 0 where
+  pub sound : Sound bytes n
+  pub lent : length knots₀ ≡ 1024
+  pub most : i ≤ n
+  pub place : at ≡ axis-begin bytes i
+  pub filled : from ≡ length (knots-below bytes i)
+  pub reach : from ≤ 256 * i
+  pub same-length : length knots ≡ length knots₀
+  pub done : knots ≡ over (knots-below bytes i) knots₀
+
+pub turn-first : (bytes : List ℕ) (n : ℕ) (knots : List Float) → Sound bytes n → length knots ≡ 1024 → Turn bytes n knots knots 7 0 0
+unfolding axis-begin knots-below
+turn-first bytes n knots s e = record {
+  sound = s;
+  lent = e;
+  most = omega arith;
+  place = refl;
+  filled = refl;
+  reach = omega arith;
+  same-length = refl;
+  done = refl;
+}
+
+module _ (bytes : List ℕ) (n : ℕ) (knots₀ knots : List Float) (at from i p : ℕ)
+    (t : Turn bytes n knots₀ knots at from i) (l : i < n) (e : p ≡ points-at bytes at) where
+  -- the axis at hand is there, and so are the places of its knots
+  pub turn-whole : Whole bytes at
+  turn-whole = rw (t .place) (whole bytes i (omega (arith, t .sound .few)) (each-faultless bytes n i (t .sound .faultless) l))
+
+  pub turn-room : from + p ≤ 1024
+  turn-room = let here = extent bytes at in omega (arith, t .reach, t .sound .few)
+
+  pub part-length : length (take (from + p - from) (drop from knots)) ≡ p
+  part-length = rw (length-take, length-drop) (omega (arith, turn-room, t .same-length, t .lent))
+
+  module _ (new : List Float) (begin : ℕ) (b : begin ≡ knots-begin bytes at) (f : new ≡ numbers bytes begin (length (take (from + p - from) (drop from knots)))) where
+    new-is : new ≡ knots-at bytes at
+    new-is = f ∙ rw (part-length, b, e, knots-at-is bytes at)
+
+    new-length : length new ≡ p
+    new-length = ap length new-is ∙ length-knots-at bytes at ∙ sym e
+
+    pub turn-next : (end : ℕ) → end ≡ axis-end bytes at → Turn bytes n knots₀ (take from knots ++ (new ++ drop (from + p - from) (drop from knots))) end (from + p) (i + 1)
+    turn-next end g =
+        let q : from + p - from ≡ p = omega arith in
+        record {
+          sound = t .sound;
+          lent = t .lent;
+          most = omega arith;
+          place = g ∙ rw (add-one i, begin-next bytes i, t .place);
+          filled = rw (add-one i, knots-below-next bytes i, length-append, ← t .filled, ← t .place, length-knots-at bytes at, e);
+          reach = let here = extent bytes at in omega (arith, t .reach);
+          same-length =
+              rw (length-append, length-append, length-take, length-drop, length-drop, new-length)
+              (omega (arith, turn-room, t .same-length, t .lent));
+          done =
+              rw (q, t .done, new-is, add-one i, knots-below-next bytes i, ← t .place)
+              (over-more (knots-below bytes i) (knots-at bytes at) knots₀ from p (sym (t .filled)) (length-knots-at bytes at ∙ sym e));
+        }
+
+pub turn-last : (bytes : List ℕ) (n : ℕ) (knots₀ knots : List Float) (at from i : ℕ) → Turn bytes n knots₀ knots at from i → n ≤ i
+    → (at ≡ axis-begin bytes n) × (knots ≡ over (knots-below bytes n) knots₀)
+turn-last bytes n knots₀ knots at from i t ge = let e : i ≡ n = omega (arith, t .most) in (rw e at (t .place), rw e at (t .done))

@@ -1,0 +1,56 @@
+use mathlib.Core.Path.{_≡_, ap}
+use native.Mathlib.Omega.{arith}
+use Rattle.sheet.specs.Kinds.{values-of}
+use Rattle.sheet.specs.Fields.{lower-kind, axis-at}
+use Rattle.sheet.proofs.Extents.{Extent, extent}
+use borrow.Author.Needs.{needs}
+use Rattle.sheet.proofs.axes.condition.Statement.{statement}
+use Rattle.sheet.proofs.axes.condition.Tie as tie
+
+known : (c : tie.Start) → Extent (c .args .bytes .now) (c .args .at)
+known c = extent _ _
+
+kind : (c : tie.After-values-of-kind) → values-of (c .before .before .before .field-at .result) ≡ values-of (lower-kind (c .before .before .before .before .before .args .bytes .now) (c .before .before .before .before .before .args .at))
+kind c = ap values-of (c .before .before .before .field-at .ensures)
+
+field-at-requires : tie.Need-field-at-requires
+field-at-requires c κs = let reach = known (c .before) in search needs
+
+field-at-requires-2 : tie.Need-field-at-requires-2
+field-at-requires-2 c κs = let reach = known (c .before .before) in search needs
+
+number-at-requires : tie.Need-number-at-requires
+number-at-requires c κs = let reach = known (c .before .before .before) in search needs
+
+mul-number-at : tie.Need-mul-number-at
+mul-number-at c = let reach = known (c .before .before .before .before .before) in let lower = kind c in omega arith
+
+add-number-at-3 : tie.Need-add-number-at-3
+add-number-at-3 c = let reach = known (c .before .before .before .before .before) in let lower = kind c in omega arith
+
+number-at-requires-2 : tie.Need-number-at-requires-2
+number-at-requires-2 c κs = let reach = known (c .before .before .before .before .before) in let lower = kind c in search needs
+
+returns : tie.Need-returns
+unfolding axis-at
+returns c = cc
+
+pub condition-spec : {M : Type 1} → statement M
+condition-spec =
+    tie.close
+    (tie.spec
+    (λ c. search needs)
+    field-at-requires
+    (λ c. search needs)
+    field-at-requires-2
+    (λ c. search needs)
+    number-at-requires
+    (λ c. search needs)
+    (λ c κs. search needs)
+    mul-number-at
+    add-number-at-3
+    number-at-requires-2
+    (λ c κs. search needs)
+    (λ c κs. search needs)
+    (λ c κs. search needs)
+    returns)

@@ -1,0 +1,27 @@
+use native.Mathlib.Omega.{arith}
+use Rattle.sheet.specs.Fields.{values-at}
+use Rattle.sheet.proofs.Extents.{value-most}
+use borrow.Author.Needs.{needs}
+use Rattle.sheet.proofs.axes.values.Statement.{statement}
+use Rattle.sheet.proofs.axes.values.Tie as tie
+
+add-result : tie.Need-add-result
+add-result c =
+    omega (arith, value-most (c .before .before .before .field-at .result), value-most (c .before .field-at2 .result))
+
+returns : tie.Need-returns
+unfolding values-at
+returns c = cc
+
+pub values-spec : {M : Type 1} → statement M
+values-spec =
+    tie.close
+    (tie.spec
+    (λ c. search needs)
+    (λ c κs. search needs)
+    (λ c κs. search needs)
+    (λ c. search needs)
+    (λ c κs. search needs)
+    (λ c κs. search needs)
+    add-result
+    returns)

@@ -1,0 +1,18 @@
+use mathlib.Core.Path.{refl}
+use native.Mathlib.Nat.{mod-lt}
+use native.Mathlib.Omega.{arith}
+use lib.Pow.{pow-pos}
+use Rattle.sheet.proofs.Shifts.{one-raised}
+use borrow.Author.Needs.{needs}
+use Rattle.sheet.proofs.bits.chunk.Statement.{statement}
+use Rattle.sheet.proofs.bits.chunk.Tie as tie
+
+rem-result : tie.Need-rem-result
+rem-result c = rw (one-raised (c .args .count) (omega arith)) (pow-pos _)
+
+returns : tie.Need-returns
+returns c = rw (one-raised (c .args .count) (omega arith)) (refl, mod-lt _ (pow-pos _))
+
+pub chunk-spec : {M : Type 1} → statement M
+chunk-spec =
+    tie.close (tie.spec (λ c. search needs) (λ c. search needs) (λ c. search needs) (λ c. search needs) rem-result returns)

@@ -1,0 +1,12 @@
+use Rattle.sheet.proofs.Shifts.{raised-room, raised-same}
+use borrow.Author.Needs.{needs}
+use Rattle.sheet.proofs.bits.raised.Statement.{statement}
+use Rattle.sheet.proofs.bits.raised.Tie as tie
+
+returns : tie.Need-returns
+returns c =
+    let same = raised-same _ _ _ (c .pre .0) (c .pre .1) in
+    (same, rw same (raised-room _ _ _ (c .pre .0) (c .pre .1)))
+
+pub raised-spec : {M : Type 1} → statement M
+raised-spec = tie.close (tie.spec (λ c. search needs) returns)

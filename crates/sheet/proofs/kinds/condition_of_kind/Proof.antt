@@ -1,0 +1,15 @@
+use borrow.Author.Tests.{ne-eqb}
+use Rattle.sheet.specs.Kinds.{condition-of}
+use Rattle.sheet.proofs.kinds.condition_of_kind.Statement.{statement}
+use Rattle.sheet.proofs.kinds.condition_of_kind.Tie as tie
+
+returns : tie.Need-returns
+unfolding condition-of
+returns c = rw (c .match .keys1)
+
+returns-2 : tie.Need-returns-2
+unfolding condition-of
+returns-2 c = simp (ne-eqb _ _ (c .match .rest .1))
+
+pub condition-of-kind-spec : {M : Type 1} → statement M
+condition-of-kind-spec = tie.close (tie.spec returns returns-2)

@@ -1,0 +1,16 @@
+use native.Mathlib.Omega.{arith}
+use Rattle.sheet.proofs.Samples.{many-left, few-left}
+use borrow.Author.Needs.{needs}
+use Rattle.sheet.proofs.look.has_more.Statement.{statement}
+use Rattle.sheet.proofs.look.has_more.Tie as tie
+
+returns : tie.Need-returns
+returns c = many-left _ _ (omega arith)
+
+returns-2 : tie.Need-returns-2
+returns-2 c = few-left _ _ (omega arith) _ (c .field-at .ensures)
+
+pub has-more-spec : {M : Type 1} → statement M
+has-more-spec =
+    tie.close
+    (tie.spec (λ c. search needs) returns (λ c. search needs) (λ c. search needs) (λ c κs. search needs) returns-2)

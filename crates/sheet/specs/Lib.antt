@@ -1,0 +1,6 @@
+pub mod Bits
+pub mod Kinds
+pub mod Fields
+pub mod Faults
+pub mod Read
+pub mod Within

@@ -1,0 +1,53 @@
+-- What the functions that are not public require and ensure: that the bits they read are there, that places are small numbers, and what was
+-- found so far.
+use mathlib.Core.Path.{_≡_}
+use mathlib.Core.List.{List}
+use Prim.Native.Nat.{ℕ, _+_, _*_, _<_, _≤_}
+use lib.ListN.{length, getD}
+use Rattle.rules.specs.Sizes.{most-axes, unused-axis, samples-length}
+use Rattle.rules.specs.declared.Axis.{Axis}
+use Rattle.sheet.specs.Fields.{axes, axis-end, axis-begin, entries, sheet-grid, samples-begin}
+use Rattle.sheet.specs.Faults.{axes-fault}
+use Rattle.sheet.specs.declared.axes.Walk.{Walk}
+
+-- the k bits from bit `at` on
+pub record Within (bytes : List ℕ) (at k : ℕ) : Type 0 where
+  pub room : at + k ≤ 8 * length bytes
+  pub small : at + k ≤ 1048576
+
+-- all of the axis that begins at bit `at`
+pub record Whole (bytes : List ℕ) (at : ℕ) : Type 0 where
+  pub room : axis-end bytes at ≤ 8 * length bytes
+  pub small : at ≤ 131072
+
+-- what a walk over n axes has found: the first fault, 0 for none, and where there is none the axes, and the bit after the last
+pub record Walked (bytes : List ℕ) (n : ℕ) (walk : Walk) : Type 0 where
+  pub fault : walk .refusal ≡ axes-fault bytes n
+  pub all : walk .refusal ≡ 0 → walk .all ≡ entries bytes n
+  pub end : walk .refusal ≡ 0 → walk .at ≡ axis-begin bytes n
+
+-- axes that were walked over without a fault
+pub record Sound (bytes : List ℕ) (n : ℕ) : Type 0 where
+  pub few : n ≤ most-axes
+  pub faultless : axes-fault bytes n ≡ 0
+
+-- axes that have at most 256 points each
+pub record Counted (all : List Axis) (n : ℕ) : Type 0 where
+  pub few : n ≤ most-axes
+  pub most : (i : ℕ) → i < n → getD all i unused-axis .points ≤ 256
+
+-- as many axes as the sheet says, and not too many
+pub record Axes (bytes : List ℕ) (n : ℕ) : Type 0 where
+  pub least : 1 ≤ n
+  pub few : n ≤ most-axes
+  pub said : n ≡ axes bytes
+
+-- all axes were passed: n of them up to bit `at`, with as many samples
+pub record Ended (bytes : List ℕ) (at n count : ℕ) : Type 0 where
+  pub few : n ≤ most-axes
+  pub said : n ≡ axes bytes
+  pub end : at ≡ samples-begin bytes
+  pub samples : count ≡ samples-length (sheet-grid bytes)
+  pub least : 0 < count
+  pub most : count ≤ 4294967296
+  pub small : at ≤ 131072

@@ -1,0 +1,178 @@
+// The axes of a sheet, one after the other. None of these is public: each requires that the bits it reads are there.
+ghost use mathlib.Core.Path.{_≡_};
+ghost use Prim.Native.Nat.{_≤_};
+ghost use lib.ListN.{length, getD};
+ghost use Rattle.rules.specs.Sizes.{unused-axis, product-below};
+ghost use Rattle.sheet.specs.Fields.{points-at, values-at, axis-at, knots-begin, axis-end, axis-begin, knots-below};
+ghost use Rattle.sheet.specs.Faults.{axis-fault};
+ghost use Rattle.sheet.specs.Read.{over};
+ghost use Rattle.sheet.specs.Within.{Within, Whole, Walked, Sound, Counted};
+use crate::bits::are_short;
+use crate::bits::field_at;
+use crate::bits::fill;
+use crate::bits::is_short;
+use crate::bits::number_at;
+use crate::kinds::condition_of_kind;
+use crate::kinds::end_of_kind;
+use crate::kinds::is_periodic_at_one_end;
+use crate::kinds::values_of_kind;
+use rules::Axis;
+use rules::Condition;
+
+// What a walk over the axes has found: the first fault, 0 for none, the four axes, and the bit after the last.
+pub struct Walk {
+    pub refusal: usize,
+    pub all: [Axis; 4],
+    pub at: usize,
+}
+
+// How many points the axis at bit `at` has.
+fn points(bytes: &[u8], at: usize) -> usize
+    requires { ⌜ Within (now bytes) at 8 ⌝ }
+    ensures { λ r. ⌜ r ≡ points-at (now (bytes .entry)) at ⌝ }
+{
+    field_at(bytes, at, 8) as usize + 1
+}
+
+// How many patterns the ends of the axis at bit `at` have.
+fn values(bytes: &[u8], at: usize) -> usize
+    requires { ⌜ Within (now bytes) at 12 ⌝ }
+    ensures { λ r. ⌜ r ≡ values-at (now (bytes .entry)) at ⌝ }
+{
+    values_of_kind(field_at(bytes, at + 8, 2)) + values_of_kind(field_at(bytes, at + 10, 2))
+}
+
+// The fault of the axis at bit `at`, in the order of its fields.
+fn fault(bytes: &[u8], at: usize) -> usize
+    requires { ⌜ at ≤ 131072 ⌝ }
+    ensures { λ r. ⌜ r ≡ axis-fault (now (bytes .entry)) at ⌝ }
+{
+    if is_short(bytes, at, 8) {
+        return 11;
+    }
+    let n = points(bytes, at);
+    if n < 2 {
+        return 2;
+    }
+    if is_short(bytes, at + 8, 2) {
+        return 11;
+    }
+    let lower = field_at(bytes, at + 8, 2);
+    if is_short(bytes, at + 10, 2) {
+        return 11;
+    }
+    let upper = field_at(bytes, at + 10, 2);
+    if is_periodic_at_one_end(lower, upper) {
+        return 13;
+    }
+    if are_short(bytes, at + 12, values(bytes, at) + n) {
+        return 11;
+    }
+    0
+}
+
+// Where the knots of the axis at bit `at` begin.
+fn knots_from(bytes: &[u8], at: usize) -> usize
+    requires { ⌜ Within (now bytes) at 12 ⌝ }
+    ensures { λ r. ⌜ r ≡ knots-begin (now (bytes .entry)) at ⌝ }
+{
+    at + 12 + 64 * values(bytes, at)
+}
+
+// The ends of the axis at bit `at`. Knots follow, so there are patterns to read even where a kind has none.
+fn condition(bytes: &[u8], at: usize) -> Condition
+    requires { ⌜ Whole (now bytes) at ⌝ }
+    ensures { λ r. ⌜ r ≡ axis-at (now (bytes .entry)) at .condition ⌝ }
+{
+    let lower = field_at(bytes, at + 8, 2);
+    let upper = field_at(bytes, at + 10, 2);
+    let first = number_at(bytes, at + 12);
+    let second = number_at(bytes, at + 12 + 64 * values_of_kind(lower));
+    condition_of_kind(lower, end_of_kind(lower, first), end_of_kind(upper, second))
+}
+
+// The axis at bit `at`.
+fn axis(bytes: &[u8], at: usize) -> Axis
+    requires { ⌜ Whole (now bytes) at ⌝ }
+    ensures { λ r. ⌜ r ≡ axis-at (now (bytes .entry)) at ⌝ }
+{
+    Axis {
+        points: points(bytes, at),
+        condition: condition(bytes, at),
+    }
+}
+
+// The bit after the axis at bit `at`.
+fn after(bytes: &[u8], at: usize) -> usize
+    requires { ⌜ Whole (now bytes) at ⌝ }
+    ensures { λ r. ⌜ r ≡ axis-end (now (bytes .entry)) at ⌝ }
+{
+    knots_from(bytes, at) + 64 * points(bytes, at)
+}
+
+// An axis not in use.
+pub fn unused() -> Axis
+    ensures { λ r. ⌜ r ≡ unused-axis ⌝ }
+{
+    Axis {
+        points: 0,
+        condition: Condition::not_a_knot(),
+    }
+}
+
+// Looks at the axes, up to the first fault.
+pub fn walk_axes(bytes: &[u8], axes: usize) -> Walk
+    requires { ⌜ axes ≤ 4 ⌝ }
+    ensures { λ r. ⌜ Walked (now (bytes .entry)) axes r ⌝ }
+{
+    let mut all = [unused(); 4];
+    let mut at = 7;
+    let mut i = 0;
+    while i < axes {
+        let refusal = fault(bytes, at);
+        if refusal != 0 {
+            return Walk { refusal, all, at };
+        }
+        all[i] = axis(bytes, at);
+        at = after(bytes, at);
+        i += 1;
+    }
+    Walk {
+        refusal: 0,
+        all,
+        at,
+    }
+}
+
+// How many samples there are: the product of the points.
+pub fn samples_of(all: [Axis; 4], axes: usize) -> usize
+    requires { ⌜ Counted all axes ⌝ }
+    ensures { λ r. ⌜ r ≡ product-below (λ i. getD all i unused-axis .points) axes ⌝ }
+{
+    let mut product = 1;
+    let mut i = 0;
+    while i < axes {
+        let a = all[i];
+        product = product * a.points;
+        i += 1;
+    }
+    product
+}
+
+// Stores the knots, axis after axis, in the first places of `knots`. Answers the bit after the last axis.
+pub fn store_knots(bytes: &[u8], axes: usize, knots: &mut [f64]) -> usize
+    requires { ⌜ Sound (now bytes) axes × (length (now knots) ≡ 1024) ⌝ }
+    ensures { λ r. ⌜ (r ≡ axis-begin (now (bytes .entry)) axes) × (now (knots .exit) ≡ over (knots-below (now (bytes .entry)) axes) (now (knots .entry))) ⌝ }
+{
+    let mut at = 7;
+    let mut from = 0;
+    let mut i = 0;
+    while i < axes {
+        let to = from + points(bytes, at);
+        fill(bytes, knots_from(bytes, at), &mut knots[from..to]);
+        from = to;
+        at = after(bytes, at);
+        i += 1;
+    }
+    at
+}

@@ -1,0 +1,46 @@
+// The packed sheet: its bit fields, its kinds, and the reader.
+ghost use Rattle.sheet.specs.Read.{ReadPromise};
+use crate::axes::samples_of;
+use crate::axes::store_knots;
+use crate::bits::fill;
+use crate::look::look;
+use crate::look::refused;
+use rules::Axis;
+
+pub mod kinds; // kinds.rt: ends by the numbers of their kinds, and the classes of refusal numbers
+mod bits; // bits.rt: fields of 1 to 64 bits, from any bit on
+mod axes; // axes.rt: the axes of a sheet, one after the other
+mod look; // look.rt: all of a sheet, up to its first fault
+
+// A refusal's number, 0 for none, how many axes there are, and the four axes.
+pub struct ReadAnswer {
+    pub refusal: usize,
+    pub axes: usize,
+    pub all: [Axis; 4],
+}
+
+// PUBLIC. Reads a sheet: its axes with their ends are the answer, its knots, axis after axis, and its samples go to the first places of
+// the two buffers. Refuses a buffer of another length than 1,024 by 4, and then by the first fault in reading order: 11 a field that
+// needs more bits than remain, 12 an edition that is not 1, 1 axes not 1 to 4, 2 fewer than 2 points, 13 Periodic at one end only, 3 a
+// tensor of more than 4,096 numbers, 14 more than zero bits to the byte. A refusal changes neither buffer.
+pub fn read(bytes: &[u8], knots: &mut [f64], samples: &mut [f64]) -> ReadAnswer
+    ensures { λ r. ⌜ ReadPromise (now (bytes .entry)) (now (knots .entry)) (now (samples .entry)) r (now (knots .exit)) (now (samples .exit)) ⌝ }
+{
+    if knots.len() != 1024 {
+        return refused(4);
+    }
+    if samples.len() != 1024 {
+        return refused(4);
+    }
+    let answer = look(bytes);
+    let refusal = answer.refusal;
+    if refusal != 0 {
+        return answer;
+    }
+    let n = answer.axes;
+    let all = answer.all;
+    let at = store_knots(bytes, n, knots);
+    let count = samples_of(all, n);
+    fill(bytes, at, &mut samples[0..count]);
+    answer
+}

@@ -1,0 +1,96 @@
+// All of a sheet looked at, up to its first fault, before anything is stored.
+ghost use mathlib.Core.Path.{_≡_};
+ghost use Rattle.sheet.specs.Fields.{axes, entries};
+ghost use Rattle.sheet.specs.Faults.{or-else, axes-fault, tail-refused, samples-fault, sheet-refusal};
+ghost use Rattle.sheet.specs.Read.{answer-of, refused-answer};
+ghost use Rattle.sheet.specs.Within.{Within, Axes, Ended};
+use crate::ReadAnswer;
+use crate::axes::samples_of;
+use crate::axes::unused;
+use crate::axes::walk_axes;
+use crate::bits::are_short;
+use crate::bits::field_at;
+use crate::bits::is_short;
+use crate::bits::raised;
+
+// The answer of a refusal: no axes, and none of the four in use.
+pub fn refused(refusal: usize) -> ReadAnswer
+    ensures { λ r. ⌜ r ≡ refused-answer refusal ⌝ }
+{
+    ReadAnswer {
+        refusal,
+        axes: 0,
+        all: [unused(); 4],
+    }
+}
+
+// Whether 8 or more bits follow bit `at`, or one that is not zero.
+fn has_more(bytes: &[u8], at: usize) -> bool
+    requires { ⌜ Within (now bytes) at 0 ⌝ }
+    ensures { λ r. ⌜ r ≡ tail-refused (now (bytes .entry)) at ⌝ }
+{
+    if (at + 15) / 8 <= bytes.len() {
+        return true;
+    }
+    field_at(bytes, at, 8 * bytes.len() - at) != 0
+}
+
+// The fault that is met after the last axis: the tensor's length, the samples, and what follows them.
+fn fault_of_samples(bytes: &[u8], at: usize, n: usize, count: usize) -> usize
+    requires { ⌜ Ended (now bytes) at n count ⌝ }
+    ensures { λ r. ⌜ r ≡ samples-fault (now (bytes .entry)) ⌝ }
+{
+    if 4096 < raised(count as u64, 33, n) {
+        return 3;
+    }
+    if are_short(bytes, at, count) {
+        return 11;
+    }
+    if has_more(bytes, at + 64 * count) {
+        return 14;
+    }
+    0
+}
+
+// Looks at the axes and what follows them.
+fn look_at_axes(bytes: &[u8], n: usize) -> ReadAnswer
+    requires { ⌜ Axes (now bytes) n ⌝ }
+    ensures { λ r. ⌜ r ≡ answer-of (or-else (axes-fault (now (bytes .entry)) n) (samples-fault (now (bytes .entry)))) n (entries (now (bytes .entry)) n) ⌝ }
+{
+    let walk = walk_axes(bytes, n);
+    let refusal = walk.refusal;
+    if refusal != 0 {
+        return refused(refusal);
+    }
+    let all = walk.all;
+    let at = walk.at;
+    let fault = fault_of_samples(bytes, at, n, samples_of(all, n));
+    if fault != 0 {
+        return refused(fault);
+    }
+    ReadAnswer {
+        refusal: 0,
+        axes: n,
+        all,
+    }
+}
+
+// Looks at all of a sheet: the answer that `read` gives where both buffers have their length.
+pub fn look(bytes: &[u8]) -> ReadAnswer
+    ensures { λ r. ⌜ r ≡ answer-of (sheet-refusal (now (bytes .entry))) (axes (now (bytes .entry))) (entries (now (bytes .entry)) (axes (now (bytes .entry)))) ⌝ }
+{
+    if is_short(bytes, 0, 4) {
+        return refused(11);
+    }
+    if field_at(bytes, 0, 4) != 1 {
+        return refused(12);
+    }
+    if is_short(bytes, 4, 3) {
+        return refused(11);
+    }
+    let n = field_at(bytes, 4, 3) as usize;
+    match n {
+        1..=4 => look_at_axes(bytes, n),
+        _ => refused(1),
+    }
+}

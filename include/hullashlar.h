@@ -1,0 +1,78 @@
+/* Hullashlar for C: every public call over numbers and plain slices.
+ *
+ * A slice is a pointer and then its length. No two slices of a call may overlap where one of them is written.
+ * No call allocates memory, keeps a pointer or changes anything but the slices named as written.
+ *
+ * Every call returns a refusal's number, 0 for none; the lowest that applies is given.
+ *
+ *    1  axes are not 1 to 4
+ *    2  an axis has fewer than 2 or more than 256 points
+ *    3  the tensor would pass 4,096 numbers
+ *    4  a slice is not of its length
+ *    5  scratch is too short
+ *    6  the changed place is off the grid
+ *    7  an infinity or NaN among knots, end values, samples or coordinates; for a change also in the tensor
+ *    8  knots do not rise strictly, or a step between neighbours overflows
+ *    9  NotAKnot at one end with fewer than 3 points, at both with fewer than 4
+ *   10  an outcome is infinite or NaN
+ *   11 to 14 are the sheet's: a field needs more bits than remain, the edition is not 1, kind 3 at one end only, a tail
+ *
+ * The boundary's own refusals come before all others, and then nothing is written: 4 where points, kinds, values,
+ * place, value, labels, lanes, axes or length is not of the length below; then 13 where on an axis in use a kind is
+ * above 3, or 3 stands at one end only. On any other refusal the answer slots are written (value +0.0, labels 0,
+ * lanes 0, length 0) and every other output is untouched. Scratch is untouched for 1 to 9; on success and for 10 all
+ * of it is +0.0 afterwards.
+ *
+ * The ends of axis i: kinds[2 i] is the lower one's, kinds[2 i + 1] the upper one's; values likewise.
+ * Kinds: 0 NotAKnot, 1 first derivative, 2 second derivative, 3 Periodic, which stands at both ends.
+ * A value is read only for kinds 1 and 2.
+ *
+ * Points, kinds, values, place and labels are for four axes; what is past the axes in use is not read, and labels
+ * there are 0. Knots are flat, axis after axis. Samples and tensor are flat, last axis fastest; in the tensor, which
+ * has 2^axes numbers for each sample, the mask is fastest of all, and bit i of it means "derivative along axis i".
+ */
+#ifndef HULLASHLAR_H
+#define HULLASHLAR_H
+
+#include <stddef.h>
+#include <stdint.h>
+
+#ifdef __cplusplus
+extern "C" {
+#endif
+
+/* The moments of a curve on one axis: one for each point.
+ * Lengths: knots, samples and moments as many as points; kinds and values 2; scratch at least 2,048.
+ * Written: moments, scratch. Refuses by 2, 4, 5, 7, 8, 9, 10 and 13. */
+size_t hullashlar_moments(size_t points,
+                          const double *knots, size_t knots_length,
+                          const double *samples, size_t samples_length,
+                          const uint8_t *kinds, size_t kinds_length,
+                          const double *values, size_t values_length,
+                          double *moments, size_t moments_length,
+                          double *scratch, size_t scratch_length);
+
+/* The curve's value at a point, beyond the knots too, by the boundary cubic.
+ * Lengths: knots, samples and moments as many as points; value 1.
+ * Written: value. Refuses by 2, 4, 7, 8 and 10. */
+size_t hullashlar_curve(size_t points,
+                        const double *knots, size_t knots_length,
+                        const double *samples, size_t samples_length,
+                        const double *moments, size_t moments_length,
+                        double point,
+                        double *value, size_t value_length);
+
+/* The curve's slope at every knot.
+ * Lengths: knots, samples, moments and slopes as many as points.
+ * Written: slopes. Refuses by 2, 4, 7, 8 and 10. */
+size_t hullashlar_slopes(size_t points,
+                         const double *knots, size_t knots_length,
+                         const double *samples, size_t samples_length,
+                         const double *moments, size_t moments_length,
+                         double *slopes, size_t slopes_length);
+
+#ifdef __cplusplus
+}
+#endif
+
+#endif
