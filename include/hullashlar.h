@@ -71,6 +71,19 @@ size_t hullashlar_slopes(size_t points,
                          const double *moments, size_t moments_length,
                          double *slopes, size_t slopes_length);
 
+/* The surface's value at the coordinates, beyond the grid too, and the cell label of each axis: the largest i with
+ * knot[i] <= coordinate, held to 0 .. points - 2.
+ * Lengths: points 4; knots as many as the points of all axes together; tensor 2^axes for each place of the grid;
+ * coordinates as many as axes; value 1; labels 4.
+ * Written: value, labels. Refuses by 1, 2, 3, 4, 7, 8 and 10. */
+size_t hullashlar_query(size_t axes,
+                        const size_t *points, size_t points_length,
+                        const double *knots, size_t knots_length,
+                        const double *tensor, size_t tensor_length,
+                        const double *coordinates, size_t coordinates_length,
+                        double *value, size_t value_length,
+                        size_t *labels, size_t labels_length);
+
 #ifdef __cplusplus
 }
 #endif

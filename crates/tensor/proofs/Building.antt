@@ -62,21 +62,21 @@ module _ (g : Grid) (samples tensor-out scratch : List Float) where
         (begun : Stored scratch w (at samples) (length samples) 2048 m) (after : Refreshed g w w′ true place (g .axes))
         (finished : Finished tensor-out w′ r tensor-later scratch-later)
       where
-      long : length w′ ≡ length scratch
-      long = after .same-length ∙ begun .same-length
+        long : length w′ ≡ length scratch
+        long = after .same-length ∙ begun .same-length
 
-      came-out : outcome-in w′ tensor-out ≡ tensor g samples
-      came-out =
-          ap (λ (n : ℕ). take n (drop 2048 w′)) (known .grid-given .tensor-exact)
-          ∙ built g w w′ (given-again w′ long build-given-passes) place samples
-          (samples-stored g w samples (λ f lt. subst (λ (k : ℕ). at w (2048 + f * k) ≡ at samples f) m-is (begun .values f (omega (arith, known .samples-exact)))))
-          after
+        came-out : outcome-in w′ tensor-out ≡ tensor g samples
+        came-out =
+            ap (λ (n : ℕ). take n (drop 2048 w′)) (known .grid-given .tensor-exact)
+            ∙ built g w w′ (given-again w′ long build-given-passes) place samples
+            (samples-stored g w samples (λ f lt. subst (λ (k : ℕ). at w (2048 + f * k) ≡ at samples f) m-is (begun .values f (omega (arith, known .samples-exact)))))
+            after
 
-      pub build-done : BuildPromise g samples tensor-out scratch r tensor-later scratch-later
-      build-done =
-          let decided = build-outcome g samples tensor-out scratch in
-          record {
-            answer = answer-is tensor-out (tensor g samples) scratch w′ tensor-later scratch-later decided passed came-out long finished;
-            output = output-is tensor-out (tensor g samples) scratch w′ tensor-later scratch-later decided passed came-out long finished;
-            scratch = scratch-is tensor-out (tensor g samples) scratch w′ tensor-later scratch-later decided passed came-out long finished;
-          }
+        pub build-done : BuildPromise g samples tensor-out scratch r tensor-later scratch-later
+        build-done =
+            let decided = build-outcome g samples tensor-out scratch in
+            record {
+              answer = answer-is tensor-out (tensor g samples) scratch w′ tensor-later scratch-later decided passed came-out long finished;
+              output = output-is tensor-out (tensor g samples) scratch w′ tensor-later scratch-later decided passed came-out long finished;
+              scratch = scratch-is tensor-out (tensor g samples) scratch w′ tensor-later scratch-later decided passed came-out long finished;
+            }

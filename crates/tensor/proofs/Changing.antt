@@ -65,46 +65,46 @@ module _ (g : Grid) (tensor-lent scratch : List Float) (changed : Place) (v : Fl
         (after : Refreshed g w w′ false changed (g .axes) × (lanes ≡ lanes-below (points g) (g .axes) false (g .axes)))
         (finished : Finished tensor-lent w′ r tensor-later scratch-later)
       where
-      long : length w′ ≡ length scratch
-      long = after .0 .same-length ∙ begun .same-length
+        long : length w′ ≡ length scratch
+        long = after .0 .same-length ∙ begun .same-length
 
-      new : at w (2048 + spot g changed 0) ≡ v
-      new = subst (λ (e : ℕ). at w (2048 + e) ≡ v) spot-is (begun .new)
+        new : at w (2048 + spot g changed 0) ≡ v
+        new = subst (λ (e : ℕ). at w (2048 + e) ≡ v) spot-is (begun .new)
 
-      copied : (e : ℕ) → e < tensor-length g → e ≢ spot g changed 0 → at w (2048 + e) ≡ at tensor-lent e
-      copied e lt other = begun .copied e (omega (arith, known .grid-given .tensor-exact)) (λ same. other (same ∙ spot-is))
+        copied : (e : ℕ) → e < tensor-length g → e ≢ spot g changed 0 → at w (2048 + e) ≡ at tensor-lent e
+        copied e lt other = begun .copied e (omega (arith, known .grid-given .tensor-exact)) (λ same. other (same ∙ spot-is))
 
-      came-out : outcome-in w′ tensor-lent ≡ changed-tensor g changed v tensor-lent
-      came-out =
-          ap (λ (n : ℕ). take n (drop 2048 w′)) (known .grid-given .tensor-exact)
-          ∙ changed-is g w w′ (given-again w′ long change-given-passes) changed v tensor-lent
-          (sample-stored g w tensor-lent changed v (known .on-the-grid) new copied)
-          (others-kept g w tensor-lent changed v (known .on-the-grid) new copied)
-          (after .0)
+        came-out : outcome-in w′ tensor-lent ≡ changed-tensor g changed v tensor-lent
+        came-out =
+            ap (λ (n : ℕ). take n (drop 2048 w′)) (known .grid-given .tensor-exact)
+            ∙ changed-is g w w′ (given-again w′ long change-given-passes) changed v tensor-lent
+            (sample-stored g w tensor-lent changed v (known .on-the-grid) new copied)
+            (others-kept g w tensor-lent changed v (known .on-the-grid) new copied)
+            (after .0)
 
-      count-is : lanes ≡ length (change-lanes g changed)
-      count-is = after .1 ∙ change-count (points g) (g .axes) (g .axes) (omega arith) ∙ sym (lane-count g changed (known .on-the-grid))
+        count-is : lanes ≡ length (change-lanes g changed)
+        count-is = after .1 ∙ change-count (points g) (g .axes) (g .axes) (omega arith) ∙ sym (lane-count g changed (known .on-the-grid))
 
-      change-worked : (n : ℕ) → n ≡ counted r (length (change-lanes g changed)) → ChangePromise g tensor-lent scratch changed v (answer-of r n) tensor-later scratch-later
-      unfolding change-answer
-      change-worked n n-is =
-          let decided = change-outcome g tensor-lent scratch changed v in
-          let new-tensor = changed-tensor g changed v tensor-lent in
-          let is = answer-is tensor-lent new-tensor scratch w′ tensor-later scratch-later decided passed came-out long finished in
-          record {
-            answer = ap₂ answer-of is (n-is ∙ ap (λ (k : ℕ). counted k (length (change-lanes g changed))) is);
-            output = output-is tensor-lent new-tensor scratch w′ tensor-later scratch-later decided passed came-out long finished;
-            scratch = scratch-is tensor-lent new-tensor scratch w′ tensor-later scratch-later decided passed came-out long finished;
-          }
+        change-worked : (n : ℕ) → n ≡ counted r (length (change-lanes g changed)) → ChangePromise g tensor-lent scratch changed v (answer-of r n) tensor-later scratch-later
+        unfolding change-answer
+        change-worked n n-is =
+            let decided = change-outcome g tensor-lent scratch changed v in
+            let new-tensor = changed-tensor g changed v tensor-lent in
+            let is = answer-is tensor-lent new-tensor scratch w′ tensor-later scratch-later decided passed came-out long finished in
+            record {
+              answer = ap₂ answer-of is (n-is ∙ ap (λ (k : ℕ). counted k (length (change-lanes g changed))) is);
+              output = output-is tensor-lent new-tensor scratch w′ tensor-later scratch-later decided passed came-out long finished;
+              scratch = scratch-is tensor-lent new-tensor scratch w′ tensor-later scratch-later decided passed came-out long finished;
+            }
 
-      pub change-stopped : r ≢ 0 → ChangePromise g tensor-lent scratch changed v (answer-of r 0) tensor-later scratch-later
-      change-stopped some = change-worked 0 (go r some)
-        where
-          go : (k : ℕ) → k ≢ 0 → 0 ≡ counted k (length (change-lanes g changed))
-          go zero h = absurd (h refl)
-          go (suc k) h = refl
+        pub change-stopped : r ≢ 0 → ChangePromise g tensor-lent scratch changed v (answer-of r 0) tensor-later scratch-later
+        change-stopped some = change-worked 0 (go r some)
+          where
+            go : (k : ℕ) → k ≢ 0 → 0 ≡ counted k (length (change-lanes g changed))
+            go zero h = absurd (h refl)
+            go (suc k) h = refl
 
-      pub change-done : r ≡ 0 → ChangePromise g tensor-lent scratch changed v (answer-of 0 lanes) tensor-later scratch-later
-      change-done e =
-          subst (λ (k : ℕ). ChangePromise g tensor-lent scratch changed v (answer-of k lanes) tensor-later scratch-later) e
-          (change-worked lanes (rw e count-is))
+        pub change-done : r ≡ 0 → ChangePromise g tensor-lent scratch changed v (answer-of 0 lanes) tensor-later scratch-later
+        change-done e =
+            subst (λ (k : ℕ). ChangePromise g tensor-lent scratch changed v (answer-of k lanes) tensor-later scratch-later) e
+            (change-worked lanes (rw e count-is))

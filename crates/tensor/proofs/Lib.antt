@@ -17,3 +17,4 @@ pub mod Finishing
 pub mod Promises
 pub mod Building
 pub mod Changing
+pub mod Demand3

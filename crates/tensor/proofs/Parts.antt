@@ -2,12 +2,12 @@
 use native.Mathlib.Omega.{arith}
 use mathlib.Core.Path.{_≡_, sym, _∙_}
 use mathlib.Core.List.{List}
-use Prim.Native.Nat.{ℕ, _+_, _-_, _<_, _≤_}
+use Prim.Native.Nat.{ℕ, _+_, _<_, _≤_}
 use lib.ListN.{length, take, drop, length-drop}
 use lib.Seq.{length-take-le, getD-take, getD-drop, ext-getD}
 use lib.Ieee.{Float, nan}
 use Rattle.rules.specs.Numbers.{at, table}
-use Rattle.base.proofs.Tables.{table-is}
+use Rattle.rules.proofs.Tables.{table-is}
 
 module _ (w : List Float) (a n : ℕ) (inside : a + n ≤ length w) where
   pub part-length : length (take n (drop a w)) ≡ n

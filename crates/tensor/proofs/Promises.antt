@@ -30,15 +30,15 @@ module _
     (decided : ThenOutcome check (outcome-refused new) refusal) (passed : check ≡ 0)
     (came-out : outcome-in w old ≡ new) (long : length w ≡ length scratch) (finished : Finished old w r old′ w′)
   where
-  pub answer-is : r ≡ refusal
-  answer-is = finished .answer ∙ ap (λ (l : List Float). cond (outcome-refused l) 10 0) came-out ∙ sym (outcome decided passed)
+    pub answer-is : r ≡ refusal
+    answer-is = finished .answer ∙ ap (λ (l : List Float). cond (outcome-refused l) 10 0) came-out ∙ sym (outcome decided passed)
 
-  pub output-is : old′ ≡ stored refusal old new
-  output-is = finished .output ∙ ap₂ (λ (k : ℕ) (l : List Float). stored k old l) answer-is came-out
+    pub output-is : old′ ≡ stored refusal old new
+    output-is = finished .output ∙ ap₂ (λ (k : ℕ) (l : List Float). stored k old l) answer-is came-out
 
-  pub scratch-is : w′ ≡ scratch-after refusal scratch
-  scratch-is = finished .cleared ∙ ap zeros long ∙ rw (outcome decided passed) (go (outcome-refused new))
-    where
-      go : (b : Bool) → zeros (length scratch) ≡ scratch-after (cond b 10 0) scratch
-      go true = refl
-      go false = refl
+    pub scratch-is : w′ ≡ scratch-after refusal scratch
+    scratch-is = finished .cleared ∙ ap zeros long ∙ rw (outcome decided passed) (go (outcome-refused new))
+      where
+        go : (b : Bool) → zeros (length scratch) ≡ scratch-after (cond b 10 0) scratch
+        go true = refl
+        go false = refl

@@ -1,6 +1,6 @@
 // The working tensor in the scratch: what is stored there before the passes, and what is done with it after them. None of these is public.
 ghost use mathlib.Core.Path.{_≡_};
-ghost use Prim.Native.Nat.{ℕ, _+_, _*_, _<_, _≤_};
+ghost use Prim.Native.Nat.{ℕ, _+_, _<_, _≤_};
 ghost use lib.ListN.{length};
 ghost use Rattle.rules.specs.Numbers.{at};
 ghost use Rattle.rules.specs.Sizes.{place-of, flat};
@@ -11,7 +11,12 @@ ghost use Rattle.tensor.specs.Working.{Loaded, Finished};
 use rules::Axis;
 
 // Where the working tensor begins.
-const TENSOR: usize = 2048;
+pub const TENSOR: usize = 2048;
+
+// The refusal of an outcome, and none.
+const OUTCOME: usize = 10;
+
+const NONE: usize = 0;
 
 // The samples go to mask 0.
 pub fn store_samples(w: &mut [f64], samples: &[f64], masks: usize)
@@ -58,9 +63,9 @@ pub fn finish(tensor: &mut [f64], w: &mut [f64]) -> usize
     let end = TENSOR + tensor.len();
     if base::any_not_finite(&w[TENSOR..end]) {
         base::clear(w);
-        return 10;
+        return OUTCOME;
     }
     base::copy(tensor, &w[TENSOR..end]);
     base::clear(w);
-    0
+    NONE
 }

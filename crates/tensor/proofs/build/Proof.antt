@@ -10,13 +10,6 @@ use Rattle.tensor.proofs.MaskTurns.{given-again}
 use Rattle.tensor.proofs.Building.{origin-on, build-refused, build-given-passes, samples-lie, build-done}
 use Rattle.tensor.proofs.build.Statement.{statement}
 use Rattle.tensor.proofs.build.Tie as tie
-use Rattle.tensor.proofs.build.Reads as reads
-use Rattle.tensor.proofs.build.Lts as lts
-use Rattle.checks.proofs.build_refusal.Reads as build-refusal-reads
-use Rattle.tensor.proofs.passes.power.Reads as power-reads
-use Rattle.tensor.proofs.passes.solve_axes.Reads as solve-axes-reads
-use Rattle.tensor.proofs.working.finish.Reads as finish-reads
-use Rattle.tensor.proofs.working.store_samples.Reads as store-samples-reads
 
 -- what is known once the check has found nothing
 abbrev start : tie.Else1 → tie.Start
@@ -38,8 +31,7 @@ store-samples-requires : tie.Need-store-samples-requires
 store-samples-requires c κs =
     let power = c .before in
     let checked = power .before in
-    let args = start checked .args in
-    (
+    let args = start checked .args in (
       samples-lie _ _ (args .tensor .now) (args .scratch .now) (known checked) _ (power .power .ensures),
       rw (power .power .ensures) (pow-pos (args .axes)),
     )
@@ -57,12 +49,13 @@ finish-requires c κs =
     let solved = c .before .before .before .before in
     let stored = solved .before .before .before .before in
     let checked = stored .before .before .before in
-    omega
-    (arith,
-    solved .solve-axes .ensures .0 .same-length,
-    stored .store-samples .ensures .same-length,
-    known checked .grid-given .tensor-exact,
-    known checked .solve-given .scratch-enough)
+    omega (
+      arith,
+      solved .solve-axes .ensures .0 .same-length,
+      stored .store-samples .ensures .same-length,
+      known checked .grid-given .tensor-exact,
+      known checked .solve-given .scratch-enough,
+    )
 
 returns-2 : tie.Need-returns-2
 returns-2 c =

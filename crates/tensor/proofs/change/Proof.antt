@@ -11,14 +11,6 @@ use Rattle.tensor.proofs.MaskTurns.{given-again}
 use Rattle.tensor.proofs.Changing.{change-refused, change-given-passes, spot-is, changed-inside, changed-small, change-stopped, change-done}
 use Rattle.tensor.proofs.change.Statement.{statement}
 use Rattle.tensor.proofs.change.Tie as tie
-use Rattle.tensor.proofs.change.Reads as reads
-use Rattle.tensor.proofs.change.Lts as lts
-use Rattle.checks.proofs.change_refusal.Reads as change-refusal-reads
-use Rattle.tensor.proofs.passes.power.Reads as power-reads
-use Rattle.tensor.proofs.passes.solve_axes.Reads as solve-axes-reads
-use Rattle.tensor.proofs.working.finish.Reads as finish-reads
-use Rattle.tensor.proofs.working.load.Reads as load-reads
-use Rattle.tensor.proofs.working.place_number.Reads as place-number-reads
 
 -- what is known once the check has found nothing
 abbrev start : tie.Else1 → tie.Start
@@ -45,28 +37,27 @@ mul-spot c =
     let placed = c .before in
     let checked = placed .before in
     let scratch = start checked .args .scratch .now in
-    omega
-    (arith,
-    spot-is _ _ scratch _ _ (known checked) _ _ (placed .place-number .ensures) (c .power .ensures),
-    changed-small _ _ scratch _ _ (known checked))
+    omega (
+      arith,
+      spot-is _ _ scratch _ _ (known checked) _ _ (placed .place-number .ensures) (c .power .ensures),
+      changed-small _ _ scratch _ _ (known checked),
+    )
 
 load-requires : tie.Need-load-requires
 load-requires c κs =
     let power = c .before .before in
     let placed = power .before in
     let checked = placed .before in
-    let scratch = start checked .args .scratch .now in
-    (
+    let scratch = start checked .args .scratch .now in (
       omega (arith, known checked .grid-given .tensor-exact, known checked .solve-given .scratch-enough),
       rw (spot-is _ _ scratch _ _ (known checked) _ _ (placed .place-number .ensures) (power .power .ensures))
-      (changed-inside _ _ scratch _ _ (known checked)),
+          (changed-inside _ _ scratch _ _ (known checked)),
     )
 
 solve-axes-requires : tie.Need-solve-axes-requires
 solve-axes-requires c κs =
     let loaded = c .before .before .before in
-    let checked = loaded .before .before .before .before .before in
-    (
+    let checked = loaded .before .before .before .before .before in (
       given-again _ (loaded .load .ensures .same-length) (change-given-passes _ _ (start checked .args .scratch .now) _ _ (known checked)),
       known checked .on-the-grid,
     )
@@ -76,12 +67,13 @@ finish-requires c κs =
     let solved = c .before .before .before .before in
     let loaded = solved .before .before .before .before in
     let checked = loaded .before .before .before .before .before in
-    omega
-    (arith,
-    solved .solve-axes .ensures .0 .same-length,
-    loaded .load .ensures .same-length,
-    known checked .grid-given .tensor-exact,
-    known checked .solve-given .scratch-enough)
+    omega (
+      arith,
+      solved .solve-axes .ensures .0 .same-length,
+      loaded .load .ensures .same-length,
+      known checked .grid-given .tensor-exact,
+      known checked .solve-given .scratch-enough,
+    )
 
 returns-2 : tie.Need-returns-2
 returns-2 c =

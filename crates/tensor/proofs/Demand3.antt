@@ -1,0 +1,448 @@
+-- Demand 3, from the promises of `build` and `change` and the theorems of rules alone: first the four statements, then their proofs.
+use native.Mathlib.Omega.{arith}
+use mathlib.Core.Path.{_≡_, refl, sym, ap, ap₂, _∙_, subst}
+use mathlib.Core.Logic.{_≢_}
+use mathlib.Core.Bool.{Bool, true, false, not, cond, _||_}
+use mathlib.Core.List.{List, [], _∷_}
+use Prim.Native.Nat.{ℕ, zero, suc, _<_, _≤_}
+use native.Mathlib.Nat.{le-refl}
+use lib.Dec.{ltb, leb, eqb}
+use lib.ListN.{length, set, length-set}
+use lib.Seq.{getD-set-same, getD-set-other}
+use lib.Ieee.{Float, nan}
+use borrow.Author.Tests.{eq-eqb, eqb-true, eqb-false, leb-false, le-ltb}
+use Rattle.rules.specs.Numbers.{at, any}
+use Rattle.rules.specs.Sizes.{Grid, points, knots-length, samples-length, masks, tensor-length, scratch-length, Place, flat, spot, in-mask}
+use Rattle.rules.specs.Refusals.{axes-refused, some-points-refused, tensor-refused, length-refused, place-refused, number-refused, some-number-refused, some-ends-refused, some-knots-refused, some-fewness-refused, outcome-refused}
+use Rattle.rules.specs.Tensor.{sample, tensor}
+use Rattle.rules.specs.Change.{agree, changed-tensor, change-lanes, lane-sum}
+use Rattle.rules.specs.Calls.{stored, counted, build-refusal, BuildPromise, change-refusal, change-answer, ChangePromise}
+use Rattle.rules.specs.declared.ChangeAnswer.{ChangeAnswer}
+use Rattle.rules.proofs.Cases.{not-both}
+use Rattle.rules.proofs.Places.{OnGrid, flat-below}
+use Rattle.rules.proofs.Tables.{length-table}
+use Rattle.rules.proofs.ChangeIsBuild.{kept, built-entry, set-is-with-sample, change-is-build}
+use Rattle.rules.proofs.LaneCount.{lane-count}
+use Rattle.base.proofs.Scan.{neither, any-found, any-at, any-ext}
+use Rattle.tensor.proofs.Agreement.{agree-at}
+
+-- ---- what the statements speak of
+
+-- one change of a list: what was asked, the scratch that was lent, the answer, and what stood afterwards in the tensor and the scratch
+pub record Step : Type 0 where
+  pub place : Place
+  pub sample : Float
+  pub scratch : List Float
+  pub answer : ChangeAnswer
+  pub tensor-later : List Float
+  pub scratch-later : List Float
+
+-- each change kept its promise, on the tensor that the one before it left
+abbrev pub Kept : Grid → List Float → List Step → Type 0
+Kept g t [] = Unit {0}
+Kept g t (step ∷ steps) =
+    ChangePromise g t (step .scratch) (step .place) (step .sample) (step .answer) (step .tensor-later) (step .scratch-later)
+    × Kept g (step .tensor-later) steps
+
+-- the tensor after them
+abbrev pub tensor-after : List Float → List Step → List Float
+tensor-after t [] = t
+tensor-after t (step ∷ steps) = tensor-after (step .tensor-later) steps
+
+-- the samples now standing: a change that was not refused put its own in place
+abbrev pub standing : Grid → ℕ → List Float → Place → Float → List Float
+standing g zero samples place v = set samples (flat (points g) (g .axes) place) v
+standing g (suc refusal) samples place v = samples
+
+abbrev pub samples-after : Grid → List Float → List Step → List Float
+samples-after g samples [] = samples
+samples-after g samples (step ∷ steps) = samples-after g (standing g (step .answer .refusal) samples (step .place) (step .sample)) steps
+
+-- the right length, and the stated room
+abbrev pub Fitting : Grid → List Float → List Float → Type 0
+Fitting g t scratch = (length t ≡ tensor-length g) × (scratch-length g ≤ length scratch)
+
+-- ---- the statements, each of an accepted build and any list of changes, refused ones among them
+
+-- 1: "each tensor number has the bits of a fresh build from the samples now standing", which is not refused
+abbrev pub HasBitsOfFreshBuild : Type 0
+HasBitsOfFreshBuild =
+    (g : Grid) (samples out scratch t cleared : List Float) → BuildPromise g samples out scratch 0 t cleared
+    → (steps : List Step) → Kept g t steps
+    → (out′ scratch′ fresh cleared′ : List Float) (refusal : ℕ) → Fitting g out′ scratch′
+    → BuildPromise g (samples-after g samples steps) out′ scratch′ refusal fresh cleared′
+    → (refusal ≡ 0) × (fresh ≡ tensor-after t steps)
+
+-- 2: a change with the stated room "is refused exactly when its place is off the grid or a fresh build with its new sample in place would be refused": by 6, or by that build's number
+abbrev pub RefusedAsFreshBuild : Type 0
+RefusedAsFreshBuild =
+    (g : Grid) (samples out scratch t cleared : List Float) → BuildPromise g samples out scratch 0 t cleared
+    → (steps : List Step) → Kept g t steps
+    → (step : Step) → scratch-length g ≤ length (step .scratch) → Kept g (tensor-after t steps) (step ∷ [])
+    → (out′ scratch′ fresh cleared′ : List Float) (refusal : ℕ) → Fitting g out′ scratch′
+    → BuildPromise g (set (samples-after g samples steps) (flat (points g) (g .axes) (step .place)) (step .sample)) out′ scratch′ refusal fresh cleared′
+    → step .answer .refusal ≡ cond (place-refused g (step .place)) 6 refusal
+
+-- 3: "a derivative over axes S keeps its bits at every point that differs from the changed one on an axis outside S"
+abbrev pub KeepsBitsElsewhere : Type 0
+KeepsBitsElsewhere =
+    (g : Grid) (samples out scratch t cleared : List Float) → BuildPromise g samples out scratch 0 t cleared
+    → (steps : List Step) → Kept g t steps
+    → (step : Step) → Kept g (tensor-after t steps) (step ∷ [])
+    → (p : Place) (mask j : ℕ) → OnGrid (points g) (g .axes) p → mask < masks g
+    → j < g .axes → in-mask mask j ≡ false → p j ≢ step .place j
+    → at (step .tensor-later) (spot g p mask) ≡ at (tensor-after t steps) (spot g p mask)
+
+-- 4: "this equals the number of lanes in that list, the sum over axes i of the product, over axes j below i, of (1 + points on j)", on any tensor
+abbrev pub CountsItsLanes : Type 0
+CountsItsLanes =
+    (g : Grid) (t : List Float) (step : Step) → Kept g t (step ∷ []) → step .answer .refusal ≡ 0
+    → (step .answer .lanes ≡ length (change-lanes g (step .place))) × (step .answer .lanes ≡ lane-sum (points g) (g .axes))
+
+-- ---- rows of refusals
+
+past : (b : Bool) (number : ℕ) {later answer : ℕ} → b ≡ false → later ≡ answer → cond b number later ≡ answer
+past true number e below = not-both true refl e
+past false number e below = below
+
+peel : (b : Bool) (number later : ℕ) → cond b (suc number) later ≡ 0 → (b ≡ false) × (later ≡ 0)
+peel true number later e = let z : ⊥ = omega arith in absurd z
+peel false number later e = (refl, e)
+
+neither-of : {a b : Bool} → a ≡ false → b ≡ false → (a || b) ≡ false
+neither-of e f = rw (e, f)
+
+none-of-three : (a b c : Bool) → a ≡ false → b ≡ false → c ≡ false → (a || b || c) ≡ false
+none-of-three a b c e f h = rw (e, f, h)
+
+third-alone : (a b c : Bool) → a ≡ false → b ≡ false → (a || b || c) ≡ c
+third-alone a b c e f = rw (e, f)
+
+exact : (given size : ℕ) → given ≡ size → length-refused given size ≡ false
+exact given size e = ap not (eq-eqb given size e)
+
+not-exact : (given size : ℕ) → length-refused given size ≡ false → given ≡ size
+not-exact given size e = go (eqb given size) refl e
+  where
+    go : (b : Bool) → eqb given size ≡ b → not b ≡ false → given ≡ size
+    go true h f = eqb-true given size h
+    go false h f = not-both true refl f
+
+-- ---- samples that a build accepts, given the right lengths and the stated room
+
+pub record Sound (g : Grid) (samples : List Float) : Type 0 where
+  pub axes-fine : axes-refused g ≡ false
+  pub points-fine : some-points-refused g ≡ false
+  pub tensor-fine : tensor-refused g ≡ false
+  pub knots-exact : length (g .flat-knots) ≡ knots-length g
+  pub samples-exact : length samples ≡ samples-length g
+  pub knots-finite : some-number-refused (g .flat-knots) ≡ false
+  pub ends-finite : some-ends-refused g ≡ false
+  pub samples-finite : some-number-refused samples ≡ false
+  pub knots-rise : some-knots-refused g ≡ false
+  pub enough-points : some-fewness-refused g ≡ false
+  pub outcome-finite : outcome-refused (tensor g samples) ≡ false
+
+accepted-is-sound : (g : Grid) (samples out scratch : List Float) → build-refusal g samples out scratch ≡ 0 → Sound g samples
+unfolding build-refusal
+accepted-is-sound g samples out scratch e =
+    let r1 = peel (axes-refused g) 0 _ e in
+    let r2 = peel (some-points-refused g) 1 _ (r1 .1) in
+    let r3 = peel (tensor-refused g) 2 _ (r2 .1) in
+    let r4 = peel (length-refused (length (g .flat-knots)) (knots-length g) || length-refused (length samples) (samples-length g) || length-refused (length out) (tensor-length g)) 3 _ (r3 .1) in
+    let r5 = peel (ltb (length scratch) (scratch-length g)) 4 _ (r4 .1) in
+    let r7 = peel (some-number-refused (g .flat-knots) || some-ends-refused g || some-number-refused samples) 6 _ (r5 .1) in
+    let r8 = peel (some-knots-refused g) 7 _ (r7 .1) in
+    let r9 = peel (some-fewness-refused g) 8 _ (r8 .1) in
+    let r10 = peel (outcome-refused (tensor g samples)) 9 0 (r9 .1) in
+    let lengths = neither (length-refused (length (g .flat-knots)) (knots-length g) || length-refused (length samples) (samples-length g)) (length-refused (length out) (tensor-length g)) (r4 .0) in
+    let two = neither (length-refused (length (g .flat-knots)) (knots-length g)) (length-refused (length samples) (samples-length g)) (lengths .0) in
+    let numbers = neither (some-number-refused (g .flat-knots) || some-ends-refused g) (some-number-refused samples) (r7 .0) in
+    let both = neither (some-number-refused (g .flat-knots)) (some-ends-refused g) (numbers .0) in
+    record {
+      axes-fine = r1 .0;
+      points-fine = r2 .0;
+      tensor-fine = r3 .0;
+      knots-exact = not-exact (length (g .flat-knots)) (knots-length g) (two .0);
+      samples-exact = not-exact (length samples) (samples-length g) (two .1);
+      knots-finite = both .0;
+      ends-finite = both .1;
+      samples-finite = numbers .1;
+      knots-rise = r8 .0;
+      enough-points = r9 .0;
+      outcome-finite = r10 .0;
+    }
+
+module _ (g : Grid) (samples : List Float) (sound : Sound g samples) where
+  -- another build on this grid is refused by 7 or 10 or not at all
+  build-number :
+      (others out scratch : List Float) → length others ≡ samples-length g → Fitting g out scratch
+      → build-refusal g others out scratch ≡ cond (some-number-refused others) 7 (cond (outcome-refused (tensor g others)) 10 0)
+  unfolding build-refusal
+  build-number others out scratch long fitting =
+      past (axes-refused g) 1 (sound .axes-fine)
+      (past (some-points-refused g) 2 (sound .points-fine)
+      (past (tensor-refused g) 3 (sound .tensor-fine)
+      (past (length-refused (length (g .flat-knots)) (knots-length g) || length-refused (length others) (samples-length g) || length-refused (length out) (tensor-length g)) 4
+      (none-of-three _ _ _ (exact _ _ (sound .knots-exact)) (exact _ _ long) (exact _ _ (fitting .0)))
+      (past (ltb (length scratch) (scratch-length g)) 5 (le-ltb (length scratch) (scratch-length g) (fitting .1))
+      (ap₂ (λ (b : Bool) (n : ℕ). cond b 7 n)
+      (third-alone (some-number-refused (g .flat-knots)) (some-ends-refused g) (some-number-refused others) (sound .knots-finite) (sound .ends-finite))
+      (past (some-knots-refused g) 8 (sound .knots-rise) (past (some-fewness-refused g) 9 (sound .enough-points) refl)))))))
+
+  -- a change of the built tensor by 6, 7 or 10 or not at all
+  change-number :
+      (scratch : List Float) (place : Place) (v : Float) → length (tensor g samples) ≡ tensor-length g → scratch-length g ≤ length scratch
+      → change-refusal g (tensor g samples) scratch place v
+      ≡ cond (place-refused g place) 6 (cond (number-refused v) 7 (cond (outcome-refused (changed-tensor g place v (tensor g samples))) 10 0))
+  unfolding change-refusal
+  change-number scratch place v long room =
+      past (axes-refused g) 1 (sound .axes-fine)
+      (past (some-points-refused g) 2 (sound .points-fine)
+      (past (tensor-refused g) 3 (sound .tensor-fine)
+      (past (length-refused (length (g .flat-knots)) (knots-length g) || length-refused (length (tensor g samples)) (tensor-length g)) 4
+      (neither-of (exact _ _ (sound .knots-exact)) (exact _ _ long))
+      (past (ltb (length scratch) (scratch-length g)) 5 (le-ltb (length scratch) (scratch-length g) room)
+      (ap (λ (n : ℕ). cond (place-refused g place) 6 n)
+      (ap₂ (λ (b : Bool) (n : ℕ). cond b 7 n) numbers
+      (past (some-knots-refused g) 8 (sound .knots-rise) (past (some-fewness-refused g) 9 (sound .enough-points) refl))))))))
+    where
+      last-fine : (a b : Bool) → b ≡ false → (a || b) ≡ a
+      last-fine true b e = refl
+      last-fine false b e = e
+
+      numbers : (some-number-refused (g .flat-knots) || some-ends-refused g || number-refused v || some-number-refused (tensor g samples)) ≡ number-refused v
+      numbers =
+          last-fine (some-number-refused (g .flat-knots) || some-ends-refused g || number-refused v) (some-number-refused (tensor g samples)) (sound .outcome-finite)
+          ∙ third-alone (some-number-refused (g .flat-knots)) (some-ends-refused g) (number-refused v) (sound .knots-finite) (sound .ends-finite)
+
+  tensor-long : length (tensor g samples) ≡ tensor-length g
+  unfolding tensor
+  tensor-long = length-table (tensor-length g) _
+
+  -- a new sample at a place of the grid
+  module _ (place : Place) (v : Float) (on : OnGrid (points g) (g .axes) place) where
+    abbrev number : ℕ
+    number = flat (points g) (g .axes) place
+
+    abbrev changed : List Float
+    changed = set samples number v
+
+    inside : number < length samples
+    inside = rw (sound .samples-exact) (flat-below (points g) (g .axes) place on)
+
+    changed-long : length changed ≡ samples-length g
+    changed-long = simp length-set (sound .samples-exact)
+
+    -- it alone decides whether the samples are finite
+    new-finite : some-number-refused changed ≡ number-refused v
+    new-finite = rw (length-set samples number v) (go (number-refused v) refl)
+      where
+        go : (b : Bool) → number-refused v ≡ b → any (λ k. number-refused (at changed k)) (length samples) ≡ b
+        go true e =
+            any-found (λ k. number-refused (at changed k)) number (length samples) inside
+            (ap number-refused (getD-set-same samples number v nan inside) ∙ e)
+        go false e =
+            any-ext (λ k. number-refused (at changed k)) (λ k. number-refused (at samples k)) (length samples)
+            (λ k below. at-k k below (eqb k number) refl)
+            ∙ sound .samples-finite
+          where
+            at-k : (k : ℕ) → k < length samples → (b : Bool) → eqb k number ≡ b → number-refused (at changed k) ≡ number-refused (at samples k)
+            at-k k below true same =
+                let here = eqb-true k number same in
+                ap (λ (i : ℕ). number-refused (at changed i)) here
+                ∙ ap number-refused (getD-set-same samples number v nan inside) ∙ e
+                ∙ sym (any-at (λ i. number-refused (at samples i)) (length samples) (sound .samples-finite) k below)
+            at-k k below false other = ap number-refused (getD-set-other samples number k v nan (eqb-false k number other))
+
+    changed-is-built : changed-tensor g place v (tensor g samples) ≡ tensor g changed
+    changed-is-built = change-is-build g samples place v on (sound .samples-exact)
+
+    still-sound : number-refused v ≡ false → outcome-refused (tensor g changed) ≡ false → Sound g changed
+    still-sound finite fine = record {
+      axes-fine = sound .axes-fine;
+      points-fine = sound .points-fine;
+      tensor-fine = sound .tensor-fine;
+      knots-exact = sound .knots-exact;
+      samples-exact = changed-long;
+      knots-finite = sound .knots-finite;
+      ends-finite = sound .ends-finite;
+      samples-finite = new-finite ∙ finite;
+      knots-rise = sound .knots-rise;
+      enough-points = sound .enough-points;
+      outcome-finite = fine;
+    }
+
+-- ---- an accepted change
+
+pub record Accepted (g : Grid) (t : List Float) (place : Place) (v : Float) : Type 0 where
+  pub on-the-grid : OnGrid (points g) (g .axes) place
+  pub sample-finite : number-refused v ≡ false
+  pub outcome-finite : outcome-refused (changed-tensor g place v t) ≡ false
+
+on-grid : (g : Grid) (place : Place) → place-refused g place ≡ false → OnGrid (points g) (g .axes) place
+on-grid g place fine i below = leb-false (points g i) (place i) (any-at (λ j. leb (points g j) (place j)) (g .axes) fine i below)
+
+change-accepted : (g : Grid) (t scratch : List Float) (place : Place) (v : Float) → change-refusal g t scratch place v ≡ 0 → Accepted g t place v
+unfolding change-refusal
+change-accepted g t scratch place v e =
+    let r1 = peel (axes-refused g) 0 _ e in
+    let r2 = peel (some-points-refused g) 1 _ (r1 .1) in
+    let r3 = peel (tensor-refused g) 2 _ (r2 .1) in
+    let r4 = peel (length-refused (length (g .flat-knots)) (knots-length g) || length-refused (length t) (tensor-length g)) 3 _ (r3 .1) in
+    let r5 = peel (ltb (length scratch) (scratch-length g)) 4 _ (r4 .1) in
+    let r6 = peel (place-refused g place) 5 _ (r5 .1) in
+    let r7 = peel (some-number-refused (g .flat-knots) || some-ends-refused g || number-refused v || some-number-refused t) 6 _ (r6 .1) in
+    let r8 = peel (some-knots-refused g) 7 _ (r7 .1) in
+    let r9 = peel (some-fewness-refused g) 8 _ (r8 .1) in
+    let r10 = peel (outcome-refused (changed-tensor g place v t)) 9 0 (r9 .1) in
+    let numbers = neither (some-number-refused (g .flat-knots) || some-ends-refused g || number-refused v) (some-number-refused t) (r7 .0) in
+    record {
+      on-the-grid = on-grid g place (r6 .0);
+      sample-finite = neither (some-number-refused (g .flat-knots) || some-ends-refused g) (number-refused v) (numbers .0) .1;
+      outcome-finite = r10 .0;
+    }
+
+-- ---- a tensor that stands as built
+
+pub record Stands (g : Grid) (samples t : List Float) : Type 0 where
+  pub sound : Sound g samples
+  pub is : t ≡ tensor g samples
+
+-- after the build
+built-stands : (g : Grid) (samples out scratch t cleared : List Float) → BuildPromise g samples out scratch 0 t cleared → Stands g samples t
+built-stands g samples out scratch t cleared p = record {
+  sound = accepted-is-sound g samples out scratch (sym (p .answer));
+  is = p .output ∙ ap (λ (r : ℕ). stored r out (tensor g samples)) (sym (p .answer));
+}
+
+module _ (g : Grid) (samples t : List Float) (step : Step) (stands : Stands g samples t) (promised : Kept g t (step ∷ [])) where
+  abbrev place : Place
+  place = step .place
+
+  abbrev v : Float
+  v = step .sample
+
+  abbrev refusal : ℕ
+  refusal = change-refusal g t (step .scratch) place v
+
+  refusal-is : step .answer .refusal ≡ refusal
+  unfolding change-answer
+  refusal-is = ap (λ (a : ChangeAnswer). a .refusal) (promised .0 .answer)
+
+  -- after one more change
+  step-stands : Stands g (standing g (step .answer .refusal) samples place v) (step .tensor-later)
+  step-stands =
+      subst (λ (r : ℕ). Stands g (standing g r samples place v) (step .tensor-later)) (sym refusal-is)
+      (subst (λ (l : List Float). Stands g (standing g refusal samples place v) l) (sym (promised .0 .output)) (go refusal refl))
+    where
+      go : (r : ℕ) → refusal ≡ r → Stands g (standing g r samples place v) (stored r t (changed-tensor g place v t))
+      go zero e =
+          let accepted = change-accepted g t (step .scratch) place v e in
+          let same : changed-tensor g place v t ≡ tensor g (set samples (flat (points g) (g .axes) place) v) =
+          ap (changed-tensor g place v) (stands .is) ∙ changed-is-built g samples (stands .sound) place v (accepted .on-the-grid) in
+          record {
+            sound =
+                still-sound g samples (stands .sound) place v (accepted .on-the-grid) (accepted .sample-finite)
+                (sym (ap outcome-refused same) ∙ accepted .outcome-finite);
+            is = same;
+          }
+      go (suc r) e = stands
+
+-- after a list of changes
+steps-stand : (g : Grid) (samples t : List Float) → Stands g samples t → (steps : List Step) → Kept g t steps → Stands g (samples-after g samples steps) (tensor-after t steps)
+steps-stand g samples t stands [] promised = stands
+steps-stand g samples t stands (step ∷ steps) promised =
+    steps-stand g (standing g (step .answer .refusal) samples (step .place) (step .sample)) (step .tensor-later)
+    (step-stands g samples t step stands (promised .0, tt)) steps (promised .1)
+
+-- ---- the proofs
+
+pub has-bits-of-fresh-build : HasBitsOfFreshBuild
+has-bits-of-fresh-build g samples out scratch t cleared built steps promised out′ scratch′ fresh cleared′ refusal fitting again =
+    let now = samples-after g samples steps in
+    let stands = steps-stand g samples t (built-stands g samples out scratch t cleared built) steps promised in
+    let sound = stands .sound in
+    let none : build-refusal g now out′ scratch′ ≡ 0 =
+    build-number g now sound now out′ scratch′ (sound .samples-exact) fitting
+    ∙ past (some-number-refused now) 7 (sound .samples-finite) (past (outcome-refused (tensor g now)) 10 (sound .outcome-finite) refl) in
+    (again .answer ∙ none, again .output ∙ ap (λ (r : ℕ). stored r out′ (tensor g now)) none ∙ sym (stands .is))
+
+pub refused-as-fresh-build : RefusedAsFreshBuild
+refused-as-fresh-build g samples out scratch t cleared built steps promised step room next out′ scratch′ fresh cleared′ refusal fitting again =
+    refusal-is g now (tensor-after t steps) step stands next
+    ∙ ap (λ (l : List Float). change-refusal g l (step .scratch) p v) (stands .is)
+    ∙ change-number g now sound (step .scratch) p v (tensor-long g now sound) room
+    ∙ go (place-refused g p) refl
+  where
+    now : List Float
+    now = samples-after g samples steps
+
+    stands : Stands g now (tensor-after t steps)
+    stands = steps-stand g samples t (built-stands g samples out scratch t cleared built) steps promised
+
+    sound : Sound g now
+    sound = stands .sound
+
+    p : Place
+    p = step .place
+
+    v : Float
+    v = step .sample
+
+    go : (b : Bool) → place-refused g p ≡ b
+        → cond b 6 (cond (number-refused v) 7 (cond (outcome-refused (changed-tensor g p v (tensor g now))) 10 0)) ≡ cond b 6 refusal
+    go true e = refl
+    go false e =
+        let on = on-grid g p e in
+        let after : List Float = set now (flat (points g) (g .axes) p) v in
+        ap₂ (λ (a b : Bool). cond a 7 (cond b 10 0)) (sym (new-finite g now sound p v on)) (ap outcome-refused (changed-is-built g now sound p v on))
+        ∙ sym (build-number g now sound after out′ scratch′ (changed-long g now sound p v on) fitting) ∙ sym (again .answer)
+
+pub keeps-bits-elsewhere : KeepsBitsElsewhere
+keeps-bits-elsewhere g samples out scratch t cleared built steps promised step next q mask j on small below off other =
+    ap (λ (l : List Float). at l (spot g q mask)) (next .0 .output) ∙ go refused refl
+  where
+    now : List Float
+    now = samples-after g samples steps
+
+    before : List Float
+    before = tensor-after t steps
+
+    stands : Stands g now before
+    stands = steps-stand g samples t (built-stands g samples out scratch t cleared built) steps promised
+
+    p : Place
+    p = step .place
+
+    v : Float
+    v = step .sample
+
+    refused : ℕ
+    refused = change-refusal g before (step .scratch) p v
+
+    differs : (b : Bool) → agree (in-mask mask) (g .axes) q p ≡ b → agree (in-mask mask) (g .axes) q p ≡ false
+    differs true e = absurd (other (agree-at (in-mask mask) q p (g .axes) e j below off))
+    differs false e = e
+
+    go : (r : ℕ) → refused ≡ r → at (stored r before (changed-tensor g p v before)) (spot g q mask) ≡ at before (spot g q mask)
+    go zero e =
+        let accepted = change-accepted g before (step .scratch) p v e in
+        let sound = stands .sound in
+        let after : List Float = set now (flat (points g) (g .axes) p) v in
+        ap (λ (l : List Float). at l (spot g q mask)) (ap (changed-tensor g p v) (stands .is) ∙ changed-is-built g now sound p v (accepted .on-the-grid))
+        ∙ built-entry g after (g .axes) mask q (le-refl (g .axes)) small on
+        ∙ sym (kept g (sample g now) p v (sample g after) (set-is-with-sample g now p v (accepted .on-the-grid) (sound .samples-exact))
+        (g .axes) mask q (le-refl (g .axes)) small on (differs (agree (in-mask mask) (g .axes) q p) refl))
+        ∙ sym (built-entry g now (g .axes) mask q (le-refl (g .axes)) small on)
+        ∙ ap (λ (l : List Float). at l (spot g q mask)) (sym (stands .is))
+    go (suc r) e = refl
+
+pub counts-its-lanes : CountsItsLanes
+unfolding change-answer
+counts-its-lanes g t step promised none =
+    let p : Place = step .place in
+    let refused : change-refusal g t (step .scratch) p (step .sample) ≡ 0 = sym (ap (λ (a : ChangeAnswer). a .refusal) (promised .0 .answer)) ∙ none in
+    let listed : step .answer .lanes ≡ length (change-lanes g p) =
+    ap (λ (a : ChangeAnswer). a .lanes) (promised .0 .answer) ∙ ap (λ (r : ℕ). counted r (length (change-lanes g p))) refused in
+    (listed, listed ∙ lane-count g p (change-accepted g t (step .scratch) p (step .sample) refused .on-the-grid))

@@ -1,0 +1,6 @@
+mod Stored
+mod Patterns
+mod HexDigits
+mod DecimalDigits
+mod Words
+mod Examples

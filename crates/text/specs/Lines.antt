@@ -1,0 +1,47 @@
+-- The lines that the programs print, as lists of bytes.
+use mathlib.Core.Bool.{cond}
+use mathlib.Core.List.{List, [], _∷_, _++_}
+use Prim.Native.Nat.{ℕ, zero, suc, _+_, _/_, _%_}
+use lib.Dec.{ltb}
+
+-- the byte of a decimal digit: "0" is 48
+abbrev pub decimal-digit : ℕ → ℕ
+decimal-digit d = 48 + d
+
+-- the byte of a capital hex digit: "A" is 65
+abbrev pub hex-digit : ℕ → ℕ
+hex-digit d = cond (ltb d 10) (48 + d) (55 + d)
+
+-- LF, with which each line ends
+abbrev pub line-end : List ℕ
+line-end = 10 ∷ []
+
+-- the last k hex digits of a number, the most significant first
+unfoldable pub hex-digits : ℕ → ℕ → List ℕ
+hex-digits zero n = []
+hex-digits (suc k) n = hex-digits k (n / 16) ++ (hex-digit (n % 16) ∷ [])
+
+-- a 64-bit pattern: 16 capital hex digits and LF
+unfoldable pub hex-line : ℕ → List ℕ
+unfolding hex-digits
+hex-line pattern = hex-digits 16 pattern ++ line-end
+
+-- the decimal digits, without leading zeros, of a number that has at most k of them
+unfoldable pub decimal-digits : ℕ → ℕ → List ℕ
+decimal-digits zero n = []
+decimal-digits (suc k) n = cond (ltb n 10) (decimal-digit n ∷ []) (decimal-digits k (n / 10) ++ (decimal-digit (n % 10) ∷ []))
+
+-- those of a number below 2 ^ 64, which has at most 20
+unfoldable pub decimal : ℕ → List ℕ
+unfolding decimal-digits
+decimal n = decimal-digits 20 n
+
+-- "tensor " and the number of its numbers
+unfoldable pub tensor-line : ℕ → List ℕ
+unfolding decimal
+tensor-line count = (116 ∷ 101 ∷ 110 ∷ 115 ∷ 111 ∷ 114 ∷ 32 ∷ []) ++ (decimal count ++ line-end)
+
+-- "refused " and the refusal's number
+unfoldable pub refused-line : ℕ → List ℕ
+unfolding decimal
+refused-line number = (114 ∷ 101 ∷ 102 ∷ 117 ∷ 115 ∷ 101 ∷ 100 ∷ 32 ∷ []) ++ (decimal number ++ line-end)
