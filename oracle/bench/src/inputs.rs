@@ -2,7 +2,7 @@
 
 use crate::hullashlar::{Axes, SCRATCH};
 use crate::sheet::packed;
-use ninterp_unchanged::{
+use ninterp_quick::{
     compute_corner_cache, compute_m, ArrayD, ArrayView1, Broadcastable, CubicC2BoundaryConditions,
     IxDyn,
 };

@@ -3,7 +3,7 @@
 
 use crate::hullashlar::{self, BUFFER, SCRATCH};
 use crate::inputs::{Inputs, Surface, CHANGED};
-use ninterp_unchanged::{
+use ninterp_quick::{
     compute_corner_cache, compute_m, evaluate_spline_corner_cached, evaluate_spline_from_m,
     knot_derivatives_from_m, CubicC2BoundaryConditions,
 };
