@@ -8,8 +8,9 @@ test:
 	.ci/run
 
 # The calls that are exported so far, and how many cases of each are compared with the Rust.
-CALLS = moments curve slopes query
-CASES = --moments 60000 --curve 60000 --slopes 60000 --query 500000
+CALLS = moments curve slopes build change query
+CASES = --moments 60000 --curve 60000 --slopes 60000 --build 50000 --change 50000 \
+    --change_list 20000 --query 500000
 SEED = 20240917
 
 # Holds the exported calls against the Rust, bit for bit; fails where there is a difference.

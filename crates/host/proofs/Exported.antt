@@ -84,9 +84,9 @@ module _ (axes : ℕ) (points kinds : List ℕ) (values knots samples tensor-len
   }
 
   pub build-called :
-    r ≡ 0 → (all : List Axis) → all ≡ axes-given axes points kinds values → {a : ℕ} {t s : List Float}
-    → BuildPromise (record { axes = axes; entries = all; flat-knots = knots }) samples tensor-lent scratch-lent a t s
-    → BuildExport axes points kinds values knots samples tensor-lent scratch-lent a t s
+      r ≡ 0 → (all : List Axis) → all ≡ axes-given axes points kinds values → {a : ℕ} {t s : List Float}
+      → BuildPromise (record { axes = axes; entries = all; flat-knots = knots }) samples tensor-lent scratch-lent a t s
+      → BuildExport axes points kinds values knots samples tensor-lent scratch-lent a t s
   build-called none all given p =
       let q = rw given at p in
       record {
@@ -107,9 +107,9 @@ module _ (axes : ℕ) (points kinds : List ℕ) (values knots tensor-lent scratc
   }
 
   pub change-called :
-    r ≡ 0 → (all : List Axis) → all ≡ axes-given axes points kinds values → (changed : List ℕ) → changed ≡ place → (a : ChangeAnswer) {t s : List Float}
-    → ChangePromise (record { axes = axes; entries = all; flat-knots = knots }) tensor-lent scratch-lent (place-of changed) sample a t s
-    → ChangeExport axes points kinds values knots tensor-lent scratch-lent place sample lanes-lent (a .refusal) t s (set lanes-lent 0 (a .lanes))
+      r ≡ 0 → (all : List Axis) → all ≡ axes-given axes points kinds values → (changed : List ℕ) → changed ≡ place → (a : ChangeAnswer) {t s : List Float}
+      → ChangePromise (record { axes = axes; entries = all; flat-knots = knots }) tensor-lent scratch-lent (place-of changed) sample a t s
+      → ChangeExport axes points kinds values knots tensor-lent scratch-lent place sample lanes-lent (a .refusal) t s (set lanes-lent 0 (a .lanes))
   unfolding change-answer
   change-called none all given changed here a p =
       let q = rw (given, here) at p in
@@ -118,9 +118,9 @@ module _ (axes : ℕ) (points kinds : List ℕ) (values knots tensor-lent scratc
         output = left _ _ e none (q .output);
         scratch = left _ _ e none (q .scratch);
         slot =
-          left _ _ e none
-          (one-stored lanes-lent (a .lanes) (change-lengths axes points kinds values place lanes-lent (sym e ∙ none) .1)
-          ∙ ap (λ (b : ChangeAnswer). b .lanes ∷ []) (q .answer));
+            left _ _ e none
+            (one-stored lanes-lent (a .lanes) (change-lengths axes points kinds values place lanes-lent (sym e ∙ none) .1)
+            ∙ ap (λ (b : ChangeAnswer). b .lanes ∷ []) (q .answer));
       }
 
 -- ---- the query
