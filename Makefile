@@ -1,4 +1,4 @@
-.PHONY: run test differential oracle-test replay-list bench examples picture
+.PHONY: run test differential oracle-test replay-list archive bench examples picture
 
 # Until the sheet program stands, the main job is the proof of every crate.
 run:
@@ -23,26 +23,24 @@ differential:
 oracle-test:
 	cd oracle && cargo test --offline
 
-# Measures the exported calls beside the Rust's functions and prints the tables of docs/BENCH.md; wants valgrind.
-bench:
+# The archive of the exported calls, target/staticlib/libhost.a.
+archive:
 	rt staticlib host
+
+# Measures the exported calls beside the Rust's functions and prints the tables of docs/BENCH.md; wants valgrind.
+bench: archive
 	cd oracle && cargo run --offline --release -p bench --features "$(CALLS)"
 
 # The two example hosts, each held against the output that is kept beside them.
-examples: examples/gain.sheet
-	rt staticlib host
+examples: archive
 	mkdir -p target/examples
 	gcc -std=c11 -Wall -Wextra -Werror -O2 -Iinclude examples/host.c target/staticlib/libhost.a -o target/examples/host_in_c
 	rustc --edition 2021 -O examples/host.rs -L native=target/staticlib -l static=host -o target/examples/host_in_rust
-	target/examples/host_in_c examples/gain.sheet | diff examples/expected.txt -
-	target/examples/host_in_rust examples/gain.sheet | diff examples/expected.txt -
-
-examples/gain.sheet: examples/gain_sheet.py
-	python3 examples/gain_sheet.py > $@
+	target/examples/host_in_c | diff examples/expected.txt -
+	target/examples/host_in_rust | diff examples/expected.txt -
 
 # Draws the picture of README.md anew, from numbers that the library computes.
-picture:
-	rt staticlib host
+picture: archive
 	mkdir -p target/picture
 	gcc -std=c11 -Wall -Wextra -Werror -O2 -Iinclude docs/picture/cut.c target/staticlib/libhost.a -o target/picture/cut
 	target/picture/cut | python3 docs/picture/draw.py > docs/picture/stale-derivatives.svg

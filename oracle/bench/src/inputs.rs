@@ -182,4 +182,16 @@ impl Inputs {
             four_axes,
         }
     }
+
+    /// The surfaces of one to four axes, and a periodic one.
+    pub fn surfaces(&self) -> [&Surface; 6] {
+        [
+            &self.line_of_16,
+            &self.line_of_256,
+            &self.two_axes,
+            &self.three_axes,
+            &self.four_axes,
+            &self.periodic,
+        ]
+    }
 }

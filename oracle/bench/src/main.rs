@@ -11,6 +11,8 @@ mod nanoseconds;
 mod sheet;
 mod stack;
 mod table;
+#[cfg(test)]
+mod tests;
 
 use inputs::Inputs;
 use lines::{lines, Line};

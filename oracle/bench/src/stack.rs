@@ -14,14 +14,7 @@ pub struct Stack {
 
 /// The stacks of the calls that the archive has.
 pub fn stacks(inputs: &Inputs) -> Vec<Stack> {
-    let surfaces = [
-        &inputs.line_of_16,
-        &inputs.line_of_256,
-        &inputs.two_axes,
-        &inputs.three_axes,
-        &inputs.four_axes,
-        &inputs.periodic,
-    ];
+    let surfaces = inputs.surfaces();
     let lines = [&inputs.line_of_256, &inputs.periodic_line];
     let mut stacks = Vec::new();
     let mut add = |call, deepest: Option<usize>| {

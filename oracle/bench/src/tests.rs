@@ -1,0 +1,64 @@
+//! The stand-in that is made for speed gives the bits of the simple one, which
+//! the reading of document 01 stands on.
+
+use crate::inputs::{Inputs, Surface};
+use ninterp_quick::evaluate_spline_corner_cached;
+
+fn bits(numbers: impl IntoIterator<Item = f64>) -> Vec<u64> {
+    numbers.into_iter().map(f64::to_bits).collect()
+}
+
+/// The tensor over the simple stand-in.
+fn simple_tensor(surface: &Surface) -> Vec<f64> {
+    let Surface {
+        axes,
+        knots,
+        samples,
+        ..
+    } = surface;
+    let mut tensor = vec![0.0; axes.tensor_length()];
+    let mut scratch = surface.scratch();
+    let refusal = reading::build(
+        axes.count,
+        &axes.points,
+        &axes.kinds,
+        &axes.values,
+        knots,
+        samples,
+        &mut tensor,
+        &mut scratch,
+    );
+    assert_eq!(refusal, 0);
+    tensor
+}
+
+/// The value at the middle point over the simple stand-in.
+fn simple_value(surface: &Surface, tensor: &[f64]) -> f64 {
+    let Surface { axes, knots, .. } = surface;
+    let (mut value, mut labels) = ([0.0], [0; 4]);
+    let point = surface.middle_point();
+    let refusal = reading::query(
+        axes.count,
+        &axes.points,
+        knots,
+        tensor,
+        &point,
+        &mut value,
+        &mut labels,
+    );
+    assert_eq!(refusal, 0);
+    value[0]
+}
+
+#[test]
+fn both_stand_ins_give_the_same_bits() {
+    let inputs = Inputs::new();
+    for surface in inputs.surfaces() {
+        let simple = simple_tensor(surface);
+        let quick = surface.tensor();
+        assert_eq!(bits(quick.iter().copied()), bits(simple.iter().copied()));
+        let knots = surface.knots_by_axis();
+        let value = evaluate_spline_corner_cached(&knots, quick.view(), &surface.middle_point());
+        assert_eq!(value.to_bits(), simple_value(surface, &simple).to_bits());
+    }
+}
