@@ -46,7 +46,7 @@ impl Sheet {
 
     fn field(&mut self, number: u64, width: usize) {
         for place in (0..width).rev() {
-            if self.bits % 8 == 0 {
+            if self.bits.is_multiple_of(8) {
                 self.bytes.push(0);
             }
             let bit = (number >> place & 1) as u8;

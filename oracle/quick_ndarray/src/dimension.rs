@@ -35,21 +35,27 @@ pub struct IxDyn {
 
 /// A shape or a place, from one number for each axis.
 #[allow(non_snake_case)]
+#[inline]
 pub fn IxDyn(numbers: &[usize]) -> IxDyn {
     let mut shape = IxDyn {
         axes: numbers.len(),
         numbers: [0; MOST_AXES],
     };
-    shape.numbers[..numbers.len()].copy_from_slice(numbers);
+    // A plain loop: for so few numbers it is quicker than a call to memcpy.
+    for (axis, number) in numbers.iter().enumerate() {
+        shape.numbers[axis] = *number;
+    }
     shape
 }
 
 impl IxDyn {
+    #[inline]
     pub(crate) fn product(&self) -> usize {
         self.numbers().iter().product()
     }
 
     /// The first place of an array with as many axes.
+    #[inline]
     pub(crate) fn all_zero(&self) -> Self {
         Self {
             axes: self.axes,
@@ -58,6 +64,7 @@ impl IxDyn {
     }
 
     /// The place behind this one, last axis fastest.
+    #[inline]
     pub(crate) fn step_within(&mut self, lengths: &Self) {
         for axis in (0..self.axes).rev() {
             self.numbers[axis] += 1;
@@ -69,6 +76,7 @@ impl IxDyn {
     }
 
     /// The strides of a whole array with these lengths, last axis fastest.
+    #[inline]
     pub(crate) fn row_major(&self) -> Self {
         let mut strides = *self;
         let mut stride = 1;
@@ -80,6 +88,7 @@ impl IxDyn {
     }
 
     /// The same with one axis taken out.
+    #[inline]
     pub(crate) fn without(&self, axis: Axis) -> Self {
         let mut kept = *self;
         kept.axes -= 1;

@@ -1,5 +1,7 @@
 //! Walking the places of arrays, last axis fastest.
 
+use std::array;
+
 /// The most axes an array may have here.
 const MOST_AXES: usize = 6;
 
@@ -14,6 +16,7 @@ pub struct Places {
 }
 
 impl Places {
+    #[inline]
     pub fn new(lengths: &[usize], strides: &[usize]) -> Self {
         let mut places = Self {
             axes: lengths.len(),
@@ -23,21 +26,11 @@ impl Places {
             position: 0,
             left: lengths.iter().product(),
         };
-        places.lengths[..lengths.len()].copy_from_slice(lengths);
-        places.strides[..strides.len()].copy_from_slice(strides);
-        places
-    }
-
-    fn step(&mut self) {
-        for axis in (0..self.axes).rev() {
-            self.place[axis] += 1;
-            self.position += self.strides[axis];
-            if self.place[axis] < self.lengths[axis] {
-                return;
-            }
-            self.position -= self.strides[axis] * self.lengths[axis];
-            self.place[axis] = 0;
+        for axis in 0..lengths.len() {
+            places.lengths[axis] = lengths[axis];
+            places.strides[axis] = strides[axis];
         }
+        places
     }
 }
 
@@ -48,13 +41,20 @@ impl Iterator for Places {
     fn next(&mut self) -> Option<usize> {
         self.left = self.left.checked_sub(1)?;
         let position = self.position;
-        self.step();
+        let lengths = &self.lengths[..self.axes];
+        step(
+            &mut self.place,
+            array::from_mut(&mut self.position),
+            lengths,
+            &[&self.strides],
+        );
         Some(position)
     }
 }
 
 /// Calls the function for each line along the last axis of arrays with the same
 /// lengths: with their starts, the length, and their strides there.
+#[inline]
 pub fn inner_loops<const ARRAYS: usize>(
     lengths: &[usize],
     strides: [&[usize]; ARRAYS],
@@ -64,9 +64,33 @@ pub fn inner_loops<const ARRAYS: usize>(
         return function([0; ARRAYS], 1, [1; ARRAYS]);
     };
     let inner = strides.map(|strides| strides[outer.len()]);
-    let mut starts = strides.map(|strides| Places::new(outer, strides[..outer.len()].as_ref()));
+    let mut place = [0; MOST_AXES];
+    let mut starts = [0; ARRAYS];
     for _ in 0..outer.iter().product() {
-        let starts = starts.each_mut().map(|start| start.next().unwrap_or(0));
         function(starts, *length, inner);
+        step(&mut place, &mut starts, outer, &strides);
+    }
+}
+
+/// Goes on to the next place, last axis fastest, with the positions in every array.
+#[inline]
+fn step<const ARRAYS: usize>(
+    place: &mut [usize; MOST_AXES],
+    positions: &mut [usize; ARRAYS],
+    lengths: &[usize],
+    strides: &[&[usize]; ARRAYS],
+) {
+    for axis in (0..lengths.len()).rev() {
+        place[axis] += 1;
+        for (position, strides) in positions.iter_mut().zip(strides) {
+            *position += strides[axis];
+        }
+        if place[axis] < lengths[axis] {
+            return;
+        }
+        place[axis] = 0;
+        for (position, strides) in positions.iter_mut().zip(strides) {
+            *position -= strides[axis] * lengths[axis];
+        }
     }
 }
