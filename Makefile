@@ -1,4 +1,4 @@
-.PHONY: run test differential oracle-test replay-list
+.PHONY: run test differential oracle-test replay-list bench examples picture
 
 # Until the sheet program stands, the main job is the proof of every crate.
 run:
@@ -8,8 +8,9 @@ test:
 	.ci/run
 
 # The calls that are exported so far, and how many cases of each are compared with the Rust.
-CALLS = moments curve slopes
-CASES = --moments 60000 --curve 60000 --slopes 60000
+CALLS = moments curve slopes build change query
+CASES = --moments 60000 --curve 60000 --slopes 60000 --build 50000 --change 50000 \
+    --change_list 20000 --query 500000
 SEED = 20240917
 
 # Holds the exported calls against the Rust, bit for bit; fails where there is a difference.
@@ -21,3 +22,27 @@ differential:
 # The Rust side's own tests: the unchanged files, the examples of document 01, the generator.
 oracle-test:
 	cd oracle && cargo test --offline
+
+# Measures the exported calls beside the Rust's functions and prints the tables of docs/BENCH.md; wants valgrind.
+bench:
+	rt staticlib host
+	cd oracle && cargo run --offline --release -p bench --features "$(CALLS)"
+
+# The two example hosts, each held against the output that is kept beside them.
+examples: examples/gain.sheet
+	rt staticlib host
+	mkdir -p target/examples
+	gcc -std=c11 -Wall -Wextra -Werror -O2 -Iinclude examples/host.c target/staticlib/libhost.a -o target/examples/host_in_c
+	rustc --edition 2021 -O examples/host.rs -L native=target/staticlib -l static=host -o target/examples/host_in_rust
+	target/examples/host_in_c examples/gain.sheet | diff examples/expected.txt -
+	target/examples/host_in_rust examples/gain.sheet | diff examples/expected.txt -
+
+examples/gain.sheet: examples/gain_sheet.py
+	python3 examples/gain_sheet.py > $@
+
+# Draws the picture of README.md anew, from numbers that the library computes.
+picture:
+	rt staticlib host
+	mkdir -p target/picture
+	gcc -std=c11 -Wall -Wextra -Werror -O2 -Iinclude docs/picture/cut.c target/staticlib/libhost.a -o target/picture/cut
+	target/picture/cut | python3 docs/picture/draw.py > docs/picture/stale-derivatives.svg

@@ -71,6 +71,47 @@ size_t hullashlar_slopes(size_t points,
                          const double *moments, size_t moments_length,
                          double *slopes, size_t slopes_length);
 
+/* The tensor of samples on a grid.
+ * Lengths: points 4; kinds and values 8; knots as many as the points of all axes together; samples one for each place
+ * of the grid; tensor 2^axes for each place; scratch at least the tensor's length and 2,048.
+ * Written: tensor, scratch. Refuses by 1, 2, 3, 4, 5, 7, 8, 9, 10 and 13. */
+size_t hullashlar_build(size_t axes,
+                        const size_t *points, size_t points_length,
+                        const uint8_t *kinds, size_t kinds_length,
+                        const double *values, size_t values_length,
+                        const double *knots, size_t knots_length,
+                        const double *samples, size_t samples_length,
+                        double *tensor, size_t tensor_length,
+                        double *scratch, size_t scratch_length);
+
+/* One sample changed in a tensor: every number that a fresh build would give, and how many lanes were solved again.
+ * Lengths: points and place 4; kinds and values 8; knots as many as the points of all axes together; tensor 2^axes for
+ * each place of the grid; scratch at least the tensor's length and 2,048; lanes 1.
+ * Written: tensor, scratch, lanes. Refuses by 1 to 10 and 13. */
+size_t hullashlar_change(size_t axes,
+                         const size_t *points, size_t points_length,
+                         const uint8_t *kinds, size_t kinds_length,
+                         const double *values, size_t values_length,
+                         const double *knots, size_t knots_length,
+                         double *tensor, size_t tensor_length,
+                         double *scratch, size_t scratch_length,
+                         const size_t *place, size_t place_length,
+                         double sample,
+                         size_t *lanes, size_t lanes_length);
+
+/* The surface's value at the coordinates, beyond the grid too, and the cell label of each axis: the largest i with
+ * knot[i] <= coordinate, held to 0 .. points - 2.
+ * Lengths: points 4; knots as many as the points of all axes together; tensor 2^axes for each place of the grid;
+ * coordinates as many as axes; value 1; labels 4.
+ * Written: value, labels. Refuses by 1, 2, 3, 4, 7, 8 and 10. */
+size_t hullashlar_query(size_t axes,
+                        const size_t *points, size_t points_length,
+                        const double *knots, size_t knots_length,
+                        const double *tensor, size_t tensor_length,
+                        const double *coordinates, size_t coordinates_length,
+                        double *value, size_t value_length,
+                        size_t *labels, size_t labels_length);
+
 #ifdef __cplusplus
 }
 #endif

@@ -4,12 +4,16 @@ use mathlib.Core.List.{List, [], _∷_}
 use Prim.Native.Nat.{ℕ, zero, suc}
 use lib.ListN.{set}
 use lib.Ieee.{Float}
-use Rattle.rules.specs.Calls.{MomentsPromise, CurvePromise}
+use Rattle.rules.specs.Sizes.{place-of}
+use Rattle.rules.specs.Calls.{MomentsPromise, CurvePromise, BuildPromise, change-answer, ChangePromise, QueryPromise}
 use Rattle.rules.specs.declared.Condition.{Condition}
 use Rattle.rules.specs.declared.CurveAnswer.{CurveAnswer}
-use Rattle.host.specs.Axes.{condition-given}
-use Rattle.host.specs.Exports.{before, kept, moments-own-refusal, curve-own-refusal, MomentsExport, CurveExport}
-use Rattle.host.proofs.Lengths.{curve-lengths}
+use Rattle.rules.specs.declared.ChangeAnswer.{ChangeAnswer}
+use Rattle.rules.specs.declared.QueryAnswer.{QueryAnswer}
+use Rattle.rules.specs.declared.Axis.{Axis}
+use Rattle.host.specs.Axes.{condition-given, axes-given, axes-without-ends}
+use Rattle.host.specs.Exports.{before, kept, moments-own-refusal, curve-own-refusal, build-own-refusal, change-own-refusal, query-own-refusal, MomentsExport, CurveExport, BuildExport, ChangeExport, QueryExport}
+use Rattle.host.proofs.Lengths.{curve-lengths, change-lengths, query-lengths}
 use Rattle.host.proofs.Slots.{one-stored}
 
 -- ---- the host refuses: its number is the answer, and each slice is as it was
@@ -68,3 +72,78 @@ module _ (n : ℕ) (knots samples moments-in : List Float) (point : Float) (valu
         left _ _ e none
         (one-stored value-lent (a .value) (curve-lengths value-lent (sym e ∙ none)) ∙ ap (λ (b : CurveAnswer). b .value ∷ []) (p .answer));
   }
+
+-- ---- the build
+
+module _ (axes : ℕ) (points kinds : List ℕ) (values knots samples tensor-lent scratch-lent : List Float) {r : ℕ} (e : r ≡ build-own-refusal axes points kinds values) where
+  pub build-refused : (r ≡ 0 → ⊥) → BuildExport axes points kinds values knots samples tensor-lent scratch-lent r tensor-lent scratch-lent
+  build-refused some = record {
+    answer = own-answer _ _ e some;
+    output = untouched _ _ _ e some;
+    scratch = untouched _ _ _ e some;
+  }
+
+  pub build-called :
+      r ≡ 0 → (all : List Axis) → all ≡ axes-given axes points kinds values → {a : ℕ} {t s : List Float}
+      → BuildPromise (record { axes = axes; entries = all; flat-knots = knots }) samples tensor-lent scratch-lent a t s
+      → BuildExport axes points kinds values knots samples tensor-lent scratch-lent a t s
+  build-called none all given p =
+      let q = rw given at p in
+      record {
+        answer = call-answer _ e none (q .answer);
+        output = left _ _ e none (q .output);
+        scratch = left _ _ e none (q .scratch);
+      }
+
+-- ---- the change
+
+module _ (axes : ℕ) (points kinds : List ℕ) (values knots tensor-lent scratch-lent : List Float) (place : List ℕ) (sample : Float) (lanes-lent : List ℕ) {r : ℕ} (e : r ≡ change-own-refusal axes points kinds values place lanes-lent) where
+  pub change-refused : (r ≡ 0 → ⊥) → ChangeExport axes points kinds values knots tensor-lent scratch-lent place sample lanes-lent r tensor-lent scratch-lent lanes-lent
+  change-refused some = record {
+    answer = own-answer _ _ e some;
+    output = untouched _ _ _ e some;
+    scratch = untouched _ _ _ e some;
+    slot = untouched _ _ _ e some;
+  }
+
+  pub change-called :
+      r ≡ 0 → (all : List Axis) → all ≡ axes-given axes points kinds values → (changed : List ℕ) → changed ≡ place → (a : ChangeAnswer) {t s : List Float}
+      → ChangePromise (record { axes = axes; entries = all; flat-knots = knots }) tensor-lent scratch-lent (place-of changed) sample a t s
+      → ChangeExport axes points kinds values knots tensor-lent scratch-lent place sample lanes-lent (a .refusal) t s (set lanes-lent 0 (a .lanes))
+  unfolding change-answer
+  change-called none all given changed here a p =
+      let q = rw (given, here) at p in
+      record {
+        answer = call-answer _ e none (ap (λ (b : ChangeAnswer). b .refusal) (q .answer));
+        output = left _ _ e none (q .output);
+        scratch = left _ _ e none (q .scratch);
+        slot =
+            left _ _ e none
+            (one-stored lanes-lent (a .lanes) (change-lengths axes points kinds values place lanes-lent (sym e ∙ none) .1)
+            ∙ ap (λ (b : ChangeAnswer). b .lanes ∷ []) (q .answer));
+      }
+
+-- ---- the query
+
+module _ (axes : ℕ) (points : List ℕ) (knots tensor-lent coordinates value-lent : List Float) (labels-lent : List ℕ) {r : ℕ} (e : r ≡ query-own-refusal points value-lent labels-lent) where
+  pub query-refused : (r ≡ 0 → ⊥) → QueryExport axes points knots tensor-lent coordinates value-lent labels-lent r value-lent labels-lent
+  query-refused some = record {
+    answer = own-answer _ _ e some;
+    slot = untouched _ _ _ e some;
+    labels = untouched _ _ _ e some;
+  }
+
+  pub query-called :
+      r ≡ 0 → (all : List Axis) → all ≡ axes-without-ends axes points → (a : QueryAnswer) (labels-later : List ℕ) → labels-later ≡ a .labels
+      → QueryPromise (record { axes = axes; entries = all; flat-knots = knots }) tensor-lent coordinates a
+      → QueryExport axes points knots tensor-lent coordinates value-lent labels-lent (a .refusal) (set value-lent 0 (a .value)) labels-later
+  query-called none all given a labels-later stored p =
+      let q = (rw given at p) .answer in
+      record {
+        answer = call-answer _ e none (ap (λ (b : QueryAnswer). b .refusal) q);
+        slot =
+            left _ _ e none
+            (one-stored value-lent (a .value) (query-lengths points value-lent labels-lent (sym e ∙ none) .1)
+            ∙ ap (λ (b : QueryAnswer). b .value ∷ []) q);
+        labels = left _ _ e none (stored ∙ ap (λ (b : QueryAnswer). b .labels) q);
+      }

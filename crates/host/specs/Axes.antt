@@ -10,7 +10,7 @@ use Rattle.rules.specs.Ends.{not-a-knot}
 use Rattle.rules.specs.Sizes.{most-axes, unused-axis, Grid}
 use Rattle.rules.specs.declared.Axis.{Axis}
 use Rattle.rules.specs.declared.Condition.{Condition}
-use Rattle.host.specs.Kinds.{end-of, condition-of, periodic-at-one-end}
+use Rattle.sheet.specs.Kinds.{end-of, condition-of, periodic-at-one-end}
 
 -- the kinds of the ends of axis i
 abbrev pub lower-kind : List ℕ → ℕ → ℕ

@@ -1,3 +1,2 @@
-pub mod Kinds
 pub mod Axes
 pub mod Exports

@@ -5,11 +5,11 @@ ghost use lib.Dec.{ltb};
 ghost use lib.ListN.{length};
 ghost use Rattle.rules.specs.Sizes.{most-axes, unused-axis};
 ghost use Rattle.host.specs.Axes.{condition-given, kinds-refused, some-kinds-refused, axis-given, axes-given, axis-without-ends, axes-without-ends};
-use crate::kinds::condition_of_kind;
-use crate::kinds::end_of_kind;
-use crate::kinds::is_periodic_at_one_end;
 use rules::Axis;
 use rules::Condition;
+use sheet::kinds::condition_of_kind;
+use sheet::kinds::end_of_kind;
+use sheet::kinds::is_periodic_at_one_end;
 
 pub fn wide(kind: u8) -> u64
     ensures { λ r. ⌜ r ≡ kind ⌝ }
@@ -141,4 +141,12 @@ pub fn some_kinds_refused(axes: usize, kinds: &[u8]) -> bool
         i += 1;
     }
     false
+}
+
+// The four entries of a place.
+pub fn place_given(place: &[usize]) -> [usize; 4]
+    requires { ⌜ length (now place) ≡ 4 ⌝ }
+    ensures { λ r. ⌜ r ≡ now (place .entry) ⌝ }
+{
+    [place[0], place[1], place[2], place[3]]
 }

@@ -1,10 +1,22 @@
 // Every public call exported for C, over numbers and plain slices. Each returns its refusal's number, 0 for none. The host's own refusals, 4 and then 13, come before all others, and with them nothing is written.
+ghost use mathlib.Core.Path.{_≡_};
+ghost use lib.ListN.{length};
 ghost use Rattle.rules.specs.Calls.{SlopesPromise};
-ghost use Rattle.host.specs.Exports.{MomentsExport, CurveExport};
+ghost use Rattle.host.specs.Exports.{MomentsExport, CurveExport, BuildExport, ChangeExport, QueryExport};
 
 pub mod axes;
-pub mod kinds;
 pub mod own;
+
+// The labels of an answer go to a slice. Not public: its length is required.
+fn store_labels(labels: &mut [usize], found: [usize; 4])
+    requires { ⌜ length (now labels) ≡ 4 ⌝ }
+    ensures { λ _. ⌜ now (labels .exit) ≡ found ⌝ }
+{
+    labels[0] = found[0];
+    labels[1] = found[1];
+    labels[2] = found[2];
+    labels[3] = found[3];
+}
 
 // The moments of the curve through the samples, one for each point, under the two ends given. Refuses 2 4 5 7 8 9 10, and 4 and 13 of its own.
 #[no_mangle]
@@ -60,4 +72,78 @@ pub extern "C" fn hullashlar_slopes(
     ensures { λ r. ⌜ SlopesPromise points (now (knots .entry)) (now (samples .entry)) (now (moments .entry)) (now (slopes .entry)) r (now (slopes .exit)) ⌝ }
 {
     spline::knot_slopes(points, knots, samples, moments, slopes)
+}
+
+// The tensor of the samples on a grid. Refuses 1 2 3 4 5 7 8 9 10, and 4 and 13 of its own.
+#[no_mangle]
+pub extern "C" fn hullashlar_build(
+    axes: usize,
+    points: &[usize],
+    kinds: &[u8],
+    values: &[f64],
+    knots: &[f64],
+    samples: &[f64],
+    tensor: &mut [f64],
+    scratch: &mut [f64],
+) -> usize
+    ensures { λ r. ⌜ BuildExport axes (now (points .entry)) (now (kinds .entry)) (now (values .entry)) (now (knots .entry)) (now (samples .entry)) (now (tensor .entry)) (now (scratch .entry)) r (now (tensor .exit)) (now (scratch .exit)) ⌝ }
+{
+    let refusal = own::build_own_refusal(axes, points, kinds, values);
+    if refusal != 0 {
+        return refusal;
+    }
+    let all = axes::axes_given(axes, points, kinds, values);
+    tensor::build(axes, all, knots, samples, tensor, scratch)
+}
+
+// One sample changed in a tensor, with every lane solved again that can differ; how many were solved goes to a slot of one. Refuses 1 to 10, and then no lane was solved; and 4 and 13 of its own.
+#[no_mangle]
+pub extern "C" fn hullashlar_change(
+    axes: usize,
+    points: &[usize],
+    kinds: &[u8],
+    values: &[f64],
+    knots: &[f64],
+    tensor: &mut [f64],
+    scratch: &mut [f64],
+    place: &[usize],
+    sample: f64,
+    lanes: &mut [usize],
+) -> usize
+    ensures { λ r. ⌜ ChangeExport axes (now (points .entry)) (now (kinds .entry)) (now (values .entry)) (now (knots .entry)) (now (tensor .entry)) (now (scratch .entry)) (now (place .entry)) sample (now (lanes .entry)) r (now (tensor .exit)) (now (scratch .exit)) (now (lanes .exit)) ⌝ }
+{
+    let refusal = own::change_own_refusal(axes, points, kinds, values, place, lanes);
+    if refusal != 0 {
+        return refusal;
+    }
+    let all = axes::axes_given(axes, points, kinds, values);
+    let changed = axes::place_given(place);
+    let answer = tensor::change(axes, all, knots, tensor, scratch, changed, sample);
+    lanes[0] = answer.lanes;
+    answer.refusal
+}
+
+// The surface's value at the coordinates, beyond the grid too, in a slot of one, and the cell label of each axis, 0 past those in use. Refuses 1 2 3 4 7 8 10, and then value and labels are 0; and 4 of its own.
+#[no_mangle]
+pub extern "C" fn hullashlar_query(
+    axes: usize,
+    points: &[usize],
+    knots: &[f64],
+    tensor: &[f64],
+    coordinates: &[f64],
+    value: &mut [f64],
+    labels: &mut [usize],
+) -> usize
+    ensures { λ r. ⌜ QueryExport axes (now (points .entry)) (now (knots .entry)) (now (tensor .entry)) (now (coordinates .entry)) (now (value .entry)) (now (labels .entry)) r (now (value .exit)) (now (labels .exit)) ⌝ }
+{
+    let refusal = own::query_own_refusal(points, value, labels);
+    if refusal != 0 {
+        return refusal;
+    }
+    let all = axes::axes_without_ends(axes, points);
+    let answer = query::query(axes, all, knots, tensor, coordinates);
+    value[0] = answer.value;
+    let found = answer.labels;
+    store_labels(labels, found);
+    answer.refusal
 }

@@ -3,7 +3,6 @@ pub mod Runs
 pub mod Extents
 pub mod AxisFaults
 pub mod Walks
-pub mod Products
 pub mod Stores
 pub mod Samples
 pub mod Sheets

@@ -2,20 +2,23 @@
 use mathlib.Core.Path.{_≡_, refl, sym, _∙_}
 use mathlib.Core.Bool.{Bool, true, false, not, cond, _||_}
 use mathlib.Core.List.{List}
-use Prim.Native.Nat.{ℕ, zero, suc, _+_, _-_, _*_, _/_, _^_, _<_, _≤_}
-use native.Mathlib.Nat.{le-mul-of-pos-right}
+use Prim.Native.Nat.{ℕ, zero, suc, _+_, _-_, _*_, _/_, _<_, _≤_}
+use native.Mathlib.Nat.{le-mul-of-pos-right, lt-of-lt-of-le}
 use native.Mathlib.Omega.{arith}
 use borrow.Author.Tests.{lt-ltb, le-ltb, le-leb, lt-leb, ne-eqb, ltb-false}
 use lib.Dec.{eqb}
 use lib.ListN.{length}
 use lib.Pow.{pow-pos}
 use Rattle.rules.specs.Numbers.{any}
-use Rattle.rules.specs.Sizes.{tensor-length}
+use Rattle.rules.specs.Sizes.{product-below, samples-length, tensor-length}
+use Rattle.rules.specs.declared.Axis.{Axis}
+use Rattle.checks.specs.Given.{sizes-of, points-of}
 use Rattle.sheet.specs.Bits.{bit, field, numbers-short}
-use Rattle.sheet.specs.Fields.{sheet-grid}
+use Rattle.sheet.specs.Fields.{samples-begin, sheet-grid}
 use Rattle.sheet.specs.Faults.{tail-refused, samples-fault}
 use Rattle.sheet.specs.Within.{Ended}
 use Rattle.sheet.proofs.Runs.{short-together}
+use Rattle.sheet.proofs.Extents.{begin-most}
 
 -- ---- the tail
 
@@ -44,27 +47,50 @@ module _ (bytes : List ℕ) (at : ℕ) where
 
 -- ---- after the last axis
 
-module _ (bytes : List ℕ) (at n count : ℕ) (t : Ended bytes at n count) where
-  tensor-is : count * 2 ^ n ≡ tensor-length (sheet-grid bytes)
+-- a product of numbers that are not zero is not
+product-least : (sizes : ℕ → ℕ) (n : ℕ) → ((k : ℕ) → k < n → 2 ≤ sizes k) → 0 < product-below sizes n
+unfolding product-below
+product-least sizes zero least = omega arith
+product-least sizes (suc n) least =
+    let before = product-least sizes n (λ k l. least k (omega arith)) in
+    let here = least n (omega arith) in
+    lt-of-lt-of-le before (le-mul-of-pos-right (product-below sizes n) (omega arith))
+
+module _ (bytes : List ℕ) (at n : ℕ) (all : List Axis) (t : Ended bytes at n all) where
+  pub count-is : samples-length (sizes-of n all) ≡ samples-length (sheet-grid bytes)
   unfolding sheet-grid
-  tensor-is = rw (t .samples, t .said)
+  count-is = rw (t .found, t .said)
 
-  pub too-large : 4096 < count * 2 ^ n → 3 ≡ samples-fault bytes
+  pub begin-small : at ≤ 131072
+  begin-small = omega (arith, begin-most bytes n, t .end, t .range .few-axes)
+
+  pub samples-least : 0 < samples-length (sizes-of n all)
+  samples-least = product-least (points-of all) n (t .range .some-points)
+
+  tensor-is : tensor-length (sizes-of n all) ≡ tensor-length (sheet-grid bytes)
+  unfolding sheet-grid
+  tensor-is = rw (t .found, t .said)
+
+  pub too-large : 4096 < tensor-length (sizes-of n all) → 3 ≡ samples-fault bytes
   unfolding samples-fault
-  too-large large = rw (← tensor-is, lt-ltb 4096 (count * 2 ^ n) large)
+  too-large large = rw (← tensor-is, lt-ltb 4096 (tensor-length (sizes-of n all)) large)
 
-  module _ (small : count * 2 ^ n ≤ 4096) where
+  module _ (count : ℕ) (c : count ≡ samples-length (sizes-of n all)) (small : tensor-length (sizes-of n all) ≤ 4096) where
     pub samples-few : count ≤ 4096
-    samples-few = omega (arith, le-mul-of-pos-right count (pow-pos n))
+    samples-few = omega (arith, le-mul-of-pos-right (samples-length (sizes-of n all)) (pow-pos n))
+
+    begin-is : samples-begin bytes ≡ at
+    begin-is = sym (t .end ∙ rw (t .said))
 
     pub no-samples : numbers-short bytes at count ≡ true → 11 ≡ samples-fault bytes
     unfolding samples-fault
-    no-samples short = rw (← tensor-is, le-ltb 4096 (count * 2 ^ n) small, ← t .end, ← t .samples, short)
+    no-samples short = rw (← tensor-is, le-ltb 4096 (tensor-length (sizes-of n all)) small, begin-is, ← count-is, ← c, short)
 
     module _ (long : numbers-short bytes at count ≡ false) where
       pub samples-room : at + 64 * count ≤ 8 * length bytes
-      samples-room = ltb-false _ _ (short-together bytes at count (t .least) ∙ long)
+      samples-room = ltb-false _ _ (short-together bytes at count (omega (arith, samples-least)) ∙ long)
 
       pub after-samples : (test : Bool) → tail-refused bytes (at + 64 * count) ≡ test → cond test 14 0 ≡ samples-fault bytes
       unfolding samples-fault
-      after-samples test e = rw (← tensor-is, le-ltb 4096 (count * 2 ^ n) small, ← t .end, ← t .samples, long, e)
+      after-samples test e =
+          rw (← tensor-is, le-ltb 4096 (tensor-length (sizes-of n all)) small, begin-is, ← count-is, ← c, long, e)

@@ -12,14 +12,15 @@ use Rattle.rules.proofs.Tables.{at-table}
 use Rattle.rules.specs.Sizes.{unused-axis, product-below, samples-length}
 use Rattle.rules.specs.Refusals.{axes-refused, tensor-refused}
 use Rattle.rules.specs.declared.Axis.{Axis}
+use Rattle.checks.specs.Given.{points-of, InRange}
 use Rattle.sheet.specs.Bits.{short, numbers-short}
 use Rattle.sheet.specs.Fields.{edition, axes, points-at, axis-at, axis-begin, entries, sheet-grid, samples-begin, samples-end}
 use Rattle.sheet.specs.Faults.{or-else, axes-fault, tail-refused, samples-fault, sheet-refusal}
-use Rattle.sheet.specs.Within.{Axes, Counted, Ended, Sound}
+use Rattle.sheet.specs.Within.{Axes, Ended, Sound}
 use Rattle.sheet.proofs.Runs.{short-together}
-use Rattle.sheet.proofs.Extents.{extent, begin-most}
-use Rattle.sheet.proofs.Walks.{passed, or-else-passed}
-use Rattle.sheet.proofs.Products.{product-least, product-most}
+use Rattle.sheet.proofs.Extents.{extent}
+use Rattle.sheet.proofs.Walks.{passed, or-else-passed, each-faultless, faultless-axis}
+use Rattle.sheet.proofs.Samples.{count-is, samples-least}
 
 -- ---- edition and axes
 
@@ -60,11 +61,6 @@ module _ (bytes : List ℕ) where
 
 -- ---- the samples
 
--- the product of the points is the number of samples
-pub count-is : (bytes : List ℕ) (all : List Axis) (n count : ℕ) → n ≡ axes bytes → all ≡ entries bytes (axes bytes) → count ≡ product-below (λ i. getD all i unused-axis .points) n → count ≡ samples-length (sheet-grid bytes)
-unfolding sheet-grid
-count-is bytes all n count said e samples = samples ∙ rw (e, said)
-
 entry-at : (bytes : List ℕ) (n i : ℕ) → n ≤ 4 → i < n → getD (entries bytes n) i unused-axis ≡ axis-at bytes (axis-begin bytes i)
 unfolding entries
 entry-at bytes n i few l =
@@ -75,22 +71,16 @@ module _ (bytes : List ℕ) (n : ℕ) (all : List Axis) (few : n ≤ 4) (e : all
   unfolding axis-at
   size i l = rw (e, entry-at bytes n i few l)
 
-  pub counted : Counted all n
-  counted = record {
-    few = few;
-    most = λ i l. let reach = extent bytes (axis-begin bytes i) in omega (arith, size i l);
-  }
-
-  pub ended : (at count : ℕ) → n ≡ axes bytes → at ≡ axis-begin bytes n → count ≡ product-below (λ i. getD all i unused-axis .points) n → Ended bytes at n count
-  unfolding sheet-grid
-  ended at count said end samples = record {
-    few = few;
-    said = said;
-    end = end ∙ rw said;
-    samples = count-is bytes all n count said (e ∙ rw said) samples;
-    least = rw samples (product-least (λ i. getD all i unused-axis .points) n (λ i l. let reach = extent bytes (axis-begin bytes i) in omega (arith, size i l)));
-    most = rw samples (product-most (λ i. getD all i unused-axis .points) n few (counted .most));
-    small = let most = begin-most bytes n in omega (arith, end);
+  pub in-range : 1 ≤ n → axes-fault bytes n ≡ 0 → InRange n (points-of all)
+  in-range some faultless = record {
+    some-axes = some;
+    few-axes = few;
+    some-points = λ i l.
+        let here = faultless-axis bytes (axis-begin bytes i) (each-faultless bytes n i faultless l) in
+        let points = points-at bytes (axis-begin bytes i) in
+        let enough = ltb-false points 2 (neither (ltb points 2) (ltb 256 points) (here .0) .0) in
+        omega (arith, size i l);
+    few-points = λ i l. let reach = extent bytes (axis-begin bytes i) in omega (arith, size i l);
   }
 
 -- ---- a sheet that is not refused
@@ -143,22 +133,31 @@ few-samples sizes (suc (suc (suc zero))) least few most small = omega arith
 few-samples sizes (suc (suc (suc (suc zero)))) least few most small = omega arith
 few-samples sizes (suc (suc (suc (suc (suc n))))) least few most small = absurd (omega arith)
 
-product-is : (bytes : List ℕ) → samples-length (sheet-grid bytes) ≡ product-below (λ i. getD (entries bytes (axes bytes)) i unused-axis .points) (axes bytes)
-unfolding sheet-grid
-product-is bytes = refl
-
 module _ (bytes : List ℕ) (a : Accepted bytes) where
   pub sound : Sound bytes (axes bytes)
   sound = record { few = a .said .few; faultless = a .faultless }
+
+  pub all-ended : (at n : ℕ) (all : List Axis) → n ≡ axes bytes → all ≡ entries bytes (axes bytes) → at ≡ samples-begin bytes → Ended bytes at n all
+  all-ended at n all said found end =
+      let here : all ≡ entries bytes n = found ∙ rw said in
+      record {
+        range = in-range bytes n all (omega (arith, a .said .few)) here (omega (arith, a .said .least)) (rw said (a .faultless));
+        said = said;
+        end = end ∙ rw said;
+        found = here;
+      }
+
+  itself : Ended bytes (samples-begin bytes) (axes bytes) (entries bytes (axes bytes))
+  itself = all-ended (samples-begin bytes) (axes bytes) (entries bytes (axes bytes)) refl refl refl
 
   -- the samples of a sheet that is not refused have places in the buffer, and bits in the sheet
   pub samples-most : samples-length (sheet-grid bytes) ≤ 1024
   unfolding sheet-grid
   samples-most =
-      few-samples (λ i. getD (entries bytes (axes bytes)) i unused-axis .points) (axes bytes) (a .said .least) (a .said .few)
-      (counted bytes (axes bytes) (entries bytes (axes bytes)) (a .said .few) refl .most) (a .small)
+      few-samples (points-of (entries bytes (axes bytes))) (axes bytes) (a .said .least) (a .said .few) (itself .range .few-points) (a .small)
 
   pub samples-room : samples-end bytes ≤ 8 * length bytes
   samples-room =
-      let t = ended bytes (axes bytes) (entries bytes (axes bytes)) (a .said .few) refl (samples-begin bytes) (samples-length (sheet-grid bytes)) refl refl (product-is bytes) in
-      ltb-false _ _ (short-together bytes (samples-begin bytes) (samples-length (sheet-grid bytes)) (t .least) ∙ a .long)
+      let some = samples-least bytes (samples-begin bytes) (axes bytes) (entries bytes (axes bytes)) itself in
+      let same = count-is bytes (samples-begin bytes) (axes bytes) (entries bytes (axes bytes)) itself in
+      ltb-false _ _ (short-together bytes (samples-begin bytes) (samples-length (sheet-grid bytes)) (omega arith) ∙ a .long)

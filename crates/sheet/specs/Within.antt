@@ -2,11 +2,12 @@
 -- found so far.
 use mathlib.Core.Path.{_≡_}
 use mathlib.Core.List.{List}
-use Prim.Native.Nat.{ℕ, _+_, _*_, _<_, _≤_}
-use lib.ListN.{length, getD}
-use Rattle.rules.specs.Sizes.{most-axes, unused-axis, samples-length}
+use Prim.Native.Nat.{ℕ, _+_, _*_, _≤_}
+use lib.ListN.{length}
+use Rattle.rules.specs.Sizes.{most-axes}
 use Rattle.rules.specs.declared.Axis.{Axis}
-use Rattle.sheet.specs.Fields.{axes, axis-end, axis-begin, entries, sheet-grid, samples-begin}
+use Rattle.checks.specs.Given.{points-of, InRange}
+use Rattle.sheet.specs.Fields.{axes, axis-end, axis-begin, entries}
 use Rattle.sheet.specs.Faults.{axes-fault}
 use Rattle.sheet.specs.declared.axes.Walk.{Walk}
 
@@ -31,23 +32,15 @@ pub record Sound (bytes : List ℕ) (n : ℕ) : Type 0 where
   pub few : n ≤ most-axes
   pub faultless : axes-fault bytes n ≡ 0
 
--- axes that have at most 256 points each
-pub record Counted (all : List Axis) (n : ℕ) : Type 0 where
-  pub few : n ≤ most-axes
-  pub most : (i : ℕ) → i < n → getD all i unused-axis .points ≤ 256
-
 -- as many axes as the sheet says, and not too many
 pub record Axes (bytes : List ℕ) (n : ℕ) : Type 0 where
   pub least : 1 ≤ n
   pub few : n ≤ most-axes
   pub said : n ≡ axes bytes
 
--- all axes were passed: n of them up to bit `at`, with as many samples
-pub record Ended (bytes : List ℕ) (at n count : ℕ) : Type 0 where
-  pub few : n ≤ most-axes
+-- all axes were passed: n of them, up to bit `at`
+pub record Ended (bytes : List ℕ) (at n : ℕ) (all : List Axis) : Type 0 where
+  pub range : InRange n (points-of all)
   pub said : n ≡ axes bytes
-  pub end : at ≡ samples-begin bytes
-  pub samples : count ≡ samples-length (sheet-grid bytes)
-  pub least : 0 < count
-  pub most : count ≤ 4294967296
-  pub small : at ≤ 131072
+  pub end : at ≡ axis-begin bytes n
+  pub found : all ≡ entries bytes n

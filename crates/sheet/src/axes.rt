@@ -1,12 +1,12 @@
 // The axes of a sheet, one after the other. None of these is public: each requires that the bits it reads are there.
 ghost use mathlib.Core.Path.{_≡_};
 ghost use Prim.Native.Nat.{_≤_};
-ghost use lib.ListN.{length, getD};
-ghost use Rattle.rules.specs.Sizes.{unused-axis, product-below};
+ghost use lib.ListN.{length};
+ghost use Rattle.rules.specs.Sizes.{unused-axis};
 ghost use Rattle.sheet.specs.Fields.{points-at, values-at, axis-at, knots-begin, axis-end, axis-begin, knots-below};
 ghost use Rattle.sheet.specs.Faults.{axis-fault};
 ghost use Rattle.sheet.specs.Read.{over};
-ghost use Rattle.sheet.specs.Within.{Within, Whole, Walked, Sound, Counted};
+ghost use Rattle.sheet.specs.Within.{Within, Whole, Walked, Sound};
 use crate::bits::are_short;
 use crate::bits::field_at;
 use crate::bits::fill;
@@ -142,21 +142,6 @@ pub fn walk_axes(bytes: &[u8], axes: usize) -> Walk
         all,
         at,
     }
-}
-
-// How many samples there are: the product of the points.
-pub fn samples_of(all: [Axis; 4], axes: usize) -> usize
-    requires { ⌜ Counted all axes ⌝ }
-    ensures { λ r. ⌜ r ≡ product-below (λ i. getD all i unused-axis .points) axes ⌝ }
-{
-    let mut product = 1;
-    let mut i = 0;
-    while i < axes {
-        let a = all[i];
-        product = product * a.points;
-        i += 1;
-    }
-    product
 }
 
 // Stores the knots, axis after axis, in the first places of `knots`. Answers the bit after the last axis.

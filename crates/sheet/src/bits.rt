@@ -15,7 +15,7 @@ fn chunk(byte: u8, from: usize, count: usize) -> u64
 }
 
 // A number of `width` bits, moved up by `count` more.
-pub fn raised(n: u64, width: usize, count: usize) -> u64
+fn raised(n: u64, width: usize, count: usize) -> u64
     requires { ⌜ (n < 2 ^ width) × (width + count ≤ 64) × (count ≤ 8) ⌝ }
     ensures { λ r. ⌜ (r ≡ n * 2 ^ count) × (r + 2 ^ count ≤ 2 ^ 64) ⌝ }
 {

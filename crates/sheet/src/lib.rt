@@ -1,10 +1,10 @@
 // The packed sheet: its bit fields, its kinds, and the reader.
 ghost use Rattle.sheet.specs.Read.{ReadPromise};
-use crate::axes::samples_of;
 use crate::axes::store_knots;
 use crate::bits::fill;
 use crate::look::look;
 use crate::look::refused;
+use checks::sizes::samples_length;
 use rules::Axis;
 
 pub mod kinds; // kinds.rt: ends by the numbers of their kinds, and the classes of refusal numbers
@@ -40,7 +40,7 @@ pub fn read(bytes: &[u8], knots: &mut [f64], samples: &mut [f64]) -> ReadAnswer
     let n = answer.axes;
     let all = answer.all;
     let at = store_knots(bytes, n, knots);
-    let count = samples_of(all, n);
+    let count = samples_length(n, all);
     fill(bytes, at, &mut samples[0..count]);
     answer
 }

@@ -5,13 +5,14 @@ ghost use Rattle.sheet.specs.Faults.{or-else, axes-fault, tail-refused, 
 ghost use Rattle.sheet.specs.Read.{answer-of, refused-answer};
 ghost use Rattle.sheet.specs.Within.{Within, Axes, Ended};
 use crate::ReadAnswer;
-use crate::axes::samples_of;
 use crate::axes::unused;
 use crate::axes::walk_axes;
 use crate::bits::are_short;
 use crate::bits::field_at;
 use crate::bits::is_short;
-use crate::bits::raised;
+use checks::sizes::samples_length;
+use checks::sizes::tensor_length;
+use rules::Axis;
 
 // The answer of a refusal: no axes, and none of the four in use.
 pub fn refused(refusal: usize) -> ReadAnswer
@@ -36,13 +37,14 @@ fn has_more(bytes: &[u8], at: usize) -> bool
 }
 
 // The fault that is met after the last axis: the tensor's length, the samples, and what follows them.
-fn fault_of_samples(bytes: &[u8], at: usize, n: usize, count: usize) -> usize
-    requires { ⌜ Ended (now bytes) at n count ⌝ }
+fn fault_of_samples(bytes: &[u8], at: usize, n: usize, all: [Axis; 4]) -> usize
+    requires { ⌜ Ended (now bytes) at n all ⌝ }
     ensures { λ r. ⌜ r ≡ samples-fault (now (bytes .entry)) ⌝ }
 {
-    if 4096 < raised(count as u64, 33, n) {
+    if 4096 < tensor_length(n, all) {
         return 3;
     }
+    let count = samples_length(n, all);
     if are_short(bytes, at, count) {
         return 11;
     }
@@ -64,7 +66,7 @@ fn look_at_axes(bytes: &[u8], n: usize) -> ReadAnswer
     }
     let all = walk.all;
     let at = walk.at;
-    let fault = fault_of_samples(bytes, at, n, samples_of(all, n));
+    let fault = fault_of_samples(bytes, at, n, all);
     if fault != 0 {
         return refused(fault);
     }

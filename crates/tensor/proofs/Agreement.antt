@@ -6,7 +6,7 @@ use mathlib.Core.Bool.{Bool, true, false, cond, _&&_, _||_}
 use Prim.Native.Nat.{ℕ, zero, suc, _+_, _^_, _<_}
 use lib.Dec.{eqb}
 use borrow.Author.Tests.{eqb-true, eq-eqb, ne-eqb}
-use Rattle.rules.specs.Sizes.{Place, in-mask}
+use Rattle.rules.specs.Sizes.{Place}
 use Rattle.rules.specs.Change.{agree}
 use Rattle.rules.proofs.Cases.{not-both}
 use Rattle.rules.proofs.Places.{below-or-last}

@@ -1,8 +1,8 @@
 -- What the walks over the axes compute: how many lanes there are, where a lane starts, and strides.
 use native.Mathlib.Omega.{arith}
-use native.Mathlib.Nat.{div-one, mul-one, one-mul, mul-le-mul, le-trans, le-refl, lt-of-lt-of-le, lt-of-le-of-lt, mod-eq-of-lt, pow-le-pow-right, add-zero, mul-pos}
+use native.Mathlib.Nat.{div-one, mul-one, one-mul, mul-le-mul, le-trans, le-refl, lt-of-lt-of-le, lt-of-le-of-lt, mod-eq-of-lt, pow-le-pow-right, mul-pos}
 use native.Mathlib.Numerals.{add-one}
-use mathlib.Core.Path.{_≡_, refl, sym, ap, ap₂, _∙_, subst}
+use mathlib.Core.Path.{_≡_, refl, sym, ap, _∙_, subst}
 use mathlib.Core.Logic.{_≢_}
 use mathlib.Core.Bool.{Bool, true, false, cond}
 use Prim.Native.Nat.{ℕ, zero, suc, _+_, _-_, _*_, _/_, _%_, _^_, _<_, _≤_}
@@ -13,7 +13,7 @@ use mir.Syntax.{w64}
 use Rattle.rules.specs.Ends.{crossed, condition-at}
 use Rattle.rules.specs.declared.Condition.{Condition}
 use Rattle.rules.specs.Sizes.{Place, moved, flat, product-below, stride}
-use Rattle.rules.proofs.Places.{OnGrid, moved-on, moved-off, moved-on-grid, flat-below, flat-ext}
+use Rattle.rules.proofs.Places.{OnGrid, moved-on, moved-off, flat-below, flat-ext}
 use Rattle.tensor.specs.Passes.{SizesGiven, lane-points, lane-place}
 use Rattle.tensor.proofs.Starts.{varying, fixed-one, start-last, start-before, start-on-grid}
 use Rattle.tensor.proofs.Count.{product-grows, lanes-most}

@@ -1,14 +1,14 @@
 -- The turns of `solve_axes`: one axis after another, and how many lanes they solve.
 use native.Mathlib.Omega.{arith}
-use native.Mathlib.Nat.{mul-le-mul-right, le-trans, le-refl}
+use native.Mathlib.Nat.{le-trans, le-refl}
 use mathlib.Core.Path.{_≡_, refl, sym, ap₂, _∙_}
 use mathlib.Core.List.{List}
 use mathlib.Core.Bool.{Bool}
-use Prim.Native.Nat.{ℕ, _+_, _*_, _^_, _<_, _≤_}
+use Prim.Native.Nat.{ℕ, _+_, _^_, _<_, _≤_}
 use lib.ListN.{length}
 use lib.Pow.{pow-pos}
 use lib.Ieee.{Float}
-use Rattle.rules.specs.Sizes.{Grid, points, sum-below, Place}
+use Rattle.rules.specs.Sizes.{Grid, points, Place}
 use Rattle.checks.proofs.Products.{sum-none, sum-more}
 use Rattle.tensor.specs.Passes.{lanes-on-axis, lanes-below, On, Given, PassGiven, AxisPassed, Refreshed}
 use Rattle.tensor.proofs.Count.{sum-bound}

@@ -1,11 +1,10 @@
 -- How many lanes the passes solve: what bounds them, and for a change the closed sum.
 use native.Mathlib.Omega.{arith}
 use native.Mathlib.Nat.{add-zero, add-suc, add-comm, zero-mul, suc-mul, mul-one, mul-add, add-mul, mul-le-mul, two-pow-succ, le-trans, le-refl, le-mul-of-pos-right, le-of-suc-le-suc, eq-or-lt-of-le}
-use mathlib.Core.Path.{_≡_, refl, sym, ap, _∙_}
+use mathlib.Core.Path.{_≡_, refl, ap, _∙_}
 use mathlib.Core.Logic.{⊎-elim}
 use mathlib.Core.Bool.{Bool, true, false, cond}
-use Prim.Native.Nat.{ℕ, zero, suc, _+_, _-_, _*_, _^_, _<_, _≤_}
-use lib.Pow.{pow-mono}
+use Prim.Native.Nat.{ℕ, zero, suc, _+_, _*_, _^_, _<_, _≤_}
 use Rattle.rules.specs.Sizes.{sum-below, product-below, in-mask}
 use Rattle.rules.specs.Change.{product-of-one-more, lane-sum}
 use Rattle.rules.proofs.Mask.{in-mask-top, in-mask-below, in-mask-above}

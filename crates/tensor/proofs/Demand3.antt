@@ -4,17 +4,17 @@ use mathlib.Core.Path.{_≡_, refl, sym, ap, ap₂, _∙_, subst}
 use mathlib.Core.Logic.{_≢_}
 use mathlib.Core.Bool.{Bool, true, false, not, cond, _||_}
 use mathlib.Core.List.{List, [], _∷_}
-use Prim.Native.Nat.{ℕ, zero, suc, _+_, _<_, _≤_}
+use Prim.Native.Nat.{ℕ, zero, suc, _<_, _≤_}
 use native.Mathlib.Nat.{le-refl}
 use lib.Dec.{ltb, leb, eqb}
 use lib.ListN.{length, set, length-set}
 use lib.Seq.{getD-set-same, getD-set-other}
 use lib.Ieee.{Float, nan}
-use borrow.Author.Tests.{eq-eqb, eqb-true, eqb-false, ltb-false, leb-false, le-ltb}
+use borrow.Author.Tests.{eq-eqb, eqb-true, eqb-false, leb-false, le-ltb}
 use Rattle.rules.specs.Numbers.{at, any}
 use Rattle.rules.specs.Sizes.{Grid, points, knots-length, samples-length, masks, tensor-length, scratch-length, Place, flat, spot, in-mask}
 use Rattle.rules.specs.Refusals.{axes-refused, some-points-refused, tensor-refused, length-refused, place-refused, number-refused, some-number-refused, some-ends-refused, some-knots-refused, some-fewness-refused, outcome-refused}
-use Rattle.rules.specs.Tensor.{entry, sample, tensor}
+use Rattle.rules.specs.Tensor.{sample, tensor}
 use Rattle.rules.specs.Change.{agree, changed-tensor, change-lanes, lane-sum}
 use Rattle.rules.specs.Calls.{stored, counted, build-refusal, BuildPromise, change-refusal, change-answer, ChangePromise}
 use Rattle.rules.specs.declared.ChangeAnswer.{ChangeAnswer}

@@ -1,9 +1,8 @@
 -- A tensor copied to the scratch behind the rows, and one number stored over the copy.
 use native.Mathlib.Omega.{arith}
-use mathlib.Core.Path.{_≡_, refl, sym, ap, _∙_}
-use mathlib.Core.Logic.{_≢_}
+use mathlib.Core.Path.{_≡_, sym, ap, _∙_}
 use mathlib.Core.List.{List, _++_}
-use Prim.Native.Nat.{ℕ, _+_, _-_, _<_, _≤_}
+use Prim.Native.Nat.{ℕ, _+_, _<_, _≤_}
 use lib.ListN.{length, set, take, drop, length-set, length-append, length-drop, List·getD-append}
 use lib.Seq.{length-take-le, getD-append-add, getD-set-same, getD-set-other}
 use lib.Ieee.{Float, nan}

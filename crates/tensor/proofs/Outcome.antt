@@ -1,7 +1,7 @@
 -- The working tensor before the passes and after them: what was stored, and the tensor of the definitions.
 use native.Mathlib.Omega.{arith}
 use native.Mathlib.Nat.{div-lt-iff-lt-mul, div-add-mod', mod-lt, add-zero}
-use mathlib.Core.Path.{_≡_, refl, sym, ap, _∙_, subst}
+use mathlib.Core.Path.{_≡_, refl, sym, ap, _∙_}
 use mathlib.Core.Logic.{_≢_}
 use mathlib.Core.List.{List}
 use mathlib.Core.Bool.{Bool, true, false, cond}
@@ -10,14 +10,14 @@ use lib.Arith.{digits-lt}
 use lib.Dec.{ltb}
 use lib.ListN.{take, drop}
 use lib.Pow.{pow-pos}
-use lib.Ieee.{Float, nan}
+use lib.Ieee.{Float}
 use borrow.Author.Tests.{ltb-true, ltb-false}
 use Rattle.rules.specs.Numbers.{at, table}
-use Rattle.rules.specs.Sizes.{Grid, points, masks, tensor-length, samples-length, Place, moved, flat, unflat, spot}
-use Rattle.rules.specs.Tensor.{slope-along, entry, sample, tensor, place-at, mask-at}
+use Rattle.rules.specs.Sizes.{Grid, points, masks, tensor-length, samples-length, Place, moved, flat, spot}
+use Rattle.rules.specs.Tensor.{entry, sample, tensor, place-at, mask-at}
 use Rattle.rules.specs.Change.{agree, can-differ, with-sample, changed-entry, changed-tensor}
 use Rattle.rules.proofs.Cases.{arms-ext, arms-one, not-both}
-use Rattle.rules.proofs.Places.{OnGrid, One, moved-on-grid, flat-below, flat-ext, flat-one, flat-unflat, unflat-on-grid}
+use Rattle.rules.proofs.Places.{moved-on-grid, flat-below, flat-ext, flat-one, flat-unflat, unflat-on-grid}
 use Rattle.rules.proofs.Locality.{rest-below, slope-along-ext}
 use Rattle.tensor.specs.Passes.{free, solves, working, On, Given, refreshed, Refreshed}
 use Rattle.tensor.proofs.Parts.{part-is-table}

@@ -6,7 +6,6 @@ use mathlib.Core.Logic.{_≢_, ⊎-elim}
 use mathlib.Core.List.{List}
 use mathlib.Core.Bool.{Bool, true, false, cond}
 use Prim.Native.Nat.{ℕ, zero, suc, _+_, _-_, _*_, _/_, _%_, _^_, _<_, _≤_}
-use native.Mathlib.Numerals.{add-one}
 use lib.Arith.{digits-lt, digits-div, digits-mod}
 use lib.Dec.{ltb, eqb, lit<}
 use borrow.Author.Tests.{eqb-false, ltb-false}
@@ -14,7 +13,7 @@ use lib.ListN.{length, take, drop, length-drop}
 use lib.Seq.{length-take-le}
 use lib.Pow.{pow-pos, pow-mono}
 use lib.Ieee.{Float}
-use Rattle.rules.specs.Numbers.{at, table}
+use Rattle.rules.specs.Numbers.{at}
 use Rattle.rules.specs.Ends.{zero-valued, condition-at, dropped, fewest-points}
 use Rattle.rules.specs.Sizes.{Grid, points, condition, knots, masks, Place, moved, flat, sum-below, product-below, stride, spot}
 use Rattle.rules.specs.Change.{agree}
@@ -26,7 +25,7 @@ use Rattle.rules.specs.declared.Condition.{Condition}
 use Rattle.rules.specs.declared.Condition.the-variants.{Endpoints, Periodic}
 use Rattle.rules.proofs.Cases.{not-both}
 use Rattle.rules.proofs.Tables.{table-ext}
-use Rattle.rules.proofs.Places.{OnGrid, One, moved-on, moved-off, moved-on-grid, moved-own, moved-one, flat-below, flat-ext, flat-one, stride-along}
+use Rattle.rules.proofs.Places.{One, moved-on, moved-off, moved-on-grid, moved-own, flat-below, flat-ext, flat-one, stride-along}
 use Rattle.checks.proofs.Products.{sum-within}
 use Rattle.tensor.specs.Lanes.{Lies, LaneGiven, LaneSolved}
 use Rattle.tensor.specs.Passes.{SizesGiven, free, varies, lane-points, lane-place, solves, lanes-solved, working, On, Given, PassGiven, Passed}

@@ -1,15 +1,13 @@
 -- One pass after another along an axis, and one axis after another: what they leave in the working tensor, on plain lists.
 use native.Mathlib.Omega.{arith}
-use native.Mathlib.Nat.{two-pow-succ, eq-or-lt-of-le, add-sub-cancel}
+use native.Mathlib.Nat.{two-pow-succ, eq-or-lt-of-le}
 use mathlib.Core.Path.{_≡_, refl, sym, ap, _∙_, subst}
-use mathlib.Core.Logic.{_≢_, ⊎-elim}
+use mathlib.Core.Logic.{⊎-elim}
 use mathlib.Core.List.{List}
 use mathlib.Core.Bool.{Bool, true, false}
-use Prim.Native.Nat.{ℕ, zero, suc, _+_, _-_, _*_, _^_, _<_, _≤_}
+use Prim.Native.Nat.{ℕ, suc, _+_, _-_, _^_, _<_, _≤_}
 use native.Mathlib.Numerals.{add-one}
 use lib.Dec.{ltb}
-use lib.ListN.{length}
-use lib.Pow.{pow-pos, pow-mono}
 use lib.Ieee.{Float}
 use borrow.Author.Tests.{ltb-true, ltb-false, lt-ltb, le-ltb}
 use Rattle.rules.specs.Sizes.{Grid, points, masks, Place, moved}

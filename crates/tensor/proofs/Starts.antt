@@ -2,8 +2,7 @@
 use native.Mathlib.Omega.{arith}
 use mathlib.Core.Path.{_≡_, refl, sym, ap, _∙_, subst}
 use mathlib.Core.Bool.{Bool, true, false, cond}
-use Prim.Native.Nat.{ℕ, zero, suc, _+_, _*_, _/_, _%_, _<_, _≤_}
-use native.Mathlib.Nat.{div-one, mod-one}
+use Prim.Native.Nat.{ℕ, suc, _/_, _%_, _<_}
 use Rattle.rules.specs.Sizes.{Place, flat, unflat, product-below}
 use Rattle.rules.proofs.Places.{OnGrid, One, flat-below, flat-ext, unflat-last, unflat-before, unflat-flat, flat-unflat, unflat-on-grid}
 use Rattle.tensor.specs.Passes.{lane-points, lane-place}

@@ -2,12 +2,12 @@
 use mathlib.Core.Path.{_≡_}
 use mathlib.Core.Bool.{Bool, true, false, cond, _||_}
 use mathlib.Core.List.{List}
-use Prim.Native.Nat.{ℕ, zero, suc, _+_, _-_, _*_, _^_, _<_, _≤_}
+use Prim.Native.Nat.{ℕ, zero, suc, _+_, _-_, _^_, _<_, _≤_}
 use lib.Dec.{ltb, eqb}
 use lib.ListN.{length}
 use lib.Ieee.{Float}
 use Rattle.rules.specs.Numbers.{at}
-use Rattle.rules.specs.Sizes.{most-in-a-tensor, Grid, points, condition, knots-length, sum-below, product-below, masks, tensor-length, scratch-length, Place, moved, unflat, spot, in-mask}
+use Rattle.rules.specs.Sizes.{most-in-a-tensor, Grid, points, condition, knots-length, sum-below, product-below, masks, tensor-length, scratch-length, Place, unflat, spot, in-mask}
 use Rattle.rules.specs.Refusals.{fewness-refused}
 use Rattle.rules.specs.Tensor.{slope-along}
 use Rattle.rules.specs.Change.{agree}

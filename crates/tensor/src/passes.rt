@@ -1,13 +1,13 @@
-// A pass solves the lanes along an axis of the numbers at one mask: each of them for a build, for a change those that agree with its place
-// on every axis outside the target, the mask with the axis put in. None of these is public.
+// A pass solves the lanes along an axis of the numbers at one mask, and stores their slopes at the target, the mask with the axis put in:
+// the whole of them for a build, for a change those that agree with its place on every axis outside the target. None of these is public.
 ghost use mathlib.Core.Path.{_≡_};
-ghost use Prim.Native.Nat.{ℕ, _+_, _*_, _^_, _<_, _≤_};
-ghost use lib.ListN.{length};
+ghost use Prim.Native.Nat.{ℕ, _^_, _<_, _≤_};
 ghost use Rattle.rules.specs.Ends.{condition-at};
 ghost use Rattle.rules.specs.Sizes.{place-of, moved, sum-below, product-below, flat, stride, in-mask};
-ghost use Rattle.checks.specs.Given.{grid, points-of, InRange};
+ghost use Rattle.checks.specs.Given.{grid, points-of};
 ghost use Rattle.tensor.specs.Passes.{varies, lane-points, lane-place, lanes-solved, lanes-on-axis, lanes-below, SizesGiven, PassGiven, Given, On, Passed, AxisPassed, Refreshed};
 use crate::lanes::solve_lane;
+use crate::working::TENSOR;
 use rules::Axis;
 use rules::Condition;
 
@@ -157,8 +157,8 @@ fn solve_lanes(
             w,
             x,
             condition,
-            2048 + (start + mask),
-            2048 + (start + target),
+            TENSOR + (start + mask),
+            TENSOR + (start + target),
             step,
         );
         t += 1;

@@ -1,6 +1,6 @@
 // The working tensor in the scratch: what is stored there before the passes, and what is done with it after them. None of these is public.
 ghost use mathlib.Core.Path.{_≡_};
-ghost use Prim.Native.Nat.{ℕ, _+_, _*_, _<_, _≤_};
+ghost use Prim.Native.Nat.{ℕ, _+_, _<_, _≤_};
 ghost use lib.ListN.{length};
 ghost use Rattle.rules.specs.Numbers.{at};
 ghost use Rattle.rules.specs.Sizes.{place-of, flat};
@@ -11,10 +11,11 @@ ghost use Rattle.tensor.specs.Working.{Loaded, Finished};
 use rules::Axis;
 
 // Where the working tensor begins.
-const TENSOR: usize = 2048;
+pub const TENSOR: usize = 2048;
 
 // The refusal of an outcome, and none.
 const OUTCOME: usize = 10;
+
 const NONE: usize = 0;
 
 // The samples go to mask 0.

@@ -1,11 +1,12 @@
-use mathlib.Core.Path.{_≡_}
+use mathlib.Core.Path.{_≡_, refl, _∙_}
 use mathlib.Core.List.{List}
 use Prim.Native.Nat.{ℕ, _≤_}
 use native.Mathlib.Omega.{arith}
 use lib.ListN.{length-take}
 use Rattle.rules.specs.Sizes.{samples-length}
 use Rattle.sheet.specs.Fields.{axes, entries, sheet-grid, samples-begin}
-use Rattle.sheet.proofs.Sheets.{Accepted, accepted, sound, counted, count-is, samples-most}
+use Rattle.sheet.proofs.Samples.{count-is}
+use Rattle.sheet.proofs.Sheets.{Accepted, accepted, sound, all-ended, samples-most}
 use Rattle.sheet.proofs.Promises.{knots-refused, samples-refused, sheet-refused, not-refused, given-axes, given-all, samples-within, samples-stored, sheet-read}
 use borrow.Author.Needs.{needs}
 use Rattle.sheet.proofs.read.Statement.{statement}
@@ -42,22 +43,24 @@ store-knots-requires c κs =
     let here = c .before .before in
     (rw (axes-are here) (sound _ (ok here)), omega arith)
 
-samples-of-requires : tie.Need-samples-of-requires
-samples-of-requires c κs =
+samples-length-requires : tie.Need-samples-length-requires
+samples-length-requires c κs =
     let here = c .before .before .before .before .before in
-    rw (axes-are here) (counted _ _ _ (ok here .said .few) (all-are here))
+    all-ended _ (ok here) _ _ _ (axes-are here) (all-are here) refl .range
 
-abbrev passed : tie.After-samples-of → tie.Else3
+abbrev passed : tie.After-samples-length → tie.Else3
 passed c = c .before .before .before .before .before .before
 
 -- where the samples begin, how many there are, and that there is a place for each
-begin : (c : tie.After-samples-of) → c .before .before .before .store-knots .result ≡ samples-begin (sheet (passed c))
+begin : (c : tie.After-samples-length) → c .before .before .before .store-knots .result ≡ samples-begin (sheet (passed c))
 begin c = rw (axes-are (passed c)) at (c .before .before .before .store-knots .ensures .0)
 
-count : (c : tie.After-samples-of) → c .samples-of .result ≡ samples-length (sheet-grid (sheet (passed c)))
-count c = count-is _ _ _ _ (axes-are (passed c)) (all-are (passed c)) (c .samples-of .ensures)
+count : (c : tie.After-samples-length) → c .samples-length .result ≡ samples-length (sheet-grid (sheet (passed c)))
+count c =
+    let here = passed c in
+    c .samples-length .ensures .0 ∙ count-is _ _ _ _ (all-ended _ (ok here) _ _ _ (axes-are here) (all-are here) refl)
 
-few : (c : tie.After-samples-of) → c .samples-of .result ≤ 1024
+few : (c : tie.After-samples-length) → c .samples-length .result ≤ 1024
 few c = let most = samples-most _ (ok (passed c)) in omega (arith, count c)
 
 part-fill-end : tie.Need-part-fill-end
@@ -89,7 +92,7 @@ read-spec =
     (λ c κs. search needs)
     returns-3
     store-knots-requires
-    samples-of-requires
+    samples-length-requires
     (λ c. search needs)
     (λ c. search needs)
     part-fill-end

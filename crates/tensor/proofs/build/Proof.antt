@@ -10,13 +10,6 @@ use Rattle.tensor.proofs.MaskTurns.{given-again}
 use Rattle.tensor.proofs.Building.{origin-on, build-refused, build-given-passes, samples-lie, build-done}
 use Rattle.tensor.proofs.build.Statement.{statement}
 use Rattle.tensor.proofs.build.Tie as tie
-use Rattle.tensor.proofs.build.Reads as reads
-use Rattle.tensor.proofs.build.Lts as lts
-use Rattle.checks.proofs.build_refusal.Reads as build-refusal-reads
-use Rattle.tensor.proofs.passes.power.Reads as power-reads
-use Rattle.tensor.proofs.passes.solve_axes.Reads as solve-axes-reads
-use Rattle.tensor.proofs.working.finish.Reads as finish-reads
-use Rattle.tensor.proofs.working.store_samples.Reads as store-samples-reads
 
 -- what is known once the check has found nothing
 abbrev start : tie.Else1 → tie.Start

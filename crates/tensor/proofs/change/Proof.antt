@@ -11,14 +11,6 @@ use Rattle.tensor.proofs.MaskTurns.{given-again}
 use Rattle.tensor.proofs.Changing.{change-refused, change-given-passes, spot-is, changed-inside, changed-small, change-stopped, change-done}
 use Rattle.tensor.proofs.change.Statement.{statement}
 use Rattle.tensor.proofs.change.Tie as tie
-use Rattle.tensor.proofs.change.Reads as reads
-use Rattle.tensor.proofs.change.Lts as lts
-use Rattle.checks.proofs.change_refusal.Reads as change-refusal-reads
-use Rattle.tensor.proofs.passes.power.Reads as power-reads
-use Rattle.tensor.proofs.passes.solve_axes.Reads as solve-axes-reads
-use Rattle.tensor.proofs.working.finish.Reads as finish-reads
-use Rattle.tensor.proofs.working.load.Reads as load-reads
-use Rattle.tensor.proofs.working.place_number.Reads as place-number-reads
 
 -- what is known once the check has found nothing
 abbrev start : tie.Else1 → tie.Start

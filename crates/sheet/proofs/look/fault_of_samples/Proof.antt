@@ -1,48 +1,70 @@
 use mathlib.Core.Path.{_≡_, sym, _∙_}
 use mathlib.Core.Bool.{true, false}
-use Prim.Native.Nat.{_*_, _^_, _≤_}
+use Prim.Native.Nat.{_≤_}
 use native.Mathlib.Omega.{arith}
+use Rattle.rules.specs.Sizes.{tensor-length}
+use Rattle.checks.specs.Given.{sizes-of}
 use Rattle.sheet.specs.Bits.{numbers-short}
-use Rattle.sheet.proofs.Samples.{too-large, samples-few, no-samples, samples-room, after-samples}
+use Rattle.sheet.proofs.Samples.{begin-small, samples-least, too-large, samples-few, no-samples, samples-room, after-samples}
 use borrow.Author.Needs.{needs}
 use Rattle.sheet.proofs.look.fault_of_samples.Statement.{statement}
 use Rattle.sheet.proofs.look.fault_of_samples.Tie as tie
 
-returns : tie.Need-returns
-returns c = let start = c .before .before .before in too-large _ _ _ _ (start .pre) (omega arith)
-
 -- what each test that was passed has shown
-small : (c : tie.Else1) → let args = c .before .before .before .args in args .count * 2 ^ args .n ≤ 4096
-small c = omega arith
+small : (c : tie.Else1) → let args = c .before .before .before .args in tensor-length (sizes-of (args .n) (args .all)) ≤ 4096
+small c = rw (c .before .tensor-length .ensures .0) at (c .if1 .left)
 
-long : (c : tie.Else2) → let args = c .before .before .before .before .before .args in numbers-short (args .bytes .now) (args .at) (args .count) ≡ false
+abbrev start : tie.Else2 → tie.Start
+start c = c .before .before .before .before .before .before
+
+long : (c : tie.Else2) → numbers-short (start c .args .bytes .now) (start c .args .at) (c .before .before .samples-length .result) ≡ false
 long c = sym (c .before .are-short .ensures) ∙ c .if2 .left
 
+returns : tie.Need-returns
+returns c = too-large _ _ _ _ (c .before .before .before .pre) (rw (c .before .tensor-length .ensures .0) at (c .if1 .taken))
+
+samples-length-requires : tie.Need-samples-length-requires
+samples-length-requires c κs = c .before .before .before .pre .range
+
 are-short-requires : tie.Need-are-short-requires
-are-short-requires c κs = let few = samples-few _ _ _ _ (c .before .before .before .pre) (small c) in (omega arith, omega arith)
+are-short-requires c κs =
+    let pre = c .before .before .before .before .pre in
+    let few = samples-few _ _ _ _ pre _ (c .samples-length .ensures .0) (small (c .before)) in
+    let near = begin-small _ _ _ _ pre in
+    let some = samples-least _ _ _ _ pre in (omega arith, omega arith)
 
 returns-2 : tie.Need-returns-2
 returns-2 c =
-    no-samples _ _ _ _ (c .before .before .before .before .before .pre) (small (c .before .before))
+    let counted = c .before .before in
+    no-samples _ _ _ _ (counted .before .before .before .before .pre) _ (counted .samples-length .ensures .0) (small (counted .before))
     (sym (c .before .are-short .ensures) ∙ c .if2 .taken)
 
 has-more-requires : tie.Need-has-more-requires
 has-more-requires c κs =
-    let start = c .before .before .before .before .before in
-    let few = samples-few _ _ _ _ (start .pre) (small (c .before .before)) in
-    let room = samples-room _ _ _ _ (start .pre) (small (c .before .before)) (long c) in
+    let counted = c .before .before in
+    let few = samples-few _ _ _ _ (start c .pre) _ (counted .samples-length .ensures .0) (small (counted .before)) in
+    let near = begin-small _ _ _ _ (start c .pre) in
+    let room = samples-room _ _ _ _ (start c .pre) _ (counted .samples-length .ensures .0) (small (counted .before)) (long c) in
     record { room = omega arith; small = omega arith }
+
+add-has-more : tie.Need-add-has-more
+add-has-more c =
+    let counted = c .before .before in
+    let few = samples-few _ _ _ _ (start c .pre) _ (counted .samples-length .ensures .0) (small (counted .before)) in
+    let near = begin-small _ _ _ _ (start c .pre) in omega arith
 
 returns-3 : tie.Need-returns-3
 returns-3 c =
-    let samples = c .before .before in
-    after-samples _ _ _ _ (samples .before .before .before .before .before .pre) (small (samples .before .before)) (long samples) true
+    let here = c .before .before in
+    let counted = here .before .before in
+    after-samples _ _ _ _ (start here .pre) _ (counted .samples-length .ensures .0) (small (counted .before)) (long here) true
     (sym (c .before .has-more .ensures) ∙ c .if3 .taken)
 
 returns-4 : tie.Need-returns-4
 returns-4 c =
-    let samples = c .before .before in
-    after-samples _ _ _ _ (samples .before .before .before .before .before .pre) (small (samples .before .before)) (long samples) false
+    let here = c .before .before in
+    let counted = here .before .before in
+    after-samples _ _ _ _ (start here .pre) _ (counted .samples-length .ensures .0) (small (counted .before)) (long here) false
     (sym (c .before .has-more .ensures) ∙ c .if3 .left)
 
 pub fault-of-samples-spec : {M : Type 1} → statement M
@@ -51,10 +73,11 @@ fault-of-samples-spec =
     (tie.spec
     (λ c κs. search needs)
     returns
+    samples-length-requires
     are-short-requires
     returns-2
     (λ c. search needs)
-    (λ c. search needs)
+    add-has-more
     has-more-requires
     returns-3
     returns-4)

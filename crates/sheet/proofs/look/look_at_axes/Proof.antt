@@ -1,6 +1,6 @@
 use mathlib.Core.Path.{_≡_, sym, _∙_}
 use Rattle.sheet.specs.Faults.{axes-fault}
-use Rattle.sheet.proofs.Sheets.{counted, ended}
+use Rattle.sheet.proofs.Sheets.{in-range}
 use Rattle.sheet.proofs.Promises.{first-refused, later-refused, both-passed}
 use borrow.Author.Needs.{needs}
 use Rattle.sheet.proofs.look.look_at_axes.Statement.{statement}
@@ -14,27 +14,27 @@ returns c =
     c .refused .ensures
     ∙ first-refused _ _ _ _ _ (c .before .before .walk-axes .ensures .fault) (c .before .if1 .taken)
 
-samples-of-requires : tie.Need-samples-of-requires
-samples-of-requires c κs =
-    let walk = c .before .before .walk-axes in
-    counted _ _ _ (c .before .before .before .before .pre .few) (walk .ensures .all (c .before .if1 .left))
-
 fault-of-samples-requires : tie.Need-fault-of-samples-requires
 fault-of-samples-requires c κs =
-    let passed = c .before .before in
+    let passed = c .before in
     let pre = passed .before .before .before .pre in
-    let walk = passed .before .walk-axes in
-    ended _ _ _ (pre .few) (walk .ensures .all (passed .if1 .left)) _ _ (pre .said) (walk .ensures .end (passed .if1 .left)) (c .samples-of .ensures)
+    let found = passed .before .walk-axes .ensures .all (passed .if1 .left) in
+    record {
+      range = in-range _ _ _ (pre .few) found (pre .least) (faultless passed);
+      said = pre .said;
+      end = passed .before .walk-axes .ensures .end (passed .if1 .left);
+      found = found;
+    }
 
 returns-2 : tie.Need-returns-2
 returns-2 c =
     let fault = c .before .before in
     c .refused2 .ensures
-    ∙ later-refused _ _ _ _ _ (faultless (fault .before .before .before)) (fault .fault-of-samples .ensures) (c .before .if2 .taken)
+    ∙ later-refused _ _ _ _ _ (faultless (fault .before .before)) (fault .fault-of-samples .ensures) (c .before .if2 .taken)
 
 returns-3 : tie.Need-returns-3
 returns-3 c =
-    let passed = c .before .before .before .before in
+    let passed = c .before .before .before in
     both-passed _ _ _ _ _ (faultless passed) (sym (c .before .fault-of-samples .ensures) ∙ c .if2 .left)
     (passed .before .walk-axes .ensures .all (passed .if1 .left))
 
@@ -45,7 +45,6 @@ look-at-axes-spec =
     (λ c κs. search needs)
     (λ c κs. search needs)
     returns
-    samples-of-requires
     fault-of-samples-requires
     (λ c κs. search needs)
     returns-2

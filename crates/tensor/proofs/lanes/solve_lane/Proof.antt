@@ -4,21 +4,12 @@ use Rattle.tensor.proofs.Lane.{still-lies, lane-solved}
 use Rattle.tensor.proofs.lanes.solve_lane.Statement.{statement}
 use Rattle.tensor.proofs.lanes.solve_lane.Tie as tie
 
-gather-requires : tie.Need-gather-requires
-gather-requires c κs = search needs
-
-compute-m-requires : tie.Need-compute-m-requires
-compute-m-requires c κs = search needs
-
 store-slopes-requires : tie.Need-store-slopes-requires
 store-slopes-requires c κs =
     let computed = c .before .before .before in
     let gathered = computed .before .before .before .before in
     let pre = gathered .before .before .before .before .pre in
     (still-lies _ (computed .compute-m .ensures .same-length ∙ gathered .gather .ensures .same-length) (pre .slopes), pre .apart, pre .some-points, pre .few-points)
-
-same-length : tie.Need-same-length
-same-length c = search needs
 
 returns : tie.Need-returns
 returns c =
@@ -29,4 +20,4 @@ returns c =
     lane-solved _ _ _ _ _ _ _ _ _ pre (gathered .gather .ensures) (computed .compute-m .ensures) (stored .store-slopes .ensures)
 
 pub solve-lane-spec : {M : Type 1} → statement M
-solve-lane-spec = tie.close (tie.spec gather-requires compute-m-requires store-slopes-requires same-length returns)
+solve-lane-spec = tie.close (tie.spec (λ c κs. search needs) (λ c κs. search needs) store-slopes-requires (λ c. search needs) returns)

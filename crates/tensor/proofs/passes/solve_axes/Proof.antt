@@ -6,9 +6,6 @@ use Rattle.checks.specs.Given.{grid}
 use Rattle.tensor.proofs.AxisTurns.{Turn, turn-first, pass-given, count-fits, turn-next, turn-last}
 use Rattle.tensor.proofs.passes.solve_axes.Statement.{statement}
 use Rattle.tensor.proofs.passes.solve_axes.Tie as tie
-use Rattle.tensor.proofs.passes.solve_axes.Reads as reads
-use Rattle.tensor.proofs.passes.solve_axes.Lts as lts
-use Rattle.tensor.proofs.passes.solve_masks.Reads as solve-masks-reads
 
 abbrev Inv-loop : tie.InvT-loop
 Inv-loop w₀ axes all knots place whole lanes₀ axis₀ w lanes axis =

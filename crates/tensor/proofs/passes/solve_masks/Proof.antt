@@ -1,16 +1,12 @@
 use borrow.Author.Needs.{needs}
 use native.Mathlib.Omega.{arith}
-use mathlib.Core.Path.{_≡_, _∙_}
+use mathlib.Core.Path.{_≡_}
 use Prim.Native.Nat.{_-_, _^_}
 use Rattle.rules.specs.Sizes.{place-of}
 use Rattle.checks.specs.Given.{grid}
 use Rattle.tensor.proofs.MaskTurns.{Turn, turn-first, pass-given, count-fits, turn-next, turn-last}
 use Rattle.tensor.proofs.passes.solve_masks.Statement.{statement}
 use Rattle.tensor.proofs.passes.solve_masks.Tie as tie
-use Rattle.tensor.proofs.passes.solve_masks.Reads as reads
-use Rattle.tensor.proofs.passes.solve_masks.Lts as lts
-use Rattle.tensor.proofs.passes.power.Reads as power-reads
-use Rattle.tensor.proofs.passes.solve_lanes.Reads as solve-lanes-reads
 
 abbrev Inv-loop : tie.InvT-loop
 Inv-loop w₀ axes all knots place whole axis masks lanes₀ mask₀ w lanes mask =

@@ -1,0 +1,30 @@
+use mathlib.Core.Path.{sym, _∙_}
+use Rattle.host.proofs.Lengths.{build-lengths}
+use Rattle.host.proofs.Exported.{build-refused, build-called}
+use borrow.Author.Needs.{needs}
+use Rattle.host.proofs.hullashlar_build.Statement.{statement}
+use Rattle.host.proofs.hullashlar_build.Tie as tie
+
+returns : tie.Need-returns
+returns c = build-refused _ _ _ _ _ _ _ _ (c .before .build-own-refusal .ensures) (c .if1 .taken)
+
+axes-given-requires : tie.Need-axes-given-requires
+axes-given-requires c κs = build-lengths _ _ _ _ (sym (c .before .build-own-refusal .ensures) ∙ c .if1 .left)
+
+returns-2 : tie.Need-returns-2
+returns-2 c =
+    let d = c .before .before .before .before in
+    let g = d .before .before .before in
+    build-called _ _ _ _ _ _ _ _ (g .before .before .build-own-refusal .ensures) (g .before .if1 .left) _ (g .axes-given .ensures) (d .build .ensures)
+
+pub hullashlar-build-spec : {M : Type 1} → statement M
+hullashlar-build-spec =
+    tie.close
+    (tie.spec
+    (λ c κs. search needs)
+    returns
+    axes-given-requires
+    (λ c κs. search needs)
+    (λ c. search needs)
+    (λ c. search needs)
+    returns-2)

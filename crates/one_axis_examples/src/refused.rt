@@ -1,0 +1,224 @@
+// The refusals of the calls on one axis, and beside them what is just accepted.
+ghost use Prim.Native.Nat.{_≤_};
+ghost use lib.ListN.{length};
+use crate::shown;
+use rules::Condition;
+use rules::End;
+
+// The three calls on the same knots and samples, natural, with moments of zero. Not public: it requires at most 257 knots.
+fn each_call(name: &[u8], knots: &[f64], samples: &[f64])
+    requires { ⌜ length (now knots) ≤ 257 ⌝ }
+{
+    let points = knots.len();
+    let zeros = [0.0; 257];
+    let mut moments = [shown::BEFORE; 257];
+    let mut slopes = [shown::BEFORE; 257];
+    let natural = Condition::natural();
+    shown::moments(
+        name,
+        points,
+        knots,
+        samples,
+        natural,
+        &mut moments[0..points],
+    );
+    shown::slopes(
+        name,
+        points,
+        knots,
+        samples,
+        &zeros[0..points],
+        &mut slopes[0..points],
+    );
+    shown::curve(name, points, knots, samples, &zeros[0..points], 0.5);
+}
+
+// 2: fewer than 2 points, more than 256.
+pub fn points() {
+    let zeros = [0.0; 257];
+    each_call(b"1 point", &[0.0], &[0.0]);
+    each_call(b"257 points", &[0.0; 257], &zeros);
+}
+
+// 4: each slice of another length than the points.
+pub fn lengths() {
+    let knots = [0.0, 1.0, 2.0];
+    let samples = [0.0, 1.0, 2.0];
+    let moments = [0.0; 3];
+    let natural = Condition::natural();
+    let mut two = [shown::BEFORE; 2];
+    let mut three = [shown::BEFORE; 3];
+    shown::moments(
+        b"3 knots for 2 points",
+        2,
+        &knots,
+        &samples[0..2],
+        natural,
+        &mut two,
+    );
+    shown::moments(
+        b"1 sample for 2 points",
+        2,
+        &knots[0..2],
+        &samples[0..1],
+        natural,
+        &mut two,
+    );
+    shown::moments(
+        b"3 moments for 2 points",
+        2,
+        &knots[0..2],
+        &samples[0..2],
+        natural,
+        &mut three,
+    );
+    shown::slopes(
+        b"1 moment for 2 points",
+        2,
+        &knots[0..2],
+        &samples[0..2],
+        &moments[0..1],
+        &mut two,
+    );
+    shown::slopes(
+        b"3 slopes for 2 points",
+        2,
+        &knots[0..2],
+        &samples[0..2],
+        &moments[0..2],
+        &mut three,
+    );
+    shown::curve(
+        b"3 moments for 2 points",
+        2,
+        &knots[0..2],
+        &samples[0..2],
+        &moments,
+        0.5,
+    );
+}
+
+// 5: a scratch of one number less than 2,048, and one of just as many.
+pub fn scratch() {
+    let knots = [0.0, 1.0];
+    let samples = [0.0, 1.0];
+    let natural = Condition::natural();
+    let mut moments = [shown::BEFORE; 2];
+    let mut short = [shown::BEFORE; 2047];
+    let mut enough = [shown::BEFORE; 2048];
+    shown::moments_in(
+        b"scratch of 2047",
+        2,
+        &knots,
+        &samples,
+        natural,
+        &mut moments,
+        &mut short,
+    );
+    shown::moments_in(
+        b"scratch of 2048",
+        2,
+        &knots,
+        &samples,
+        natural,
+        &mut moments,
+        &mut enough,
+    );
+}
+
+// 7: an infinity or NaN wherever a number is looked at.
+pub fn not_finite() {
+    let nan = 0.0 / 0.0;
+    let infinity = 1.0 / 0.0;
+    let knots = [0.0, 1.0];
+    let samples = [0.0, 1.0];
+    let zeros = [0.0; 2];
+    let ends = Condition::Endpoints(End::SecondDerivative(0.0), End::FirstDerivative(infinity));
+    let mut moments = [shown::BEFORE; 2];
+    shown::curve(b"NaN point", 2, &knots, &samples, &zeros, nan);
+    shown::curve(b"infinite point", 2, &knots, &samples, &zeros, infinity);
+    each_call(b"NaN sample", &knots, &[0.0, nan]);
+    each_call(b"infinite knot", &[0.0, infinity], &samples);
+    shown::moments(
+        b"infinite end value",
+        2,
+        &knots,
+        &samples,
+        ends,
+        &mut moments,
+    );
+}
+
+// 8: knots that do not rise, and a step that overflows.
+pub fn knots() {
+    let samples = [0.0, 1.0];
+    each_call(b"knots 0 and 0", &[0.0, 0.0], &samples);
+    each_call(b"knots 0 and -0", &[0.0, -0.0], &samples);
+    each_call(b"knots -1e308 and 1e308", &[-1e308, 1e308], &samples);
+}
+
+// The moments of the first points of a line. Not public: it requires at most 4.
+fn first_points(name: &[u8], points: usize, condition: Condition)
+    requires { ⌜ points ≤ 4 ⌝ }
+{
+    let knots = [0.0, 1.0, 2.0, 3.0];
+    let samples = [0.0, 1.0, 0.0, 1.0];
+    let mut moments = [shown::BEFORE; 4];
+    shown::moments(
+        name,
+        points,
+        &knots[0..points],
+        &samples[0..points],
+        condition,
+        &mut moments[0..points],
+    );
+}
+
+// 9: NotAKnot with too few points, and with just enough.
+pub fn fewest_points() {
+    let both = Condition::not_a_knot();
+    let lower = Condition::Endpoints(End::NotAKnot, End::SecondDerivative(0.0));
+    let upper = Condition::Endpoints(End::SecondDerivative(0.0), End::NotAKnot);
+    first_points(b"not a knot at both ends with 3 points", 3, both);
+    first_points(b"not a knot at both ends with 4 points", 4, both);
+    first_points(b"not a knot at the lower end with 2 points", 2, lower);
+    first_points(b"not a knot at the lower end with 3 points", 3, lower);
+    first_points(b"not a knot at the upper end with 2 points", 2, upper);
+    first_points(b"not a knot at the upper end with 3 points", 3, upper);
+}
+
+// 10: outcomes that overflow or come from a NaN; moments are not searched for 7.
+pub fn outcomes() {
+    let nan = 0.0 / 0.0;
+    let knots = [0.0, 1.0, 2.0];
+    let steep = [1e308, -1e308, 1e308];
+    let level = [0.0; 3];
+    let natural = Condition::natural();
+    let mut output = [shown::BEFORE; 3];
+    shown::moments(
+        b"samples that overflow",
+        3,
+        &knots,
+        &steep,
+        natural,
+        &mut output,
+    );
+    shown::slopes(
+        b"samples that overflow",
+        3,
+        &knots,
+        &steep,
+        &level,
+        &mut output,
+    );
+    shown::curve(b"moments that overflow", 3, &knots, &level, &steep, 9.0);
+    shown::slopes(
+        b"NaN moment",
+        3,
+        &knots,
+        &level,
+        &[0.0, nan, 0.0],
+        &mut output,
+    );
+    shown::curve(b"NaN moment", 3, &knots, &level, &[0.0, nan, 0.0], 0.5);
+}

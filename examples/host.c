@@ -1,0 +1,136 @@
+/* A host in C: it loads the sheet of a gain surface, asks for a gain, changes one sample and asks again.
+ * Nothing is allocated: every slice that a call is lent stands here. */
+#include "hullashlar.h"
+
+#include <math.h>
+#include <stdio.h>
+#include <stdlib.h>
+#include <string.h>
+
+enum { LONGEST_SHEET = 65536, BUFFER = 1024, LONGEST_TENSOR = 4096, SCRATCH = LONGEST_TENSOR + 2048 };
+
+/* What a sheet says. */
+struct sheet {
+    size_t axes;
+    size_t points[4];
+    uint8_t kinds[8];
+    double values[8];
+    double knots[BUFFER];
+    double samples[BUFFER];
+};
+
+static double tensor[LONGEST_TENSOR];
+static double fresh[LONGEST_TENSOR];
+static double scratch[SCRATCH];
+
+/* Ends the program where a call that should be accepted is refused. */
+static void accept(const char *call, size_t refusal)
+{
+    if (refusal != 0) {
+        fprintf(stderr, "%s: refused %zu\n", call, refusal);
+        exit(1);
+    }
+}
+
+static size_t knots_length(const struct sheet *sheet)
+{
+    size_t length = 0;
+    for (size_t axis = 0; axis < sheet->axes; axis++)
+        length += sheet->points[axis];
+    return length;
+}
+
+static size_t samples_length(const struct sheet *sheet)
+{
+    size_t length = 1;
+    for (size_t axis = 0; axis < sheet->axes; axis++)
+        length *= sheet->points[axis];
+    return length;
+}
+
+static size_t tensor_length(const struct sheet *sheet)
+{
+    return samples_length(sheet) << sheet->axes;
+}
+
+static void load(const char *path, struct sheet *sheet)
+{
+    static uint8_t bytes[LONGEST_SHEET];
+    FILE *file = fopen(path, "rb");
+    if (file == NULL) {
+        perror(path);
+        exit(1);
+    }
+    size_t length = fread(bytes, 1, sizeof bytes, file);
+    fclose(file);
+    accept("read", hullashlar_read(bytes, length, sheet->knots, BUFFER, sheet->samples, BUFFER, &sheet->axes, 1,
+                                   sheet->points, 4, sheet->kinds, 8, sheet->values, 8));
+}
+
+static void build(const struct sheet *sheet, double *numbers)
+{
+    accept("build", hullashlar_build(sheet->axes, sheet->points, 4, sheet->kinds, 8, sheet->values, 8, sheet->knots,
+                                     knots_length(sheet), sheet->samples, samples_length(sheet), numbers,
+                                     tensor_length(sheet), scratch, SCRATCH));
+}
+
+static size_t change(const struct sheet *sheet, const size_t place[4], double sample)
+{
+    size_t lanes;
+    accept("change", hullashlar_change(sheet->axes, sheet->points, 4, sheet->kinds, 8, sheet->values, 8, sheet->knots,
+                                       knots_length(sheet), tensor, tensor_length(sheet), scratch, SCRATCH, place, 4,
+                                       sample, &lanes, 1));
+    return lanes;
+}
+
+static size_t query(const struct sheet *sheet, const double *coordinates, double *value, size_t labels[4])
+{
+    return hullashlar_query(sheet->axes, sheet->points, 4, sheet->knots, knots_length(sheet), tensor,
+                            tensor_length(sheet), coordinates, sheet->axes, value, 1, labels, 4);
+}
+
+static void print_gain(const struct sheet *sheet, const double *coordinates)
+{
+    double gain;
+    size_t cell[4];
+    accept("query", query(sheet, coordinates, &gain, cell));
+    printf("gain at %.1f kHz and %.1f dB: %.6f dB, in cell %zu, %zu\n", coordinates[0], coordinates[1], gain, cell[0],
+           cell[1]);
+}
+
+/* The gain between measured points moves with the sample, and no number of the tensor is an old one. */
+static void change_and_compare(struct sheet *sheet, const size_t place[4], double sample)
+{
+    double *changed = &sheet->samples[place[0] * sheet->points[1] + place[1]];
+    size_t lanes = change(sheet, place, sample);
+    printf("sample at %zu, %zu: %.1f in place of %.1f, %zu lanes solved again\n", place[0], place[1], sample, *changed,
+           lanes);
+    *changed = sample;
+    build(sheet, fresh);
+    int same = memcmp(tensor, fresh, tensor_length(sheet) * sizeof *tensor) == 0;
+    printf("a fresh build of the new samples has the same bits: %s\n", same ? "yes" : "no");
+}
+
+int main(int count, char **arguments)
+{
+    static struct sheet sheet;
+    const double point[2] = {1.5, 60.0};
+    const double no_point[2] = {1.5, NAN};
+    const size_t place[4] = {2, 2, 0, 0};
+    double gain;
+    size_t cell[4];
+
+    if (count != 2) {
+        fprintf(stderr, "%s SHEET\n", arguments[0]);
+        return 2;
+    }
+    load(arguments[1], &sheet);
+    build(&sheet, tensor);
+    printf("sheet of %zu axes, %zu and %zu points; tensor of %zu numbers\n", sheet.axes, sheet.points[0],
+           sheet.points[1], tensor_length(&sheet));
+    print_gain(&sheet, point);
+    change_and_compare(&sheet, place, 15.0);
+    print_gain(&sheet, point);
+    printf("gain at a level that is no number: refused %zu\n", query(&sheet, no_point, &gain, cell));
+    return 0;
+}

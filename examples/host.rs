@@ -1,0 +1,138 @@
+//! A host in Rust: it loads the sheet of a gain surface, asks for a gain,
+//! changes one sample and asks again.
+
+mod hullashlar;
+
+use hullashlar::{Axes, Refusal, BUFFER, LONGEST_TENSOR, SCRATCH};
+use std::process::ExitCode;
+use std::{env, fs};
+
+/// A surface, and every slice that its calls are lent.
+struct Surface {
+    axes: Axes,
+    knots: [f64; BUFFER],
+    samples: [f64; BUFFER],
+    tensor: [f64; LONGEST_TENSOR],
+    scratch: [f64; LONGEST_TENSOR + SCRATCH],
+}
+
+impl Surface {
+    /// The surface of a sheet, with its tensor built.
+    fn load(sheet: &[u8]) -> Result<Self, Refusal> {
+        let (mut knots, mut samples) = ([0.0; BUFFER], [0.0; BUFFER]);
+        let mut surface = Self {
+            axes: hullashlar::read(sheet, &mut knots, &mut samples)?,
+            knots,
+            samples,
+            tensor: [0.0; LONGEST_TENSOR],
+            scratch: [0.0; LONGEST_TENSOR + SCRATCH],
+        };
+        surface.build()?;
+        Ok(surface)
+    }
+
+    fn build(&mut self) -> Result<(), Refusal> {
+        hullashlar::build(
+            &self.axes,
+            &self.knots[..self.axes.knots_length()],
+            &self.samples[..self.axes.samples_length()],
+            &mut self.tensor[..self.axes.tensor_length()],
+            &mut self.scratch,
+        )
+    }
+
+    /// Stores a sample and gives how many lanes were solved again.
+    fn change(&mut self, place: [usize; 4], sample: f64) -> Result<usize, Refusal> {
+        let lanes = hullashlar::change(
+            &self.axes,
+            &self.knots[..self.axes.knots_length()],
+            &mut self.tensor[..self.axes.tensor_length()],
+            &mut self.scratch,
+            place,
+            sample,
+        )?;
+        self.samples[place[0] * self.axes.points[1] + place[1]] = sample;
+        Ok(lanes)
+    }
+
+    /// The gain at a frequency and a level, and the cell it lies in.
+    fn gain(&self, coordinates: [f64; 2]) -> Result<(f64, [usize; 4]), Refusal> {
+        hullashlar::query(
+            &self.axes,
+            &self.knots[..self.axes.knots_length()],
+            &self.tensor[..self.axes.tensor_length()],
+            &coordinates,
+        )
+    }
+
+    /// The bits of every number of the tensor.
+    fn bits(&self) -> Vec<u64> {
+        self.tensor.iter().map(|number| number.to_bits()).collect()
+    }
+}
+
+fn main() -> ExitCode {
+    let Some(path) = env::args().nth(1) else {
+        eprintln!("host SHEET");
+        return ExitCode::from(2);
+    };
+    let sheet = fs::read(path).expect("the sheet can be read");
+    match show(&sheet) {
+        Ok(()) => ExitCode::SUCCESS,
+        Err(refusal) => {
+            eprintln!("refused {refusal}");
+            ExitCode::FAILURE
+        }
+    }
+}
+
+fn show(sheet: &[u8]) -> Result<(), Refusal> {
+    let mut surface = Surface::load(sheet)?;
+    let Axes { count, points, .. } = surface.axes;
+    println!(
+        "sheet of {count} axes, {} and {} points; tensor of {} numbers",
+        points[0],
+        points[1],
+        surface.axes.tensor_length()
+    );
+    let point = [1.5, 60.0];
+    print_gain(&surface, point)?;
+    change_and_compare(&mut surface, [2, 2], 15.0)?;
+    print_gain(&surface, point)?;
+    let refusal = surface.gain([1.5, f64::NAN]).err().unwrap_or(0);
+    println!("gain at a level that is no number: refused {refusal}");
+    Ok(())
+}
+
+fn print_gain(surface: &Surface, point: [f64; 2]) -> Result<(), Refusal> {
+    let (gain, cell) = surface.gain(point)?;
+    println!(
+        "gain at {:.1} kHz and {:.1} dB: {gain:.6} dB, in cell {}, {}",
+        point[0], point[1], cell[0], cell[1]
+    );
+    Ok(())
+}
+
+/// The gain between measured points moves with the sample, and no number of the
+/// tensor is an old one.
+fn change_and_compare(
+    surface: &mut Surface,
+    place: [usize; 2],
+    sample: f64,
+) -> Result<(), Refusal> {
+    let [row, column] = place;
+    let old = surface.samples[row * surface.axes.points[1] + column];
+    let lanes = surface.change([row, column, 0, 0], sample)?;
+    println!(
+        "sample at {row}, {column}: {sample:.1} in place of {old:.1}, {lanes} lanes solved again"
+    );
+    let changed = surface.bits();
+    surface.build()?;
+    let same = if changed == surface.bits() {
+        "yes"
+    } else {
+        "no"
+    };
+    println!("a fresh build of the new samples has the same bits: {same}");
+    Ok(())
+}

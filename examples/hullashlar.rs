@@ -1,0 +1,330 @@
+//! Hullashlar for Rust: the public calls of the archive over plain slices.
+//!
+//! include/hullashlar.h says what each slice holds, how long it must be and
+//! which numbers refuse.
+
+// A program need not make every call; one that is not made is not linked either.
+#![allow(dead_code)]
+
+/// The number of a refusal, which is never 0.
+pub type Refusal = usize;
+
+/// The numbers of scratch that a call wants beside the length of its tensor.
+pub const SCRATCH: usize = 2048;
+
+/// The length of the buffers that a sheet is read into.
+pub const BUFFER: usize = 1024;
+
+/// The most numbers that a tensor holds.
+pub const LONGEST_TENSOR: usize = 4096;
+
+/// The axes as the calls take them; what stands past the axes in use is not read.
+#[derive(Debug, Clone, Default)]
+pub struct Axes {
+    /// How many axes are in use.
+    pub count: usize,
+    /// The points of each axis.
+    pub points: [usize; 4],
+    /// The kinds of each axis's lower and upper end.
+    pub kinds: [u8; 8],
+    /// The values that go with the kinds.
+    pub values: [f64; 8],
+}
+
+impl Axes {
+    /// How many knots there are on all axes together.
+    pub fn knots_length(&self) -> usize {
+        self.points[..self.count].iter().sum()
+    }
+
+    /// How many samples there are.
+    pub fn samples_length(&self) -> usize {
+        self.points[..self.count].iter().product()
+    }
+
+    /// How many numbers the tensor holds.
+    pub fn tensor_length(&self) -> usize {
+        self.samples_length() << self.count
+    }
+}
+
+#[rustfmt::skip]
+extern "C" {
+    fn hullashlar_moments(
+        points: usize,
+        knots: *const f64, knots_length: usize,
+        samples: *const f64, samples_length: usize,
+        kinds: *const u8, kinds_length: usize,
+        values: *const f64, values_length: usize,
+        moments: *mut f64, moments_length: usize,
+        scratch: *mut f64, scratch_length: usize,
+    ) -> usize;
+    fn hullashlar_curve(
+        points: usize,
+        knots: *const f64, knots_length: usize,
+        samples: *const f64, samples_length: usize,
+        moments: *const f64, moments_length: usize,
+        point: f64,
+        value: *mut f64, value_length: usize,
+    ) -> usize;
+    fn hullashlar_slopes(
+        points: usize,
+        knots: *const f64, knots_length: usize,
+        samples: *const f64, samples_length: usize,
+        moments: *const f64, moments_length: usize,
+        slopes: *mut f64, slopes_length: usize,
+    ) -> usize;
+    fn hullashlar_build(
+        axes: usize,
+        points: *const usize, points_length: usize,
+        kinds: *const u8, kinds_length: usize,
+        values: *const f64, values_length: usize,
+        knots: *const f64, knots_length: usize,
+        samples: *const f64, samples_length: usize,
+        tensor: *mut f64, tensor_length: usize,
+        scratch: *mut f64, scratch_length: usize,
+    ) -> usize;
+    fn hullashlar_change(
+        axes: usize,
+        points: *const usize, points_length: usize,
+        kinds: *const u8, kinds_length: usize,
+        values: *const f64, values_length: usize,
+        knots: *const f64, knots_length: usize,
+        tensor: *mut f64, tensor_length: usize,
+        scratch: *mut f64, scratch_length: usize,
+        place: *const usize, place_length: usize,
+        sample: f64,
+        lanes: *mut usize, lanes_length: usize,
+    ) -> usize;
+    fn hullashlar_query(
+        axes: usize,
+        points: *const usize, points_length: usize,
+        knots: *const f64, knots_length: usize,
+        tensor: *const f64, tensor_length: usize,
+        coordinates: *const f64, coordinates_length: usize,
+        value: *mut f64, value_length: usize,
+        labels: *mut usize, labels_length: usize,
+    ) -> usize;
+    fn hullashlar_read(
+        bytes: *const u8, bytes_length: usize,
+        knots: *mut f64, knots_length: usize,
+        samples: *mut f64, samples_length: usize,
+        axes: *mut usize, axes_length: usize,
+        points: *mut usize, points_length: usize,
+        kinds: *mut u8, kinds_length: usize,
+        values: *mut f64, values_length: usize,
+    ) -> usize;
+    fn hullashlar_sheet_tensor(
+        bytes: *const u8, bytes_length: usize,
+        knots: *mut f64, knots_length: usize,
+        samples: *mut f64, samples_length: usize,
+        tensor: *mut f64, tensor_length: usize,
+        scratch: *mut f64, scratch_length: usize,
+        length: *mut usize, length_length: usize,
+    ) -> usize;
+}
+
+/// The refusal's number as an error.
+fn outcome<T>(refusal: usize, answer: T) -> Result<T, Refusal> {
+    match refusal {
+        0 => Ok(answer),
+        number => Err(number),
+    }
+}
+
+/// The moments of the curve through the samples, under two ends.
+#[rustfmt::skip]
+pub fn moments(
+    knots: &[f64],
+    samples: &[f64],
+    kinds: [u8; 2],
+    values: [f64; 2],
+    moments: &mut [f64],
+    scratch: &mut [f64],
+) -> Result<(), Refusal> {
+    // SAFETY: each pointer goes with the length of a live slice, and no two slices overlap.
+    let refusal = unsafe {
+        hullashlar_moments(
+            knots.len(),
+            knots.as_ptr(), knots.len(),
+            samples.as_ptr(), samples.len(),
+            kinds.as_ptr(), kinds.len(),
+            values.as_ptr(), values.len(),
+            moments.as_mut_ptr(), moments.len(),
+            scratch.as_mut_ptr(), scratch.len(),
+        )
+    };
+    outcome(refusal, ())
+}
+
+/// The curve's value at a point, beyond the knots too.
+#[rustfmt::skip]
+pub fn curve(
+    knots: &[f64],
+    samples: &[f64],
+    moments: &[f64],
+    point: f64,
+) -> Result<f64, Refusal> {
+    let mut value = [0.0];
+    // SAFETY: each pointer goes with the length of a live slice, and no two slices overlap.
+    let refusal = unsafe {
+        hullashlar_curve(
+            knots.len(),
+            knots.as_ptr(), knots.len(),
+            samples.as_ptr(), samples.len(),
+            moments.as_ptr(), moments.len(),
+            point,
+            value.as_mut_ptr(), value.len(),
+        )
+    };
+    outcome(refusal, value[0])
+}
+
+/// The curve's slope at every knot.
+#[rustfmt::skip]
+pub fn slopes(
+    knots: &[f64],
+    samples: &[f64],
+    moments: &[f64],
+    slopes: &mut [f64],
+) -> Result<(), Refusal> {
+    // SAFETY: each pointer goes with the length of a live slice, and no two slices overlap.
+    let refusal = unsafe {
+        hullashlar_slopes(
+            knots.len(),
+            knots.as_ptr(), knots.len(),
+            samples.as_ptr(), samples.len(),
+            moments.as_ptr(), moments.len(),
+            slopes.as_mut_ptr(), slopes.len(),
+        )
+    };
+    outcome(refusal, ())
+}
+
+/// The tensor of samples on a grid.
+#[rustfmt::skip]
+pub fn build(
+    axes: &Axes,
+    knots: &[f64],
+    samples: &[f64],
+    tensor: &mut [f64],
+    scratch: &mut [f64],
+) -> Result<(), Refusal> {
+    // SAFETY: each pointer goes with the length of a live slice, and no two slices overlap.
+    let refusal = unsafe {
+        hullashlar_build(
+            axes.count,
+            axes.points.as_ptr(), axes.points.len(),
+            axes.kinds.as_ptr(), axes.kinds.len(),
+            axes.values.as_ptr(), axes.values.len(),
+            knots.as_ptr(), knots.len(),
+            samples.as_ptr(), samples.len(),
+            tensor.as_mut_ptr(), tensor.len(),
+            scratch.as_mut_ptr(), scratch.len(),
+        )
+    };
+    outcome(refusal, ())
+}
+
+/// One sample changed in a tensor; gives how many lanes were solved again.
+#[rustfmt::skip]
+pub fn change(
+    axes: &Axes,
+    knots: &[f64],
+    tensor: &mut [f64],
+    scratch: &mut [f64],
+    place: [usize; 4],
+    sample: f64,
+) -> Result<usize, Refusal> {
+    let mut lanes = [0];
+    // SAFETY: each pointer goes with the length of a live slice, and no two slices overlap.
+    let refusal = unsafe {
+        hullashlar_change(
+            axes.count,
+            axes.points.as_ptr(), axes.points.len(),
+            axes.kinds.as_ptr(), axes.kinds.len(),
+            axes.values.as_ptr(), axes.values.len(),
+            knots.as_ptr(), knots.len(),
+            tensor.as_mut_ptr(), tensor.len(),
+            scratch.as_mut_ptr(), scratch.len(),
+            place.as_ptr(), place.len(),
+            sample,
+            lanes.as_mut_ptr(), lanes.len(),
+        )
+    };
+    outcome(refusal, lanes[0])
+}
+
+/// The tensor's value at a point, and the cell label of each axis.
+#[rustfmt::skip]
+pub fn query(
+    axes: &Axes,
+    knots: &[f64],
+    tensor: &[f64],
+    coordinates: &[f64],
+) -> Result<(f64, [usize; 4]), Refusal> {
+    let mut value = [0.0];
+    let mut labels = [0; 4];
+    // SAFETY: each pointer goes with the length of a live slice, and no two slices overlap.
+    let refusal = unsafe {
+        hullashlar_query(
+            axes.count,
+            axes.points.as_ptr(), axes.points.len(),
+            knots.as_ptr(), knots.len(),
+            tensor.as_ptr(), tensor.len(),
+            coordinates.as_ptr(), coordinates.len(),
+            value.as_mut_ptr(), value.len(),
+            labels.as_mut_ptr(), labels.len(),
+        )
+    };
+    outcome(refusal, (value[0], labels))
+}
+
+/// The axes of a packed sheet, once its knots and samples stand in the lent buffers.
+#[rustfmt::skip]
+pub fn read(
+    bytes: &[u8],
+    knots: &mut [f64],
+    samples: &mut [f64],
+) -> Result<Axes, Refusal> {
+    let mut axes = Axes::default();
+    let mut count = [0];
+    // SAFETY: each pointer goes with the length of a live slice, and no two slices overlap.
+    let refusal = unsafe {
+        hullashlar_read(
+            bytes.as_ptr(), bytes.len(),
+            knots.as_mut_ptr(), knots.len(),
+            samples.as_mut_ptr(), samples.len(),
+            count.as_mut_ptr(), count.len(),
+            axes.points.as_mut_ptr(), axes.points.len(),
+            axes.kinds.as_mut_ptr(), axes.kinds.len(),
+            axes.values.as_mut_ptr(), axes.values.len(),
+        )
+    };
+    axes.count = count[0];
+    outcome(refusal, axes)
+}
+
+/// The length of a sheet's tensor, once it stands in the lent one, which is 4,096 long.
+#[rustfmt::skip]
+pub fn sheet_tensor(
+    bytes: &[u8],
+    knots: &mut [f64],
+    samples: &mut [f64],
+    tensor: &mut [f64],
+    scratch: &mut [f64],
+) -> Result<usize, Refusal> {
+    let mut length = [0];
+    // SAFETY: each pointer goes with the length of a live slice, and no two slices overlap.
+    let refusal = unsafe {
+        hullashlar_sheet_tensor(
+            bytes.as_ptr(), bytes.len(),
+            knots.as_mut_ptr(), knots.len(),
+            samples.as_mut_ptr(), samples.len(),
+            tensor.as_mut_ptr(), tensor.len(),
+            scratch.as_mut_ptr(), scratch.len(),
+            length.as_mut_ptr(), length.len(),
+        )
+    };
+    outcome(refusal, length[0])
+}

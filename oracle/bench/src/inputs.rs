@@ -1,0 +1,185 @@
+//! The surfaces that are measured, in the form of the archive and in the Rust's.
+
+use crate::hullashlar::{Axes, SCRATCH};
+use crate::sheet::packed;
+use ninterp_unchanged::{
+    compute_corner_cache, compute_m, ArrayD, ArrayView1, Broadcastable, CubicC2BoundaryConditions,
+    IxDyn,
+};
+
+/// The sample that a change stores in the middle of a surface.
+pub const CHANGED: f64 = 9.25;
+
+/// The condition of an axis in the Rust's words.
+pub type Condition = CubicC2BoundaryConditions<f64>;
+
+/// The ends that every axis of a surface has.
+#[derive(Clone, Copy)]
+pub enum Ends {
+    /// Second derivatives zero.
+    Natural,
+    /// NotAKnot twice.
+    NotAKnot,
+    /// Periodic.
+    Periodic,
+}
+
+impl Ends {
+    /// The kind of both ends as a number.
+    fn kind(self) -> u8 {
+        match self {
+            Self::NotAKnot => 0,
+            Self::Natural => 2,
+            Self::Periodic => 3,
+        }
+    }
+
+    /// The same in the Rust's words.
+    fn condition(self) -> Condition {
+        match self {
+            Self::NotAKnot => Condition::not_a_knot(),
+            Self::Natural => Condition::second_derivative(0.0, 0.0),
+            Self::Periodic => Condition::Periodic,
+        }
+    }
+}
+
+/// Samples on a grid.
+#[derive(Clone)]
+pub struct Surface {
+    pub axes: Axes,
+    pub knots: Vec<f64>,
+    pub samples: Vec<f64>,
+    ends: Ends,
+}
+
+impl Surface {
+    /// A surface with so many points on each axis; steps and samples are not all alike.
+    pub fn new(points: &[usize], ends: Ends) -> Self {
+        let mut axes = Axes {
+            count: points.len(),
+            kinds: [ends.kind(); 8],
+            ..Axes::default()
+        };
+        axes.points[..points.len()].copy_from_slice(points);
+        let knots = points.iter().flat_map(|count| (0..*count).map(knot));
+        Self {
+            knots: knots.collect(),
+            samples: (0..axes.samples_length()).map(sample).collect(),
+            axes,
+            ends,
+        }
+    }
+
+    /// The knots of each axis in the Rust's form.
+    pub fn knots_by_axis(&self) -> Vec<ArrayView1<'_, f64>> {
+        let mut rest = self.knots.as_slice();
+        let mut by_axis = Vec::new();
+        for points in self.points() {
+            let (axis, behind) = rest.split_at(*points);
+            by_axis.push(axis.into());
+            rest = behind;
+        }
+        by_axis
+    }
+
+    /// The points of the axes in use.
+    pub fn points(&self) -> &[usize] {
+        &self.axes.points[..self.axes.count]
+    }
+
+    /// The samples in the Rust's form.
+    pub fn grid(&self) -> ArrayD<f64> {
+        ArrayD::from_shape_vec(IxDyn(self.points()), self.samples.clone())
+            .expect("there is a sample for every place")
+    }
+
+    /// The conditions in the Rust's form.
+    pub fn conditions(&self) -> Broadcastable<Condition> {
+        Broadcastable::Broadcast(self.ends.condition())
+    }
+
+    /// The tensor as the Rust builds it.
+    pub fn tensor(&self) -> ArrayD<f64> {
+        compute_corner_cache(
+            &self.knots_by_axis(),
+            self.grid().view(),
+            &self.conditions(),
+        )
+    }
+
+    /// Scratch as long as a build or a change wants it.
+    pub fn scratch(&self) -> Vec<f64> {
+        vec![0.0; self.axes.tensor_length() + SCRATCH]
+    }
+
+    /// A point within the middle cell of every axis.
+    pub fn middle_point(&self) -> Vec<f64> {
+        let by_axis = self.knots_by_axis();
+        let middle = by_axis.iter().map(|knots| knots[knots.len() / 2] + 0.4);
+        middle.collect()
+    }
+
+    /// The place in the middle of the grid.
+    pub fn middle_place(&self) -> [usize; 4] {
+        self.axes.points.map(|points| points / 2)
+    }
+
+    /// The same surface with the changed sample in the middle.
+    fn changed(&self) -> Self {
+        let mut changed = self.clone();
+        let axes = self.middle_place().into_iter().zip(self.points());
+        let number = axes.fold(0, |number, (index, points)| number * points + index);
+        changed.samples[number] = CHANGED;
+        changed
+    }
+
+    /// The moments of a surface of one axis, as the Rust solves them.
+    pub fn moments(&self) -> Vec<f64> {
+        compute_m(&self.knots, &self.samples, &self.ends.condition())
+    }
+
+    /// The surface as a packed sheet.
+    pub fn sheet(&self) -> Vec<u8> {
+        packed(&self.axes, &self.knots, &self.samples)
+    }
+}
+
+fn knot(index: usize) -> f64 {
+    index as f64 + 0.125 * (index % 3) as f64
+}
+
+fn sample(number: usize) -> f64 {
+    (7 * number % 11) as f64 / 2.0
+}
+
+/// Everything that is measured.
+pub struct Inputs {
+    pub line_of_16: Surface,
+    pub line_of_256: Surface,
+    pub two_axes: Surface,
+    pub three_axes: Surface,
+    pub four_axes: Surface,
+    pub two_axes_changed: Surface,
+    pub four_axes_changed: Surface,
+    pub periodic_line: Surface,
+    pub periodic: Surface,
+}
+
+impl Inputs {
+    pub fn new() -> Self {
+        let two_axes = Surface::new(&[16, 16], Ends::Natural);
+        let four_axes = Surface::new(&[4, 4, 4, 4], Ends::Natural);
+        Self {
+            line_of_16: Surface::new(&[16], Ends::Natural),
+            line_of_256: Surface::new(&[256], Ends::Natural),
+            three_axes: Surface::new(&[6, 6, 6], Ends::NotAKnot),
+            two_axes_changed: two_axes.changed(),
+            four_axes_changed: four_axes.changed(),
+            periodic_line: Surface::new(&[256], Ends::Periodic),
+            periodic: Surface::new(&[256, 2], Ends::Periodic),
+            two_axes,
+            four_axes,
+        }
+    }
+}

@@ -1,0 +1,254 @@
+//! The lines of the table: what we measure, and what it is held against. Each
+//! side keeps its buffers from call to call, and nothing is cleared between.
+
+use crate::hullashlar::{self, BUFFER, SCRATCH};
+use crate::inputs::{Inputs, Surface, CHANGED};
+use ninterp_unchanged::{
+    compute_corner_cache, compute_m, evaluate_spline_corner_cached, evaluate_spline_from_m,
+    knot_derivatives_from_m, CubicC2BoundaryConditions,
+};
+
+/// One call, and the last number of its outcome.
+pub type Work<'a> = Box<dyn FnMut() -> f64 + 'a>;
+
+/// Two pieces of work that end in the same bits.
+pub struct Line<'a> {
+    pub name: &'static str,
+    pub held_against: &'static str,
+    pub ours: Work<'a>,
+    pub other: Work<'a>,
+}
+
+const THE_RUST: &str = "the Rust's";
+const OUR_BUILD: &str = "our fresh build";
+const RUST_BUILD: &str = "the Rust's fresh build";
+const THE_ORACLE: &str = "the oracle's reader";
+
+/// Why no measured call is refused.
+const ACCEPTED: &str = "the inputs are good ones";
+
+/// The lines of the calls that the archive has.
+pub fn lines(inputs: &Inputs) -> Vec<Line<'_>> {
+    let mut lines = Vec::new();
+    if cfg!(feature = "build") {
+        lines.extend(builds(inputs));
+    }
+    if cfg!(feature = "query") {
+        lines.extend(queries(inputs));
+    }
+    if cfg!(feature = "change") {
+        lines.extend(changes(inputs));
+    }
+    if cfg!(feature = "moments") {
+        lines.push(moments(&inputs.line_of_256));
+    }
+    if cfg!(feature = "slopes") {
+        lines.push(slopes(&inputs.line_of_256));
+    }
+    if cfg!(feature = "curve") {
+        lines.push(curve("curve, 16", &inputs.line_of_16));
+        lines.push(curve("curve, 256", &inputs.line_of_256));
+    }
+    if cfg!(feature = "read") {
+        lines.push(read(&inputs.two_axes));
+    }
+    lines
+}
+
+fn builds(inputs: &Inputs) -> [Line<'_>; 4] {
+    let line = |name, surface| Line {
+        name,
+        held_against: THE_RUST,
+        ours: our_build(surface),
+        other: rust_build(surface),
+    };
+    [
+        line("build, 16×16 natural", &inputs.two_axes),
+        line("build, 6×6×6 not-a-knot", &inputs.three_axes),
+        line("build, 4×4×4×4 natural", &inputs.four_axes),
+        line("build, one axis of 256 natural", &inputs.line_of_256),
+    ]
+}
+
+fn our_build(surface: &Surface) -> Work<'_> {
+    let mut tensor = vec![0.0; surface.axes.tensor_length()];
+    let mut scratch = surface.scratch();
+    Box::new(move || {
+        let Surface {
+            axes,
+            knots,
+            samples,
+            ..
+        } = surface;
+        hullashlar::build(axes, knots, samples, &mut tensor, &mut scratch).expect(ACCEPTED);
+        tensor[tensor.len() - 1]
+    })
+}
+
+fn rust_build(surface: &Surface) -> Work<'_> {
+    let knots = surface.knots_by_axis();
+    let grid = surface.grid();
+    let conditions = surface.conditions();
+    Box::new(move || {
+        let tensor = compute_corner_cache(&knots, grid.view(), &conditions);
+        *tensor.last().expect("a tensor has numbers")
+    })
+}
+
+fn queries(inputs: &Inputs) -> [Line<'_>; 5] {
+    let line = |name, surface| Line {
+        name,
+        held_against: THE_RUST,
+        ours: our_query(surface),
+        other: rust_query(surface),
+    };
+    [
+        line("query, 16", &inputs.line_of_16),
+        line("query, 16×16", &inputs.two_axes),
+        line("query, 6×6×6", &inputs.three_axes),
+        line("query, 4×4×4×4", &inputs.four_axes),
+        line("query, one axis of 256", &inputs.line_of_256),
+    ]
+}
+
+fn our_query(surface: &Surface) -> Work<'_> {
+    let tensor: Vec<f64> = surface.tensor().iter().copied().collect();
+    let point = surface.middle_point();
+    Box::new(move || {
+        let answer = hullashlar::query(&surface.axes, &surface.knots, &tensor, &point);
+        answer.expect(ACCEPTED).0
+    })
+}
+
+fn rust_query(surface: &Surface) -> Work<'_> {
+    let knots = surface.knots_by_axis();
+    let tensor = surface.tensor();
+    let point = surface.middle_point();
+    Box::new(move || evaluate_spline_corner_cached(&knots, tensor.view(), &point))
+}
+
+fn changes(inputs: &Inputs) -> Vec<Line<'_>> {
+    let two_axes = (&inputs.two_axes, &inputs.two_axes_changed);
+    let four_axes = (&inputs.four_axes, &inputs.four_axes_changed);
+    let line = |name, held_against, surface, other| Line {
+        name,
+        held_against,
+        ours: our_change(surface),
+        other,
+    };
+    let of_16 = "change, middle of 16×16";
+    let of_4 = "change, middle of 4×4×4×4";
+    let mut lines = vec![
+        line(of_16, RUST_BUILD, two_axes.0, rust_build(two_axes.1)),
+        line(of_4, RUST_BUILD, four_axes.0, rust_build(four_axes.1)),
+    ];
+    if cfg!(feature = "build") {
+        lines.push(line(of_16, OUR_BUILD, two_axes.0, our_build(two_axes.1)));
+        lines.push(line(of_4, OUR_BUILD, four_axes.0, our_build(four_axes.1)));
+    }
+    lines
+}
+
+fn our_change(surface: &Surface) -> Work<'_> {
+    let mut tensor: Vec<f64> = surface.tensor().iter().copied().collect();
+    let mut scratch = surface.scratch();
+    let place = surface.middle_place();
+    Box::new(move || {
+        let Surface { axes, knots, .. } = surface;
+        hullashlar::change(axes, knots, &mut tensor, &mut scratch, place, CHANGED).expect(ACCEPTED);
+        tensor[tensor.len() - 1]
+    })
+}
+
+fn moments(line: &Surface) -> Line<'_> {
+    let Surface { knots, samples, .. } = line;
+    let mut moments = vec![0.0; knots.len()];
+    let mut scratch = vec![0.0; SCRATCH];
+    let natural = CubicC2BoundaryConditions::second_derivative(0.0, 0.0);
+    Line {
+        name: "moments, 256 natural",
+        held_against: THE_RUST,
+        ours: Box::new(move || {
+            hullashlar::moments(
+                knots,
+                samples,
+                [2, 2],
+                [0.0, 0.0],
+                &mut moments,
+                &mut scratch,
+            )
+            .expect(ACCEPTED);
+            moments[moments.len() / 2]
+        }),
+        other: Box::new(move || {
+            let moments = compute_m(knots, samples, &natural);
+            moments[moments.len() / 2]
+        }),
+    }
+}
+
+fn slopes(line: &Surface) -> Line<'_> {
+    let Surface { knots, samples, .. } = line;
+    let moments = line.moments();
+    let moments_again = moments.clone();
+    let mut slopes = vec![0.0; knots.len()];
+    Line {
+        name: "knot slopes, 256",
+        held_against: THE_RUST,
+        ours: Box::new(move || {
+            hullashlar::slopes(knots, samples, &moments, &mut slopes).expect(ACCEPTED);
+            slopes[slopes.len() - 1]
+        }),
+        other: Box::new(move || {
+            let slopes = knot_derivatives_from_m(knots, samples, &moments_again);
+            slopes[slopes.len() - 1]
+        }),
+    }
+}
+
+fn curve<'a>(name: &'static str, line: &'a Surface) -> Line<'a> {
+    let Surface { knots, samples, .. } = line;
+    let moments = line.moments();
+    let moments_again = moments.clone();
+    let point = line.middle_point()[0];
+    Line {
+        name,
+        held_against: THE_RUST,
+        ours: Box::new(move || hullashlar::curve(knots, samples, &moments, point).expect(ACCEPTED)),
+        other: Box::new(move || evaluate_spline_from_m(knots, samples, &moments_again, point)),
+    }
+}
+
+/// There is no sheet in the Rust: the other side is the oracle's own reader.
+fn read(surface: &Surface) -> Line<'_> {
+    let sheet = surface.sheet();
+    let sheet_again = sheet.clone();
+    let last = surface.samples.len() - 1;
+    let (mut knots, mut samples) = ([0.0; BUFFER], [0.0; BUFFER]);
+    Line {
+        name: "reading the sheet of 16×16",
+        held_against: THE_ORACLE,
+        ours: Box::new(move || {
+            hullashlar::read(&sheet, &mut knots, &mut samples).expect(ACCEPTED);
+            samples[last]
+        }),
+        other: Box::new(move || {
+            oracle_read(&sheet_again, &mut knots, &mut samples);
+            samples[last]
+        }),
+    }
+}
+
+fn oracle_read(sheet: &[u8], knots: &mut [f64], samples: &mut [f64]) {
+    let (mut axes, mut points, mut kinds, mut values) = ([0], [0; 4], [0; 8], [0.0; 8]);
+    let refusal = reading::read(
+        sheet,
+        knots,
+        samples,
+        &mut axes,
+        &mut points,
+        &mut kinds,
+        &mut values,
+    );
+    assert_eq!(refusal, 0, "{ACCEPTED}");
+}

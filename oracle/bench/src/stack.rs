@@ -1,0 +1,181 @@
+//! Stack bytes of each exported call: it runs on a stack of its own that was
+//! painted before, and the lowest number that lost its paint says how deep it went.
+
+use crate::hullashlar::{self, BUFFER, LONGEST_TENSOR, SCRATCH};
+use crate::inputs::{Inputs, Surface, CHANGED};
+use std::arch::asm;
+use std::hint::black_box;
+
+/// The deepest that a call went over the inputs.
+pub struct Stack {
+    pub call: &'static str,
+    pub bytes: usize,
+}
+
+/// The stacks of the calls that the archive has.
+pub fn stacks(inputs: &Inputs) -> Vec<Stack> {
+    let surfaces = [
+        &inputs.line_of_16,
+        &inputs.line_of_256,
+        &inputs.two_axes,
+        &inputs.three_axes,
+        &inputs.four_axes,
+        &inputs.periodic,
+    ];
+    let lines = [&inputs.line_of_256, &inputs.periodic_line];
+    let mut stacks = Vec::new();
+    let mut add = |call, deepest: Option<usize>| {
+        let bytes = deepest.expect("every call has inputs");
+        stacks.push(Stack { call, bytes });
+    };
+    if cfg!(feature = "build") {
+        add("hullashlar_build", surfaces.map(build).into_iter().max());
+    }
+    if cfg!(feature = "change") {
+        add("hullashlar_change", surfaces.map(change).into_iter().max());
+    }
+    if cfg!(feature = "query") {
+        add("hullashlar_query", surfaces.map(query).into_iter().max());
+    }
+    if cfg!(feature = "read") {
+        add("hullashlar_read", surfaces.map(read).into_iter().max());
+    }
+    if cfg!(feature = "sheet_tensor") {
+        add(
+            "hullashlar_sheet_tensor",
+            surfaces.map(sheet_tensor).into_iter().max(),
+        );
+    }
+    if cfg!(feature = "moments") {
+        add("hullashlar_moments", lines.map(moments).into_iter().max());
+    }
+    if cfg!(feature = "slopes") {
+        add("hullashlar_slopes", lines.map(slopes).into_iter().max());
+    }
+    if cfg!(feature = "curve") {
+        add("hullashlar_curve", lines.map(curve).into_iter().max());
+    }
+    stacks
+}
+
+fn build(surface: &Surface) -> usize {
+    let mut tensor = vec![0.0; surface.axes.tensor_length()];
+    let mut scratch = surface.scratch();
+    let Surface {
+        axes,
+        knots,
+        samples,
+        ..
+    } = surface;
+    bytes_of(|| hullashlar::build(axes, knots, samples, &mut tensor, &mut scratch).is_ok())
+}
+
+fn change(surface: &Surface) -> usize {
+    let mut tensor: Vec<f64> = surface.tensor().iter().copied().collect();
+    let mut scratch = surface.scratch();
+    let Surface { axes, knots, .. } = surface;
+    let place = surface.middle_place();
+    bytes_of(|| hullashlar::change(axes, knots, &mut tensor, &mut scratch, place, CHANGED).is_ok())
+}
+
+fn query(surface: &Surface) -> usize {
+    let tensor: Vec<f64> = surface.tensor().iter().copied().collect();
+    let point = surface.middle_point();
+    bytes_of(|| hullashlar::query(&surface.axes, &surface.knots, &tensor, &point).is_ok())
+}
+
+fn read(surface: &Surface) -> usize {
+    let sheet = surface.sheet();
+    let (mut knots, mut samples) = ([0.0; BUFFER], [0.0; BUFFER]);
+    bytes_of(|| hullashlar::read(&sheet, &mut knots, &mut samples).is_ok())
+}
+
+fn sheet_tensor(surface: &Surface) -> usize {
+    let sheet = surface.sheet();
+    let (mut knots, mut samples) = ([0.0; BUFFER], [0.0; BUFFER]);
+    let mut tensor = vec![0.0; LONGEST_TENSOR];
+    let mut scratch = vec![0.0; LONGEST_TENSOR + SCRATCH];
+    bytes_of(|| {
+        hullashlar::sheet_tensor(&sheet, &mut knots, &mut samples, &mut tensor, &mut scratch)
+            .is_ok()
+    })
+}
+
+fn moments(line: &Surface) -> usize {
+    let Surface {
+        axes,
+        knots,
+        samples,
+        ..
+    } = line;
+    let kinds = [axes.kinds[0], axes.kinds[1]];
+    let mut moments = vec![0.0; knots.len()];
+    let mut scratch = vec![0.0; SCRATCH];
+    bytes_of(|| {
+        hullashlar::moments(
+            knots,
+            samples,
+            kinds,
+            [0.0, 0.0],
+            &mut moments,
+            &mut scratch,
+        )
+        .is_ok()
+    })
+}
+
+fn slopes(line: &Surface) -> usize {
+    let moments = line.moments();
+    let mut slopes = vec![0.0; moments.len()];
+    bytes_of(|| hullashlar::slopes(&line.knots, &line.samples, &moments, &mut slopes).is_ok())
+}
+
+fn curve(line: &Surface) -> usize {
+    let moments = line.moments();
+    let point = line.middle_point()[0];
+    bytes_of(|| hullashlar::curve(&line.knots, &line.samples, &moments, point).is_ok())
+}
+
+/// What the stack is painted with.
+const PAINT: u64 = 0x5AA5_C33C_0FF0_9669;
+
+/// The numbers of the painted stack, far more than any call needs.
+const PAINTED: usize = 1 << 17;
+
+/// The stack bytes of an accepted call, without those that an empty one needs here.
+fn bytes_of(mut call: impl FnMut() -> bool) -> usize {
+    let mut accepted = false;
+    let whole = depth(&mut || accepted = call());
+    assert!(accepted, "the inputs are good ones");
+    let mut nothing = false;
+    whole - depth(&mut || nothing = black_box(true))
+}
+
+/// How far down a painted stack a call writes.
+fn depth(mut call: &mut dyn FnMut()) -> usize {
+    let mut stack = vec![PAINT; PAINTED];
+    let end = stack.as_mut_ptr_range().end;
+    let top = end as usize - end as usize % 16;
+    // SAFETY: the stack is live, far longer than the call needs, and its top is
+    // a multiple of 16 as the calling convention asks.
+    unsafe { call_on(top, &mut call) };
+    let lowest = stack.iter().position(|number| *number != PAINT);
+    lowest.map_or(0, |place| top - &raw const stack[place] as usize)
+}
+
+/// Makes a call with the stack pointer at the given top.
+unsafe fn call_on(top: usize, call: &mut &mut dyn FnMut()) {
+    asm!(
+        "xchg rsp, r12",
+        "call {enter}",
+        "mov rsp, r12",
+        enter = sym enter,
+        inout("r12") top => _,
+        in("rdi") call,
+        clobber_abi("C"),
+    );
+}
+
+extern "C" fn enter(call: &mut &mut dyn FnMut()) {
+    call();
+}
