@@ -1,0 +1,4 @@
+pub mod Faults
+pub mod Builds
+pub mod Promises
+pub mod Unique

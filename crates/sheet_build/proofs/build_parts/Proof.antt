@@ -1,0 +1,48 @@
+use borrow.Author.Needs.{needs}
+use Rattle.sheet_build.proofs.Builds.{parts-refused, parts-built}
+use Rattle.sheet_build.proofs.build_parts.Statement.{statement}
+use Rattle.sheet_build.proofs.build_parts.Tie as tie
+
+abbrev start : tie.After-build → tie.Start
+start b = b .before .before .before .before .before .before .before .before .before .before .before .before
+
+returns : tie.Need-returns
+returns c =
+    let b = c .before .before .before .before .before .before in
+    let args = start b .args in
+    parts-refused _ _ (args .knots .now) (args .samples .now) _ _ _ _ _
+    (b .before .before .before .before .before .before .before .knots-length .ensures .0) (b .before .before .before .before .before .before .samples-length .ensures .0) (b .before .before .before .before .before .tensor-length .ensures .0)
+    _ _ _ (b .build .ensures) _ (c .before .if1 .taken) (c .refused .ensures)
+
+returns-2 : tie.Need-returns-2
+returns-2 c =
+    let b = c .before .before .before .before .before in
+    let args = start b .args in
+    parts-built _ _ (args .knots .now) (args .samples .now) _ _ _ _ _
+    (b .before .before .before .before .before .before .before .knots-length .ensures .0) (b .before .before .before .before .before .before .samples-length .ensures .0) (b .before .before .before .before .before .tensor-length .ensures .0)
+    _ _ _ (b .build .ensures) (c .if1 .left)
+
+pub build-parts-spec : {M : Type 1} → statement M
+build-parts-spec =
+    tie.close
+    (tie.spec
+    (λ c κs. search needs)
+    (λ c κs. search needs)
+    (λ c κs. search needs)
+    (λ c. search needs)
+    (λ c. search needs)
+    (λ c. search needs)
+    (λ c. search needs)
+    (λ c. search needs)
+    (λ c. search needs)
+    (λ c. search needs)
+    (λ c. search needs)
+    (λ c. search needs)
+    (λ c κs. search needs)
+    (λ c κs. search needs)
+    (λ c. search needs)
+    (λ c. search needs)
+    returns
+    (λ c. search needs)
+    (λ c. search needs)
+    returns-2)

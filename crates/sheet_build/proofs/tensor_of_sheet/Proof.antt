@@ -1,0 +1,49 @@
+use mathlib.Core.Path.{_≡_}
+use native.Mathlib.Omega.{arith}
+use borrow.Author.Needs.{needs}
+use lib.ListN.{length}
+use Rattle.sheet_build.proofs.Promises.{buffer-refused, sheet-refused, parts-given, sheet-built}
+use Rattle.sheet_build.proofs.tensor_of_sheet.Statement.{statement}
+use Rattle.sheet_build.proofs.tensor_of_sheet.Tie as tie
+
+abbrev start : tie.After-read → tie.Start
+start r = r .before .before .before .before .before .before .before .before .before
+
+long : (r : tie.After-read) → length (start r .args .tensor .now) ≡ 4096
+long r = omega arith
+
+returns : tie.Need-returns
+returns c = buffer-refused _ _ _ _ _ _ (c .before .if1 .taken) (c .refused .ensures)
+
+returns-2 : tie.Need-returns-2
+returns-2 c =
+    let r = c .before .before .before .before .before .before in
+    sheet-refused _ _ _ _ (start r .args .scratch .now) (long r) _ _ _ (r .read .ensures) _ (c .before .if2 .taken) (c .refused2 .ensures)
+
+build-parts-requires : tie.Need-build-parts-requires
+build-parts-requires c κs =
+    let r = c .before .before .before .before .before .before .before .before .before .before in
+    parts-given _ _ _ _ (start r .args .scratch .now) (long r) _ _ _ (r .read .ensures) (omega arith)
+
+returns-3 : tie.Need-returns-3
+returns-3 c =
+    let r = c .before .before .before .before .before .before .before .before .before .before .before .before .before .before .before in
+    sheet-built _ _ _ _ (start r .args .scratch .now) (long r) _ _ _ (r .read .ensures) (omega arith) _ _ _ (c .before .before .before .before .build-parts .ensures)
+
+pub tensor-of-sheet-spec : {M : Type 1} → statement M
+tensor-of-sheet-spec =
+    tie.close
+    (tie.spec
+    (λ c κs. search needs)
+    returns
+    (λ c κs. search needs)
+    (λ c κs. search needs)
+    (λ c. search needs)
+    (λ c. search needs)
+    returns-2
+    build-parts-requires
+    (λ c. search needs)
+    (λ c. search needs)
+    (λ c. search needs)
+    (λ c. search needs)
+    returns-3)

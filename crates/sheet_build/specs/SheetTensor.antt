@@ -1,0 +1,72 @@
+-- The public call `tensor_of_sheet`: the refusal that it gives, its answer, and the later contents of all it was lent.
+use mathlib.Core.Path.{_≡_}
+use mathlib.Core.Bool.{cond}
+use mathlib.Core.List.{List}
+use Prim.Native.Nat.{ℕ, zero, suc, _≤_}
+use lib.ListN.{length, take}
+use lib.Ieee.{Float}
+use Rattle.rules.specs.Numbers.{table}
+use Rattle.rules.specs.Sizes.{most-axes, most-in-a-tensor, unused-axis, Grid, knots-length, samples-length, tensor-length}
+use Rattle.rules.specs.Refusals.{length-refused}
+use Rattle.rules.specs.Tensor.{tensor}
+use Rattle.rules.specs.Calls.{stored, scratch-after, build-refusal}
+use Rattle.rules.specs.declared.Axis.{Axis}
+use Rattle.checks.specs.Given.{grid, sizes-of, points-of, InRange}
+use Rattle.sheet.specs.Fields.{sheet-grid, sheet-samples}
+use Rattle.sheet.specs.Faults.{or-else}
+use Rattle.sheet.specs.Read.{over, read-refusal}
+use Rattle.sheet_build.specs.declared.SheetAnswer.{SheetAnswer}
+
+-- "on a refusal all four [axes] come back with 0 points and NotAKnot at both ends; on a refusal the number of axes is 0 too", and so is the length
+abbrev pub refused-answer : ℕ → SheetAnswer
+refused-answer refusal = record { refusal = refusal; axes = 0; all = table most-axes (λ i. unused-axis); length = 0 }
+
+-- the answer of a refusal, 0 for none, and what was found
+abbrev pub answer-of : ℕ → Grid → SheetAnswer
+answer-of zero g = record { refusal = 0; axes = g .axes; all = g .entries; length = tensor-length g }
+answer-of (suc refusal) g = refused-answer (suc refusal)
+
+-- ---- a build whose numbers stand in the first places of buffers
+
+-- axes that are not refused, and buffers with room for their numbers
+pub record PartsGiven (axes : ℕ) (all : List Axis) (knots samples tensor-lent : List Float) : Type 0 where
+  pub in-range : InRange axes (points-of all)
+  pub knots-room : knots-length (sizes-of axes all) ≤ length knots
+  pub samples-room : samples-length (sizes-of axes all) ≤ length samples
+  pub tensor-room : tensor-length (sizes-of axes all) ≤ length tensor-lent
+
+-- the parts of a grid that such buffers hold
+abbrev pub grid-in : ℕ → List Axis → List Float → Grid
+grid-in axes all knots = grid axes all (take (knots-length (sizes-of axes all)) knots)
+
+abbrev pub samples-in : ℕ → List Axis → List Float → List Float
+samples-in axes all samples = take (samples-length (sizes-of axes all)) samples
+
+module _ (g : Grid) (samples tensor-lent scratch-lent : List Float) where
+  -- the build is lent the places that the tensor needs
+  abbrev pub parts-refusal : ℕ
+  parts-refusal = build-refusal g samples (take (tensor-length g) tensor-lent) scratch-lent
+
+  pub record PartsPromise (given : SheetAnswer) (tensor-later scratch-later : List Float) : Type 0 where
+    pub answer : given ≡ answer-of parts-refusal g
+    pub output : tensor-later ≡ stored parts-refusal tensor-lent (over (tensor g samples) tensor-lent)
+    pub scratch : scratch-later ≡ scratch-after parts-refusal scratch-lent
+
+-- ---- the sheet
+
+module _ (bytes : List ℕ) (knots-lent samples-lent tensor-lent scratch-lent : List Float) where
+  -- what is met before the build: 4 for the tensor's buffer, before all else, then what the reader meets
+  unfoldable pub reading-refusal : ℕ
+  reading-refusal = cond (length-refused (length tensor-lent) most-in-a-tensor) 4 (read-refusal bytes knots-lent samples-lent)
+
+  -- "Faults in reading order, before any of the build's"
+  unfoldable pub sheet-tensor-refusal : ℕ
+  sheet-tensor-refusal = or-else reading-refusal (parts-refusal (sheet-grid bytes) (sheet-samples bytes) tensor-lent scratch-lent)
+
+  -- the buffers of knots and samples change where the reader refuses nothing, those of the tensor where the build does not either
+  pub record SheetPromise (given : SheetAnswer) (knots-later samples-later tensor-later scratch-later : List Float) : Type 0 where
+    pub answer : given ≡ answer-of sheet-tensor-refusal (sheet-grid bytes)
+    pub knots : knots-later ≡ stored reading-refusal knots-lent (over (sheet-grid bytes .flat-knots) knots-lent)
+    pub samples : samples-later ≡ stored reading-refusal samples-lent (over (sheet-samples bytes) samples-lent)
+    pub output : tensor-later ≡ stored sheet-tensor-refusal tensor-lent (over (tensor (sheet-grid bytes) (sheet-samples bytes)) tensor-lent)
+    pub scratch : scratch-later ≡ scratch-after sheet-tensor-refusal scratch-lent

@@ -1,0 +1,97 @@
+// From the bytes of a packed sheet to its tensor: the reader, then the build.
+ghost use mathlib.Core.Path.{_≡_};
+ghost use Rattle.rules.specs.Sizes.{unused-axis};
+ghost use Rattle.sheet_build.specs.SheetTensor.{refused-answer, grid-in, samples-in, PartsGiven, PartsPromise, SheetPromise};
+use rules::Axis;
+use rules::Condition;
+
+// A refusal's number, 0 for none, how many axes there are, the four axes, and how many numbers the tensor has.
+pub struct SheetAnswer {
+    pub refusal: usize,
+    pub axes: usize,
+    pub all: [Axis; 4],
+    pub length: usize,
+}
+
+// An axis not in use.
+fn unused() -> Axis
+    ensures { λ r. ⌜ r ≡ unused-axis ⌝ }
+{
+    Axis {
+        points: 0,
+        condition: Condition::not_a_knot(),
+    }
+}
+
+// The answer of a refusal: no axes, none of the four in use, and no numbers.
+fn refused(refusal: usize) -> SheetAnswer
+    ensures { λ r. ⌜ r ≡ refused-answer refusal ⌝ }
+{
+    SheetAnswer {
+        refusal,
+        axes: 0,
+        all: [unused(); 4],
+        length: 0,
+    }
+}
+
+// The tensor of the parts that stand in the first places of the buffers. Not public: that they have such places is required.
+fn build_parts(
+    axes: usize,
+    all: [Axis; 4],
+    knots: &[f64],
+    samples: &[f64],
+    tensor: &mut [f64],
+    scratch: &mut [f64],
+) -> SheetAnswer
+    requires { ⌜ PartsGiven axes all (now knots) (now samples) (now tensor) ⌝ }
+    ensures { λ r. ⌜ PartsPromise (grid-in axes all (now (knots .entry))) (samples-in axes all (now (samples .entry))) (now (tensor .entry)) (now (scratch .entry)) r (now (tensor .exit)) (now (scratch .exit)) ⌝ }
+{
+    let knots_end = checks::sizes::knots_length(axes, all);
+    let samples_end = checks::sizes::samples_length(axes, all);
+    let length = checks::sizes::tensor_length(axes, all);
+    let refusal = tensor::build(
+        axes,
+        all,
+        &knots[0..knots_end],
+        &samples[0..samples_end],
+        &mut tensor[0..length],
+        scratch,
+    );
+    if refusal != 0 {
+        return refused(refusal);
+    }
+    SheetAnswer {
+        refusal: 0,
+        axes,
+        all,
+        length,
+    }
+}
+
+// PUBLIC. Reads a sheet and builds its tensor: the axes and the tensor's length are the answer, the sheet's knots, its samples and the
+// tensor's numbers go to the first places of their buffers. Refuses a tensor buffer of another length than 4,096 by 4, then what the
+// reader refuses, each by the reader's number, and then what the build refuses: 5 a scratch shorter than the tensor and 2,048, 7, 8, 9
+// and 10. A refusal leaves the tensor as it was, and one that comes before the build or from the reader the knots and the samples too.
+// The scratch is +0.0 after 0 and 10, and else as it was.
+pub fn tensor_of_sheet(
+    bytes: &[u8],
+    knots: &mut [f64],
+    samples: &mut [f64],
+    tensor: &mut [f64],
+    scratch: &mut [f64],
+) -> SheetAnswer
+    ensures { λ r. ⌜ SheetPromise (now (bytes .entry)) (now (knots .entry)) (now (samples .entry)) (now (tensor .entry)) (now (scratch .entry)) r (now (knots .exit)) (now (samples .exit)) (now (tensor .exit)) (now (scratch .exit)) ⌝ }
+{
+    if tensor.len() != 4096 {
+        return refused(4);
+    }
+    let sheet = sheet::read(bytes, knots, samples);
+    let refusal = sheet.refusal;
+    if refusal != 0 {
+        return refused(refusal);
+    }
+    let axes = sheet.axes;
+    let all = sheet.all;
+    build_parts(axes, all, knots, samples, tensor, scratch)
+}
