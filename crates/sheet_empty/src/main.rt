@@ -1,0 +1,4 @@
+// The sheet program on empty input.
+fn main() {
+    sheet_print::run();
+}
