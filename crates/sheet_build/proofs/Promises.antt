@@ -7,7 +7,7 @@ use borrow.Author.Tests.{eq-eqb, ne-eqb, ltb-false}
 use lib.ListN.{length, take, drop, length-append}
 use lib.Ieee.{Float}
 use Rattle.rules.specs.Sizes.{Grid, knots-length, samples-length, tensor-length}
-use Rattle.rules.specs.Tensor.{tensor}
+use Rattle.rules.specs.Refusals.{length-refused}
 use Rattle.rules.specs.Calls.{stored, scratch-after}
 use Rattle.rules.specs.declared.Axis.{Axis}
 use Rattle.checks.specs.Given.{sizes-of, points-of, InRange}
@@ -16,7 +16,7 @@ use Rattle.sheet.specs.Fields.{axes, entries, sheet-grid, sheet-samples}
 use Rattle.sheet.specs.Faults.{or-else, sheet-refusal}
 use Rattle.sheet.specs.Read.{over, read-refusal, ReadPromise}
 use Rattle.sheet.specs.declared.ReadAnswer.{ReadAnswer}
-use Rattle.sheet.proofs.Walks.{or-else-met}
+use Rattle.sheet.proofs.Walks.{passed as no-test, or-else-met, or-else-passed}
 use Rattle.sheet.proofs.Parts.{Parts, parts, take-over}
 use Rattle.sheet.proofs.Promises.{answer-refusal, lengths-passed}
 use Rattle.sheet_build.specs.SheetTensor.{refused-answer, answer-of, PartsGiven, grid-in, samples-in, parts-refusal, PartsPromise, reading-refusal, sheet-tensor-refusal, SheetPromise}
@@ -158,3 +158,23 @@ module _ (bytes : List ℕ) (knots samples lent scratch : List Float) where
             output = rw (refusal-passed passed) (p .output);
             scratch = rw (refusal-passed passed) (p .scratch);
           }
+
+-- ---- what a caller knows of the answer
+
+short-answer : (refusal : ℕ) (g : Grid) (most : ℕ) → (refusal ≡ 0 → tensor-length g ≤ most) → answer-of refusal g .length ≤ most
+short-answer zero g most small = small refl
+short-answer (suc refusal) g most small = omega arith
+
+module _ (bytes : List ℕ) (knots samples lent scratch : List Float) (given : SheetAnswer) (k s t w : List Float) where
+  no-refusal : sheet-tensor-refusal bytes knots samples lent scratch ≡ 0 → sheet-refusal bytes ≡ 0
+  unfolding sheet-tensor-refusal reading-refusal
+  no-refusal e =
+      let before = or-else-passed (reading-refusal bytes knots samples lent scratch) _ e .0 in
+      lengths-passed bytes knots samples (no-test (length-refused (length lent) 4096) 3 (read-refusal bytes knots samples) before .1)
+
+  -- the tensor has no more numbers than its buffer has places
+  pub length-most : SheetPromise bytes knots samples lent scratch given k s t w → given .length ≤ 4096
+  length-most p =
+      rw (p .answer)
+      (short-answer (sheet-tensor-refusal bytes knots samples lent scratch) (sheet-grid bytes) 4096
+      (λ e. ltb-false 4096 (tensor-length (sheet-grid bytes)) (parts bytes (no-refusal e) .tensor)))

@@ -87,9 +87,9 @@ pub fn tensor_of_sheet(
         return refused(4);
     }
     let sheet = sheet::read(bytes, knots, samples);
-    let refusal = sheet.refusal;
-    if refusal != 0 {
-        return refused(refusal);
+    let fault = sheet.refusal;
+    if fault != 0 {
+        return refused(fault);
     }
     let axes = sheet.axes;
     let all = sheet.all;
