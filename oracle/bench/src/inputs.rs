@@ -163,7 +163,8 @@ pub struct Inputs {
     pub two_axes_changed: Surface,
     pub four_axes_changed: Surface,
     pub periodic_line: Surface,
-    pub periodic: Surface,
+    pub four_axes_not_a_knot: Surface,
+    pub four_axes_periodic: Surface,
 }
 
 impl Inputs {
@@ -177,21 +178,23 @@ impl Inputs {
             two_axes_changed: two_axes.changed(),
             four_axes_changed: four_axes.changed(),
             periodic_line: Surface::new(&[256], Ends::Periodic),
-            periodic: Surface::new(&[256, 2], Ends::Periodic),
+            four_axes_not_a_knot: Surface::new(&[4, 4, 4, 4], Ends::NotAKnot),
+            four_axes_periodic: Surface::new(&[4, 4, 4, 4], Ends::Periodic),
             two_axes,
             four_axes,
         }
     }
 
-    /// The surfaces of one to four axes, and a periodic one.
-    pub fn surfaces(&self) -> [&Surface; 6] {
+    /// Surfaces of one to four axes, and of four axes with all the ends.
+    pub fn surfaces(&self) -> [&Surface; 7] {
         [
             &self.line_of_16,
             &self.line_of_256,
             &self.two_axes,
             &self.three_axes,
             &self.four_axes,
-            &self.periodic,
+            &self.four_axes_not_a_knot,
+            &self.four_axes_periodic,
         ]
     }
 }

@@ -1,7 +1,7 @@
 //! Stand-in for the part of ndarray that the unchanged files use, made for
-//! speed: the benchmark holds us against it. As in ndarray, a view is a start
-//! and a stride for each axis, an index is checked once, and the innermost axis
-//! is walked in a plain loop. Unlike ndarray, shapes are never on the heap.
+//! speed: the benchmark holds us against it. A view is a start and a stride for
+//! each axis, an index is checked once, the innermost axis is walked in a plain
+//! loop, and no shape is on the heap.
 
 mod dimension;
 mod lanes;
