@@ -1,8 +1,9 @@
 .PHONY: run test differential oracle-test replay-list archive bench examples picture
 
-# Until the sheet program stands, the main job is the proof of every crate.
+# Prints the tensor of document 01's example sheet.
 run:
-	rt check
+	rt check sheet_tensor
+	target/bin/sheet_tensor < crates/sheet_tensor/stdin
 
 test:
 	.ci/run
