@@ -22,3 +22,7 @@ differential:
 # The Rust side's own tests: the unchanged files, the examples of document 01, the generator.
 oracle-test:
 	cd oracle && cargo test --offline
+
+# The fixed list of the oracle's answers that the program `replay` replays, with what it prints.
+replay-list:
+	cd oracle && cargo run --offline --release -q -p cases --bin replay_list -- $(CALLS) > ../crates/replay/stdin
