@@ -45,3 +45,7 @@ picture: archive
 	mkdir -p target/picture
 	gcc -std=c11 -Wall -Wextra -Werror -O2 -Iinclude docs/picture/cut.c target/staticlib/libhost.a -o target/picture/cut
 	target/picture/cut | python3 docs/picture/draw.py > docs/picture/stale-derivatives.svg
+
+# The fixed list of the oracle's answers that the program `replay` replays, with what it prints.
+replay-list:
+	cd oracle && cargo run --offline --release -q -p cases --bin replay_list -- $(CALLS) > ../crates/replay/stdin
