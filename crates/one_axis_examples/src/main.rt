@@ -1,4 +1,5 @@
 // Document 01's examples on one axis, and the refusals of the calls on one axis.
+use example_lines::BEFORE;
 use rules::Condition;
 
 mod refused;
@@ -7,8 +8,8 @@ mod shown;
 fn natural() {
     let knots = [0.0, 1.0, 2.0];
     let samples = [0.0, 1.0, 0.0];
-    let mut moments = [shown::BEFORE; 3];
-    let mut slopes = [shown::BEFORE; 3];
+    let mut moments = [BEFORE; 3];
+    let mut slopes = [BEFORE; 3];
     shown::moments(
         b"natural",
         3,
@@ -25,7 +26,7 @@ fn first_derivatives() {
     let knots = [0.0, 1.0];
     let samples = [0.0, 1.0];
     let ends = Condition::first_derivative(0.0, 0.0);
-    let mut moments = [shown::BEFORE; 2];
+    let mut moments = [BEFORE; 2];
     shown::moments(
         b"first derivatives",
         2,
@@ -47,7 +48,7 @@ fn first_derivatives() {
 fn not_a_knot() {
     let knots = [0.0, 1.0, 2.0, 3.0];
     let samples = [1.0, 3.0, 5.0, 7.0];
-    let mut moments = [shown::BEFORE; 4];
+    let mut moments = [BEFORE; 4];
     shown::moments(
         b"not a knot",
         4,
@@ -63,8 +64,8 @@ fn not_a_knot() {
 fn periodic() {
     let knots = [0.0, 1.0];
     let samples = [0.0, 5.0];
-    let mut moments = [shown::BEFORE; 2];
-    let mut slopes = [shown::BEFORE; 2];
+    let mut moments = [BEFORE; 2];
+    let mut slopes = [BEFORE; 2];
     shown::moments(
         b"periodic",
         2,
@@ -80,7 +81,7 @@ fn periodic() {
 fn periodic_rounds() {
     let knots = [0.0, 1.0, 2.0];
     let samples = [2.0, 5.0, 1.0];
-    let mut moments = [shown::BEFORE; 3];
+    let mut moments = [BEFORE; 3];
     shown::moments(
         b"periodic rounds",
         3,
@@ -112,5 +113,6 @@ fn main() {
     refused::not_finite();
     refused::knots();
     refused::fewest_points();
-    refused::outcomes();
+    refused::overflows();
+    refused::not_finite_moments();
 }

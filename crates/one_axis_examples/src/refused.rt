@@ -2,6 +2,7 @@
 ghost use Prim.Native.Nat.{_≤_};
 ghost use lib.ListN.{length};
 use crate::shown;
+use example_lines::BEFORE;
 use rules::Condition;
 use rules::End;
 
@@ -11,8 +12,8 @@ fn each_call(name: &[u8], knots: &[f64], samples: &[f64])
 {
     let points = knots.len();
     let zeros = [0.0; 257];
-    let mut moments = [shown::BEFORE; 257];
-    let mut slopes = [shown::BEFORE; 257];
+    let mut moments = [BEFORE; 257];
+    let mut slopes = [BEFORE; 257];
     let natural = Condition::natural();
     shown::moments(
         name,
@@ -40,62 +41,41 @@ pub fn points() {
     each_call(b"257 points", &[0.0; 257], &zeros);
 }
 
+// The three calls for 2 points with slices of these lengths. Not public: it requires that none is longer than 3.
+fn of_lengths(name: &[u8], knots: usize, samples: usize, moments: usize, slopes: usize)
+    requires { ⌜ (knots ≤ 3) × (samples ≤ 3) × (moments ≤ 3) × (slopes ≤ 3) ⌝ }
+{
+    let x = [0.0, 1.0, 2.0];
+    let y = [0.0, 1.0, 2.0];
+    let m = [0.0; 3];
+    let natural = Condition::natural();
+    let mut moments_out = [BEFORE; 3];
+    let mut slopes_out = [BEFORE; 3];
+    shown::moments(
+        name,
+        2,
+        &x[0..knots],
+        &y[0..samples],
+        natural,
+        &mut moments_out[0..moments],
+    );
+    shown::slopes(
+        name,
+        2,
+        &x[0..knots],
+        &y[0..samples],
+        &m[0..moments],
+        &mut slopes_out[0..slopes],
+    );
+    shown::curve(name, 2, &x[0..knots], &y[0..samples], &m[0..moments], 0.5);
+}
+
 // 4: each slice of another length than the points.
 pub fn lengths() {
-    let knots = [0.0, 1.0, 2.0];
-    let samples = [0.0, 1.0, 2.0];
-    let moments = [0.0; 3];
-    let natural = Condition::natural();
-    let mut two = [shown::BEFORE; 2];
-    let mut three = [shown::BEFORE; 3];
-    shown::moments(
-        b"3 knots for 2 points",
-        2,
-        &knots,
-        &samples[0..2],
-        natural,
-        &mut two,
-    );
-    shown::moments(
-        b"1 sample for 2 points",
-        2,
-        &knots[0..2],
-        &samples[0..1],
-        natural,
-        &mut two,
-    );
-    shown::moments(
-        b"3 moments for 2 points",
-        2,
-        &knots[0..2],
-        &samples[0..2],
-        natural,
-        &mut three,
-    );
-    shown::slopes(
-        b"1 moment for 2 points",
-        2,
-        &knots[0..2],
-        &samples[0..2],
-        &moments[0..1],
-        &mut two,
-    );
-    shown::slopes(
-        b"3 slopes for 2 points",
-        2,
-        &knots[0..2],
-        &samples[0..2],
-        &moments[0..2],
-        &mut three,
-    );
-    shown::curve(
-        b"3 moments for 2 points",
-        2,
-        &knots[0..2],
-        &samples[0..2],
-        &moments,
-        0.5,
-    );
+    of_lengths(b"3 knots for 2 points", 3, 2, 2, 2);
+    of_lengths(b"1 sample for 2 points", 2, 1, 2, 2);
+    of_lengths(b"3 moments for 2 points", 2, 2, 3, 2);
+    of_lengths(b"3 slopes for 2 points", 2, 2, 2, 3);
 }
 
 // 5: a scratch of one number less than 2,048, and one of just as many.
@@ -103,9 +83,9 @@ pub fn scratch() {
     let knots = [0.0, 1.0];
     let samples = [0.0, 1.0];
     let natural = Condition::natural();
-    let mut moments = [shown::BEFORE; 2];
-    let mut short = [shown::BEFORE; 2047];
-    let mut enough = [shown::BEFORE; 2048];
+    let mut moments = [BEFORE; 2];
+    let mut short = [BEFORE; 2047];
+    let mut enough = [BEFORE; 2048];
     shown::moments_in(
         b"scratch of 2047",
         2,
@@ -134,7 +114,7 @@ pub fn not_finite() {
     let samples = [0.0, 1.0];
     let zeros = [0.0; 2];
     let ends = Condition::Endpoints(End::SecondDerivative(0.0), End::FirstDerivative(infinity));
-    let mut moments = [shown::BEFORE; 2];
+    let mut moments = [BEFORE; 2];
     shown::curve(b"NaN point", 2, &knots, &samples, &zeros, nan);
     shown::curve(b"infinite point", 2, &knots, &samples, &zeros, infinity);
     each_call(b"NaN sample", &knots, &[0.0, nan]);
@@ -163,7 +143,7 @@ fn first_points(name: &[u8], points: usize, condition: Condition)
 {
     let knots = [0.0, 1.0, 2.0, 3.0];
     let samples = [0.0, 1.0, 0.0, 1.0];
-    let mut moments = [shown::BEFORE; 4];
+    let mut moments = [BEFORE; 4];
     shown::moments(
         name,
         points,
@@ -187,38 +167,24 @@ pub fn fewest_points() {
     first_points(b"not a knot at the upper end with 3 points", 3, upper);
 }
 
-// 10: outcomes that overflow or come from a NaN; moments are not searched for 7.
-pub fn outcomes() {
-    let nan = 0.0 / 0.0;
+// 10: samples and moments that overflow.
+pub fn overflows() {
     let knots = [0.0, 1.0, 2.0];
     let steep = [1e308, -1e308, 1e308];
     let level = [0.0; 3];
     let natural = Condition::natural();
-    let mut output = [shown::BEFORE; 3];
-    shown::moments(
-        b"samples that overflow",
-        3,
-        &knots,
-        &steep,
-        natural,
-        &mut output,
-    );
-    shown::slopes(
-        b"samples that overflow",
-        3,
-        &knots,
-        &steep,
-        &level,
-        &mut output,
-    );
-    shown::curve(b"moments that overflow", 3, &knots, &level, &steep, 9.0);
-    shown::slopes(
-        b"NaN moment",
-        3,
-        &knots,
-        &level,
-        &[0.0, nan, 0.0],
-        &mut output,
-    );
-    shown::curve(b"NaN moment", 3, &knots, &level, &[0.0, nan, 0.0], 0.5);
+    let mut output = [BEFORE; 3];
+    shown::moments(b"steep samples", 3, &knots, &steep, natural, &mut output);
+    shown::slopes(b"steep samples", 3, &knots, &steep, &level, &mut output);
+    shown::curve(b"steep moments at 9", 3, &knots, &level, &steep, 9.0);
+}
+
+// 10, and not 7: moments are not searched for an infinity or NaN.
+pub fn not_finite_moments() {
+    let knots = [0.0, 1.0];
+    let samples = [0.0, 1.0];
+    let moments = [0.0, 0.0 / 0.0];
+    let mut slopes = [BEFORE; 2];
+    shown::slopes(b"NaN moment", 2, &knots, &samples, &moments, &mut slopes);
+    shown::curve(b"NaN moment", 2, &knots, &samples, &moments, 0.5);
 }

@@ -4,3 +4,4 @@ mod HexDigits
 mod DecimalDigits
 mod Words
 mod Examples
+mod ReadBack

@@ -1,8 +1,8 @@
 use Prim.Native.Nat.{_≤_, _-_}
 use lib.ListN.{length}
 use borrow.Author.Needs.{needs}
-use Rattle.one_axis_examples.proofs.shown.print_numbers.Statement.{statement}
-use Rattle.one_axis_examples.proofs.shown.print_numbers.Tie as tie
+use Rattle.example_lines.proofs.print_numbers.Statement.{statement}
+use Rattle.example_lines.proofs.print_numbers.Tie as tie
 
 abbrev Inv-loop : tie.InvT-loop
 Inv-loop numbers i₀ i = (i ≤ length numbers)
