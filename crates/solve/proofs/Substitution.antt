@@ -53,13 +53,13 @@ module _ (w₀ w : List Float) (l to : ℕ) (x : Float) (k : ℕ) (t : Turn w₀
   other j n = getD-set-other w₁ (to + (k - 1)) j next-x nan n
 
   -- a helper row's number is outside the result
-  helper : (h : ℕ) → h < 512 → at w₁ (1280 + h) ≡ at w₀ (1280 + h)
-  helper h b = t .done .kept (1280 + h) (λ i g e. t .place .apart i (omega arith) h b (sym e))
+  helper-rows-kept : (h : ℕ) → h < 512 → at w₁ (1280 + h) ≡ at w₀ (1280 + h)
+  helper-rows-kept h b = t .done .kept (1280 + h) (λ i g e. t .place .apart i (omega arith) h b (sym e))
 
   next-x-is : next-x ≡ row w₀ 1536 (k - 1) ⊖ row w₀ 1280 (k - 1) ⊗ at w₂ (to + k)
   next-x-is =
       let e : 1280 + (256 + (k - 1)) ≡ 1536 + (k - 1) = omega arith in
-      cc (helper (256 + (k - 1)) (omega arith), helper (k - 1) (omega arith), at-x, other (to + k) (omega arith))
+      cc (helper-rows-kept (256 + (k - 1)) (omega arith), helper-rows-kept (k - 1) (omega arith), at-x, other (to + k) (omega arith))
 
   next-here : row w₂ to (k - 1) ≡ row w₀ 1536 (k - 1) ⊖ row w₀ 1280 (k - 1) ⊗ row w₂ to (suc (k - 1))
   next-here = let e : suc (k - 1) ≡ k = omega arith in rw e (at-next ∙ next-x-is)
