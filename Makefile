@@ -46,6 +46,8 @@ picture: archive
 	gcc -std=c11 -Wall -Wextra -Werror -O2 -Iinclude docs/picture/cut.c target/staticlib/libhost.a -o target/picture/cut
 	target/picture/cut | python3 docs/picture/draw.py > docs/picture/stale-derivatives.svg
 
-# The fixed list of the oracle's answers that the program `replay` replays, with what it prints.
+# The fixed list of the oracle's answers that the program `replay` is run on, and what it prints where every case is the same.
 replay-list:
 	cd oracle && cargo run --offline --release -q -p cases --bin replay_list -- $(CALLS) > ../crates/replay/stdin
+	od -An -tu8 --endian=big -N8 crates/replay/stdin \
+	    | awk '{ for (i = 1; i <= $$1; i++) print i, "same"; print $$1, "cases,", $$1, "the same" }' > crates/replay/stdout
