@@ -5,61 +5,17 @@ use mathlib.Core.Bool.{Bool, true, false, cond, _&&_, _||_, and-false}
 use mathlib.Core.List.{List, [], _∷_, _++_}
 use Prim.Native.Nat.{ℕ, zero, suc, _+_, _-_, _*_, _/_, _%_, _^_, _<_, _≤_}
 use native.Mathlib.Omega.{arith}
-use native.Mathlib.Nat.{zero-add, add-zero, add-suc, suc-add, add-assoc, add-comm, add-sub-of-le, zero-mul, mul-zero, suc-mul, one-mul, mul-one, mul-comm, mul-add, add-mul, two-pow-succ, le-of-suc-le-suc, eq-or-lt-of-le}
+use native.Mathlib.Nat.{zero-add, add-zero, add-suc, suc-add, add-assoc, add-sub-of-le, zero-mul, one-mul, mul-one, mul-comm, two-pow-succ, le-of-suc-le-suc, eq-or-lt-of-le}
 use native.Mathlib.Numerals.{one-add}
-use lib.Arith.{digits-div, digits-mod}
 use lib.Dec.{eqb}
 use lib.ListN.{length}
 use borrow.Author.Tests.{eqb-true, eqb-false, eq-eqb, ne-eqb}
 use Rattle.rules.specs.Numbers.{table, table-from, filter}
 use Rattle.rules.specs.Sizes.{Grid, points, sum-below, product-below, samples-length, Place, moved, unflat, in-mask}
-use Rattle.rules.specs.Change.{agree, can-differ, Lane, starts, lanes-from, lanes-along, lanes-below, change-lanes, product-of-one-more, lane-sum}
+use Rattle.rules.specs.Change.{agree, can-differ, Lane, starts, lanes-from, lanes-along, lanes-below, change-lanes, lane-sum}
 use Rattle.rules.proofs.Places.{OnGrid, moved-on-grid, unflat-last, unflat-before}
 use Rattle.rules.proofs.Mask.{in-mask-top, in-mask-below, in-mask-above}
-
--- sums and products of the same numbers
-sum-ext : (u v : ℕ → ℕ) (n : ℕ) → ((k : ℕ) → k < n → u k ≡ v k) → sum-below u n ≡ sum-below v n
-unfolding sum-below
-sum-ext u v zero same = refl
-sum-ext u v (suc n) same = cc (sum-ext u v n (λ k l. same k (omega arith)), same n (omega arith))
-
-product-ext : (u v : ℕ → ℕ) (n : ℕ) → ((k : ℕ) → k < n → u k ≡ v k) → product-below u n ≡ product-below v n
-unfolding product-below
-product-ext u v zero same = refl
-product-ext u v (suc n) same = cc (product-ext u v n (λ k l. same k (omega arith)), same n (omega arith))
-
--- a sum in two parts
-sum-split : (u : ℕ → ℕ) (m n : ℕ) → sum-below u (m + n) ≡ sum-below u m + sum-below (λ k. u (m + k)) n
-unfolding sum-below
-sum-split u m zero = simp add-zero
-sum-split u m (suc n) = rw (add-suc, sum-split u m n) (omega arith)
-
--- a sum of numbers with a common factor
-sum-scale : (u : ℕ → ℕ) (c n : ℕ) → sum-below (λ k. u k * c) n ≡ sum-below u n * c
-unfolding sum-below
-sum-scale u c zero = rw zero-mul
-sum-scale u c (suc n) = rw (sum-scale u c n, add-mul)
-
--- a sum of one number n times
-sum-same : (c n : ℕ) → sum-below (λ k. c) n ≡ n * c
-unfolding sum-below
-sum-same c zero = rw zero-mul
-sum-same c (suc n) = rw (sum-same c n, suc-mul)
-
--- a sum over the numbers below m * c, each by its quotient and its remainder
-sum-digits : (u v : ℕ → ℕ) (m c : ℕ) → sum-below (λ f. u (f % c) * v (f / c)) (m * c) ≡ sum-below u c * sum-below v m
-unfolding sum-below
-sum-digits u v zero c = rw (zero-mul, mul-zero)
-sum-digits u v (suc m) c =
-    let last : sum-below (λ k. u ((m * c + k) % c) * v ((m * c + k) / c)) c ≡ sum-below u c * v m =
-    sum-ext _ (λ k. u k * v m) c (λ k l. rw (digits-mod m l, digits-div m l)) ∙ sum-scale u (v m) c in
-    rw (suc-mul, sum-split, sum-digits u v m c, last, mul-add)
-
--- a product whose factors from i on are ones
-product-stops : (u : ℕ → ℕ) (i e : ℕ) → ((j : ℕ) → i ≤ j → u j ≡ 1) → product-below u (i + e) ≡ product-below u i
-unfolding product-below
-product-stops u i zero ones = rw add-zero
-product-stops u i (suc e) ones = rw (add-suc, ones (i + e) (omega arith), mul-one) (product-stops u i e ones)
+use Rattle.rules.proofs.Sums.{sum-ext, sum-same, sum-digits, product-stops, points-product, sum-of-points-products}
 
 -- how many numbers below n pass a test
 abbrev one-if : Bool → ℕ
@@ -146,10 +102,6 @@ start-agrees i mask (suc d) p changed h l =
     (and-left-comm (eqb (p i) 0) (eqb (p d) (changed d)) _))
     (eq-or-lt-of-le (le-of-suc-le-suc l))
 
--- the product of the points on those of the first d axes that lie in a mask
-abbrev points-product : (ℕ → ℕ) → ℕ → ℕ → ℕ
-points-product n mask d = product-below (λ j. cond (in-mask mask j) (n j) 1) d
-
 -- how many numbers start a lane along axis i, of one mask, that can differ
 count-starts : (n : ℕ → ℕ) (i mask d : ℕ) (changed : Place) → mask < 2 ^ i → i < d → OnGrid n d changed
     → count (λ f. eqb (unflat n d f i) 0 && agree (in-mask (mask + 2 ^ i)) d (unflat n d f) changed) (product-below n d)
@@ -160,23 +112,6 @@ count-starts n i mask d changed h l on-grid =
     (moved-on-grid n d i 0 changed on-grid (omega (arith, on-grid i l)))
     ∙ rw (← add-sub-of-le {n = d} {m = i} (omega arith))
     (product-stops _ i (d - i) (λ j above. rw (in-mask-above i mask j h above)))
-
--- over all masks below 2^i, where each axis below i lies in a mask or not
-sum-of-points-products : (n : ℕ → ℕ) (i : ℕ) → sum-below (λ mask. points-product n mask i) (2 ^ i) ≡ product-of-one-more n i
-unfolding sum-below product-below product-of-one-more
-sum-of-points-products n zero = refl
-sum-of-points-products n (suc i) =
-    let without : sum-below (λ mask. points-product n mask (suc i)) (2 ^ i) ≡ product-of-one-more n i =
-    sum-ext _ (λ mask. points-product n mask i) (2 ^ i)
-    (λ mask l. rw (in-mask-above i mask i l (omega arith), mul-one))
-    ∙ sum-of-points-products n i in
-    let with-i : sum-below (λ mask. points-product n (2 ^ i + mask) (suc i)) (2 ^ i) ≡ product-of-one-more n i * n i =
-    sum-ext _ (λ mask. points-product n mask i * n i) (2 ^ i)
-    (λ mask l. rw (add-comm (2 ^ i) mask, in-mask-top i mask l)
-    (ap (λ (x : ℕ). x * n i) (product-ext _ _ i (λ j below. rw (in-mask-below i mask j below)))))
-    ∙ sum-scale (λ mask. points-product n mask i) (n i) (2 ^ i)
-    ∙ rw (sum-of-points-products n i) in
-    rw (two-pow-succ i, sum-split, without, with-i, mul-add, mul-one)
 
 module _ {A : Type 0} (test : A → Bool) where
   -- how many elements of a list pass a test

@@ -2,6 +2,7 @@ pub mod Cases
 pub mod Tables
 pub mod Places
 pub mod Mask
+pub mod Sums
 pub mod Locality
 pub mod ChangeIsBuild
 pub mod LaneCount
