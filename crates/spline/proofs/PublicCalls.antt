@@ -25,7 +25,8 @@ use Rattle.checks.proofs.ThenOutcome.{ThenOutcome, Refused, refused, outcome, o
 use Rattle.checks.proofs.Accepted.{moments-given, curve-given, slopes-given}
 use Rattle.locate.specs.Answers.{Rising, Located}
 use Rattle.locate.proofs.Accepted.{accepted-rise}
-use Rattle.spline.specs.Lanes.{samples-in, LaneGiven, MomentsSolved}
+use Rattle.rows.specs.Rows.{samples-in, LaneGiven}
+use Rattle.moments.specs.Lanes.{MomentsSolved}
 use Rattle.spline.specs.Work.{AxisLengths, outcome-number, MomentsWorked}
 
 -- ---- the knot slopes, one by one

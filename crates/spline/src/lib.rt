@@ -6,25 +6,10 @@ ghost use Rattle.rules.specs.Ends.{fewest-points};
 ghost use Rattle.rules.specs.Curve.{knot-slope, knot-slopes, curve-in-cell};
 ghost use Rattle.rules.specs.Refusals.{outcome-refused};
 ghost use Rattle.rules.specs.Calls.{MomentsPromise, CurvePromise, SlopesPromise};
-ghost use Rattle.spline.specs.Lanes.{LaneGiven, MomentsSolved};
+ghost use Rattle.rows.specs.Rows.{LaneGiven};
 ghost use Rattle.spline.specs.Work.{AxisLengths, MomentsWorked};
 use rules::Condition;
 use rules::CurveAnswer;
-
-pub mod lane;
-pub mod rows;
-
-// The moments of the lane whose samples stand in front of the scratch, under a condition. They go from RESULT on.
-// Not public: it requires a scratch of 2,048 numbers, 2 to 256 knots, and the fewest points of the condition.
-pub fn compute_m(w: &mut [f64], x: &[f64], condition: Condition)
-    requires { ⌜ LaneGiven (now w) (now x) × (fewest-points condition ≤ length (now x)) ⌝ }
-    ensures { λ _. ⌜ MomentsSolved (now (w .entry)) (now (w .exit)) (now (x .entry)) condition ⌝ }
-{
-    match condition {
-        Condition::Endpoints(lower, upper) => lane::endpoint_moments(w, x, lower, upper),
-        Condition::Periodic => lane::periodic_moments(w, x),
-    }
-}
 
 // The slope of the curve at knot i. Not public: it requires a sample and a moment for each of at least two knots.
 pub fn knot_slope(x: &[f64], y: &[f64], m: &[f64], i: usize) -> f64
@@ -152,7 +137,7 @@ fn work_moments(
 {
     let n = knots.len();
     base::copy(&mut scratch[0..n], samples);
-    compute_m(scratch, knots, condition);
+    moments::compute_m(scratch, knots, condition);
     if base::any_not_finite(&scratch[1792..1792 + n]) {
         base::clear(scratch);
         return 10;

@@ -9,7 +9,7 @@ use Rattle.rules.specs.Numbers.{at, table}
 use Rattle.rules.specs.Moments.{moments}
 use Rattle.rules.specs.Curve.{knot-slope, lane-slope}
 use Rattle.rules.specs.declared.Condition.{Condition}
-use Rattle.spline.specs.Lanes.{MomentsSolved}
+use Rattle.moments.specs.Lanes.{MomentsSolved}
 use Rattle.tensor.specs.Lanes.{Lies, Gathered, slope-of-rows, Stored, LaneGiven, LaneSolved}
 use Rattle.tensor.proofs.Parts.{part-is-table}
 

@@ -54,6 +54,6 @@ pub fn solve_lane(
     ensures { λ _. ⌜ LaneSolved (now (w .entry)) (now (w .exit)) (now (x .entry)) condition from to step ⌝ }
 {
     gather(w, x.len(), from, step);
-    spline::compute_m(w, x, condition);
+    moments::compute_m(w, x, condition);
     store_slopes(w, x, to, step);
 }

@@ -11,7 +11,7 @@ use Rattle.spline.proofs.work_moments.Lts as lts
 use Rattle.base.proofs.any_not_finite.Reads as any-not-finite-reads
 use Rattle.base.proofs.clear.Reads as clear-reads
 use Rattle.base.proofs.copy.Reads as copy-reads
-use Rattle.spline.proofs.compute_m.Reads as compute-m-reads
+use Rattle.moments.proofs.compute_m.Reads as compute-m-reads
 
 sub-copy : tie.Need-sub-copy
 sub-copy c = search needs

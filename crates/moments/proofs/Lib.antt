@@ -1,0 +1,4 @@
+pub mod Stores
+pub mod RowsOfBothEnds
+pub mod Endpoints
+pub mod PeriodicLane

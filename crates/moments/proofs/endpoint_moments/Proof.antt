@@ -1,0 +1,36 @@
+use borrow.Author.Needs.{needs}
+use Rattle.moments.proofs.Endpoints.{moments-solved}
+use Rattle.moments.proofs.endpoint_moments.Statement.{statement}
+use Rattle.moments.proofs.endpoint_moments.Tie as tie
+use Rattle.moments.proofs.endpoint_moments.Reads as reads
+use Rattle.moments.proofs.endpoint_moments.Lts as lts
+use Rattle.moments.proofs.drop_lower.Reads as drop-lower-reads
+use Rattle.moments.proofs.drop_upper.Reads as drop-upper-reads
+use Rattle.moments.proofs.inner_moments.Reads as inner-moments-reads
+
+inner-moments-requires : tie.Need-inner-moments-requires
+inner-moments-requires c κs = search needs
+
+drop-lower-requires : tie.Need-drop-lower-requires
+drop-lower-requires c κs = search needs
+
+drop-upper-requires : tie.Need-drop-upper-requires
+drop-upper-requires c κs = search needs
+
+same-length : tie.Need-same-length
+same-length c = search needs
+
+returns : tie.Need-returns
+returns c =
+    let start = c .before .before .before .before .before .before .before .before .before .before .before .before .before .before in
+    moments-solved _ _ _ _ _ _ _
+    (start .pre .1)
+    (start .pre .0 .most)
+    (c .before .before .before .before .before .before .before .before .before .before .inner-moments .ensures)
+    (c .before .before .before .before .before .before .drop-lower .ensures)
+    (c .before .before .drop-upper .ensures)
+
+pub endpoint-moments-spec : {M : Type 1} → statement M
+endpoint-moments-spec =
+    tie.close
+    (tie.spec inner-moments-requires drop-lower-requires drop-upper-requires same-length returns)

@@ -1,0 +1,115 @@
+use native.Mathlib.Omega.{arith}
+use native.Mathlib.Nat.{sub-zero}
+use borrow.Author.Needs.{needs}
+use Rattle.moments.proofs.RowsOfBothEnds.{dropped-most, lower-drops, upper-drops, rows-solved}
+use Rattle.moments.proofs.inner_moments.Statement.{statement}
+use Rattle.moments.proofs.inner_moments.Tie as tie
+use Rattle.moments.proofs.inner_moments.Reads as reads
+use Rattle.moments.proofs.inner_moments.Lts as lts
+use Rattle.solve.proofs.thomas.Reads as thomas-reads
+use Rattle.rows.proofs.first_row.Reads as first-row-reads
+use Rattle.rows.proofs.interior_rows.Reads as interior-rows-reads
+use Rattle.rows.proofs.last_row.Reads as last-row-reads
+use Rattle.rows.proofs.lower_row.Reads as lower-row-reads
+use Rattle.rows.proofs.upper_row.Reads as upper-row-reads
+
+sub-lower-row : tie.Need-sub-lower-row
+sub-lower-row c = search needs
+
+part-lower-row-start : tie.Need-part-lower-row-start
+part-lower-row-start c = search needs
+
+part-lower-row-end : tie.Need-part-lower-row-end
+part-lower-row-end c = search needs
+
+lower-row-requires : tie.Need-lower-row-requires
+lower-row-requires c κs = search needs
+
+sub-upper-row : tie.Need-sub-upper-row
+sub-upper-row c = search needs
+
+part-upper-row-start : tie.Need-part-upper-row-start
+part-upper-row-start c = search needs
+
+part-upper-row-end : tie.Need-part-upper-row-end
+part-upper-row-end c = search needs
+
+upper-row-requires : tie.Need-upper-row-requires
+upper-row-requires c κs = search needs
+
+sub-l : tie.Need-sub-l
+sub-l c = search needs
+
+sub-l-2 : tie.Need-sub-l-2
+sub-l-2 c = omega (arith, lower-drops _ _ _ _ (c .before .before .before .lower-row .ensures))
+
+sub-l-3 : tie.Need-sub-l-3
+sub-l-3 c = omega (arith, lower-drops _ _ _ _ (c .before .before .before .before .lower-row .ensures), upper-drops _ _ _ _ (c .before .upper-row .ensures))
+
+interior-rows-requires : tie.Need-interior-rows-requires
+interior-rows-requires c κs =
+    let e = lower-drops _ _ _ _ (c .before .before .before .before .before .lower-row .ensures) in
+    let f = upper-drops _ _ _ _ (c .before .before .upper-row .ensures) in
+    (c .before .before .before .before .before .before .before .before .before .before .pre .0, omega arith, omega arith)
+
+first-row-requires : tie.Need-first-row-requires
+first-row-requires c κs = search needs
+
+last-row-requires : tie.Need-last-row-requires
+last-row-requires c κs = search needs
+
+add-thomas : tie.Need-add-thomas
+add-thomas c = omega (arith, lower-drops _ _ _ _ (c .before .before .before .before .before .before .before .before .before .before .before .before .before .before .before .before .before .lower-row .ensures), dropped-most (c .before .before .before .before .before .before .before .before .before .before .before .before .before .before .before .before .before .before .before .before .before .before .args .lower))
+
+thomas-requires : tie.Need-thomas-requires
+thomas-requires c κs =
+    let e = lower-drops _ _ _ _ (c .before .before .before .before .before .before .before .before .before .before .before .before .before .before .before .before .before .lower-row .ensures) in
+    let f = upper-drops _ _ _ _ (c .before .before .before .before .before .before .before .before .before .before .before .before .before .before .upper-row .ensures) in
+    let g = dropped-most (c .before .before .before .before .before .before .before .before .before .before .before .before .before .before .before .before .before .before .before .before .before .before .args .lower) in
+    let p = c .before .before .before .before .before .before .before .before .before .before .before .before .before .before .before .before .before .before .before .before .before .before .pre .0 in
+    let q = c .before .before .before .before .before .before .before .before .before .before .before .before .before .before .before .before .before .before .before .before .before .before .pre .1 in (
+      record {
+        room = omega (arith, c .before .before .before .before .before .before .before .before .before .before .before .interior-rows .ensures .same-length, c .before .before .before .before .before .before .before .first-row .ensures .same-length, c .before .before .before .last-row .ensures .same-length);
+        fit = omega arith;
+      },
+      record { inside = omega arith; apart = λ k most j below. omega arith },
+    )
+
+same-length : tie.Need-same-length
+same-length c = search needs
+
+returns : tie.Need-returns
+returns c =
+    let start = c .before .before .before .before .before .before .before .before .before .before .before .before .before .before .before .before .before .before .before .before .before .before .before .before .before in
+    rows-solved _ _ _ _ _ _ _ _ _ _
+    (start .pre .0)
+    (start .pre .1)
+    (rw sub-zero at (c .before .before .before .before .before .before .before .before .before .before .before .before .before .before .before .before .before .before .before .before .lower-row .ensures))
+    (rw sub-zero at (c .before .before .before .before .before .before .before .before .before .before .before .before .before .before .before .before .before .upper-row .ensures))
+    (c .before .before .before .before .before .before .before .before .before .before .before .before .before .before .interior-rows .ensures)
+    (c .before .before .before .before .before .before .before .before .before .before .first-row .ensures)
+    (c .before .before .before .before .before .before .last-row .ensures)
+    (c .before .before .thomas .ensures)
+
+pub inner-moments-spec : {M : Type 1} → statement M
+inner-moments-spec =
+    tie.close
+    (tie.spec
+    sub-lower-row
+    part-lower-row-start
+    part-lower-row-end
+    lower-row-requires
+    sub-upper-row
+    part-upper-row-start
+    part-upper-row-end
+    upper-row-requires
+    sub-l
+    sub-l-2
+    sub-l-3
+    interior-rows-requires
+    first-row-requires
+    last-row-requires
+    add-thomas
+    thomas-requires
+    same-length
+    returns)

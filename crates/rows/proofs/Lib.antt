@@ -1,0 +1,3 @@
+pub mod Interior
+pub mod Ends
+pub mod Stores
