@@ -1,22 +1,21 @@
 -- From the solved rows and the two dropped moments: all the moments under two ends.
 use native.Mathlib.Omega.{arith}
-use mathlib.Core.Path.{_≡_, refl, sym, ap, ap₂, _∙_}
+use mathlib.Core.Path.{_≡_, refl, sym, ap, _∙_}
 use mathlib.Core.Logic.{_≢_, ⊎-elim}
 use mathlib.Core.List.{List}
-use Prim.Native.Nat.{ℕ, _+_, _-_, _<_, _≤_}
+use Prim.Native.Nat.{ℕ, _+_, _-_, _≤_}
 use native.Mathlib.Nat.{eq-or-lt-of-le}
 use lib.ListN.{length}
 use borrow.Author.Tests.{eq-eqb, ne-eqb}
 use lib.Ieee.{Float}
-use Rattle.rules.specs.Numbers.{_⊕_, _⊖_, _⊗_, _⊘_, at}
+use Rattle.rules.specs.Numbers.{at}
 use Rattle.rules.specs.Ends.{dropped}
-use Rattle.rules.specs.Steps.{h}
 use Rattle.rules.specs.Moments.{inner, first-moment, last-moment, moment}
 use Rattle.rules.specs.declared.End.{End}
 use Rattle.rules.specs.declared.End.the-variants.{NotAKnot, FirstDerivative, SecondDerivative}
 use Rattle.rules.specs.declared.Condition.the-variants.{Endpoints}
-use Rattle.solve.specs.Rows.{row, Outside}
-use Rattle.rows.specs.Rows.{samples-in, LaneGiven}
+use Rattle.solve.specs.Rows.{row}
+use Rattle.rows.specs.Rows.{samples-in}
 use Rattle.moments.specs.Lanes.{InnerSolved, lower-moment, upper-moment, OneStored, MomentsSolved}
 use Rattle.moments.proofs.RowsOfBothEnds.{zero-or-more, dropped-most}
 

@@ -1,7 +1,7 @@
 -- The moments of a periodic lane: its rows are the definition's, so the cyclic solve is its solve, and the last moment is the first.
 use native.Mathlib.Omega.{arith}
-use mathlib.Core.Path.{_≡_, refl, sym, ap, ap₂, _∙_}
-use mathlib.Core.Logic.{_≢_, ⊎-elim}
+use mathlib.Core.Path.{_≡_, ap, _∙_}
+use mathlib.Core.Logic.{⊎-elim}
 use mathlib.Core.List.{List}
 use Prim.Native.Nat.{ℕ, _+_, _-_, _<_, _≤_}
 use native.Mathlib.Nat.{eq-or-lt-of-le}
@@ -10,10 +10,10 @@ use lib.Seq.{getD-set-same, getD-set-other}
 use borrow.Author.Tests.{eq-eqb, ne-eqb, le-leb, lt-leb}
 use lib.Ieee.{Float, nan}
 use Rattle.rules.specs.Numbers.{at, plus-zero}
-use Rattle.rules.specs.Steps.{h, u}
+use Rattle.rules.specs.Steps.{h}
 use Rattle.rules.specs.Moments.{periodic-diag, periodic-rhs, periodic-moment, moment}
 use Rattle.rules.specs.declared.Condition.the-variants.{Periodic}
-use Rattle.solve.specs.Rows.{row, of-rows, Outside}
+use Rattle.solve.specs.Rows.{row}
 use Rattle.solve.specs.Cyclic.{CyclicSolved}
 use Rattle.solve.proofs.Agreement.{same-cyclic}
 use Rattle.rows.specs.Rows.{samples-in, LaneGiven, InteriorRows, FirstRow, periodic-row}

@@ -1,6 +1,6 @@
 -- The rows of both ends and those between them are the rows of the definition, so their solve is its solve.
 use native.Mathlib.Omega.{arith}
-use mathlib.Core.Path.{_≡_, refl, sym, ap, _∙_}
+use mathlib.Core.Path.{_≡_, refl, ap, _∙_}
 use mathlib.Core.Logic.{_≢_, _⊎_, inl, inr, ⊎-elim}
 use mathlib.Core.Bool.{cond}
 use mathlib.Core.List.{List}
@@ -16,7 +16,7 @@ use Rattle.rules.specs.Moments.{lower-row, upper-row, sub, diag, sup, rhs, inne
 use Rattle.rules.specs.declared.End.{End}
 use Rattle.rules.specs.declared.End.the-variants.{NotAKnot, FirstDerivative, SecondDerivative}
 use Rattle.rows.specs.declared.EndRow.{EndRow}
-use Rattle.solve.specs.Rows.{row, Outside, Solved}
+use Rattle.solve.specs.Rows.{row, Solved}
 use Rattle.solve.proofs.Agreement.{same-thomas}
 use Rattle.rows.specs.Rows.{lower-end-row, upper-end-row, samples-in, LaneGiven, InteriorRows, FirstRow, LastRow}
 use Rattle.moments.specs.Lanes.{InnerSolved}

@@ -1,6 +1,5 @@
 // The moments of a lane whose samples stand in front of the scratch: its rows solved, and the dropped moments. They go from RESULT on.
 // The steps of `compute_m` require a scratch of 2,048 numbers, 2 to 256 knots, and the fewest points of the ends.
-ghost use mathlib.Core.Path.{_≡_};
 ghost use Prim.Native.Nat.{_+_, _-_, _≤_};
 ghost use lib.ListN.{length};
 ghost use Rattle.rules.specs.Ends.{dropped, fewest-points};

@@ -1,6 +1,6 @@
 -- The row of a NotAKnot at the upper end, with the difference of the last two slopes in place of u.
 use native.Mathlib.Omega.{arith}
-use mathlib.Core.Path.{_≡_, sym, ap, _∙_}
+use mathlib.Core.Path.{_≡_, ap}
 use mathlib.Core.List.{List}
 use Prim.Native.Nat.{ℕ, _+_, _-_, _≤_}
 use lib.ListN.{length}
@@ -9,7 +9,6 @@ use Rattle.rules.specs.Numbers.{_⊕_, _⊖_, _⊗_, two, six}
 use Rattle.rules.specs.Steps.{h, s, u}
 use Rattle.rules.specs.Moments.{upper-row}
 use Rattle.rules.specs.declared.End.the-variants.{NotAKnot}
-use Rattle.rules.specs.declared.Row.{Row}
 use Rattle.rows.specs.Rows.{upper-end-row}
 use Rattle.rows.specs.declared.EndRow.{EndRow}
 

@@ -4,26 +4,25 @@ use mathlib.Core.Path.{_≡_, refl, sym, ap, ap₂, _∙_}
 use mathlib.Core.Bool.{Bool, true, false, not, cond}
 use mathlib.Core.List.{List, _++_}
 use Prim.Native.Nat.{ℕ, _+_, _-_, _<_, _≤_}
-use lib.ListN.{length, getD, take, drop, length-append, length-drop}
+use lib.ListN.{length, take, drop, length-append, length-drop}
 use lib.Seq.{getD-take, getD-drop, length-take-le, take-at}
 use lib.Ieee.{Float, nan}
 use lib.Ieee.Scale.{finite}
-use Rattle.rules.specs.Numbers.{at, plus-zero, zeros, table}
+use Rattle.rules.specs.Numbers.{at, plus-zero, zeros}
 use borrow.Author.Tests.{ltb-false}
 use Rattle.rules.specs.Ends.{fewest-points}
 use Rattle.rules.specs.Refusals.{number-refused, outcome-refused, answer-refused}
-use Rattle.rules.specs.Locate.{locate}
 use Rattle.rules.specs.Moments.{moment, moments}
 use Rattle.rules.specs.Curve.{knot-slope, knot-slopes, curve-in-cell, curve}
-use Rattle.rules.specs.Calls.{stored, scratch-after, answered, moments-refusal, MomentsPromise, curve-refusal, curve-answer, CurvePromise, slopes-refusal, SlopesPromise}
+use Rattle.rules.specs.Calls.{stored, scratch-after, moments-refusal, MomentsPromise, curve-answer, CurvePromise, SlopesPromise}
 use Rattle.rules.specs.declared.Condition.{Condition}
 use Rattle.rules.specs.declared.CurveAnswer.{CurveAnswer}
 use Rattle.rules.proofs.Tables.{length-table, at-table, table-is}
 use Rattle.checks.specs.Check.{moments-check, curve-check, slopes-check}
-use Rattle.checks.specs.Given.{AxisGiven, MomentsGiven, CurveGiven, SlopesGiven}
-use Rattle.checks.proofs.ThenOutcome.{ThenOutcome, Refused, refused, outcome, outcome-bad, outcome-good, moments-outcome, curve-outcome, slopes-outcome}
+use Rattle.checks.specs.Given.{MomentsGiven, CurveGiven}
+use Rattle.checks.proofs.ThenOutcome.{refused, outcome, outcome-bad, outcome-good, moments-outcome, curve-outcome, slopes-outcome}
 use Rattle.checks.proofs.Accepted.{moments-given, curve-given, slopes-given}
-use Rattle.locate.specs.Answers.{Rising, Located}
+use Rattle.locate.specs.Answers.{Located}
 use Rattle.locate.proofs.Accepted.{accepted-rise}
 use Rattle.rows.specs.Rows.{samples-in, LaneGiven}
 use Rattle.moments.specs.Lanes.{MomentsSolved}
