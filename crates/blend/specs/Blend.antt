@@ -6,8 +6,8 @@ use lib.ListN.{getD, length}
 use lib.Ieee.{Float, nan}
 use Rattle.rules.specs.Numbers.{_⊕_, _⊗_, at}
 use Rattle.rules.specs.Query.{hermite, without-lowest}
-use Rattle.query.specs.declared.Weights.{Weights}
-use Rattle.query.specs.declared.AxisCell.{AxisCell}
+use Rattle.blend.specs.declared.Weights.{Weights}
+use Rattle.blend.specs.declared.AxisCell.{AxisCell}
 
 -- the last line of `evaluate_hermite_1d`
 abbrev pub weighted : Weights → Float → Float → Float → Float → Float

@@ -1,8 +1,7 @@
 use borrow.Author.Needs.{needs}
 use Rattle.query.proofs.Locating.{on-one-axis}
-use borrow.Author.Needs.{needs}
-use Rattle.query.proofs.locate_on_axis.Statement.{statement}
-use Rattle.query.proofs.locate_on_axis.Tie as tie
+use Rattle.query.proofs.located.locate_on_axis.Statement.{statement}
+use Rattle.query.proofs.located.locate_on_axis.Tie as tie
 
 returns : tie.Need-returns
 returns c =

@@ -10,10 +10,8 @@ use lib.ListN.{take}
 use lib.Seq.{getD-take}
 use lib.Ieee.{Float, nan}
 use Rattle.rules.specs.Numbers.{at}
-use Rattle.rules.specs.Sizes.{Grid, Place}
-use Rattle.rules.specs.Query.{without-lowest, blend, cell}
-use Rattle.query.specs.Blend.{Removed}
-use Rattle.query.specs.Cell.{Gathered}
+use Rattle.rules.specs.Query.{without-lowest, blend}
+use Rattle.blend.specs.Blend.{Removed}
 
 -- ---- what the blend sees
 
@@ -83,12 +81,3 @@ one-fewer (suc left) axes size widths ts cell later some most e removed r is =
     (λ k h. getD-take size later k nan (omega arith)
     ∙ removed .smaller k (omega arith)
     ∙ ap (λ (n : ℕ). without-lowest n (widths (axes - suc left)) (ts (axes - suc left)) (at cell) k) s))
-
--- a gathered cell is blended as the tensor's
-pub gathered-blend :
-    (g : Grid) (tensor : List Float) (lower : Place) (widths ts : ℕ → Float) (gathered : List Float) → Gathered g tensor lower gathered
-    → (r : Float) → r ≡ blend (g .axes) (g .axes - g .axes) widths ts (at gathered) → r ≡ blend (g .axes) 0 widths ts (cell g tensor lower)
-gathered-blend g tensor lower widths ts gathered given r is =
-    let first : g .axes - g .axes ≡ 0 = omega arith in
-    rw (is, first)
-    (blend-ext (g .axes) 0 widths widths ts ts (at gathered) (cell g tensor lower) (λ i a b. refl) (λ i a b. refl) (given .number))

@@ -8,14 +8,14 @@ use lib.Seq.{length-take-le}
 use borrow.Author.Needs.{needs}
 use borrow.Fn.Kinds.{In}
 use borrow.Fn.PlainCycle.{Measures, is, falls, and}
-use Rattle.query.specs.Blend.{widths, ts}
-use Rattle.query.proofs.Blending.{quarter, few, none-left, one-fewer}
-use Rattle.query.proofs.blend.Reads as blend
-use Rattle.query.proofs.blend.Kinds as blend-kinds
-use Rattle.query.proofs.+blend.Lts-blend as blend-lts
-use Rattle.query.proofs.remove_lowest.Reads as remove-lowest-reads
-use Rattle.query.proofs.+blend.{statement}
-use Rattle.query.proofs.+blend.Tie.{close}
+use Rattle.blend.specs.Blend.{widths, ts}
+use Rattle.blend.proofs.Blending.{quarter, few, none-left, one-fewer}
+use Rattle.blend.proofs.blend.Reads as blend
+use Rattle.blend.proofs.blend.Kinds as blend-kinds
+use Rattle.blend.proofs.+blend.Lts-blend as blend-lts
+use Rattle.blend.proofs.remove_lowest.Reads as remove-lowest-reads
+use Rattle.blend.proofs.+blend.{statement}
+use Rattle.blend.proofs.+blend.Tie.{close}
 
 abbrev μ-blend : Measures 1 blend-kinds.ps ℕ
 μ-blend κs a = a .1 .0

@@ -2,8 +2,8 @@ use borrow.Author.Needs.{needs}
 use native.Mathlib.Omega.{arith}
 use Prim.Native.Nat.{_-_}
 use Rattle.query.proofs.Corners.{Turn, turn-first, turn-small, turn-next, turn-last}
-use Rattle.query.proofs.corner_place.Statement.{statement}
-use Rattle.query.proofs.corner_place.Tie as tie
+use Rattle.query.proofs.cell.corner_place.Statement.{statement}
+use Rattle.query.proofs.cell.corner_place.Tie as tie
 
 abbrev Inv-loop : tie.InvT-loop
 Inv-loop axes bits all cells place₀ i₀ place i = Turn axes all cells bits place i

@@ -1,8 +1,8 @@
 use borrow.Author.Needs.{needs}
 use Prim.Native.Nat.{_-_}
-use Rattle.query.proofs.Removal.{Turn, turn-first, turn-next, turn-last}
-use Rattle.query.proofs.remove_lowest.Statement.{statement}
-use Rattle.query.proofs.remove_lowest.Tie as tie
+use Rattle.blend.proofs.Removal.{Turn, turn-first, turn-next, turn-last}
+use Rattle.blend.proofs.remove_lowest.Statement.{statement}
+use Rattle.blend.proofs.remove_lowest.Tie as tie
 
 abbrev Inv-loop : tie.InvT-loop
 Inv-loop cell₀ size width t weights e₀ cell e = Turn cell₀ cell size width t weights e

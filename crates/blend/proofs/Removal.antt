@@ -9,8 +9,8 @@ use lib.Ieee.{Float, nan}
 use borrow.Author.Count.{below-more}
 use Rattle.rules.specs.Numbers.{at}
 use Rattle.rules.specs.Query.{without-lowest}
-use Rattle.query.specs.Blend.{weighted, WeightsOf, Removed}
-use Rattle.query.specs.declared.Weights.{Weights}
+use Rattle.blend.specs.Blend.{weighted, WeightsOf, Removed}
+use Rattle.blend.specs.declared.Weights.{Weights}
 
 -- the numbers below e are done, and those from e on stand as they were
 pub record Turn (cell₀ cell : List Float) (size : ℕ) (width t : Float) (weights : Weights) (e : ℕ) : Type 0 where

@@ -3,8 +3,8 @@ use native.Mathlib.Omega.{arith}
 use Prim.Native.Nat.{_-_}
 use Rattle.checks.specs.Given.{grid}
 use Rattle.query.proofs.Locating.{Turn, turn-first, end-within, axis-accepted, turn-next, turn-last}
-use Rattle.query.proofs.locate_on_axes.Statement.{statement}
-use Rattle.query.proofs.locate_on_axes.Tie as tie
+use Rattle.query.proofs.located.locate_on_axes.Statement.{statement}
+use Rattle.query.proofs.located.locate_on_axes.Tie as tie
 
 abbrev Inv-loop : tie.InvT-loop
 Inv-loop axes knots coordinates all cells₀ begin₀ i₀ cells begin i = Turn (grid axes all knots) coordinates cells begin i

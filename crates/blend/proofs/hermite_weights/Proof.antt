@@ -1,7 +1,7 @@
 use mathlib.Core.Path.{refl}
 use Rattle.rules.specs.Query.{hermite}
-use Rattle.query.proofs.hermite_weights.Statement.{statement}
-use Rattle.query.proofs.hermite_weights.Tie as tie
+use Rattle.blend.proofs.hermite_weights.Statement.{statement}
+use Rattle.blend.proofs.hermite_weights.Tie as tie
 
 returns : tie.Need-returns
 unfolding hermite
