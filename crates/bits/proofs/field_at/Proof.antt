@@ -1,11 +1,11 @@
 use Prim.Native.Nat.{_≤_, _-_, _+_}
 use mathlib.Core.Path.{_≡_, sym}
 use native.Mathlib.Omega.{arith}
-use Rattle.sheet.specs.Bits.{field}
-use Rattle.sheet.proofs.Runs.{field-none, field-below, field-add, field-byte}
+use Rattle.bits.specs.Bits.{field}
+use Rattle.bits.proofs.Runs.{field-none, field-below, field-add, field-byte}
 use borrow.Author.Needs.{needs}
-use Rattle.sheet.proofs.bits.field_at.Statement.{statement}
-use Rattle.sheet.proofs.bits.field_at.Tie as tie
+use Rattle.bits.proofs.field_at.Statement.{statement}
+use Rattle.bits.proofs.field_at.Tie as tie
 
 abbrev Inv-loop : tie.InvT-loop
 Inv-loop bytes at width n₀ read₀ n read = (read ≤ width) × (n ≡ field bytes at read)

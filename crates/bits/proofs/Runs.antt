@@ -12,7 +12,7 @@ use lib.Dec.{ltb}
 use lib.ListN.{length, getD}
 use lib.Pow.{mod-pow-add}
 use Rattle.rules.specs.Numbers.{any}
-use Rattle.sheet.specs.Bits.{bit, field, short, numbers-short}
+use Rattle.bits.specs.Bits.{bit, field, short, numbers-short}
 
 module _ (bytes : List ℕ) where
   pub field-none : (at : ℕ) → field bytes at 0 ≡ 0

@@ -3,8 +3,8 @@
 ghost use mathlib.Core.Path.{_≡_};
 ghost use Prim.Native.Nat.{_+_, _-_, _*_, _/_, _%_, _^_, _<_, _≤_};
 ghost use lib.ListN.{length};
-ghost use Rattle.sheet.specs.Bits.{field, short, number, numbers, numbers-short};
-ghost use Rattle.sheet.specs.Within.{Within};
+ghost use Rattle.bits.specs.Bits.{field, short, number, numbers, numbers-short};
+ghost use Rattle.bits.specs.Within.{Within};
 
 // The `count` bits of a byte from its bit `from` on.
 fn chunk(byte: u8, from: usize, count: usize) -> u64

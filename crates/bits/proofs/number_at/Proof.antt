@@ -1,6 +1,6 @@
 use borrow.Author.Needs.{needs}
-use Rattle.sheet.proofs.bits.number_at.Statement.{statement}
-use Rattle.sheet.proofs.bits.number_at.Tie as tie
+use Rattle.bits.proofs.number_at.Statement.{statement}
+use Rattle.bits.proofs.number_at.Tie as tie
 
 returns : tie.Need-returns
 returns c = cc

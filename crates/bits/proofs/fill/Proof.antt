@@ -5,10 +5,10 @@ use lib.ListN.{length, length-set}
 use lib.Ieee.{Float, nan}
 use Rattle.base.proofs.Front.{front, front-none, front-more, front-all}
 use Rattle.rules.proofs.Tables.{length-table, at-table}
-use Rattle.sheet.specs.Bits.{number, numbers}
+use Rattle.bits.specs.Bits.{number, numbers}
 use borrow.Author.Needs.{needs}
-use Rattle.sheet.proofs.bits.fill.Statement.{statement}
-use Rattle.sheet.proofs.bits.fill.Tie as tie
+use Rattle.bits.proofs.fill.Statement.{statement}
+use Rattle.bits.proofs.fill.Tie as tie
 
 abbrev Inv-loop : tie.InvT-loop
 Inv-loop bytes at to₀ k₀ to k = (k ≤ length to₀) × (to ≡ front (numbers bytes at (length to₀)) k to₀) × (length to ≡ length to₀)
