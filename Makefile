@@ -1,4 +1,4 @@
-.PHONY: run test differential oracle-test replay-list archive bench examples picture
+.PHONY: run test differential deliberate-errors oracle-test replay-list archive bench examples picture
 
 # Prints the tensor of document 01's example sheet.
 run:
@@ -19,6 +19,10 @@ differential:
 	rt staticlib host
 	cd oracle && cargo run --offline --release -p differential --features "$(CALLS)" -- \
 	    --seed $(SEED) --cases 0 $(CASES)
+
+# Runs copies of the code, each with one deliberate error, on the oracle's fixed list of answers; fails where an error is not found.
+deliberate-errors:
+	python3 tests/deliberate_errors/run.py
 
 # The Rust side's own tests: the unchanged files, the examples of document 01, the generator.
 oracle-test:

@@ -26,12 +26,12 @@ use Rattle.checks.specs.Check.{query-check}
 use Rattle.checks.proofs.Accepted.{query-given, knots-step, knots-of-axis}
 use Rattle.checks.proofs.ThenOutcome.{refused, outcome-bad, outcome-good, query-outcome}
 use Rattle.locate.specs.Answers.{Rising}
+use Rattle.blend.specs.Blend.{axis-cell}
+use Rattle.blend.specs.declared.AxisCell.{AxisCell}
+use Rattle.blend.proofs.Blending.{blend-ext}
 use Rattle.query.specs.Answer.{refused-with}
-use Rattle.query.specs.Blend.{axis-cell}
 use Rattle.query.specs.Cell.{lowers, Inside, blended}
 use Rattle.query.specs.Located.{AxisAccepted, on-axis, Accepted, OnAxes}
-use Rattle.query.specs.declared.AxisCell.{AxisCell}
-use Rattle.query.proofs.Blending.{blend-ext}
 
 -- ---- what the check lets pass
 

@@ -11,8 +11,8 @@ use Rattle.rules.specs.Query.{corner}
 use Rattle.rules.specs.declared.Axis.{Axis}
 use Rattle.rules.proofs.Places.{OnGrid, flat-below, flat-ext, below-or-last}
 use Rattle.checks.specs.Given.{points-of}
+use Rattle.blend.specs.declared.AxisCell.{AxisCell}
 use Rattle.query.specs.Cell.{lowers, Inside}
-use Rattle.query.specs.declared.AxisCell.{AxisCell}
 
 -- fewer axes have no more places
 product-rises : (n : ℕ → ℕ) (d i : ℕ) → ((j : ℕ) → j < d → 0 < n j) → i ≤ d → product-below n i ≤ product-below n d

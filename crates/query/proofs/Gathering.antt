@@ -1,4 +1,4 @@
--- The turns of `gather`, on plain lists: each copies the numbers of two corners, and together they are the tensor's cell.
+-- The turns of `gather`, on plain lists: each copies the numbers of two corners, together they are the tensor's cell, and are blended as it is.
 use native.Mathlib.Omega.{arith}
 use mathlib.Core.Path.{_≡_, refl, sym, ap, _∙_}
 use mathlib.Core.Bool.{Bool, true, false}
@@ -12,13 +12,14 @@ use lib.Seq.{length-take-le, getD-take, getD-drop, getD-append-add}
 use lib.Ieee.{Float, nan}
 use borrow.Author.Tests.{ltb-true, ltb-false}
 use Rattle.rules.specs.Numbers.{at}
-use Rattle.rules.specs.Sizes.{Place, flat, product-below, tensor-length}
-use Rattle.rules.specs.Query.{corner, cell}
+use Rattle.rules.specs.Sizes.{Grid, Place, flat, product-below, tensor-length}
+use Rattle.rules.specs.Query.{corner, cell, blend}
 use Rattle.rules.specs.declared.Axis.{Axis}
 use Rattle.rules.proofs.Places.{flat-below}
 use Rattle.checks.specs.Given.{sizes-of, points-of}
+use Rattle.blend.specs.declared.AxisCell.{AxisCell}
+use Rattle.blend.proofs.Blending.{blend-ext}
 use Rattle.query.specs.Cell.{lowers, Inside, Gathered}
-use Rattle.query.specs.declared.AxisCell.{AxisCell}
 use Rattle.query.proofs.Corners.{side-by-side, corner-on-grid}
 
 -- ---- a part of a list replaced by another of the same length
@@ -210,3 +211,14 @@ module _ (cell₀ : List Float) (axes : ℕ) (all : List Axis) (cells : List Axi
         exact = turn .same-length ∙ turn .exact ∙ rw (turn .power) (sym (four-power axes));
         number = λ k g. turn .done k (omega arith);
       }
+
+-- ---- the blend of what is gathered
+
+-- a gathered cell is blended as the tensor's
+pub gathered-blend :
+    (g : Grid) (tensor : List Float) (lower : Place) (widths ts : ℕ → Float) (gathered : List Float) → Gathered g tensor lower gathered
+    → (r : Float) → r ≡ blend (g .axes) (g .axes - g .axes) widths ts (at gathered) → r ≡ blend (g .axes) 0 widths ts (cell g tensor lower)
+gathered-blend g tensor lower widths ts gathered given r is =
+    let first : g .axes - g .axes ≡ 0 = omega arith in
+    rw (is, first)
+    (blend-ext (g .axes) 0 widths widths ts ts (at gathered) (cell g tensor lower) (λ i a b. refl) (λ i a b. refl) (given .number))

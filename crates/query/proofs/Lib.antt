@@ -1,5 +1,3 @@
-pub mod Removal
-pub mod Blending
 pub mod Corners
 pub mod Gathering
 pub mod Locating

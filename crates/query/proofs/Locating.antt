@@ -14,9 +14,9 @@ use Rattle.rules.specs.Steps.{h}
 use Rattle.rules.specs.Query.{fraction}
 use Rattle.checks.proofs.Products.{sum-more, sum-within}
 use Rattle.locate.specs.Answers as locate
-use Rattle.query.specs.Blend.{axis-cell}
+use Rattle.blend.specs.Blend.{axis-cell}
+use Rattle.blend.specs.declared.AxisCell.{AxisCell}
 use Rattle.query.specs.Located.{AxisAccepted, OnAxis, on-axis, Accepted, OnAxes}
-use Rattle.query.specs.declared.AxisCell.{AxisCell}
 
 -- ---- one axis
 

@@ -9,8 +9,8 @@ use Rattle.rules.specs.Sizes.{most-axes, most-in-a-tensor, Grid, tensor-length,
 use Rattle.rules.specs.Query.{cell, blend}
 use Rattle.rules.specs.declared.Axis.{Axis}
 use Rattle.checks.specs.Given.{sizes-of, points-of}
-use Rattle.query.specs.Blend.{axis-cell, widths, ts}
-use Rattle.query.specs.declared.AxisCell.{AxisCell}
+use Rattle.blend.specs.Blend.{axis-cell, widths, ts}
+use Rattle.blend.specs.declared.AxisCell.{AxisCell}
 
 -- the lower knot on each axis
 abbrev pub lowers : List AxisCell → Place

@@ -1,4 +1,3 @@
 pub mod Answer
-pub mod Blend
 pub mod Cell
 pub mod Located

@@ -12,8 +12,8 @@ use Rattle.rules.specs.Steps.{h}
 use Rattle.rules.specs.Locate.{locate, label}
 use Rattle.rules.specs.Query.{fraction}
 use Rattle.locate.specs.Answers.{Rising}
-use Rattle.query.specs.Blend.{axis-cell}
-use Rattle.query.specs.declared.AxisCell.{AxisCell}
+use Rattle.blend.specs.Blend.{axis-cell}
+use Rattle.blend.specs.declared.AxisCell.{AxisCell}
 
 -- a point and the knots of an axis that the refusals let pass
 pub record AxisAccepted (knots : List Float) (point : Float) : Type 0 where

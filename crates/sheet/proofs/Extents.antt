@@ -7,7 +7,7 @@ use native.Mathlib.Omega.{arith}
 use lib.Dec.{leb}
 use Rattle.sheet.specs.Kinds.{values-of}
 use Rattle.sheet.specs.Fields.{points-at, lower-kind, upper-kind, values-at, knots-begin, axis-end, axis-begin}
-use Rattle.sheet.proofs.Runs.{field-below}
+use Rattle.bits.proofs.Runs.{field-below}
 
 one-or-none : (test : Bool) → cond test 1 0 ≤ 1
 one-or-none true = omega arith

@@ -1,5 +1,3 @@
-pub mod Shifts
-pub mod Runs
 pub mod Extents
 pub mod AxisFaults
 pub mod Walks

@@ -12,11 +12,11 @@ use Rattle.rules.specs.Refusals.{length-refused}
 use Rattle.rules.specs.Calls.{stored}
 use Rattle.rules.specs.Sizes.{samples-length}
 use Rattle.rules.specs.declared.Axis.{Axis}
-use Rattle.sheet.specs.Bits.{numbers}
+use Rattle.bits.specs.Bits.{numbers}
 use Rattle.sheet.specs.Fields.{axes, entries, knots-below, sheet-grid, samples-begin, sheet-samples}
 use Rattle.sheet.specs.Faults.{or-else, sheet-refusal}
 use Rattle.sheet.specs.Read.{refused-answer, answer-of, over, read-refusal, ReadPromise}
-use Rattle.sheet.specs.Within.{Within}
+use Rattle.bits.specs.Within.{Within}
 use Rattle.sheet.specs.declared.ReadAnswer.{ReadAnswer}
 use Rattle.sheet.proofs.Extents.{begin-most}
 use Rattle.sheet.proofs.Walks.{passed}

@@ -13,11 +13,11 @@ use Rattle.rules.specs.Numbers.{any}
 use Rattle.rules.specs.Sizes.{product-below, samples-length, tensor-length}
 use Rattle.rules.specs.declared.Axis.{Axis}
 use Rattle.checks.specs.Given.{sizes-of, points-of}
-use Rattle.sheet.specs.Bits.{bit, field, numbers-short}
+use Rattle.bits.specs.Bits.{bit, field, numbers-short}
 use Rattle.sheet.specs.Fields.{samples-begin, sheet-grid}
 use Rattle.sheet.specs.Faults.{tail-refused, samples-fault}
 use Rattle.sheet.specs.Within.{Ended}
-use Rattle.sheet.proofs.Runs.{short-together}
+use Rattle.bits.proofs.Runs.{short-together}
 use Rattle.sheet.proofs.Extents.{begin-most}
 
 -- ---- the tail

@@ -13,11 +13,11 @@ use Rattle.rules.specs.Sizes.{unused-axis, product-below, samples-length}
 use Rattle.rules.specs.Refusals.{axes-refused, tensor-refused}
 use Rattle.rules.specs.declared.Axis.{Axis}
 use Rattle.checks.specs.Given.{points-of, InRange}
-use Rattle.sheet.specs.Bits.{short, numbers-short}
+use Rattle.bits.specs.Bits.{short, numbers-short}
 use Rattle.sheet.specs.Fields.{edition, axes, points-at, axis-at, axis-begin, entries, sheet-grid, samples-begin, samples-end}
 use Rattle.sheet.specs.Faults.{or-else, axes-fault, tail-refused, samples-fault, sheet-refusal}
 use Rattle.sheet.specs.Within.{Axes, Ended, Sound}
-use Rattle.sheet.proofs.Runs.{short-together}
+use Rattle.bits.proofs.Runs.{short-together}
 use Rattle.sheet.proofs.Extents.{extent}
 use Rattle.sheet.proofs.Walks.{passed, or-else-passed, each-faultless, faultless-axis}
 use Rattle.sheet.proofs.Samples.{count-is, samples-least}

@@ -8,7 +8,7 @@ use lib.ListN.{length, take, drop, length-append, length-take, length-drop}
 use lib.Seq.{take-at, drop-at, drop-drop}
 use lib.Ieee.{Float}
 use Rattle.rules.proofs.Tables.{length-table}
-use Rattle.sheet.specs.Bits.{numbers}
+use Rattle.bits.specs.Bits.{numbers}
 use Rattle.sheet.specs.Fields.{points-at, knots-at, knots-begin, axis-end, axis-begin, knots-below}
 use Rattle.sheet.specs.Read.{over}
 use Rattle.sheet.specs.Within.{Whole, Sound}

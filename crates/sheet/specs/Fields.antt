@@ -7,7 +7,7 @@ use lib.Ieee.{Float}
 use Rattle.rules.specs.Numbers.{table}
 use Rattle.rules.specs.Sizes.{most-axes, unused-axis, Grid, samples-length}
 use Rattle.rules.specs.declared.Axis.{Axis}
-use Rattle.sheet.specs.Bits.{field, number, numbers}
+use Rattle.bits.specs.Bits.{field, number, numbers}
 use Rattle.sheet.specs.Kinds.{values-of, end-of, condition-of}
 
 -- "edition (4 bits, is 1)"

@@ -1,4 +1,3 @@
-pub mod Bits
 pub mod Kinds
 pub mod Fields
 pub mod Faults

@@ -11,11 +11,6 @@ use Rattle.sheet.specs.Fields.{axes, axis-end, axis-begin, entries}
 use Rattle.sheet.specs.Faults.{axes-fault}
 use Rattle.sheet.specs.declared.axes.Walk.{Walk}
 
--- the k bits from bit `at` on
-pub record Within (bytes : List ℕ) (at k : ℕ) : Type 0 where
-  pub room : at + k ≤ 8 * length bytes
-  pub small : at + k ≤ 1048576
-
 -- all of the axis that begins at bit `at`
 pub record Whole (bytes : List ℕ) (at : ℕ) : Type 0 where
   pub room : axis-end bytes at ≤ 8 * length bytes

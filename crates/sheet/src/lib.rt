@@ -1,14 +1,13 @@
-// The packed sheet: its bit fields, its kinds, and the reader.
+// The packed sheet: its kinds, and the reader.
 ghost use Rattle.sheet.specs.Read.{ReadPromise};
 use crate::axes::store_knots;
-use crate::bits::fill;
+use bits::fill;
 use crate::look::look;
 use crate::look::refused;
 use checks::sizes::samples_length;
 use rules::Axis;
 
 pub mod kinds; // kinds.rt: ends by the numbers of their kinds, and the classes of refusal numbers
-mod bits; // bits.rt: fields of 1 to 64 bits, from any bit on
 mod axes; // axes.rt: the axes of a sheet, one after the other
 mod look; // look.rt: all of a sheet, up to its first fault
 

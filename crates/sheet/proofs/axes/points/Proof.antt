@@ -1,6 +1,6 @@
 use native.Mathlib.Omega.{arith}
 use Rattle.sheet.specs.Fields.{points-at}
-use Rattle.sheet.proofs.Runs.{field-below}
+use Rattle.bits.proofs.Runs.{field-below}
 use borrow.Author.Needs.{needs}
 use Rattle.sheet.proofs.axes.points.Statement.{statement}
 use Rattle.sheet.proofs.axes.points.Tie as tie

@@ -4,7 +4,7 @@ use Prim.Native.Nat.{_≤_}
 use native.Mathlib.Omega.{arith}
 use Rattle.rules.specs.Sizes.{tensor-length}
 use Rattle.checks.specs.Given.{sizes-of}
-use Rattle.sheet.specs.Bits.{numbers-short}
+use Rattle.bits.specs.Bits.{numbers-short}
 use Rattle.sheet.proofs.Samples.{begin-small, samples-least, too-large, samples-few, no-samples, samples-room, after-samples}
 use borrow.Author.Needs.{needs}
 use Rattle.sheet.proofs.look.fault_of_samples.Statement.{statement}

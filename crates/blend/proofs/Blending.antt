@@ -1,0 +1,83 @@
+-- The blend sees only the numbers of its cell and its axes, and one axis removed in place is one step of it.
+use native.Mathlib.Omega.{arith}
+use mathlib.Core.Path.{_≡_, refl, ap, _∙_}
+use mathlib.Core.Logic.{_≢_}
+use mathlib.Core.List.{List}
+use Prim.Native.Nat.{ℕ, zero, suc, _+_, _-_, _*_, _/_, _^_, _<_, _≤_}
+use native.Mathlib.Nat.{pow-suc, sub-zero, pow-le-pow-right}
+use lib.Dec.{lit<}
+use lib.ListN.{take}
+use lib.Seq.{getD-take}
+use lib.Ieee.{Float, nan}
+use Rattle.rules.specs.Numbers.{at}
+use Rattle.rules.specs.Query.{without-lowest, blend}
+use Rattle.blend.specs.Blend.{Removed}
+
+-- ---- what the blend sees
+
+without-lowest-ext :
+    (size : ℕ) {width width′ t t′ : Float} (cell cell′ : ℕ → Float) → width ≡ width′ → t ≡ t′
+    → ((e : ℕ) → e < 4 * size → cell e ≡ cell′ e) → (e : ℕ) → e < size
+    → without-lowest size width t cell e ≡ without-lowest size width′ t′ cell′ e
+unfolding without-lowest
+without-lowest-ext size cell cell′ w u same e h =
+    cc (
+      same (2 * e) (omega arith),
+      same (2 * e + 1) (omega arith),
+      same (2 * size + 2 * e) (omega arith),
+      same (2 * size + 2 * e + 1) (omega arith),
+    )
+
+-- two blends are equal where widths and fractions agree on the axes and the cells on their numbers
+pub blend-ext :
+    (axes lowest : ℕ) (widths widths′ ts ts′ cell cell′ : ℕ → Float)
+    → ((i : ℕ) → lowest ≤ i → i < lowest + axes → widths i ≡ widths′ i)
+    → ((i : ℕ) → lowest ≤ i → i < lowest + axes → ts i ≡ ts′ i)
+    → ((e : ℕ) → e < 4 ^ axes → cell e ≡ cell′ e)
+    → blend axes lowest widths ts cell ≡ blend axes lowest widths′ ts′ cell′
+unfolding blend
+blend-ext zero lowest widths widths′ ts ts′ cell cell′ w t same = same 0 (omega arith)
+blend-ext (suc axes) lowest widths widths′ ts ts′ cell cell′ w t same =
+    blend-ext axes (suc lowest) widths widths′ ts ts′ _ _
+    (λ i a b. w i (omega arith) (omega arith))
+    (λ i a b. t i (omega arith) (omega arith))
+    (without-lowest-ext (4 ^ axes) cell cell′
+    (w lowest (omega arith) (omega arith))
+    (t lowest (omega arith) (omega arith))
+    (λ e h. same e (omega (arith, pow-suc 4 axes))))
+
+-- ---- one step
+
+-- a quarter of a cell is the cell of one axis fewer
+pub quarter : (left n : ℕ) → left ≢ 0 → n ≡ 4 ^ left → n / 4 ≡ 4 ^ (left - 1)
+quarter zero n some e = absurd (some refl)
+quarter (suc left) n some e = let less : suc left - 1 ≡ left = omega arith in rw less (omega (arith, pow-suc 4 left))
+
+pub few : (left : ℕ) → left ≤ 3 → 4 ^ left ≤ 64
+few left h = pow-le-pow-right (lit< tt) {i = left} {j = 3} h
+
+-- no axis is left
+pub none-left : (left lowest : ℕ) (widths ts : ℕ → Float) (cell : List Float) → left ≡ 0 → at cell 0 ≡ blend left lowest widths ts (at cell)
+unfolding blend
+none-left left lowest widths ts cell e = rw e refl
+
+-- what stands in the front once the lowest axis is removed is blended on
+pub one-fewer :
+    (left axes size : ℕ) (widths ts : ℕ → Float) (cell later : List Float) → left ≢ 0 → left ≤ axes → size ≡ 4 ^ (left - 1)
+    → Removed cell later size (widths (axes - left)) (ts (axes - left))
+    → (r : Float) → r ≡ blend (left - 1) (axes - (left - 1)) widths ts (at (take (size - 0) later)) → r ≡ blend left (axes - left) widths ts (at cell)
+unfolding blend
+one-fewer zero axes size widths ts cell later some most e removed r is = absurd (some refl)
+one-fewer (suc left) axes size widths ts cell later some most e removed r is =
+    let less : suc left - 1 ≡ left = omega arith in
+    let next : axes - left ≡ suc (axes - suc left) = omega arith in
+    let s : size ≡ 4 ^ left = rw less at e in
+    rw (is, less, next, sub-zero)
+    (blend-ext left (suc (axes - suc left)) widths widths ts ts
+    (at (take size later))
+    (without-lowest (4 ^ left) (widths (axes - suc left)) (ts (axes - suc left)) (at cell))
+    (λ i a b. refl)
+    (λ i a b. refl)
+    (λ k h. getD-take size later k nan (omega arith)
+    ∙ removed .smaller k (omega arith)
+    ∙ ap (λ (n : ℕ). without-lowest n (widths (axes - suc left)) (ts (axes - suc left)) (at cell) k) s))

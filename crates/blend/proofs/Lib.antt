@@ -1,0 +1,2 @@
+mod Removal
+pub mod Blending
