@@ -1,9 +1,9 @@
 // The packed sheet: its kinds, and the reader.
 ghost use Rattle.sheet.specs.Read.{ReadPromise};
 use crate::axes::store_knots;
-use bits::fill;
 use crate::look::look;
 use crate::look::refused;
+use bits::fill;
 use checks::sizes::samples_length;
 use rules::Axis;
 
