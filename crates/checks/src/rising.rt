@@ -10,7 +10,7 @@ ghost use Rattle.rules.specs.Refusals.{knots-refused, some-knots-refused};
 ghost use Rattle.checks.specs.Given.{grid, sizes-of, points-of, InRange};
 use rules::Axis;
 
-// Whether a knot does not rise to the next, or the step between them overflows. The step from a knot that rises has no sign, so one comparison tells whether it is finite.
+// Whether a knot does not rise to the next, or the step between them overflows. Where it rises the step is never the lower infinity, so one comparison tells whether it is finite.
 pub fn step_refused(knot: f64, next: f64) -> bool
     ensures { λ r. ⌜ r ≡ (not (lt knot next) || not (finite (next ⊖ knot))) ⌝ }
 {
