@@ -59,6 +59,13 @@ module _ (test : ℕ → Bool) where
       (λ lt. any-at n (neither (any test n) (test n) none .0) i lt)
       (eq-or-lt-of-le (le-of-suc-le-suc l))
 
+  -- the test fails at each index: nothing is found
+  pub any-never : (n : ℕ) → ((i : ℕ) → i < n → test i ≡ false) → any test n ≡ false
+  unfolding any
+  any-never zero fails = refl
+  any-never (suc n) fails =
+      none-of-two (any test n) (test n) (any-never n (λ i l. fails i (omega arith))) (fails n (omega arith))
+
 -- two tests that agree at each index find alike
 pub any-ext : (test other : ℕ → Bool) (n : ℕ) → ((i : ℕ) → i < n → test i ≡ other i) → any test n ≡ any other n
 unfolding any

@@ -2,3 +2,4 @@ pub mod Products
 pub mod Rows
 pub mod ThenOutcome
 pub mod Accepted
+pub mod FiniteKnots

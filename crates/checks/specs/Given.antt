@@ -1,6 +1,6 @@
 -- What a call was given, and what is known of it once its check has found nothing to refuse.
 use mathlib.Core.Path.{_≡_}
-use mathlib.Core.Bool.{false}
+use mathlib.Core.Bool.{Bool, false}
 use mathlib.Core.List.{List, []}
 use Prim.Native.Nat.{ℕ, _≤_, _<_}
 use lib.ListN.{getD, length}
@@ -31,6 +31,10 @@ pub record InRange (axes : ℕ) (n : ℕ → ℕ) : Type 0 where
   pub few-axes : axes ≤ most-axes
   pub some-points : (i : ℕ) → i < axes → fewest-on-an-axis ≤ n i
   pub few-points : (i : ℕ) → i < axes → n i ≤ most-on-an-axis
+
+-- what the pass over the knots for refusal 8 says of refusal 7: where it finds nothing, they are all finite
+abbrev pub FiniteUnless : Bool → List Float → Type 0
+FiniteUnless refused x = refused ≡ false → some-number-refused x ≡ false
 
 -- ---- the calls on one axis of n points
 

@@ -1,4 +1,4 @@
-// Refusals 1 to 9 as code: for each public call the lowest number that it meets before it works, and 0 where there is none. Of a slice that the call will write, only the length is looked at.
+// Refusals 1 to 9 as code: for each public call the lowest number that it meets before it works, and 0 where there is none. Of a slice that the call will write, only the length is looked at. The pass over the knots for refusal 8 is made before the numbers are looked at for refusal 7: where it finds nothing, every knot is finite.
 ghost use mathlib.Core.Path.{_≡_};
 ghost use Rattle.rules.specs.Sizes.{place-of};
 ghost use Rattle.checks.specs.Given.{grid};
@@ -32,10 +32,11 @@ pub fn moments_refusal(
     if scratch_length < 2048 {
         return 5;
     }
-    if numbers::moments_refused(knots, condition, samples) {
+    let knots_refused = rising::knots_refused(knots);
+    if numbers::moments_refused(knots_refused, knots, condition, samples) {
         return 7;
     }
-    if rising::knots_refused(knots) {
+    if knots_refused {
         return 8;
     }
     if ends::fewness_refused(condition, points) {
@@ -60,10 +61,11 @@ pub fn curve_refusal(
     if lengths::axis_refused(points, knots.len(), samples.len(), moments_length) {
         return 4;
     }
-    if numbers::curve_refused(knots, samples, point) {
+    let knots_refused = rising::knots_refused(knots);
+    if numbers::curve_refused(knots_refused, knots, samples, point) {
         return 7;
     }
-    if rising::knots_refused(knots) {
+    if knots_refused {
         return 8;
     }
     0
@@ -91,10 +93,11 @@ pub fn slopes_refusal(
     ) {
         return 4;
     }
-    if numbers::slices_refused(knots, samples) {
+    let knots_refused = rising::knots_refused(knots);
+    if numbers::slices_refused(knots_refused, knots, samples) {
         return 7;
     }
-    if rising::knots_refused(knots) {
+    if knots_refused {
         return 8;
     }
     0
@@ -121,10 +124,11 @@ pub fn build_refusal(
     if lengths::scratch_refused(axes, all, scratch_length) {
         return 5;
     }
-    if numbers::build_refused(axes, all, knots, samples) {
+    let knots_refused = rising::some_knots_refused(axes, all, knots);
+    if numbers::build_refused(axes, all, knots_refused, knots, samples) {
         return 7;
     }
-    if rising::some_knots_refused(axes, all, knots) {
+    if knots_refused {
         return 8;
     }
     if ends::some_fewness_refused(axes, all) {
@@ -158,10 +162,11 @@ pub fn change_refusal(
     if sizes::place_refused(axes, all, place) {
         return 6;
     }
-    if numbers::change_refused(axes, all, knots, sample, tensor) {
+    let knots_refused = rising::some_knots_refused(axes, all, knots);
+    if numbers::change_refused(axes, all, knots_refused, knots, sample, tensor) {
         return 7;
     }
-    if rising::some_knots_refused(axes, all, knots) {
+    if knots_refused {
         return 8;
     }
     if ends::some_fewness_refused(axes, all) {
@@ -187,10 +192,11 @@ pub fn query_refusal(
     if lengths::query_refused(axes, all, knots.len(), tensor_length, coordinates.len()) {
         return 4;
     }
-    if numbers::slices_refused(knots, coordinates) {
+    let knots_refused = rising::some_knots_refused(axes, all, knots);
+    if numbers::slices_refused(knots_refused, knots, coordinates) {
         return 7;
     }
-    if rising::some_knots_refused(axes, all, knots) {
+    if knots_refused {
         return 8;
     }
     0

@@ -10,12 +10,13 @@ ghost use Rattle.rules.specs.Refusals.{knots-refused, some-knots-refused};
 ghost use Rattle.checks.specs.Given.{grid, sizes-of, points-of, InRange};
 use rules::Axis;
 
-// Whether a knot does not rise to the next, or the step between them overflows.
+// Whether a knot does not rise to the next, or the step between them overflows. Where it rises the step is never the lower infinity, so one comparison tells whether it is finite.
 pub fn step_refused(knot: f64, next: f64) -> bool
     ensures { λ r. ⌜ r ≡ (not (lt knot next) || not (finite (next ⊖ knot))) ⌝ }
 {
+    let infinity = f64::from_bits(0x7FF0000000000000);
     if knot < next {
-        !base::is_finite(next - knot)
+        !(next - knot < infinity)
     } else {
         true
     }

@@ -2,9 +2,10 @@ use mathlib.Core.Path.{_≡_, refl, sym, _∙_}
 use mathlib.Core.List.{List}
 use lib.ListN.{length}
 use Rattle.rules.specs.Sizes.{knots-length, samples-length, tensor-length}
-use Rattle.checks.specs.Given.{grid, sizes-of, points-of, InRange}
+use Rattle.checks.specs.Given.{grid, sizes-of, points-of, InRange, FiniteUnless}
 use Rattle.checks.specs.Check.{Refusal, build-rows, build-check}
 use Rattle.checks.proofs.Rows.{stop, pass, Past, sizes-passed, sizes-stop, sizes-pass, exact-3}
+use Rattle.checks.proofs.FiniteKnots.{grid-finite}
 use borrow.Author.Needs.{needs}
 use Rattle.checks.proofs.build_refusal.Statement.{statement}
 use Rattle.checks.proofs.build_refusal.Tie as tie
@@ -25,6 +26,10 @@ knots-exact c =
     (sym (c .before .build-refused .ensures) ∙ c .if2 .left)
     .0
 
+knots-finite : (c : tie.After-some-knots-refused) → FiniteUnless (c .some-knots-refused .result) (start (c .before .before .before) .args .knots .now)
+knots-finite c =
+    grid-finite (start (c .before .before .before) .args .axes) (start (c .before .before .before) .args .all) (start (c .before .before .before) .args .knots .now) (given (c .before .before .before .before .before)) (knots-exact (c .before .before .before)) (c .some-knots-refused .ensures)
+
 past-1 : (c : tie.Else1) → Past (rows (c .before .before .before .before)) 3
 past-1 c answer e = sizes-pass _ _ (c .before .sizes-refusal .ensures) _ (c .if1 .left) e
 
@@ -34,11 +39,11 @@ past-2 c answer e = past-1 (c .before .before) _ (pass _ (c .before .build-refus
 past-3 : (c : tie.Else3) → Past (rows (c .before .before .before .before .before .before .before .before)) 5
 past-3 c answer e = past-2 (c .before .before) _ (pass _ (c .before .scratch-refused .ensures) (c .if3 .left) e)
 
-past-4 : (c : tie.Else4) → Past (rows (c .before .before .before .before .before .before .before .before .before .before)) 6
-past-4 c answer e = past-3 (c .before .before) _ (pass _ (c .before .build-refused2 .ensures) (c .if4 .left) e)
+past-4 : (c : tie.Else4) → Past (rows (c .before .before .before .before .before .before .before .before .before .before .before)) 6
+past-4 c answer e = past-3 (c .before .before .before) _ (pass _ (c .before .build-refused2 .ensures) (c .if4 .left) e)
 
 past-5 : (c : tie.Else5) → Past (rows (c .before .before .before .before .before .before .before .before .before .before .before .before)) 7
-past-5 c answer e = past-4 (c .before .before) _ (pass _ (c .before .some-knots-refused .ensures) (c .if5 .left) e)
+past-5 c answer e = past-4 (c .before) _ (pass _ (c .before .before .before .some-knots-refused .ensures) (c .if5 .left) e)
 
 past-6 : (c : tie.Else6) → Past (rows (c .before .before .before .before .before .before .before .before .before .before .before .before .before .before)) 8
 past-6 c answer e = past-5 (c .before .before) _ (pass _ (c .before .some-fewness-refused .ensures) (c .if6 .left) e)
@@ -57,11 +62,11 @@ returns-3 c = past-2 (c .before .before) _ (stop _ (c .before .scratch-refused .
 
 returns-4 : tie.Need-returns-4
 unfolding build-check
-returns-4 c = past-3 (c .before .before) _ (stop _ (c .before .build-refused2 .ensures) (c .if4 .taken))
+returns-4 c = past-3 (c .before .before .before) _ (stop _ (c .before .build-refused2 .ensures) (c .if4 .taken))
 
 returns-5 : tie.Need-returns-5
 unfolding build-check
-returns-5 c = past-4 (c .before .before) _ (stop _ (c .before .some-knots-refused .ensures) (c .if5 .taken))
+returns-5 c = past-4 (c .before) _ (stop _ (c .before .before .before .some-knots-refused .ensures) (c .if5 .taken))
 
 returns-6 : tie.Need-returns-6
 unfolding build-check
@@ -81,9 +86,9 @@ build-refusal-spec =
     returns-2
     (λ c κs. given (c .before .before))
     returns-3
-    (λ c κs. given (c .before .before .before .before) .few-axes)
+    (λ c κs. (given (c .before .before .before .before), knots-exact (c .before .before)))
+    (λ c κs. (given (c .before .before .before .before .before) .few-axes, knots-finite c))
     returns-4
-    (λ c κs. (given (c .before .before .before .before .before .before), knots-exact (c .before .before .before .before)))
     returns-5
     (λ c κs. given (c .before .before .before .before .before .before .before .before) .few-axes)
     returns-6

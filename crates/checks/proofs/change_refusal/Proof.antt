@@ -2,9 +2,10 @@ use mathlib.Core.Path.{_≡_, refl, sym, _∙_}
 use mathlib.Core.List.{List}
 use lib.ListN.{length}
 use Rattle.rules.specs.Sizes.{knots-length, tensor-length, place-of}
-use Rattle.checks.specs.Given.{grid, sizes-of, points-of, InRange}
+use Rattle.checks.specs.Given.{grid, sizes-of, points-of, InRange, FiniteUnless}
 use Rattle.checks.specs.Check.{Refusal, change-rows, change-check}
 use Rattle.checks.proofs.Rows.{stop, pass, Past, sizes-passed, sizes-stop, sizes-pass, exact-2}
+use Rattle.checks.proofs.FiniteKnots.{grid-finite}
 use borrow.Author.Needs.{needs}
 use Rattle.checks.proofs.change_refusal.Statement.{statement}
 use Rattle.checks.proofs.change_refusal.Tie as tie
@@ -25,6 +26,10 @@ knots-exact c =
     (sym (c .before .change-refused .ensures) ∙ c .if2 .left)
     .0
 
+knots-finite : (c : tie.After-some-knots-refused) → FiniteUnless (c .some-knots-refused .result) (start (c .before .before .before .before .before) .args .knots .now)
+knots-finite c =
+    grid-finite (start (c .before .before .before .before .before) .args .axes) (start (c .before .before .before .before .before) .args .all) (start (c .before .before .before .before .before) .args .knots .now) (given (c .before .before .before .before .before .before .before)) (knots-exact (c .before .before .before .before .before)) (c .some-knots-refused .ensures)
+
 past-1 : (c : tie.Else1) → Past (rows (c .before .before .before .before)) 3
 past-1 c answer e = sizes-pass _ _ (c .before .sizes-refusal .ensures) _ (c .if1 .left) e
 
@@ -37,11 +42,11 @@ past-3 c answer e = past-2 (c .before .before) _ (pass _ (c .before .scratch-ref
 past-4 : (c : tie.Else4) → Past (rows (c .before .before .before .before .before .before .before .before .before .before)) 6
 past-4 c answer e = past-3 (c .before .before) _ (pass _ (c .before .place-refused .ensures) (c .if4 .left) e)
 
-past-5 : (c : tie.Else5) → Past (rows (c .before .before .before .before .before .before .before .before .before .before .before .before)) 7
-past-5 c answer e = past-4 (c .before .before) _ (pass _ (c .before .change-refused2 .ensures) (c .if5 .left) e)
+past-5 : (c : tie.Else5) → Past (rows (c .before .before .before .before .before .before .before .before .before .before .before .before .before)) 7
+past-5 c answer e = past-4 (c .before .before .before) _ (pass _ (c .before .change-refused2 .ensures) (c .if5 .left) e)
 
 past-6 : (c : tie.Else6) → Past (rows (c .before .before .before .before .before .before .before .before .before .before .before .before .before .before)) 8
-past-6 c answer e = past-5 (c .before .before) _ (pass _ (c .before .some-knots-refused .ensures) (c .if6 .left) e)
+past-6 c answer e = past-5 (c .before) _ (pass _ (c .before .before .before .some-knots-refused .ensures) (c .if6 .left) e)
 
 past-7 : (c : tie.Else7) → Past (rows (c .before .before .before .before .before .before .before .before .before .before .before .before .before .before .before .before)) 9
 past-7 c answer e = past-6 (c .before .before) _ (pass _ (c .before .some-fewness-refused .ensures) (c .if7 .left) e)
@@ -64,11 +69,11 @@ returns-4 c = past-3 (c .before .before) _ (stop _ (c .before .place-refused .en
 
 returns-5 : tie.Need-returns-5
 unfolding change-check
-returns-5 c = past-4 (c .before .before) _ (stop _ (c .before .change-refused2 .ensures) (c .if5 .taken))
+returns-5 c = past-4 (c .before .before .before) _ (stop _ (c .before .change-refused2 .ensures) (c .if5 .taken))
 
 returns-6 : tie.Need-returns-6
 unfolding change-check
-returns-6 c = past-5 (c .before .before) _ (stop _ (c .before .some-knots-refused .ensures) (c .if6 .taken))
+returns-6 c = past-5 (c .before) _ (stop _ (c .before .before .before .some-knots-refused .ensures) (c .if6 .taken))
 
 returns-7 : tie.Need-returns-7
 unfolding change-check
@@ -90,9 +95,9 @@ change-refusal-spec =
     returns-3
     (λ c κs. given (c .before .before .before .before) .few-axes)
     returns-4
-    (λ c κs. given (c .before .before .before .before .before .before) .few-axes)
+    (λ c κs. (given (c .before .before .before .before .before .before), knots-exact (c .before .before .before .before)))
+    (λ c κs. (given (c .before .before .before .before .before .before .before) .few-axes, knots-finite c))
     returns-5
-    (λ c κs. (given (c .before .before .before .before .before .before .before .before), knots-exact (c .before .before .before .before .before .before)))
     returns-6
     (λ c κs. given (c .before .before .before .before .before .before .before .before .before .before) .few-axes)
     returns-7

@@ -1,9 +1,13 @@
 use mathlib.Core.Path.{_≡_, refl, sym, _∙_}
+use mathlib.Core.Bool.{false}
 use mathlib.Core.List.{List}
 use lib.ListN.{length}
 use borrow.Author.Tests.{lt-ltb, le-ltb}
+use Rattle.rules.specs.Refusals.{points-refused}
+use Rattle.checks.specs.Given.{FiniteUnless}
 use Rattle.checks.specs.Check.{Refusal, moments-rows, moments-check}
 use Rattle.checks.proofs.Rows.{stop, pass, Past, exact-3, knots-row}
+use Rattle.checks.proofs.FiniteKnots.{axis-finite}
 use borrow.Author.Needs.{needs}
 use Rattle.checks.proofs.moments_refusal.Statement.{statement}
 use Rattle.checks.proofs.moments_refusal.Tie as tie
@@ -18,6 +22,13 @@ knots-exact : (c : tie.Else2) → length (start c .args .knots .now) ≡ start c
 knots-exact c =
     exact-3 (length (start c .args .knots .now)) (start c .args .points) (length (start c .args .samples .now)) (start c .args .points) (start c .args .moments-length) (start c .args .points) (sym (c .before .axis-refused .ensures) ∙ c .if2 .left) .0
 
+in-points : (c : tie.Else1) → points-refused (c .before .before .before .before .args .points) ≡ false
+in-points c = sym (c .before .points-refused .ensures) ∙ c .if1 .left
+
+knots-finite : (c : tie.After-knots-refused) → FiniteUnless (c .knots-refused .result) (start (c .before .before) .args .knots .now)
+knots-finite c =
+    axis-finite (start (c .before .before) .args .knots .now) (start (c .before .before) .args .points) (in-points (c .before .before .before .before)) (knots-exact (c .before .before)) (c .knots-refused .ensures)
+
 past-1 : (c : tie.Else1) → Past (rows (c .before .before .before .before)) 1
 past-1 c answer e = pass _ (c .before .points-refused .ensures) (c .if1 .left) e
 
@@ -27,11 +38,11 @@ past-2 c answer e = past-1 (c .before .before) _ (pass _ (c .before .axis-refuse
 past-3 : (c : tie.Else3) → Past (rows (c .before .before .before .before .before .before .before)) 3
 past-3 c answer e = past-2 (c .before) _ (pass _ refl (le-ltb _ _ (c .if3 .left)) e)
 
-past-4 : (c : tie.Else4) → Past (rows (c .before .before .before .before .before .before .before .before .before)) 4
-past-4 c answer e = past-3 (c .before .before) _ (pass _ (c .before .moments-refused .ensures) (c .if4 .left) e)
+past-4 : (c : tie.Else4) → Past (rows (c .before .before .before .before .before .before .before .before .before .before)) 4
+past-4 c answer e = past-3 (c .before .before .before) _ (pass _ (c .before .moments-refused .ensures) (c .if4 .left) e)
 
 past-5 : (c : tie.Else5) → Past (rows (c .before .before .before .before .before .before .before .before .before .before .before)) 5
-past-5 c answer e = past-4 (c .before .before) _ (pass _ (knots-row _ _ (knots-exact (c .before .before .before .before .before)) (c .before .knots-refused .ensures)) (c .if5 .left) e)
+past-5 c answer e = past-4 (c .before) _ (pass _ (knots-row _ _ (knots-exact (c .before .before .before .before .before)) (c .before .before .before .knots-refused .ensures)) (c .if5 .left) e)
 
 past-6 : (c : tie.Else6) → Past (rows (c .before .before .before .before .before .before .before .before .before .before .before .before .before)) 6
 past-6 c answer e = past-5 (c .before .before) _ (pass _ (c .before .fewness-refused .ensures) (c .if6 .left) e)
@@ -50,11 +61,11 @@ returns-3 c = past-2 (c .before) _ (stop _ refl (lt-ltb _ _ (c .if3 .taken)))
 
 returns-4 : tie.Need-returns-4
 unfolding moments-check
-returns-4 c = past-3 (c .before .before) _ (stop _ (c .before .moments-refused .ensures) (c .if4 .taken))
+returns-4 c = past-3 (c .before .before .before) _ (stop _ (c .before .moments-refused .ensures) (c .if4 .taken))
 
 returns-5 : tie.Need-returns-5
 unfolding moments-check
-returns-5 c = past-4 (c .before .before) _ (stop _ (knots-row _ _ (knots-exact (c .before .before .before .before .before)) (c .before .knots-refused .ensures)) (c .if5 .taken))
+returns-5 c = past-4 (c .before) _ (stop _ (knots-row _ _ (knots-exact (c .before .before .before .before .before)) (c .before .before .before .knots-refused .ensures)) (c .if5 .taken))
 
 returns-6 : tie.Need-returns-6
 unfolding moments-check
@@ -74,8 +85,8 @@ moments-refusal-spec =
     returns-2
     returns-3
     (λ c κs. search needs)
+    (λ c κs. knots-finite c)
     returns-4
-    (λ c κs. search needs)
     returns-5
     (λ c κs. search needs)
     returns-6

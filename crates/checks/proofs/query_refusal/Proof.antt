@@ -2,9 +2,10 @@ use mathlib.Core.Path.{_≡_, refl, sym, _∙_}
 use mathlib.Core.List.{List}
 use lib.ListN.{length}
 use Rattle.rules.specs.Sizes.{knots-length, tensor-length}
-use Rattle.checks.specs.Given.{grid, sizes-of, points-of, InRange}
+use Rattle.checks.specs.Given.{grid, sizes-of, points-of, InRange, FiniteUnless}
 use Rattle.checks.specs.Check.{Refusal, query-rows, query-check}
 use Rattle.checks.proofs.Rows.{stop, pass, Past, sizes-passed, sizes-stop, sizes-pass, exact-3}
+use Rattle.checks.proofs.FiniteKnots.{grid-finite}
 use borrow.Author.Needs.{needs}
 use Rattle.checks.proofs.query_refusal.Statement.{statement}
 use Rattle.checks.proofs.query_refusal.Tie as tie
@@ -25,17 +26,21 @@ knots-exact c =
     (sym (c .before .query-refused .ensures) ∙ c .if2 .left)
     .0
 
+knots-finite : (c : tie.After-some-knots-refused) → FiniteUnless (c .some-knots-refused .result) (start (c .before) .args .knots .now)
+knots-finite c =
+    grid-finite (start (c .before) .args .axes) (start (c .before) .args .all) (start (c .before) .args .knots .now) (given (c .before .before .before)) (knots-exact (c .before)) (c .some-knots-refused .ensures)
+
 past-1 : (c : tie.Else1) → Past (rows (c .before .before .before .before)) 3
 past-1 c answer e = sizes-pass _ _ (c .before .sizes-refusal .ensures) _ (c .if1 .left) e
 
 past-2 : (c : tie.Else2) → Past (rows (c .before .before .before .before .before .before)) 4
 past-2 c answer e = past-1 (c .before .before) _ (pass _ (c .before .query-refused .ensures) (c .if2 .left) e)
 
-past-3 : (c : tie.Else3) → Past (rows (c .before .before .before .before .before .before .before .before)) 5
-past-3 c answer e = past-2 (c .before .before) _ (pass _ (c .before .slices-refused .ensures) (c .if3 .left) e)
+past-3 : (c : tie.Else3) → Past (rows (c .before .before .before .before .before .before .before .before .before)) 5
+past-3 c answer e = past-2 (c .before .before .before) _ (pass _ (c .before .slices-refused .ensures) (c .if3 .left) e)
 
 past-4 : (c : tie.Else4) → Past (rows (c .before .before .before .before .before .before .before .before .before .before)) 6
-past-4 c answer e = past-3 (c .before .before) _ (pass _ (c .before .some-knots-refused .ensures) (c .if4 .left) e)
+past-4 c answer e = past-3 (c .before) _ (pass _ (c .before .before .before .some-knots-refused .ensures) (c .if4 .left) e)
 
 returns : tie.Need-returns
 unfolding query-check
@@ -47,11 +52,11 @@ returns-2 c = past-1 (c .before .before) _ (stop _ (c .before .query-refused .en
 
 returns-3 : tie.Need-returns-3
 unfolding query-check
-returns-3 c = past-2 (c .before .before) _ (stop _ (c .before .slices-refused .ensures) (c .if3 .taken))
+returns-3 c = past-2 (c .before .before .before) _ (stop _ (c .before .slices-refused .ensures) (c .if3 .taken))
 
 returns-4 : tie.Need-returns-4
 unfolding query-check
-returns-4 c = past-3 (c .before .before) _ (stop _ (c .before .some-knots-refused .ensures) (c .if4 .taken))
+returns-4 c = past-3 (c .before) _ (stop _ (c .before .before .before .some-knots-refused .ensures) (c .if4 .taken))
 
 returns-5 : tie.Need-returns-5
 unfolding query-check
@@ -65,8 +70,8 @@ query-refusal-spec =
     returns
     (λ c κs. given c)
     returns-2
-    (λ c κs. search needs)
+    (λ c κs. (given (c .before .before), knots-exact c))
+    (λ c κs. knots-finite c)
     returns-3
-    (λ c κs. (given (c .before .before .before .before), knots-exact (c .before .before)))
     returns-4
     returns-5)

@@ -4,10 +4,10 @@ use Rattle.checks.proofs.numbers.slices_refused.Statement.{statement}
 use Rattle.checks.proofs.numbers.slices_refused.Tie as tie
 
 returns : tie.Need-returns
-returns c = first _ (c .before .any-not-finite .ensures) (c .if1 .taken)
+returns c = first _ (c .before .some-knot-refused .ensures) (c .if1 .taken)
 
 returns-2 : tie.Need-returns-2
-returns-2 c = second (c .before .before .any-not-finite .ensures) (c .before .if1 .left) (c .any-not-finite2 .ensures)
+returns-2 c = second (c .before .before .some-knot-refused .ensures) (c .before .if1 .left) (c .any-not-finite .ensures)
 
 pub slices-refused-spec : {M : Type 1} → statement M
 slices-refused-spec =

@@ -1,0 +1,13 @@
+use mathlib.Core.Path.{sym}
+use borrow.Author.Needs.{needs}
+use Rattle.checks.proofs.numbers.some_knot_refused.Statement.{statement}
+use Rattle.checks.proofs.numbers.some_knot_refused.Tie as tie
+
+returns : tie.Need-returns
+returns c = c .any-not-finite .ensures
+
+returns-2 : tie.Need-returns-2
+returns-2 c = sym (c .before .before .pre (c .if1 .left))
+
+pub some-knot-refused-spec : {M : Type 1} → statement M
+some-knot-refused-spec = tie.close (tie.spec (λ c κs. search needs) returns returns-2)
