@@ -4,6 +4,8 @@ ghost use Prim.Native.Nat.{_≤_};
 ghost use lib.ListN.{length};
 use libc::STDIN_FILENO;
 use libc::STDOUT_FILENO;
+use sheet::kinds::Class;
+use sheet::kinds::class_of;
 use text::Line;
 
 // Prints a line of text. Not public: that the text starts within the line is required.
@@ -44,13 +46,14 @@ pub fn print_tensor(sheet: &[u8]) {
         &mut scratch,
     );
     let refusal = answer.refusal;
-    if refusal != 0 {
-        print_line(text::refused_line(refusal));
-        return;
+    match class_of(refusal) {
+        Class::None => {
+            let length = answer.length;
+            print_line(text::tensor_line(length));
+            print_numbers(&tensor[0..length]);
+        }
+        _ => print_line(text::refused_line(refusal)),
     }
-    let length = answer.length;
-    print_line(text::tensor_line(length));
-    print_numbers(&tensor[0..length]);
 }
 
 // PUBLIC. Prints the tensor of the sheet on standard input, of which at most 65,536 bytes are read.
