@@ -1,17 +1,4 @@
-pub mod Parts
-pub mod Gathering
-pub mod Storing
-pub mod Lane
-pub mod Starts
-pub mod Agreement
-pub mod Pass
-pub mod Refresh
-pub mod Count
 pub mod Outcome
-pub mod Axes
-pub mod PassTurns
-pub mod MaskTurns
-pub mod AxisTurns
 pub mod Loading
 pub mod Finishing
 pub mod Promises
