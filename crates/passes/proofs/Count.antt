@@ -1,6 +1,6 @@
 -- How many lanes the passes solve: what bounds them, and for a change the closed sum.
 use native.Mathlib.Omega.{arith}
-use native.Mathlib.Nat.{add-sub-of-le, zero-mul, suc-mul, mul-le-mul, two-pow-succ, le-trans, le-refl, le-mul-of-pos-right, le-of-suc-le-suc, eq-or-lt-of-le}
+use native.Mathlib.Nat.{add-sub-of-le, zero-mul, suc-mul, two-pow-succ, le-refl, eq-or-lt-of-le}
 use mathlib.Core.Path.{_≡_, refl, ap, _∙_}
 use mathlib.Core.Logic.{⊎-elim}
 use mathlib.Core.Bool.{Bool, true, false, cond}
@@ -9,8 +9,10 @@ use Rattle.rules.specs.Sizes.{sum-below, product-below, in-mask}
 use Rattle.rules.specs.Change.{product-of-one-more, lane-sum}
 use Rattle.rules.proofs.Mask.{in-mask-below, in-mask-above}
 use Rattle.rules.proofs.Sums.{sum-ext, product-ext, product-stops, points-product, sum-of-points-products}
-use Rattle.passes.specs.Passes.{free, varies, lane-points, lanes-solved, lanes-on-axis, lanes-below}
-use Rattle.passes.proofs.Agreement.{varies-own, varies-other}
+use Rattle.lane_starts.specs.Starts.{free, varies, lane-points}
+use Rattle.lane_starts.proofs.Agreement.{varies-own, varies-other}
+use Rattle.lane_starts.proofs.Axes.{lanes-most}
+use Rattle.passes.specs.Passes.{lanes-solved, lanes-on-axis, lanes-below}
 
 -- ---- bounds
 
@@ -18,27 +20,6 @@ pub sum-bound : (u : ℕ → ℕ) (c n : ℕ) → ((k : ℕ) → k < n → u k �
 unfolding sum-below
 sum-bound u c zero most = rw zero-mul (le-refl 0)
 sum-bound u c (suc n) most = rw suc-mul (let h = sum-bound u c n (λ k l. most k (omega arith)) in let l = most n (omega arith) in omega arith)
-
--- the first of some sizes have no larger product than all
-pub product-grows : (n : ℕ → ℕ) (i d : ℕ) → ((j : ℕ) → j < d → 0 < n j) → i ≤ d → product-below n i ≤ product-below n d
-unfolding product-below
-product-grows n i zero some le = let e : i ≡ 0 = omega arith in rw e (le-refl 1)
-product-grows n i (suc d) some le =
-    ⊎-elim (λ e. rw e (le-refl _))
-    (λ lt.
-    le-trans (product-grows n i d (λ j l. some j (omega arith)) (le-of-suc-le-suc lt))
-    (le-mul-of-pos-right (product-below n d) (some d (omega arith))))
-    (eq-or-lt-of-le le)
-
--- no more lanes than places
-pub lanes-most : (n : ℕ → ℕ) (vary : ℕ → Bool) (d : ℕ) → ((j : ℕ) → j < d → 0 < n j) → product-below (lane-points n vary) d ≤ product-below n d
-unfolding product-below lane-points
-lanes-most n vary zero some = le-refl 1
-lanes-most n vary (suc d) some = mul-le-mul (lanes-most n vary d (λ j l. some j (omega arith))) (go (vary d))
-  where
-    go : (b : Bool) → cond b (n d) 1 ≤ n d
-    go true = le-refl (n d)
-    go false = some d (omega arith)
 
 -- ---- the closed sum
 

@@ -1,9 +1,6 @@
-pub mod Starts
-pub mod Agreement
 pub mod Pass
 pub mod Refresh
 pub mod Count
-pub mod Axes
 pub mod PassTurns
 pub mod MaskTurns
 pub mod AxisTurns

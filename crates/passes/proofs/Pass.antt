@@ -28,10 +28,11 @@ use Rattle.rules.proofs.Tables.{table-ext}
 use Rattle.rules.proofs.Places.{One, moved-on, moved-off, moved-on-grid, moved-own, flat-below, flat-ext, flat-one, stride-along}
 use Rattle.checks.proofs.Products.{sum-within}
 use Rattle.lanes.specs.Lanes.{Lies, LaneGiven, LaneSolved}
-use Rattle.passes.specs.Passes.{SizesGiven, free, varies, lane-points, lane-place, solves, lanes-solved, working, On, Given, PassGiven, Passed}
-use Rattle.passes.proofs.Starts.{across, lane-number, number-below, start-on-grid, number-of-start, start-of-number}
-use Rattle.passes.proofs.Axes.{stride-fits}
-use Rattle.passes.proofs.Agreement.{agree-at, agree-all, varies-own, varies-other, varies-not-own, free-own}
+use Rattle.lane_starts.specs.Starts.{SizesGiven, free, varies, lane-points, lane-place}
+use Rattle.lane_starts.proofs.Starts.{across, lane-number, number-below, start-on-grid, number-of-start, start-of-number}
+use Rattle.lane_starts.proofs.Axes.{stride-fits}
+use Rattle.lane_starts.proofs.Agreement.{agree-at, agree-all, varies-own, varies-other, varies-not-own, free-own}
+use Rattle.passes.specs.Passes.{solves, lanes-solved, working, On, Given, PassGiven, Passed}
 
 -- two numbers of two digits each that are equal have the same digits
 pub digits-one : (size a b x y : ℕ) → x < size → y < size → a * size + x ≡ b * size + y → (a ≡ b) × (x ≡ y)

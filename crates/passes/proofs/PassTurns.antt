@@ -11,7 +11,8 @@ use Rattle.rules.specs.Sizes as Sizes
 use Rattle.rules.specs.Sizes.{Grid, points, knots, Place, moved, flat, product-below, stride}
 use Rattle.rules.specs.declared.Condition.{Condition}
 use Rattle.lanes.specs.Lanes.{LaneGiven, LaneSolved}
-use Rattle.passes.specs.Passes.{varies, lane-points, lane-place, lanes-solved, PassGiven, Passed}
+use Rattle.lane_starts.specs.Starts.{varies, lane-points, lane-place}
+use Rattle.passes.specs.Passes.{lanes-solved, PassGiven, Passed}
 use Rattle.passes.proofs.Pass.{Turn, turn-next, turn-last, begin-fits, lane-given}
 
 -- what the numbers are

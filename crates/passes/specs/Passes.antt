@@ -1,43 +1,20 @@
 -- A pass solves the lanes along axis i of the numbers at one mask, and stores their slopes at the target, that mask with axis i put in. A build solves each lane; a change those that agree with its place on every axis outside the target.
 use mathlib.Core.Path.{_≡_}
-use mathlib.Core.Bool.{Bool, true, false, cond, _||_}
+use mathlib.Core.Bool.{Bool, true, false}
 use mathlib.Core.List.{List}
 use Prim.Native.Nat.{ℕ, zero, suc, _+_, _-_, _^_, _<_, _≤_}
-use lib.Dec.{ltb, eqb}
+use lib.Dec.{ltb}
 use lib.ListN.{length}
 use lib.Ieee.{Float}
 use Rattle.rules.specs.Numbers.{at}
-use Rattle.rules.specs.Sizes.{most-in-a-tensor, Grid, points, condition, knots-length, sum-below, product-below, masks, tensor-length, scratch-length, Place, unflat, spot, in-mask}
+use Rattle.rules.specs.Sizes.{most-in-a-tensor, Grid, points, condition, knots-length, sum-below, product-below, masks, tensor-length, scratch-length, Place, spot}
 use Rattle.rules.specs.Refusals.{fewness-refused}
 use Rattle.rules.specs.Tensor.{slope-along}
 use Rattle.rules.specs.Change.{agree}
 use Rattle.checks.specs.Given.{InRange}
+use Rattle.lane_starts.specs.Starts.{free, varies, lane-points}
 
 -- ---- the lanes of a pass
-
--- axes whose places are no more than a tensor's numbers
-pub record SizesGiven (axes : ℕ) (n : ℕ → ℕ) : Type 0 where
-  pub few-axes : axes ≤ 4
-  pub some-points : (j : ℕ) → j < axes → 0 < n j
-  pub small : product-below n axes ≤ most-in-a-tensor
-
--- whether the lanes of a pass are bound to no index of the place on axis j
-unfoldable pub free : Bool → ℕ → ℕ → Bool
-free whole target j = whole || in-mask target j
-
--- whether they go through all indices on axis j: on a free axis, but not on their own
-unfoldable pub varies : Bool → ℕ → ℕ → ℕ → Bool
-unfolding free
-varies whole target i j = cond (eqb j i) false (free whole target j)
-
--- of axes of n points each, of which some vary: how many indices lanes have on axis j, and where lane t starts, counted with the last axis fastest
-module _ (n : ℕ → ℕ) (vary : ℕ → Bool) where
-  unfoldable pub lane-points : ℕ → ℕ
-  lane-points j = cond (vary j) (n j) 1
-
-  unfoldable pub lane-place : Place → ℕ → ℕ → Place
-  unfolding lane-points unflat
-  lane-place fixed d t j = cond (vary j) (unflat lane-points d t j) (fixed j)
 
 -- whether the lane that p lies on is solved
 unfoldable pub solves : Grid → Bool → Place → ℕ → Place → Bool

@@ -18,8 +18,8 @@ use Rattle.checks.specs.Given.{BuildGiven}
 use Rattle.checks.proofs.ThenOutcome.{refused, build-outcome}
 use Rattle.lanes.specs.Lanes.{Lies, Stored}
 use Rattle.passes.specs.Passes.{Given, On, Refreshed}
-use Rattle.tensor.specs.Working.{outcome-in, Finished}
 use Rattle.passes.proofs.MaskTurns.{given-again}
+use Rattle.tensor.specs.Working.{outcome-in, Finished}
 use Rattle.tensor.proofs.Outcome.{built, samples-stored}
 use Rattle.tensor.proofs.Promises.{given-of, answer-is, output-is, scratch-is}
 

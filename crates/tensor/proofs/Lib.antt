@@ -1,4 +1,5 @@
 pub mod Outcome
+pub mod Placing
 pub mod Loading
 pub mod Finishing
 pub mod Promises

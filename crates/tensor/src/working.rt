@@ -6,7 +6,7 @@ ghost use Rattle.rules.specs.Numbers.{at};
 ghost use Rattle.rules.specs.Sizes.{place-of, flat};
 ghost use Rattle.checks.specs.Given.{points-of};
 ghost use Rattle.lanes.specs.Lanes.{Lies, Stored};
-ghost use Rattle.passes.specs.Passes.{SizesGiven};
+ghost use Rattle.lane_starts.specs.Starts.{SizesGiven};
 ghost use Rattle.tensor.specs.Working.{Loaded, Finished};
 use passes::TENSOR;
 use rules::Axis;

@@ -1,9 +1,9 @@
 use mathlib.Core.Path.{sym, _∙_}
 use borrow.Author.Needs.{needs}
-use Rattle.passes.specs.Passes.{free}
-use Rattle.passes.proofs.Agreement.{varies-own, varies-other}
-use Rattle.passes.proofs.varies.Statement.{statement}
-use Rattle.passes.proofs.varies.Tie as tie
+use Rattle.lane_starts.specs.Starts.{free}
+use Rattle.lane_starts.proofs.Agreement.{varies-own, varies-other}
+use Rattle.lane_starts.proofs.varies.Statement.{statement}
+use Rattle.lane_starts.proofs.varies.Tie as tie
 
 returns : tie.Need-returns
 returns c = sym (rw (c .if1 .taken) (varies-own _ _ _))

@@ -6,10 +6,10 @@ use Prim.Native.Nat.{_-_, _≤_}
 use Rattle.rules.specs.Sizes.{product-below}
 use Rattle.checks.specs.Given.{points-of}
 use Rattle.checks.proofs.Products.{product-none}
-use Rattle.passes.specs.Passes.{varies, lane-points}
-use Rattle.passes.proofs.Axes.{fits-small, lanes-times, lanes-same, lanes-fit}
-use Rattle.passes.proofs.lane_count.Statement.{statement}
-use Rattle.passes.proofs.lane_count.Tie as tie
+use Rattle.lane_starts.specs.Starts.{varies, lane-points}
+use Rattle.lane_starts.proofs.Axes.{fits-small, lanes-times, lanes-same, lanes-fit}
+use Rattle.lane_starts.proofs.lane_count.Statement.{statement}
+use Rattle.lane_starts.proofs.lane_count.Tie as tie
 
 abbrev Inv-loop : tie.InvT-loop
 Inv-loop axes whole target axis all lanes₀ j₀ lanes j =

@@ -5,8 +5,8 @@ use Rattle.rules.specs.Sizes.{sum-below}
 use Rattle.checks.specs.Given.{points-of}
 use Rattle.checks.proofs.Products.{sum-none, sum-more}
 use borrow.Author.Needs.{needs}
-use Rattle.passes.proofs.knots_before.Statement.{statement}
-use Rattle.passes.proofs.knots_before.Tie as tie
+use Rattle.lane_starts.proofs.knots_before.Statement.{statement}
+use Rattle.lane_starts.proofs.knots_before.Tie as tie
 
 abbrev Inv-loop : tie.InvT-loop
 Inv-loop axis all sum₀ j₀ sum j = (j ≤ axis) × (sum ≡ sum-below (points-of all) j) × (sum ≤ j * 256)

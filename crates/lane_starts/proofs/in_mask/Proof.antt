@@ -1,8 +1,8 @@
 use mathlib.Core.Path.{refl}
 use borrow.Author.Needs.{needs}
 use Rattle.rules.specs.Sizes.{in-mask}
-use Rattle.passes.proofs.in_mask.Statement.{statement}
-use Rattle.passes.proofs.in_mask.Tie as tie
+use Rattle.lane_starts.proofs.in_mask.Statement.{statement}
+use Rattle.lane_starts.proofs.in_mask.Tie as tie
 
 returns : tie.Need-returns
 unfolding in-mask

@@ -1,34 +1,43 @@
 -- What the walks over the axes compute: how many lanes there are, where a lane starts, and strides.
 use native.Mathlib.Omega.{arith}
-use native.Mathlib.Nat.{div-one, mul-one, one-mul, mul-le-mul, le-trans, le-refl, lt-of-lt-of-le, lt-of-le-of-lt, mod-eq-of-lt, pow-le-pow-right, mul-pos}
+use native.Mathlib.Nat.{div-one, mul-one, mul-le-mul, mul-pos, le-trans, le-refl, le-mul-of-pos-right, le-of-suc-le-suc, eq-or-lt-of-le, lt-of-lt-of-le, lt-of-le-of-lt}
 use native.Mathlib.Numerals.{add-one}
-use mathlib.Core.Path.{_≡_, refl, sym, ap, _∙_, subst}
-use mathlib.Core.Logic.{_≢_}
+use mathlib.Core.Path.{_≡_, sym, ap, _∙_, subst}
+use mathlib.Core.Logic.{_≢_, ⊎-elim}
 use mathlib.Core.Bool.{Bool, true, false, cond}
-use Prim.Native.Nat.{ℕ, zero, suc, _+_, _-_, _*_, _/_, _%_, _^_, _<_, _≤_}
+use Prim.Native.Nat.{ℕ, zero, suc, _+_, _-_, _*_, _/_, _%_, _<_, _≤_}
 use lib.Dec.{ltb, eqb, lit<}
 use borrow.Author.Tests.{lt-ltb, le-ltb}
 use mir.Val.{Fits}
 use mir.Syntax.{w64}
-use Rattle.rules.specs.Ends.{crossed, condition-at}
-use Rattle.rules.specs.declared.Condition.{Condition}
 use Rattle.rules.specs.Sizes.{Place, moved, flat, product-below, stride}
 use Rattle.rules.proofs.Places.{OnGrid, moved-on, moved-off, flat-below, flat-ext}
-use Rattle.passes.specs.Passes.{SizesGiven, lane-points, lane-place}
-use Rattle.passes.proofs.Starts.{varying, fixed-one, start-last, start-before, start-on-grid}
-use Rattle.passes.proofs.Count.{product-grows, lanes-most}
-
--- a power of two as the code shifts it
-pub shifted : (i : ℕ) → i ≤ 4 → 1 * 2 ^ i % 18446744073709551616 ≡ 2 ^ i
-shifted i h = rw one-mul (mod-eq-of-lt (lt-of-le-of-lt (pow-le-pow-right (lit< tt) {i = i} {j = 4} h) (lit< tt)))
-
--- any mask but 0 uses the ends of a cross pass
-pub crossed-at : (mask : ℕ) (ends : Condition) → mask ≢ 0 → crossed ends ≡ condition-at mask ends
-crossed-at zero ends some = absurd (some refl)
-crossed-at (suc mask) ends some = refl
+use Rattle.lane_starts.specs.Starts.{SizesGiven, lane-points, lane-place}
+use Rattle.lane_starts.proofs.Starts.{varying, fixed-one, start-last, start-before, start-on-grid}
 
 pub fits-small : {a : ℕ} → a ≤ 4096 → Fits w64 a
 fits-small h = record { fits = lt-of-le-of-lt h (lit< tt) }
+
+-- the first of some sizes have no larger product than all
+pub product-grows : (n : ℕ → ℕ) (i d : ℕ) → ((j : ℕ) → j < d → 0 < n j) → i ≤ d → product-below n i ≤ product-below n d
+unfolding product-below
+product-grows n i zero some le = let e : i ≡ 0 = omega arith in rw e (le-refl 1)
+product-grows n i (suc d) some le =
+    ⊎-elim (λ e. rw e (le-refl _))
+    (λ lt.
+    le-trans (product-grows n i d (λ j l. some j (omega arith)) (le-of-suc-le-suc lt))
+    (le-mul-of-pos-right (product-below n d) (some d (omega arith))))
+    (eq-or-lt-of-le le)
+
+-- no more lanes than places
+pub lanes-most : (n : ℕ → ℕ) (vary : ℕ → Bool) (d : ℕ) → ((j : ℕ) → j < d → 0 < n j) → product-below (lane-points n vary) d ≤ product-below n d
+unfolding product-below lane-points
+lanes-most n vary zero some = le-refl 1
+lanes-most n vary (suc d) some = mul-le-mul (lanes-most n vary d (λ j l. some j (omega arith))) (go (vary d))
+  where
+    go : (b : Bool) → cond b (n d) 1 ≤ n d
+    go true = le-refl (n d)
+    go false = some d (omega arith)
 
 -- one axis fewer
 pub sizes-fewer : {axes : ℕ} {n : ℕ → ℕ} → SizesGiven axes n → (fewer : ℕ) → fewer ≤ axes → SizesGiven fewer n
@@ -154,19 +163,3 @@ module _ (n : ℕ → ℕ) (vary : ℕ → Bool) (place : Place) (axis : ℕ) wh
 
       pub fixed-fits : vary last ≡ false → last ≢ axis → r ≡ start last t → r * n last + place last < 4096
       fixed-fits e other is = rw (lane-fixed r e other is) (start-below axes t given on)
-
--- ---- the flat number of a place, axis after axis
-
-module _ (n : ℕ → ℕ) (place : Place) (number j : ℕ) (so-far : number ≡ flat n j place) where
-  pub number-more : number * n j + place j ≡ flat n (j + 1) place
-  unfolding flat
-  number-more = rw (add-one, so-far)
-
-  pub number-fits : (axes : ℕ) → SizesGiven axes n → OnGrid n axes place → j < axes → number * n j + place j < 4096
-  number-fits axes given on l =
-      let fewer = sizes-fewer given (j + 1) (omega arith) in
-      rw number-more (lt-of-lt-of-le (flat-below n (j + 1) place (λ k below. on k (omega arith))) (fewer .small))
-
-pub number-none : (n : ℕ → ℕ) (place : Place) → 0 ≡ flat n 0 place
-unfolding flat
-number-none n place = refl

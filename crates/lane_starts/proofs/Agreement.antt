@@ -11,7 +11,7 @@ use Rattle.rules.specs.Change.{agree}
 use Rattle.rules.proofs.Cases.{not-both}
 use Rattle.rules.proofs.Places.{below-or-last}
 use Rattle.rules.proofs.Mask.{in-mask-top}
-use Rattle.passes.specs.Passes.{free, varies}
+use Rattle.lane_starts.specs.Starts.{free, varies}
 
 -- ---- two places that agree
 

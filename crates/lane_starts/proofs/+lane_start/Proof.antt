@@ -5,13 +5,13 @@ use native.Mathlib.Omega.{arith}
 use borrow.Author.Needs.{needs}
 use borrow.Fn.Kinds.{In}
 use borrow.Fn.PlainCycle.{Measures, is, falls, and}
-use Rattle.passes.proofs.Axes.{sizes-fewer, start-of-none, lane-varying, lane-own, lane-fixed, varying-fits, bound-fits, fixed-fits}
-use Rattle.passes.proofs.lane_start.Reads as lane-start
-use Rattle.passes.proofs.lane_start.Kinds as lane-start-kinds
-use Rattle.passes.proofs.+lane_start.Lts-lane_start as lane-start-lts
-use Rattle.passes.proofs.varies.Reads as varies-reads
-use Rattle.passes.proofs.+lane_start.{statement}
-use Rattle.passes.proofs.+lane_start.Tie.{close}
+use Rattle.lane_starts.proofs.Axes.{sizes-fewer, start-of-none, lane-varying, lane-own, lane-fixed, varying-fits, bound-fits, fixed-fits}
+use Rattle.lane_starts.proofs.lane_start.Reads as lane-start
+use Rattle.lane_starts.proofs.lane_start.Kinds as lane-start-kinds
+use Rattle.lane_starts.proofs.+lane_start.Lts-lane_start as lane-start-lts
+use Rattle.lane_starts.proofs.varies.Reads as varies-reads
+use Rattle.lane_starts.proofs.+lane_start.{statement}
+use Rattle.lane_starts.proofs.+lane_start.Tie.{close}
 
 abbrev μ-lane-start : Measures 0 lane-start-kinds.ps ℕ
 μ-lane-start κs a = a .0

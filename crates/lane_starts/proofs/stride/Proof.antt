@@ -4,9 +4,9 @@ use mathlib.Core.Path.{_≡_}
 use Prim.Native.Nat.{_+_, _-_, _<_, _≤_}
 use Rattle.rules.specs.Sizes.{stride}
 use Rattle.checks.specs.Given.{points-of}
-use Rattle.passes.proofs.Axes.{fits-small, stride-first, stride-more, stride-fits}
-use Rattle.passes.proofs.stride.Statement.{statement}
-use Rattle.passes.proofs.stride.Tie as tie
+use Rattle.lane_starts.proofs.Axes.{fits-small, stride-first, stride-more, stride-fits}
+use Rattle.lane_starts.proofs.stride.Statement.{statement}
+use Rattle.lane_starts.proofs.stride.Tie as tie
 
 abbrev Inv-loop : tie.InvT-loop
 Inv-loop axes axis all step₀ j₀ step j = (axis < j) × (j ≤ axes) × (step ≡ stride (points-of all) j axis)

@@ -5,7 +5,7 @@ use mathlib.Core.Bool.{Bool, true, false, cond}
 use Prim.Native.Nat.{ℕ, suc, _/_, _%_, _<_}
 use Rattle.rules.specs.Sizes.{Place, flat, unflat, product-below}
 use Rattle.rules.proofs.Places.{OnGrid, One, flat-below, flat-ext, unflat-last, unflat-before, unflat-flat, flat-unflat, unflat-on-grid}
-use Rattle.passes.specs.Passes.{lane-points, lane-place}
+use Rattle.lane_starts.specs.Starts.{lane-points, lane-place}
 
 module _ (n : ℕ → ℕ) (vary : ℕ → Bool) where
   pub varying : (j : ℕ) → vary j ≡ true → lane-points n vary j ≡ n j
