@@ -18,10 +18,10 @@ ROOT = HERE.parent.parent
 
 # CRATE/NAME of each error. It is an edit in crates/CRATE/must-fail or, where none there says it, in CRATE beside this file.
 ERRORS = [
-    "tensor/cross_pass_keeps_its_number",
-    "tensor/lanes_through_the_point_alone",
-    "tensor/lanes_through_the_point_counted_as_all",
-    "tensor/axes_in_falling_order",
+    "passes/cross_pass_keeps_its_number",
+    "lane_starts/lanes_through_the_point_alone",
+    "passes/lanes_through_the_point_counted_as_all",
+    "passes/axes_in_falling_order",
     "solve/corner_dropped_from_u_vec",
     "solve/corner_dropped_for_two_intervals",
     "spline/reciprocal_of_six_in_a_slope",

@@ -20,10 +20,10 @@ use Rattle.rules.proofs.LaneCount.{lane-count}
 use Rattle.checks.specs.Check.{change-check}
 use Rattle.checks.specs.Given.{ChangeGiven}
 use Rattle.checks.proofs.ThenOutcome.{refused, change-outcome}
-use Rattle.tensor.specs.Passes.{lanes-below, Given, Refreshed}
+use Rattle.passes.specs.Passes.{lanes-below, Given, Refreshed}
+use Rattle.passes.proofs.Count.{change-count}
+use Rattle.passes.proofs.MaskTurns.{given-again}
 use Rattle.tensor.specs.Working.{Loaded, outcome-in, Finished}
-use Rattle.tensor.proofs.Count.{change-count}
-use Rattle.tensor.proofs.MaskTurns.{given-again}
 use Rattle.tensor.proofs.Outcome.{changed-is, sample-stored, others-kept}
 use Rattle.tensor.proofs.Promises.{given-of, answer-is, output-is, scratch-is}
 

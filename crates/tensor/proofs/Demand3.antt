@@ -24,7 +24,7 @@ use Rattle.rules.proofs.Tables.{length-table}
 use Rattle.rules.proofs.ChangeIsBuild.{kept, built-entry, set-is-with-sample, change-is-build}
 use Rattle.rules.proofs.LaneCount.{lane-count}
 use Rattle.base.proofs.Scan.{neither, any-found, any-at, any-ext}
-use Rattle.tensor.proofs.Agreement.{agree-at}
+use Rattle.lane_starts.proofs.Agreement.{agree-at}
 
 -- ---- what the statements speak of
 

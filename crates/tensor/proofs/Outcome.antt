@@ -19,10 +19,11 @@ use Rattle.rules.specs.Change.{agree, can-differ, with-sample, changed-entry, c
 use Rattle.rules.proofs.Cases.{arms-ext, arms-one, not-both}
 use Rattle.rules.proofs.Places.{moved-on-grid, flat-below, flat-ext, flat-one, flat-unflat, unflat-on-grid}
 use Rattle.rules.proofs.Locality.{rest-below, slope-along-ext}
-use Rattle.tensor.specs.Passes.{free, solves, working, On, Given, refreshed, Refreshed}
-use Rattle.tensor.proofs.Parts.{part-is-table}
-use Rattle.tensor.proofs.Agreement.{agree-at, agree-all}
-use Rattle.tensor.proofs.Pass.{digits-one}
+use Rattle.lanes.proofs.Parts.{part-is-table}
+use Rattle.lane_starts.specs.Starts.{free}
+use Rattle.lane_starts.proofs.Agreement.{agree-at, agree-all}
+use Rattle.passes.specs.Passes.{solves, working, On, Given, refreshed, Refreshed}
+use Rattle.passes.proofs.Pass.{digits-one}
 
 module _ (g : Grid) where
   -- ---- the numbers after the passes

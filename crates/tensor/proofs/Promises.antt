@@ -11,7 +11,7 @@ use Rattle.rules.specs.Refusals.{outcome-refused}
 use Rattle.rules.specs.Calls.{stored, scratch-after}
 use Rattle.checks.specs.Given.{GridGiven, SolveGiven}
 use Rattle.checks.proofs.ThenOutcome.{ThenOutcome, outcome}
-use Rattle.tensor.specs.Passes.{Given}
+use Rattle.passes.specs.Passes.{Given}
 use Rattle.tensor.specs.Working.{outcome-in, Finished}
 
 -- what the checks leave is what the passes are given

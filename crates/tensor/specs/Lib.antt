@@ -1,3 +1,1 @@
-pub mod Lanes
-pub mod Passes
 pub mod Working

@@ -5,8 +5,6 @@ ghost use Rattle.checks.specs.Given.{grid};
 use rules::Axis;
 use rules::ChangeAnswer;
 
-pub mod lanes;
-pub mod passes;
 pub mod working;
 
 // PUBLIC. The tensor of the samples is stored in `tensor`. It answers 0, or the number of its refusal: 1, 2, 3, 4, 5, 7, 8, 9 with all

@@ -5,13 +5,11 @@ ghost use lib.ListN.{length};
 ghost use Rattle.rules.specs.Numbers.{at};
 ghost use Rattle.rules.specs.Sizes.{place-of, flat};
 ghost use Rattle.checks.specs.Given.{points-of};
-ghost use Rattle.tensor.specs.Lanes.{Lies, Stored};
-ghost use Rattle.tensor.specs.Passes.{SizesGiven};
+ghost use Rattle.lanes.specs.Lanes.{Lies, Stored};
+ghost use Rattle.lane_starts.specs.Starts.{SizesGiven};
 ghost use Rattle.tensor.specs.Working.{Loaded, Finished};
+use passes::TENSOR;
 use rules::Axis;
-
-// Where the working tensor begins.
-pub const TENSOR: usize = 2048;
 
 // The refusal of an outcome, and none.
 const OUTCOME: usize = 10;

@@ -6,7 +6,7 @@ use lib.Pow.{pow-pos}
 use Rattle.checks.specs.Given.{grid, BuildGiven}
 use Rattle.checks.specs.Check.{build-check}
 use Rattle.checks.proofs.Accepted.{build-given}
-use Rattle.tensor.proofs.MaskTurns.{given-again}
+use Rattle.passes.proofs.MaskTurns.{given-again}
 use Rattle.tensor.proofs.Building.{origin-on, build-refused, build-given-passes, samples-lie, build-done}
 use Rattle.tensor.proofs.build.Statement.{statement}
 use Rattle.tensor.proofs.build.Tie as tie

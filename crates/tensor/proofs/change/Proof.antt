@@ -6,8 +6,8 @@ use Rattle.rules.specs.Sizes.{place-of}
 use Rattle.checks.specs.Given.{grid, ChangeGiven}
 use Rattle.checks.specs.Check.{change-check}
 use Rattle.checks.proofs.Accepted.{change-given}
-use Rattle.tensor.proofs.Pass.{sizes-given}
-use Rattle.tensor.proofs.MaskTurns.{given-again}
+use Rattle.passes.proofs.Pass.{sizes-given}
+use Rattle.passes.proofs.MaskTurns.{given-again}
 use Rattle.tensor.proofs.Changing.{change-refused, change-given-passes, spot-is, changed-inside, changed-small, change-stopped, change-done}
 use Rattle.tensor.proofs.change.Statement.{statement}
 use Rattle.tensor.proofs.change.Tie as tie

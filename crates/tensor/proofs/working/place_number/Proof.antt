@@ -4,7 +4,7 @@ use mathlib.Core.Path.{_≡_}
 use Prim.Native.Nat.{_-_, _≤_}
 use Rattle.rules.specs.Sizes.{place-of, flat}
 use Rattle.checks.specs.Given.{points-of}
-use Rattle.tensor.proofs.Axes.{number-none, number-more, number-fits}
+use Rattle.tensor.proofs.Placing.{number-none, number-more, number-fits}
 use Rattle.tensor.proofs.working.place_number.Statement.{statement}
 use Rattle.tensor.proofs.working.place_number.Tie as tie
 

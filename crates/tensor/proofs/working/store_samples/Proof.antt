@@ -4,7 +4,7 @@ use mathlib.Core.Path.{refl}
 use Prim.Native.Nat.{_+_, _-_, _*_, _<_}
 use lib.ListN.{length}
 use Rattle.rules.specs.Numbers.{at}
-use Rattle.tensor.proofs.Storing.{Turn, turn-first, turn-next, turn-last}
+use Rattle.lanes.proofs.Storing.{Turn, turn-first, turn-next, turn-last}
 use Rattle.tensor.proofs.working.store_samples.Statement.{statement}
 use Rattle.tensor.proofs.working.store_samples.Tie as tie
 

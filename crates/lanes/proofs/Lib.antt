@@ -1,0 +1,4 @@
+pub mod Parts
+pub mod Gathering
+pub mod Storing
+pub mod Lane
