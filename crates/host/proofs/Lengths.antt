@@ -8,7 +8,7 @@ use lib.ListN.{length}
 use lib.Ieee.{Float}
 use Rattle.checks.proofs.Rows.{exact, exact-2, exact-3}
 use Rattle.host.specs.Axes.{kinds-refused, lower-kind, upper-kind, some-kinds-refused}
-use Rattle.host.specs.Exports.{moments-own-refusal, curve-own-refusal, build-own-refusal, change-own-refusal, query-own-refusal}
+use Rattle.host.specs.Exports.{moments-own-refusal, curve-own-refusal, build-own-refusal, change-own-refusal, query-own-refusal, sheet-tensor-own-refusal}
 
 -- a first row that does not apply
 not-the-first : (applies : Bool) (number later : ℕ) → cond applies (suc number) later ≡ 0 → (applies ≡ false) × (later ≡ 0)
@@ -52,3 +52,7 @@ pub query-lengths :
 unfolding query-own-refusal
 query-lengths points value labels none =
     exact-3 (length points) 4 (length value) 1 (length labels) 4 (not-the-first _ 3 0 none .0)
+
+pub sheet-tensor-lengths : (length-lent : List ℕ) → sheet-tensor-own-refusal length-lent ≡ 0 → length length-lent ≡ 1
+unfolding sheet-tensor-own-refusal
+sheet-tensor-lengths length-lent none = exact (length length-lent) 1 (not-the-first _ 3 0 none .0)

@@ -11,6 +11,9 @@ use Rattle.rules.specs.Moments.{moments}
 use Rattle.rules.specs.Tensor.{tensor}
 use Rattle.rules.specs.Change.{changed-tensor}
 use Rattle.rules.specs.Calls.{stored, scratch-after, moments-refusal, curve-answer, build-refusal, change-refusal, change-answer, query-answer}
+use Rattle.sheet.specs.Fields.{sheet-grid, sheet-samples}
+use Rattle.sheet.specs.Read.{over}
+use Rattle.sheet_build.specs.SheetTensor.{answer-of, reading-refusal, sheet-tensor-refusal}
 use Rattle.host.specs.Axes.{lower-kind, upper-kind, condition-given, kinds-refused, some-kinds-refused, grid-given, grid-without-ends}
 
 -- the host's own refusal, 0 for none, before the call's
@@ -141,3 +144,37 @@ module _ (axes : ℕ) (points : List ℕ) (knots tensor-lent coordinates value-l
         labels-later
         ≡ kept (query-own-refusal points value-lent labels-lent) labels-lent
         (query-answer (grid-without-ends axes points knots) tensor-lent coordinates .labels)
+
+-- ---- the sheet's tensor
+
+-- 4 for the slot of the length
+unfoldable pub sheet-tensor-own-refusal : List ℕ → ℕ
+sheet-tensor-own-refusal length-lent = cond (length-refused (length length-lent) 1) 4 0
+
+module _ (bytes : List ℕ) (knots-lent samples-lent tensor-lent scratch-lent : List Float) (length-lent : List ℕ) where
+  abbrev given-reading-refusal : ℕ
+  given-reading-refusal = reading-refusal bytes knots-lent samples-lent tensor-lent scratch-lent
+
+  abbrev given-sheet-refusal : ℕ
+  given-sheet-refusal = sheet-tensor-refusal bytes knots-lent samples-lent tensor-lent scratch-lent
+
+  pub record SheetTensorExport (refusal : ℕ) (knots-later samples-later tensor-later scratch-later : List Float) (length-later : List ℕ) : Type 0 where
+    pub answer : refusal ≡ before (sheet-tensor-own-refusal length-lent) given-sheet-refusal
+    pub knots :
+        knots-later
+        ≡ kept (sheet-tensor-own-refusal length-lent) knots-lent
+        (stored given-reading-refusal knots-lent (over (sheet-grid bytes .flat-knots) knots-lent))
+    pub samples :
+        samples-later
+        ≡ kept (sheet-tensor-own-refusal length-lent) samples-lent
+        (stored given-reading-refusal samples-lent (over (sheet-samples bytes) samples-lent))
+    pub output :
+        tensor-later
+        ≡ kept (sheet-tensor-own-refusal length-lent) tensor-lent
+        (stored given-sheet-refusal tensor-lent (over (tensor (sheet-grid bytes) (sheet-samples bytes)) tensor-lent))
+    pub scratch :
+        scratch-later
+        ≡ kept (sheet-tensor-own-refusal length-lent) scratch-lent (scratch-after given-sheet-refusal scratch-lent)
+    pub slot :
+        length-later
+        ≡ kept (sheet-tensor-own-refusal length-lent) length-lent (answer-of given-sheet-refusal (sheet-grid bytes) .length ∷ [])

@@ -2,7 +2,7 @@
 ghost use mathlib.Core.Path.{_≡_};
 ghost use lib.ListN.{length};
 ghost use Rattle.rules.specs.Calls.{SlopesPromise};
-ghost use Rattle.host.specs.Exports.{MomentsExport, CurveExport, BuildExport, ChangeExport, QueryExport};
+ghost use Rattle.host.specs.Exports.{MomentsExport, CurveExport, BuildExport, ChangeExport, QueryExport, SheetTensorExport};
 
 pub mod axes;
 pub mod own;
@@ -145,5 +145,26 @@ pub extern "C" fn hullashlar_query(
     value[0] = answer.value;
     let found = answer.labels;
     store_labels(labels, found);
+    answer.refusal
+}
+
+// The tensor of a packed sheet, read and built in one call: knots, samples and tensor go to the first places of their buffers, and how many numbers the tensor has to a slot of one. Refuses 4, then what the reader refuses, then what the build refuses, and then the length is 0; and 4 of its own.
+#[no_mangle]
+pub extern "C" fn hullashlar_sheet_tensor(
+    bytes: &[u8],
+    knots: &mut [f64],
+    samples: &mut [f64],
+    tensor: &mut [f64],
+    scratch: &mut [f64],
+    length: &mut [usize],
+) -> usize
+    ensures { λ r. ⌜ SheetTensorExport (now (bytes .entry)) (now (knots .entry)) (now (samples .entry)) (now (tensor .entry)) (now (scratch .entry)) (now (length .entry)) r (now (knots .exit)) (now (samples .exit)) (now (tensor .exit)) (now (scratch .exit)) (now (length .exit)) ⌝ }
+{
+    let refusal = own::sheet_tensor_own_refusal(length);
+    if refusal != 0 {
+        return refusal;
+    }
+    let answer = sheet_build::tensor_of_sheet(bytes, knots, samples, tensor, scratch);
+    length[0] = answer.length;
     answer.refusal
 }

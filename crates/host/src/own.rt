@@ -1,6 +1,6 @@
 // The host's own refusals, before anything else: 4 for a slice that is not as long as the ends, the axes or the answer want it, then 13 for the kinds of an axis in use, and 0 for none.
 ghost use mathlib.Core.Path.{_≡_};
-ghost use Rattle.host.specs.Exports.{moments-own-refusal, curve-own-refusal, build-own-refusal, change-own-refusal, query-own-refusal};
+ghost use Rattle.host.specs.Exports.{moments-own-refusal, curve-own-refusal, build-own-refusal, change-own-refusal, query-own-refusal, sheet-tensor-own-refusal};
 use crate::axes::kinds_refused;
 use crate::axes::some_kinds_refused;
 use crate::axes::wide;
@@ -81,6 +81,16 @@ pub fn query_own_refusal(points: &[usize], value: &[f64], labels: &[usize]) -> u
         return 4;
     }
     if labels.len() != 4 {
+        return 4;
+    }
+    0
+}
+
+// Of the sheet's tensor: the slot of its length.
+pub fn sheet_tensor_own_refusal(length: &[usize]) -> usize
+    ensures { λ r. ⌜ r ≡ sheet-tensor-own-refusal (now (length .entry)) ⌝ }
+{
+    if length.len() != 1 {
         return 4;
     }
     0
