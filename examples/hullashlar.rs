@@ -105,6 +105,23 @@ extern "C" {
         value: *mut f64, value_length: usize,
         labels: *mut usize, labels_length: usize,
     ) -> usize;
+    fn hullashlar_read(
+        bytes: *const u8, bytes_length: usize,
+        knots: *mut f64, knots_length: usize,
+        samples: *mut f64, samples_length: usize,
+        axes: *mut usize, axes_length: usize,
+        points: *mut usize, points_length: usize,
+        kinds: *mut u8, kinds_length: usize,
+        values: *mut f64, values_length: usize,
+    ) -> usize;
+    fn hullashlar_sheet_tensor(
+        bytes: *const u8, bytes_length: usize,
+        knots: *mut f64, knots_length: usize,
+        samples: *mut f64, samples_length: usize,
+        tensor: *mut f64, tensor_length: usize,
+        scratch: *mut f64, scratch_length: usize,
+        length: *mut usize, length_length: usize,
+    ) -> usize;
 }
 
 /// The refusal's number as an error.
@@ -261,4 +278,53 @@ pub fn query(
         )
     };
     outcome(refusal, (value[0], labels))
+}
+
+/// The axes of a packed sheet, once its knots and samples stand in the lent buffers.
+#[rustfmt::skip]
+pub fn read(
+    bytes: &[u8],
+    knots: &mut [f64],
+    samples: &mut [f64],
+) -> Result<Axes, Refusal> {
+    let mut axes = Axes::default();
+    let mut count = [0];
+    // SAFETY: each pointer goes with the length of a live slice, and no two slices overlap.
+    let refusal = unsafe {
+        hullashlar_read(
+            bytes.as_ptr(), bytes.len(),
+            knots.as_mut_ptr(), knots.len(),
+            samples.as_mut_ptr(), samples.len(),
+            count.as_mut_ptr(), count.len(),
+            axes.points.as_mut_ptr(), axes.points.len(),
+            axes.kinds.as_mut_ptr(), axes.kinds.len(),
+            axes.values.as_mut_ptr(), axes.values.len(),
+        )
+    };
+    axes.count = count[0];
+    outcome(refusal, axes)
+}
+
+/// The length of a sheet's tensor, once it stands in the lent one, which is 4,096 long.
+#[rustfmt::skip]
+pub fn sheet_tensor(
+    bytes: &[u8],
+    knots: &mut [f64],
+    samples: &mut [f64],
+    tensor: &mut [f64],
+    scratch: &mut [f64],
+) -> Result<usize, Refusal> {
+    let mut length = [0];
+    // SAFETY: each pointer goes with the length of a live slice, and no two slices overlap.
+    let refusal = unsafe {
+        hullashlar_sheet_tensor(
+            bytes.as_ptr(), bytes.len(),
+            knots.as_mut_ptr(), knots.len(),
+            samples.as_mut_ptr(), samples.len(),
+            tensor.as_mut_ptr(), tensor.len(),
+            scratch.as_mut_ptr(), scratch.len(),
+            length.as_mut_ptr(), length.len(),
+        )
+    };
+    outcome(refusal, length[0])
 }

@@ -3,7 +3,8 @@
  * A slice is a pointer and then its length. No two slices of a call may overlap where one of them is written.
  * No call allocates memory, keeps a pointer or changes anything but the slices named as written.
  *
- * Every call returns a refusal's number, 0 for none; the lowest that applies is given.
+ * Every call returns a refusal's number, 0 for none; the lowest that applies is given, and of a sheet's own faults the
+ * first in reading order.
  *
  *    1  axes are not 1 to 4
  *    2  an axis has fewer than 2 or more than 256 points
@@ -15,13 +16,17 @@
  *    8  knots do not rise strictly, or a step between neighbours overflows
  *    9  NotAKnot at one end with fewer than 3 points, at both with fewer than 4
  *   10  an outcome is infinite or NaN
- *   11 to 14 are the sheet's: a field needs more bits than remain, the edition is not 1, kind 3 at one end only, a tail
+ *   11  a sheet's field needs more bits than remain
+ *   12  a sheet's edition is not 1
+ *   13  kind 3 stands at one end only
+ *   14  after a sheet's last sample come 8 or more bits, or a bit that is not zero
  *
  * The boundary's own refusals come before all others, and then nothing is written: 4 where points, kinds, values,
  * place, value, labels, lanes, axes or length is not of the length below; then 13 where on an axis in use a kind is
  * above 3, or 3 stands at one end only. On any other refusal the answer slots are written (value +0.0, labels 0,
- * lanes 0, length 0) and every other output is untouched. Scratch is untouched for 1 to 9; on success and for 10 all
- * of it is +0.0 afterwards.
+ * lanes 0, length 0, and by a read axes, points, kinds and values 0) and every other output is untouched, but for the
+ * knots and samples of a sheet that only the build refuses. Scratch is untouched but for success and 10, after which
+ * all of it is +0.0.
  *
  * The ends of axis i: kinds[2 i] is the lower one's, kinds[2 i + 1] the upper one's; values likewise.
  * Kinds: 0 NotAKnot, 1 first derivative, 2 second derivative, 3 Periodic, which stands at both ends.
@@ -111,6 +116,32 @@ size_t hullashlar_query(size_t axes,
                         const double *coordinates, size_t coordinates_length,
                         double *value, size_t value_length,
                         size_t *labels, size_t labels_length);
+
+/* The parts of a packed sheet: knots and samples in the first places of their buffers, whose other places are as they
+ * were; how many axes there are; and of each axis the points, and the kinds and values of its ends, as the calls above
+ * take them. Points, kinds and values past the axes in use are 0, and so is the value of a kind that has none.
+ * Lengths: bytes any; knots and samples 1,024 each; axes 1; points 4; kinds and values 8.
+ * Written: knots, samples, axes, points, kinds, values. Refuses by 4, then by 11, 12, 1, 2, 13, 3 or 14. */
+size_t hullashlar_read(const uint8_t *bytes, size_t bytes_length,
+                       double *knots, size_t knots_length,
+                       double *samples, size_t samples_length,
+                       size_t *axes, size_t axes_length,
+                       size_t *points, size_t points_length,
+                       uint8_t *kinds, size_t kinds_length,
+                       double *values, size_t values_length);
+
+/* The tensor of a packed sheet, read and built in one call: knots, samples and tensor in the first places of their
+ * buffers, whose other places are as they were, and how many numbers the tensor has.
+ * Lengths: bytes any; knots and samples 1,024 each; tensor 4,096; scratch at least the tensor's numbers and 2,048, so
+ * 6,144 is enough for every sheet; length 1.
+ * Written: knots, samples, tensor, scratch, length. Refuses by 4, then by 11, 12, 1, 2, 13, 3 or 14, then as a build by
+ * 5, 7, 8, 9 or 10, after which knots and samples hold those of the sheet. */
+size_t hullashlar_sheet_tensor(const uint8_t *bytes, size_t bytes_length,
+                               double *knots, size_t knots_length,
+                               double *samples, size_t samples_length,
+                               double *tensor, size_t tensor_length,
+                               double *scratch, size_t scratch_length,
+                               size_t *length, size_t length_length);
 
 #ifdef __cplusplus
 }

@@ -4,16 +4,21 @@ use mathlib.Core.List.{List, [], _∷_}
 use Prim.Native.Nat.{ℕ, zero, suc}
 use lib.ListN.{set}
 use lib.Ieee.{Float}
-use Rattle.rules.specs.Sizes.{place-of}
+use Rattle.rules.specs.Sizes.{place-of, Grid}
 use Rattle.rules.specs.Calls.{MomentsPromise, CurvePromise, BuildPromise, change-answer, ChangePromise, QueryPromise}
 use Rattle.rules.specs.declared.Condition.{Condition}
 use Rattle.rules.specs.declared.CurveAnswer.{CurveAnswer}
 use Rattle.rules.specs.declared.ChangeAnswer.{ChangeAnswer}
 use Rattle.rules.specs.declared.QueryAnswer.{QueryAnswer}
 use Rattle.rules.specs.declared.Axis.{Axis}
-use Rattle.host.specs.Axes.{condition-given, axes-given, axes-without-ends}
-use Rattle.host.specs.Exports.{before, kept, moments-own-refusal, curve-own-refusal, build-own-refusal, change-own-refusal, query-own-refusal, MomentsExport, CurveExport, BuildExport, ChangeExport, QueryExport}
-use Rattle.host.proofs.Lengths.{curve-lengths, change-lengths, query-lengths}
+use Rattle.sheet.specs.Read.{ReadPromise}
+use Rattle.sheet.specs.declared.ReadAnswer.{ReadAnswer}
+use Rattle.sheet.proofs.Promises.{answer-refusal}
+use Rattle.sheet_build.specs.SheetTensor.{answer-of, SheetPromise}
+use Rattle.sheet_build.specs.declared.SheetAnswer.{SheetAnswer}
+use Rattle.host.specs.Axes.{condition-given, axes-given, axes-without-ends, points-found, kinds-found, values-found, AxesStored}
+use Rattle.host.specs.Exports.{before, kept, moments-own-refusal, curve-own-refusal, build-own-refusal, change-own-refusal, query-own-refusal, read-own-refusal, sheet-tensor-own-refusal, MomentsExport, CurveExport, BuildExport, ChangeExport, QueryExport, ReadExport, SheetTensorExport}
+use Rattle.host.proofs.Lengths.{curve-lengths, change-lengths, query-lengths, read-lengths, sheet-tensor-lengths}
 use Rattle.host.proofs.Slots.{one-stored}
 
 -- ---- the host refuses: its number is the answer, and each slice is as it was
@@ -147,3 +152,73 @@ module _ (axes : ℕ) (points : List ℕ) (knots tensor-lent coordinates value-l
             ∙ ap (λ (b : QueryAnswer). b .value ∷ []) q);
         labels = left _ _ e none (stored ∙ ap (λ (b : QueryAnswer). b .labels) q);
       }
+
+-- ---- the sheet
+
+module _ (bytes : List ℕ) (knots-lent samples-lent : List Float) (axes-lent points-lent kinds-lent : List ℕ) (values-lent : List Float) {r : ℕ} (e : r ≡ read-own-refusal axes-lent points-lent kinds-lent values-lent) where
+  pub read-refused :
+      (r ≡ 0 → ⊥)
+      → ReadExport bytes knots-lent samples-lent axes-lent points-lent kinds-lent values-lent r knots-lent samples-lent axes-lent points-lent kinds-lent values-lent
+  read-refused some = record {
+    answer = own-answer _ _ e some;
+    knots = untouched _ _ _ e some;
+    samples = untouched _ _ _ e some;
+    slot = untouched _ _ _ e some;
+    points = untouched _ _ _ e some;
+    kinds = untouched _ _ _ e some;
+    values = untouched _ _ _ e some;
+  }
+
+  pub read-called :
+      r ≡ 0 → (a : ReadAnswer) {k s : List Float} {points-later kinds-later : List ℕ} {values-later : List Float}
+      → ReadPromise bytes knots-lent samples-lent a k s
+      → AxesStored (a .all) points-later kinds-later values-later
+      → ReadExport bytes knots-lent samples-lent axes-lent points-lent kinds-lent values-lent (a .refusal) k s (set axes-lent 0 (a .axes)) points-later kinds-later values-later
+  read-called none a p stored = record {
+    answer = call-answer _ e none (ap (λ (b : ReadAnswer). b .refusal) (p .answer) ∙ answer-refusal _ _ _);
+    knots = left _ _ e none (p .knots);
+    samples = left _ _ e none (p .samples);
+    slot =
+        left _ _ e none
+        (one-stored axes-lent (a .axes) (read-lengths axes-lent points-lent kinds-lent values-lent (sym e ∙ none) .3)
+        ∙ ap (λ (b : ReadAnswer). b .axes ∷ []) (p .answer));
+    points = left _ _ e none (stored .points ∙ ap (λ (b : ReadAnswer). points-found (b .all)) (p .answer));
+    kinds = left _ _ e none (stored .kinds ∙ ap (λ (b : ReadAnswer). kinds-found (b .all)) (p .answer));
+    values = left _ _ e none (stored .values ∙ ap (λ (b : ReadAnswer). values-found (b .all)) (p .answer));
+  }
+
+-- ---- the sheet's tensor
+
+-- the answer has the refusal's number
+sheet-answer-refusal : (refusal : ℕ) (g : Grid) → answer-of refusal g .refusal ≡ refusal
+sheet-answer-refusal zero g = refl
+sheet-answer-refusal (suc refusal) g = refl
+
+module _ (bytes : List ℕ) (knots-lent samples-lent tensor-lent scratch-lent : List Float) (length-lent : List ℕ) {r : ℕ} (e : r ≡ sheet-tensor-own-refusal length-lent) where
+  pub sheet-tensor-refused :
+      (r ≡ 0 → ⊥)
+      → SheetTensorExport bytes knots-lent samples-lent tensor-lent scratch-lent length-lent r knots-lent samples-lent tensor-lent scratch-lent length-lent
+  sheet-tensor-refused some = record {
+    answer = own-answer _ _ e some;
+    knots = untouched _ _ _ e some;
+    samples = untouched _ _ _ e some;
+    output = untouched _ _ _ e some;
+    scratch = untouched _ _ _ e some;
+    slot = untouched _ _ _ e some;
+  }
+
+  pub sheet-tensor-called :
+      r ≡ 0 → (a : SheetAnswer) {k s t w : List Float}
+      → SheetPromise bytes knots-lent samples-lent tensor-lent scratch-lent a k s t w
+      → SheetTensorExport bytes knots-lent samples-lent tensor-lent scratch-lent length-lent (a .refusal) k s t w (set length-lent 0 (a .length))
+  sheet-tensor-called none a p = record {
+    answer = call-answer _ e none (ap (λ (b : SheetAnswer). b .refusal) (p .answer) ∙ sheet-answer-refusal _ _);
+    knots = left _ _ e none (p .knots);
+    samples = left _ _ e none (p .samples);
+    output = left _ _ e none (p .output);
+    scratch = left _ _ e none (p .scratch);
+    slot =
+        left _ _ e none
+        (one-stored length-lent (a .length) (sheet-tensor-lengths length-lent (sym e ∙ none))
+        ∙ ap (λ (b : SheetAnswer). b .length ∷ []) (p .answer));
+  }

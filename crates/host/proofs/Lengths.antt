@@ -6,9 +6,9 @@ use Prim.Native.Nat.{ℕ, suc}
 use native.Mathlib.Omega.{arith}
 use lib.ListN.{length}
 use lib.Ieee.{Float}
-use Rattle.checks.proofs.Rows.{exact, exact-2, exact-3}
+use Rattle.checks.proofs.Rows.{exact, exact-2, exact-3, exact-4}
 use Rattle.host.specs.Axes.{kinds-refused, lower-kind, upper-kind, some-kinds-refused}
-use Rattle.host.specs.Exports.{moments-own-refusal, curve-own-refusal, build-own-refusal, change-own-refusal, query-own-refusal}
+use Rattle.host.specs.Exports.{axes-slices-refused, moments-own-refusal, curve-own-refusal, build-own-refusal, change-own-refusal, query-own-refusal, read-own-refusal, sheet-tensor-own-refusal}
 
 -- a first row that does not apply
 not-the-first : (applies : Bool) (number later : ℕ) → cond applies (suc number) later ≡ 0 → (applies ≡ false) × (later ≡ 0)
@@ -25,14 +25,20 @@ pub curve-lengths : (value : List Float) → curve-own-refusal value ≡ 0 → l
 unfolding curve-own-refusal
 curve-lengths value none = exact (length value) 1 (not-the-first _ 3 0 none .0)
 
+pub axes-slices-lengths :
+    (points kinds : List ℕ) (values : List Float)
+    → axes-slices-refused points kinds values ≡ false
+    → (length points ≡ 4) × (length kinds ≡ 8) × (length values ≡ 8)
+unfolding axes-slices-refused
+axes-slices-lengths points kinds values none = exact-3 (length points) 4 (length kinds) 8 (length values) 8 none
+
 pub build-lengths :
     (axes : ℕ) (points kinds : List ℕ) (values : List Float)
     → build-own-refusal axes points kinds values ≡ 0
     → (length points ≡ 4) × (length kinds ≡ 8) × (length values ≡ 8)
 unfolding build-own-refusal
 build-lengths axes points kinds values none =
-    exact-3 (length points) 4 (length kinds) 8 (length values) 8
-    (not-the-first _ 3 (cond (some-kinds-refused axes kinds) 13 0) none .0)
+    axes-slices-lengths points kinds values (not-the-first _ 3 (cond (some-kinds-refused axes kinds) 13 0) none .0)
 
 pub change-lengths :
     (axes : ℕ) (points kinds : List ℕ) (values : List Float) (place lanes : List ℕ)
@@ -52,3 +58,15 @@ pub query-lengths :
 unfolding query-own-refusal
 query-lengths points value labels none =
     exact-3 (length points) 4 (length value) 1 (length labels) 4 (not-the-first _ 3 0 none .0)
+
+pub read-lengths :
+    (axes points kinds : List ℕ) (values : List Float)
+    → read-own-refusal axes points kinds values ≡ 0
+    → (length points ≡ 4) × (length kinds ≡ 8) × (length values ≡ 8) × (length axes ≡ 1)
+unfolding read-own-refusal axes-slices-refused
+read-lengths axes points kinds values none =
+    exact-4 (length points) 4 (length kinds) 8 (length values) 8 (length axes) 1 (not-the-first _ 3 0 none .0)
+
+pub sheet-tensor-lengths : (length-lent : List ℕ) → sheet-tensor-own-refusal length-lent ≡ 0 → length length-lent ≡ 1
+unfolding sheet-tensor-own-refusal
+sheet-tensor-lengths length-lent none = exact (length length-lent) 1 (not-the-first _ 3 0 none .0)

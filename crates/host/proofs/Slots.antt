@@ -1,5 +1,5 @@
--- Slices of one and of four numbers, stored to the last: what stands in them.
-use mathlib.Core.Path.{_≡_, refl}
+-- Slices of one, of four and of eight numbers, stored to the last: what stands in them.
+use mathlib.Core.Path.{_≡_, refl, ap}
 use mathlib.Core.List.{List, [], _∷_}
 use Prim.Native.Nat.{ℕ}
 use native.Mathlib.Omega.{arith}
@@ -18,6 +18,16 @@ module _ {A : Type 0} where
   four-stored (x ∷ y ∷ z ∷ []) a b c d e = absurd (omega arith)
   four-stored (x ∷ y ∷ z ∷ w ∷ []) a b c d e = refl
   four-stored (x ∷ y ∷ z ∷ w ∷ v ∷ l) a b c d e = absurd (omega arith)
+
+  pub eight-stored :
+      (l : List A) (a b c d e f g h : A) → length l ≡ 8
+      → set (set (set (set (set (set (set (set l 0 a) 1 b) 2 c) 3 d) 4 e) 5 f) 6 g) 7 h ≡ a ∷ b ∷ c ∷ d ∷ e ∷ f ∷ g ∷ h ∷ []
+  eight-stored [] a b c d e f g h n = absurd (omega arith)
+  eight-stored (x ∷ []) a b c d e f g h n = absurd (omega arith)
+  eight-stored (x ∷ y ∷ []) a b c d e f g h n = absurd (omega arith)
+  eight-stored (x ∷ y ∷ z ∷ []) a b c d e f g h n = absurd (omega arith)
+  eight-stored (x ∷ y ∷ z ∷ w ∷ l) a b c d e f g h n =
+      ap (λ (rest : List A). a ∷ b ∷ c ∷ d ∷ rest) (four-stored l e f g h (omega arith))
 
   pub four-read : (l : List A) (d : A) → length l ≡ 4 → getD l 0 d ∷ getD l 1 d ∷ getD l 2 d ∷ getD l 3 d ∷ [] ≡ l
   four-read [] d e = absurd (omega arith)

@@ -3,7 +3,7 @@ use mathlib.Core.Path.{_≡_, sym, _∙_}
 use mathlib.Core.List.{List}
 use Prim.Native.Nat.{ℕ}
 use lib.Ieee.{Float}
-use Rattle.host.specs.Exports.{MomentsExport, CurveExport, BuildExport, ChangeExport, QueryExport}
+use Rattle.host.specs.Exports.{MomentsExport, CurveExport, BuildExport, ChangeExport, QueryExport, ReadExport, SheetTensorExport}
 
 -- two things that equal a third
 same : {A : Type 0} {a b c : A} → a ≡ c → b ≡ c → a ≡ b
@@ -52,3 +52,34 @@ pub query-unique :
     → (r ≡ r′) × (v ≡ v′) × (l ≡ l′)
 query-unique axes points knots tensor-lent coordinates value-lent labels-lent r r′ v v′ l l′ p q =
     (same (p .answer) (q .answer), same (p .slot) (q .slot), same (p .labels) (q .labels))
+
+pub read-unique :
+    (bytes : List ℕ) (knots-lent samples-lent : List Float) (axes-lent points-lent kinds-lent : List ℕ) (values-lent : List Float)
+    (r r′ : ℕ) (k k′ s s′ : List Float) (a a′ p p′ n n′ : List ℕ) (v v′ : List Float)
+    → ReadExport bytes knots-lent samples-lent axes-lent points-lent kinds-lent values-lent r k s a p n v
+    → ReadExport bytes knots-lent samples-lent axes-lent points-lent kinds-lent values-lent r′ k′ s′ a′ p′ n′ v′
+    → (r ≡ r′) × (k ≡ k′) × (s ≡ s′) × (a ≡ a′) × (p ≡ p′) × (n ≡ n′) × (v ≡ v′)
+read-unique bytes knots-lent samples-lent axes-lent points-lent kinds-lent values-lent r r′ k k′ s s′ a a′ p p′ n n′ v v′ one other = (
+  same (one .answer) (other .answer),
+  same (one .knots) (other .knots),
+  same (one .samples) (other .samples),
+  same (one .slot) (other .slot),
+  same (one .points) (other .points),
+  same (one .kinds) (other .kinds),
+  same (one .values) (other .values),
+)
+
+pub sheet-tensor-unique :
+    (bytes : List ℕ) (knots-lent samples-lent tensor-lent scratch-lent : List Float) (length-lent : List ℕ)
+    (r r′ : ℕ) (k k′ s s′ t t′ w w′ : List Float) (l l′ : List ℕ)
+    → SheetTensorExport bytes knots-lent samples-lent tensor-lent scratch-lent length-lent r k s t w l
+    → SheetTensorExport bytes knots-lent samples-lent tensor-lent scratch-lent length-lent r′ k′ s′ t′ w′ l′
+    → (r ≡ r′) × (k ≡ k′) × (s ≡ s′) × (t ≡ t′) × (w ≡ w′) × (l ≡ l′)
+sheet-tensor-unique bytes knots-lent samples-lent tensor-lent scratch-lent length-lent r r′ k k′ s s′ t t′ w w′ l l′ p q = (
+  same (p .answer) (q .answer),
+  same (p .knots) (q .knots),
+  same (p .samples) (q .samples),
+  same (p .output) (q .output),
+  same (p .scratch) (q .scratch),
+  same (p .slot) (q .slot),
+)

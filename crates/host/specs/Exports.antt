@@ -1,6 +1,6 @@
 -- The exported calls: the host's own refusals, 4 and then 13, stand first, with nothing written. Where there is none, each call answers as `rules` promises for the axes given, and what it answers stands in the slices lent for it.
 use mathlib.Core.Path.{_≡_}
-use mathlib.Core.Bool.{cond, _||_}
+use mathlib.Core.Bool.{Bool, cond, _||_}
 use mathlib.Core.List.{List, [], _∷_}
 use Prim.Native.Nat.{ℕ, zero, suc, _-_}
 use lib.ListN.{length}
@@ -11,7 +11,11 @@ use Rattle.rules.specs.Moments.{moments}
 use Rattle.rules.specs.Tensor.{tensor}
 use Rattle.rules.specs.Change.{changed-tensor}
 use Rattle.rules.specs.Calls.{stored, scratch-after, moments-refusal, curve-answer, build-refusal, change-refusal, change-answer, query-answer}
-use Rattle.host.specs.Axes.{lower-kind, upper-kind, condition-given, kinds-refused, some-kinds-refused, grid-given, grid-without-ends}
+use Rattle.sheet.specs.Fields.{axes as axes-said, entries, knots-below, sheet-grid, sheet-samples}
+use Rattle.sheet.specs.Read.{over, read-refusal, answer-of as read-answer-of}
+use Rattle.sheet.specs.declared.ReadAnswer.{ReadAnswer}
+use Rattle.sheet_build.specs.SheetTensor.{answer-of, reading-refusal, sheet-tensor-refusal}
+use Rattle.host.specs.Axes.{lower-kind, upper-kind, condition-given, kinds-refused, some-kinds-refused, grid-given, grid-without-ends, points-found, kinds-found, values-found}
 
 -- the host's own refusal, 0 for none, before the call's
 abbrev pub before : ℕ → ℕ → ℕ
@@ -29,6 +33,11 @@ two-ends = 2
 
 abbrev pub eight-ends : ℕ
 eight-ends = 8
+
+-- 4 of a call with axes: the points of four axes, and their ends
+unfoldable pub axes-slices-refused : List ℕ → List ℕ → List Float → Bool
+axes-slices-refused points kinds values =
+    length-refused (length points) most-axes || length-refused (length kinds) eight-ends || length-refused (length values) eight-ends
 
 -- ---- the curve's moments
 
@@ -71,10 +80,9 @@ module _ (n : ℕ) (knots samples moments-in : List Float) (point : Float) (valu
 
 -- 4 for the four axes and their ends, and then 13
 unfoldable pub build-own-refusal : ℕ → List ℕ → List ℕ → List Float → ℕ
-unfolding some-kinds-refused
+unfolding axes-slices-refused some-kinds-refused
 build-own-refusal axes points kinds values =
-    cond (length-refused (length points) most-axes || length-refused (length kinds) eight-ends || length-refused (length values) eight-ends) 4
-    (cond (some-kinds-refused axes kinds) 13 0)
+    cond (axes-slices-refused points kinds values) 4 (cond (some-kinds-refused axes kinds) 13 0)
 
 module _ (axes : ℕ) (points kinds : List ℕ) (values knots samples tensor-lent scratch-lent : List Float) where
   abbrev given-build-refusal : ℕ
@@ -141,3 +149,67 @@ module _ (axes : ℕ) (points : List ℕ) (knots tensor-lent coordinates value-l
         labels-later
         ≡ kept (query-own-refusal points value-lent labels-lent) labels-lent
         (query-answer (grid-without-ends axes points knots) tensor-lent coordinates .labels)
+
+-- ---- the sheet
+
+-- 4 for the slices of the axes that are found, and the slot of their number
+unfoldable pub read-own-refusal : List ℕ → List ℕ → List ℕ → List Float → ℕ
+unfolding axes-slices-refused
+read-own-refusal axes points kinds values =
+    cond (axes-slices-refused points kinds values || length-refused (length axes) 1) 4 0
+
+module _ (bytes : List ℕ) (knots-lent samples-lent : List Float) (axes-lent points-lent kinds-lent : List ℕ) (values-lent : List Float) where
+  abbrev given-read-refusal : ℕ
+  given-read-refusal = read-refusal bytes knots-lent samples-lent
+
+  abbrev given-read-answer : ReadAnswer
+  given-read-answer = read-answer-of given-read-refusal (axes-said bytes) (entries bytes (axes-said bytes))
+
+  abbrev read-own : ℕ
+  read-own = read-own-refusal axes-lent points-lent kinds-lent values-lent
+
+  pub record ReadExport (refusal : ℕ) (knots-later samples-later : List Float) (axes-later points-later kinds-later : List ℕ) (values-later : List Float) : Type 0 where
+    pub answer : refusal ≡ before read-own given-read-refusal
+    pub knots :
+        knots-later
+        ≡ kept read-own knots-lent (stored given-read-refusal knots-lent (over (knots-below bytes (axes-said bytes)) knots-lent))
+    pub samples :
+        samples-later ≡ kept read-own samples-lent (stored given-read-refusal samples-lent (over (sheet-samples bytes) samples-lent))
+    pub slot : axes-later ≡ kept read-own axes-lent (given-read-answer .axes ∷ [])
+    pub points : points-later ≡ kept read-own points-lent (points-found (given-read-answer .all))
+    pub kinds : kinds-later ≡ kept read-own kinds-lent (kinds-found (given-read-answer .all))
+    pub values : values-later ≡ kept read-own values-lent (values-found (given-read-answer .all))
+
+-- ---- the sheet's tensor
+
+-- 4 for the slot of the length
+unfoldable pub sheet-tensor-own-refusal : List ℕ → ℕ
+sheet-tensor-own-refusal length-lent = cond (length-refused (length length-lent) 1) 4 0
+
+module _ (bytes : List ℕ) (knots-lent samples-lent tensor-lent scratch-lent : List Float) (length-lent : List ℕ) where
+  abbrev given-reading-refusal : ℕ
+  given-reading-refusal = reading-refusal bytes knots-lent samples-lent tensor-lent scratch-lent
+
+  abbrev given-sheet-refusal : ℕ
+  given-sheet-refusal = sheet-tensor-refusal bytes knots-lent samples-lent tensor-lent scratch-lent
+
+  pub record SheetTensorExport (refusal : ℕ) (knots-later samples-later tensor-later scratch-later : List Float) (length-later : List ℕ) : Type 0 where
+    pub answer : refusal ≡ before (sheet-tensor-own-refusal length-lent) given-sheet-refusal
+    pub knots :
+        knots-later
+        ≡ kept (sheet-tensor-own-refusal length-lent) knots-lent
+        (stored given-reading-refusal knots-lent (over (sheet-grid bytes .flat-knots) knots-lent))
+    pub samples :
+        samples-later
+        ≡ kept (sheet-tensor-own-refusal length-lent) samples-lent
+        (stored given-reading-refusal samples-lent (over (sheet-samples bytes) samples-lent))
+    pub output :
+        tensor-later
+        ≡ kept (sheet-tensor-own-refusal length-lent) tensor-lent
+        (stored given-sheet-refusal tensor-lent (over (tensor (sheet-grid bytes) (sheet-samples bytes)) tensor-lent))
+    pub scratch :
+        scratch-later
+        ≡ kept (sheet-tensor-own-refusal length-lent) scratch-lent (scratch-after given-sheet-refusal scratch-lent)
+    pub slot :
+        length-later
+        ≡ kept (sheet-tensor-own-refusal length-lent) length-lent (answer-of given-sheet-refusal (sheet-grid bytes) .length ∷ [])

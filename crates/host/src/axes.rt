@@ -1,12 +1,13 @@
-// From numbers and plain slices to conditions and the four axes. Not public: each requires the lengths that the host's own refusal 4 leaves.
+// From numbers and plain slices to conditions and the four axes, and back. Not public: each requires the lengths that the host's own refusal 4 leaves.
 ghost use mathlib.Core.Path.{_≡_};
 ghost use Prim.Native.Nat.{_+_, _*_, _<_, _≤_, min};
 ghost use lib.Dec.{ltb};
 ghost use lib.ListN.{length};
 ghost use Rattle.rules.specs.Sizes.{most-axes, unused-axis};
-ghost use Rattle.host.specs.Axes.{condition-given, kinds-refused, some-kinds-refused, axis-given, axes-given, axis-without-ends, axes-without-ends};
+ghost use Rattle.host.specs.Axes.{condition-given, kinds-refused, some-kinds-refused, axis-given, axes-given, axis-without-ends, axes-without-ends, kind-of, value-of, lower-kind-of, upper-kind-of, lower-value-of, upper-value-of, AxisStored, AxesStored};
 use rules::Axis;
 use rules::Condition;
+use rules::End;
 use sheet::kinds::condition_of_kind;
 use sheet::kinds::end_of_kind;
 use sheet::kinds::is_periodic_at_one_end;
@@ -149,4 +150,87 @@ pub fn place_given(place: &[usize]) -> [usize; 4]
     ensures { λ r. ⌜ r ≡ now (place .entry) ⌝ }
 {
     [place[0], place[1], place[2], place[3]]
+}
+
+// The number of an end's kind.
+fn kind_of_end(end: End) -> u8
+    ensures { λ r. ⌜ r ≡ kind-of end ⌝ }
+{
+    match end {
+        End::NotAKnot => 0,
+        End::FirstDerivative(_) => 1,
+        End::SecondDerivative(_) => 2,
+    }
+}
+
+// The value of an end, +0.0 where its kind has none.
+fn value_of_end(end: End) -> f64
+    ensures { λ r. ⌜ r ≡ value-of end ⌝ }
+{
+    match end {
+        End::NotAKnot => 0.0,
+        End::FirstDerivative(value) => value,
+        End::SecondDerivative(value) => value,
+    }
+}
+
+// The kinds and the values of the ends of an axis.
+fn lower_kind(condition: Condition) -> u8
+    ensures { λ r. ⌜ r ≡ lower-kind-of condition ⌝ }
+{
+    match condition {
+        Condition::Endpoints(lower, _) => kind_of_end(lower),
+        Condition::Periodic => 3,
+    }
+}
+
+fn upper_kind(condition: Condition) -> u8
+    ensures { λ r. ⌜ r ≡ upper-kind-of condition ⌝ }
+{
+    match condition {
+        Condition::Endpoints(_, upper) => kind_of_end(upper),
+        Condition::Periodic => 3,
+    }
+}
+
+fn lower_value(condition: Condition) -> f64
+    ensures { λ r. ⌜ r ≡ lower-value-of condition ⌝ }
+{
+    match condition {
+        Condition::Endpoints(lower, _) => value_of_end(lower),
+        Condition::Periodic => 0.0,
+    }
+}
+
+fn upper_value(condition: Condition) -> f64
+    ensures { λ r. ⌜ r ≡ upper-value-of condition ⌝ }
+{
+    match condition {
+        Condition::Endpoints(_, upper) => value_of_end(upper),
+        Condition::Periodic => 0.0,
+    }
+}
+
+// One axis goes to its places: entry i of the points, and the two entries of its ends.
+fn store_axis(axis: Axis, i: usize, points: &mut [usize], kinds: &mut [u8], values: &mut [f64])
+    requires { ⌜ (i < 4) × (length (now points) ≡ 4) × (length (now kinds) ≡ 8) × (length (now values) ≡ 8) ⌝ }
+    ensures { λ _. ⌜ AxisStored axis i (now (points .entry)) (now (kinds .entry)) (now (values .entry)) (now (points .exit)) (now (kinds .exit)) (now (values .exit)) ⌝ }
+{
+    let condition = axis.condition;
+    points[i] = axis.points;
+    kinds[2 * i] = lower_kind(condition);
+    kinds[2 * i + 1] = upper_kind(condition);
+    values[2 * i] = lower_value(condition);
+    values[2 * i + 1] = upper_value(condition);
+}
+
+// The four axes go to the slices of points, kinds and values.
+pub fn store_axes(found: [Axis; 4], points: &mut [usize], kinds: &mut [u8], values: &mut [f64])
+    requires { ⌜ (length (now points) ≡ 4) × (length (now kinds) ≡ 8) × (length (now values) ≡ 8) ⌝ }
+    ensures { λ _. ⌜ AxesStored found (now (points .exit)) (now (kinds .exit)) (now (values .exit)) ⌝ }
+{
+    store_axis(found[0], 0, points, kinds, values);
+    store_axis(found[1], 1, points, kinds, values);
+    store_axis(found[2], 2, points, kinds, values);
+    store_axis(found[3], 3, points, kinds, values);
 }

@@ -2,7 +2,7 @@
 ghost use mathlib.Core.Path.{_≡_};
 ghost use lib.ListN.{length};
 ghost use Rattle.rules.specs.Calls.{SlopesPromise};
-ghost use Rattle.host.specs.Exports.{MomentsExport, CurveExport, BuildExport, ChangeExport, QueryExport};
+ghost use Rattle.host.specs.Exports.{MomentsExport, CurveExport, BuildExport, ChangeExport, QueryExport, ReadExport, SheetTensorExport};
 
 pub mod axes;
 pub mod own;
@@ -145,5 +145,50 @@ pub extern "C" fn hullashlar_query(
     value[0] = answer.value;
     let found = answer.labels;
     store_labels(labels, found);
+    answer.refusal
+}
+
+// The parts of a packed sheet: knots and samples go to the first places of two buffers of 1,024 each, how many axes there are to a slot of one, and their points, the kinds of their ends and the values of these to their slices, 0 past the axes in use. Refuses 4, then 11 12 1 2 13 3 14 in reading order, and then all that is not a buffer is 0; and 4 of its own.
+#[no_mangle]
+pub extern "C" fn hullashlar_read(
+    bytes: &[u8],
+    knots: &mut [f64],
+    samples: &mut [f64],
+    axes: &mut [usize],
+    points: &mut [usize],
+    kinds: &mut [u8],
+    values: &mut [f64],
+) -> usize
+    ensures { λ r. ⌜ ReadExport (now (bytes .entry)) (now (knots .entry)) (now (samples .entry)) (now (axes .entry)) (now (points .entry)) (now (kinds .entry)) (now (values .entry)) r (now (knots .exit)) (now (samples .exit)) (now (axes .exit)) (now (points .exit)) (now (kinds .exit)) (now (values .exit)) ⌝ }
+{
+    let refusal = own::read_own_refusal(axes, points, kinds, values);
+    if refusal != 0 {
+        return refusal;
+    }
+    let answer = sheet::read(bytes, knots, samples);
+    axes[0] = answer.axes;
+    let found = answer.all;
+    axes::store_axes(found, points, kinds, values);
+    answer.refusal
+}
+
+// The tensor of a packed sheet, read and built in one call: knots, samples and tensor go to the first places of their buffers, and how many numbers the tensor has to a slot of one. Refuses 4, then what the reader refuses, then what the build refuses, and then the length is 0; and 4 of its own.
+#[no_mangle]
+pub extern "C" fn hullashlar_sheet_tensor(
+    bytes: &[u8],
+    knots: &mut [f64],
+    samples: &mut [f64],
+    tensor: &mut [f64],
+    scratch: &mut [f64],
+    length: &mut [usize],
+) -> usize
+    ensures { λ r. ⌜ SheetTensorExport (now (bytes .entry)) (now (knots .entry)) (now (samples .entry)) (now (tensor .entry)) (now (scratch .entry)) (now (length .entry)) r (now (knots .exit)) (now (samples .exit)) (now (tensor .exit)) (now (scratch .exit)) (now (length .exit)) ⌝ }
+{
+    let refusal = own::sheet_tensor_own_refusal(length);
+    if refusal != 0 {
+        return refusal;
+    }
+    let answer = sheet_build::tensor_of_sheet(bytes, knots, samples, tensor, scratch);
+    length[0] = answer.length;
     answer.refusal
 }

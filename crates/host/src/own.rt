@@ -1,6 +1,6 @@
 // The host's own refusals, before anything else: 4 for a slice that is not as long as the ends, the axes or the answer want it, then 13 for the kinds of an axis in use, and 0 for none.
 ghost use mathlib.Core.Path.{_≡_};
-ghost use Rattle.host.specs.Exports.{moments-own-refusal, curve-own-refusal, build-own-refusal, change-own-refusal, query-own-refusal};
+ghost use Rattle.host.specs.Exports.{axes-slices-refused, moments-own-refusal, curve-own-refusal, build-own-refusal, change-own-refusal, query-own-refusal, read-own-refusal, sheet-tensor-own-refusal};
 use crate::axes::kinds_refused;
 use crate::axes::some_kinds_refused;
 use crate::axes::wide;
@@ -31,17 +31,24 @@ pub fn curve_own_refusal(value: &[f64]) -> usize
     0
 }
 
+// Whether one of the slices of four axes with eight ends is of another length.
+fn axes_slices_refused(points: &[usize], kinds: &[u8], values: &[f64]) -> bool
+    ensures { λ r. ⌜ r ≡ axes-slices-refused (now (points .entry)) (now (kinds .entry)) (now (values .entry)) ⌝ }
+{
+    if points.len() != 4 {
+        return true;
+    }
+    if kinds.len() != 8 {
+        return true;
+    }
+    values.len() != 8
+}
+
 // Of a build: four axes with eight ends.
 pub fn build_own_refusal(axes: usize, points: &[usize], kinds: &[u8], values: &[f64]) -> usize
     ensures { λ r. ⌜ r ≡ build-own-refusal axes (now (points .entry)) (now (kinds .entry)) (now (values .entry)) ⌝ }
 {
-    if points.len() != 4 {
-        return 4;
-    }
-    if kinds.len() != 8 {
-        return 4;
-    }
-    if values.len() != 8 {
+    if axes_slices_refused(points, kinds, values) {
         return 4;
     }
     if some_kinds_refused(axes, kinds) {
@@ -81,6 +88,29 @@ pub fn query_own_refusal(points: &[usize], value: &[f64], labels: &[usize]) -> u
         return 4;
     }
     if labels.len() != 4 {
+        return 4;
+    }
+    0
+}
+
+// Of a sheet: the slices of the axes that are found, and the slot of their number.
+pub fn read_own_refusal(axes: &[usize], points: &[usize], kinds: &[u8], values: &[f64]) -> usize
+    ensures { λ r. ⌜ r ≡ read-own-refusal (now (axes .entry)) (now (points .entry)) (now (kinds .entry)) (now (values .entry)) ⌝ }
+{
+    if axes_slices_refused(points, kinds, values) {
+        return 4;
+    }
+    if axes.len() != 1 {
+        return 4;
+    }
+    0
+}
+
+// Of the sheet's tensor: the slot of its length.
+pub fn sheet_tensor_own_refusal(length: &[usize]) -> usize
+    ensures { λ r. ⌜ r ≡ sheet-tensor-own-refusal (now (length .entry)) ⌝ }
+{
+    if length.len() != 1 {
         return 4;
     }
     0

@@ -2,6 +2,7 @@
 ghost use lib.ListN.{length};
 ghost use mathlib.Core.Path.{_≡_};
 use crate::words::after;
+use crate::words::wide;
 use crate::words::word;
 
 // An item and the way to the next: the next word of the list, or the item plus a step.
@@ -221,6 +222,20 @@ pub fn numbers_left(list: &[u8], given: usize, place: usize, s: &[usize]) -> boo
     let mut k = 0;
     while k < s.len() {
         if s[k] as u64 != items.item() {
+            return false;
+        }
+        items = items.next(list);
+        k += 1;
+    }
+    true
+}
+
+// Whether the bytes of a slice are.
+pub fn bytes_left(list: &[u8], given: usize, place: usize, s: &[u8]) -> bool {
+    let mut items = Left::at(list, given, place);
+    let mut k = 0;
+    while k < s.len() {
+        if wide(s[k]) != items.item() {
             return false;
         }
         items = items.next(list);

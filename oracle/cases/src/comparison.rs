@@ -11,6 +11,8 @@ use crate::numbers::ordinary;
 use crate::random::Random;
 use crate::reading_calls::Reading;
 use crate::report::{describe, Report};
+use crate::sheet::short_sheet;
+use reading::LONGEST_TENSOR;
 
 /// A seed, and how many cases of each kind.
 #[derive(Debug, Clone)]
@@ -23,10 +25,12 @@ pub struct Plan {
 const CHANGES_IN_A_LIST: u64 = 25;
 
 impl Plan {
-    /// About so many calls of each kind, and the examples once.
+    /// About so many calls of each kind, and the examples once. The sheets of up
+    /// to two bytes, which are all refused, stand in a plan only by their number.
     pub fn of_each_kind(seed: u64, calls: u64) -> Self {
         let cases = KINDS.map(|kind| match kind {
             Kind::Example => 1,
+            Kind::ShortSheet => 0,
             Kind::ChangeList => calls.div_ceil(CHANGES_IN_A_LIST),
             _ => calls,
         });
@@ -63,6 +67,7 @@ fn compare_kind(subject: &dyn Calls, plan: &Plan, kind: Kind, report: &mut Repor
         match kind {
             Kind::Example => run.compare_examples(),
             Kind::ChangeList => run.change_list(random),
+            Kind::ShortSheet => run.compare_sheet(random, &short_sheet(number)),
             _ => {
                 run.compare(&generator::single(kind, number as usize, random));
             }
@@ -106,6 +111,12 @@ impl Run<'_> {
         for example in examples() {
             self.compare(&example);
         }
+    }
+
+    /// A sheet through both of its calls.
+    fn compare_sheet(&mut self, random: &mut Random, bytes: &[u8]) {
+        self.compare(&lending::read(random, bytes));
+        self.compare(&lending::sheet_tensor(random, bytes, LONGEST_TENSOR));
     }
 
     /// A list of changes from a built tensor. After each change the tensor is

@@ -9,8 +9,8 @@ use crate::random::Random;
 use crate::sheet::{damaged_sheet, good_sheet, swept_sheet};
 use reading::CURVE_SCRATCH;
 
-/// The kinds of cases: the examples of document 01, one kind for each call, and
-/// lists of changes.
+/// The kinds of cases: the examples of document 01, one kind for each call, lists
+/// of changes, and the sheets of up to two bytes.
 #[derive(Debug, Clone, Copy, PartialEq, Eq)]
 pub enum Kind {
     Example,
@@ -23,10 +23,11 @@ pub enum Kind {
     Query,
     Read,
     SheetTensor,
+    ShortSheet,
 }
 
 /// Every kind, in the order of the report.
-pub const KINDS: [Kind; 10] = [
+pub const KINDS: [Kind; 11] = [
     Kind::Example,
     Kind::Moments,
     Kind::Curve,
@@ -37,6 +38,7 @@ pub const KINDS: [Kind; 10] = [
     Kind::Query,
     Kind::Read,
     Kind::SheetTensor,
+    Kind::ShortSheet,
 ];
 
 impl Kind {
@@ -53,6 +55,7 @@ impl Kind {
             Kind::Query => "query",
             Kind::Read => "read",
             Kind::SheetTensor => "sheet_tensor",
+            Kind::ShortSheet => "short_sheet",
         }
     }
 }
@@ -76,7 +79,9 @@ pub fn single(kind: Kind, number: usize, random: &mut Random) -> Case {
         Kind::Query => query(random),
         Kind::Read => read(random, number),
         Kind::SheetTensor => sheet_tensor(random, number),
-        Kind::Example | Kind::ChangeList => panic!("more than one call: {}", kind.name()),
+        Kind::Example | Kind::ChangeList | Kind::ShortSheet => {
+            panic!("more than one call: {}", kind.name())
+        }
     }
 }
 

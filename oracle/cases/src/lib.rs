@@ -22,3 +22,4 @@ pub use lent::Lent;
 pub use list::{call_named, list, CALLS};
 pub use reading_calls::Reading;
 pub use report::{Counts, Report};
+pub use sheet::SHORT_SHEETS;

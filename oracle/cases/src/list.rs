@@ -80,12 +80,13 @@ pub fn list(seed: u64, calls: &[Call]) -> Vec<u64> {
     words
 }
 
-/// The first cases of a kind, with enough of every refusal.
+/// Cases of a kind, with enough of every refusal. They are taken from the last on:
+/// the first sheets that are read are all one sheet with its damages.
 fn chosen(seed: u64, kind: Kind) -> Vec<Vec<u64>> {
     let mut wanted = [REFUSED; 15];
     wanted[0] = ACCEPTED;
     let mut chosen = Vec::new();
-    for number in 0..LOOKED_AT {
+    for number in (0..LOOKED_AT).rev() {
         let mut random = Random::of_case(seed, kind as u64, number);
         let (refusal, words) = answered(&single(kind, number as usize, &mut random));
         if wanted[refusal] > 0 && words.len() <= LONGEST_CASE {

@@ -97,6 +97,18 @@ pub fn swept_sheet(number: usize) -> Option<Vec<u8>> {
     Some(bytes)
 }
 
+/// How many sheets of up to two bytes there are.
+pub const SHORT_SHEETS: u64 = 1 + 256 + 65_536;
+
+/// The sheet of up to two bytes of a number; after the last they begin anew.
+pub fn short_sheet(number: u64) -> Vec<u8> {
+    match number % SHORT_SHEETS {
+        0 => Vec::new(),
+        number @ 1..=256 => vec![(number - 1) as u8],
+        number => ((number - 257) as u16).to_be_bytes().to_vec(),
+    }
+}
+
 /// A sheet with a fault; some faults leave a sheet that is still good.
 pub fn damaged_sheet(random: &mut Random, number: usize) -> (Vec<u8>, usize) {
     let (mut fields, tensor) = good_fields(random);

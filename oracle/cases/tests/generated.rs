@@ -1,6 +1,6 @@
 //! The generated cases reach every refusal, and most are accepted.
 
-use cases::{compare_all, Calls, Case, Kind, Plan, KINDS};
+use cases::{compare_all, Calls, Case, Kind, Plan, KINDS, SHORT_SHEETS};
 
 /// Answers no call: the generator alone runs.
 struct Nobody;
@@ -22,6 +22,7 @@ fn refusals(kind: Kind) -> &'static [usize] {
         Kind::Query => &[1, 2, 3, 4, 7, 8, 10],
         Kind::Read => &[1, 2, 3, 4, 11, 12, 13, 14],
         Kind::SheetTensor => &[1, 2, 3, 4, 5, 7, 8, 9, 10, 11, 12, 13, 14],
+        Kind::ShortSheet => &[],
     }
 }
 
@@ -38,7 +39,8 @@ fn every_refusal_is_seen_and_no_other() {
 #[test]
 fn about_sixty_in_a_hundred_are_accepted() {
     let report = compare_all(&Nobody, &Plan::of_each_kind(2, 4000));
-    for kind in KINDS.into_iter().filter(|kind| *kind != Kind::Example) {
+    let generated = |kind: &Kind| !matches!(kind, Kind::Example | Kind::ShortSheet);
+    for kind in KINDS.into_iter().filter(generated) {
         let counts = report.of(kind);
         let share = 100 * counts.refusals[0] / counts.calls;
         assert!((50..=70).contains(&share), "{}: {share}", kind.name());
@@ -46,6 +48,21 @@ fn about_sixty_in_a_hundred_are_accepted() {
     let total = report.total();
     let share = 100 * total.refusals[0] / total.calls;
     assert!((55..=65).contains(&share), "{share}");
+}
+
+/// Of the sheets of two bytes a sixteenth has edition 1; half of these have 1 to
+/// 4 axes, and each number of axes has two with 1 point. Of those of one byte 16
+/// have edition 1, and 8 of them such axes.
+#[test]
+fn every_sheet_of_up_to_two_bytes_is_there() {
+    let plan = Plan::of_kind(5, Kind::ShortSheet, SHORT_SHEETS);
+    let seen = compare_all(&Nobody, &plan).total().refusals;
+    let mut expected = [0; 15];
+    expected[1] = 2 * (8 + 2048);
+    expected[2] = 2 * (4 * 2);
+    expected[11] = 2 * (1 + 8 + 2048 - 4 * 2);
+    expected[12] = 2 * (240 + 61_440);
+    assert_eq!(seen, expected);
 }
 
 #[test]

@@ -1,0 +1,29 @@
+use Prim.Native.Nat.{_≤_, _-_}
+use lib.ListN.{length}
+use borrow.Author.Needs.{needs}
+use Rattle.replay_list.proofs.items.bytes_left.Statement.{statement}
+use Rattle.replay_list.proofs.items.bytes_left.Tie as tie
+
+abbrev Inv-loop : tie.InvT-loop
+Inv-loop list given place s items₀ k₀ items k = k ≤ length s
+
+abbrev μ-loop : tie.MeasureT-loop
+μ-loop list given place s items₀ k₀ items k = length s - k
+
+pub bytes-left-spec : {M : Type 1} → statement M
+bytes-left-spec =
+    tie.close
+    (tie.spec
+    Inv-loop
+    μ-loop
+    (λ c κs. search needs)
+    (λ c. search needs)
+    (λ c. search needs)
+    (λ c κs. search needs)
+    (λ c κs. search needs)
+    (λ c. search needs)
+    (λ c κs. search needs)
+    (λ c. search needs)
+    (λ c. search needs)
+    (λ c. search needs)
+    (λ c. search needs))
