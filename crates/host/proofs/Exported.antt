@@ -16,10 +16,10 @@ use Rattle.sheet.specs.declared.ReadAnswer.{ReadAnswer}
 use Rattle.sheet.proofs.Promises.{answer-refusal}
 use Rattle.sheet_build.specs.SheetTensor.{answer-of, SheetPromise}
 use Rattle.sheet_build.specs.declared.SheetAnswer.{SheetAnswer}
-use Rattle.host.specs.Axes.{condition-given, axes-given, axes-without-ends, points-found, kinds-found, values-found, AxesStored}
+use Rattle.plain_axes.specs.Axes.{condition-given, axes-given, axes-without-ends, points-found, kinds-found, values-found, AxesStored}
 use Rattle.host.specs.Exports.{before, kept, moments-own-refusal, curve-own-refusal, build-own-refusal, change-own-refusal, query-own-refusal, read-own-refusal, sheet-tensor-own-refusal, MomentsExport, CurveExport, BuildExport, ChangeExport, QueryExport, ReadExport, SheetTensorExport}
 use Rattle.host.proofs.Lengths.{curve-lengths, change-lengths, query-lengths, read-lengths, sheet-tensor-lengths}
-use Rattle.host.proofs.Slots.{one-stored}
+use Rattle.plain_axes.proofs.Slots.{one-stored}
 
 -- ---- the host refuses: its number is the answer, and each slice is as it was
 

@@ -1,5 +1,3 @@
 pub mod Lengths
-pub mod Slots
-pub mod Found
 pub mod Exported
 pub mod Unique

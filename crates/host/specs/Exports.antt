@@ -15,7 +15,7 @@ use Rattle.sheet.specs.Fields.{axes as axes-said, entries, knots-below, sheet-g
 use Rattle.sheet.specs.Read.{over, read-refusal, answer-of as read-answer-of}
 use Rattle.sheet.specs.declared.ReadAnswer.{ReadAnswer}
 use Rattle.sheet_build.specs.SheetTensor.{answer-of, reading-refusal, sheet-tensor-refusal}
-use Rattle.host.specs.Axes.{lower-kind, upper-kind, condition-given, kinds-refused, some-kinds-refused, grid-given, grid-without-ends, points-found, kinds-found, values-found}
+use Rattle.plain_axes.specs.Axes.{two-ends, eight-ends, lower-kind, upper-kind, condition-given, kinds-refused, some-kinds-refused, grid-given, grid-without-ends, points-found, kinds-found, values-found}
 
 -- the host's own refusal, 0 for none, before the call's
 abbrev pub before : ℕ → ℕ → ℕ
@@ -26,13 +26,6 @@ before (suc own) refusal = suc own
 abbrev pub kept : {A : Type 0} → ℕ → List A → List A → List A
 kept zero lent later = later
 kept (suc own) lent later = lent
-
--- how many ends the slices of a call on one axis hold, and those of a call with axes
-abbrev pub two-ends : ℕ
-two-ends = 2
-
-abbrev pub eight-ends : ℕ
-eight-ends = 8
 
 -- 4 of a call with axes: the points of four axes, and their ends
 unfoldable pub axes-slices-refused : List ℕ → List ℕ → List Float → Bool

@@ -4,7 +4,6 @@ ghost use lib.ListN.{length};
 ghost use Rattle.rules.specs.Calls.{SlopesPromise};
 ghost use Rattle.host.specs.Exports.{MomentsExport, CurveExport, BuildExport, ChangeExport, QueryExport, ReadExport, SheetTensorExport};
 
-pub mod axes;
 pub mod own;
 
 // The labels of an answer go to a slice. Not public: its length is required.
@@ -35,7 +34,7 @@ pub extern "C" fn hullashlar_moments(
     if refusal != 0 {
         return refusal;
     }
-    let condition = axes::condition_given(kinds, values, 0);
+    let condition = plain_axes::condition_given(kinds, values, 0);
     spline::moments(points, knots, samples, condition, moments, scratch)
 }
 
@@ -92,7 +91,7 @@ pub extern "C" fn hullashlar_build(
     if refusal != 0 {
         return refusal;
     }
-    let all = axes::axes_given(axes, points, kinds, values);
+    let all = plain_axes::axes_given(axes, points, kinds, values);
     tensor::build(axes, all, knots, samples, tensor, scratch)
 }
 
@@ -116,8 +115,8 @@ pub extern "C" fn hullashlar_change(
     if refusal != 0 {
         return refusal;
     }
-    let all = axes::axes_given(axes, points, kinds, values);
-    let changed = axes::place_given(place);
+    let all = plain_axes::axes_given(axes, points, kinds, values);
+    let changed = plain_axes::place_given(place);
     let answer = tensor::change(axes, all, knots, tensor, scratch, changed, sample);
     lanes[0] = answer.lanes;
     answer.refusal
@@ -140,7 +139,7 @@ pub extern "C" fn hullashlar_query(
     if refusal != 0 {
         return refusal;
     }
-    let all = axes::axes_without_ends(axes, points);
+    let all = plain_axes::axes_without_ends(axes, points);
     let answer = query::query(axes, all, knots, tensor, coordinates);
     value[0] = answer.value;
     let found = answer.labels;
@@ -168,7 +167,7 @@ pub extern "C" fn hullashlar_read(
     let answer = sheet::read(bytes, knots, samples);
     axes[0] = answer.axes;
     let found = answer.all;
-    axes::store_axes(found, points, kinds, values);
+    plain_axes::store_axes(found, points, kinds, values);
     answer.refusal
 }
 

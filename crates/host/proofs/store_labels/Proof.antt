@@ -1,5 +1,5 @@
 use mathlib.Core.Path.{_∙_}
-use Rattle.host.proofs.Slots.{four-stored, four-read}
+use Rattle.plain_axes.proofs.Slots.{four-stored, four-read}
 use borrow.Author.Needs.{needs}
 use Rattle.host.proofs.store_labels.Statement.{statement}
 use Rattle.host.proofs.store_labels.Tie as tie

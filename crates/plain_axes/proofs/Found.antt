@@ -1,0 +1,106 @@
+-- The axes of a sheet stored as numbers: four axes one after the other, and what these numbers are to the calls that take them.
+use mathlib.Core.Path.{_≡_, refl, ap, _∙_}
+use mathlib.Core.Bool.{Bool, true, false, cond}
+use mathlib.Core.List.{List, [], _∷_}
+use Prim.Native.Nat.{ℕ}
+use native.Mathlib.Omega.{arith}
+use lib.Dec.{ltb}
+use lib.ListN.{length, getD, length-set}
+use lib.Ieee.{Float}
+use Rattle.rules.specs.Numbers.{zeros, table}
+use Rattle.rules.specs.Sizes.{most-axes, unused-axis}
+use Rattle.rules.specs.declared.Axis.{Axis}
+use Rattle.rules.specs.declared.End.{End}
+use Rattle.rules.specs.declared.End.the-variants.{NotAKnot, FirstDerivative, SecondDerivative}
+use Rattle.rules.specs.declared.Condition.{Condition}
+use Rattle.rules.specs.declared.Condition.the-variants.{Endpoints, Periodic}
+use Rattle.sheet.specs.Kinds.{end-of, condition-of}
+use Rattle.sheet.specs.Fields.{axis-at, axis-begin, entries}
+use Rattle.plain_axes.specs.Axes.{condition-given, axis-given, axes-given, kind-of, value-of, lower-kind-of, upper-kind-of, lower-value-of, upper-value-of, points-found, kinds-found, values-found, AxisStored, AxesStored}
+use Rattle.plain_axes.specs.Axes.{eight-ends}
+use Rattle.plain_axes.proofs.Slots.{four-stored, eight-stored, four-read}
+
+-- slices for four axes
+abbrev pub ForFour : List ℕ → List ℕ → List Float → Type 0
+ForFour points kinds values = (length points ≡ 4) × (length kinds ≡ 8) × (length values ≡ 8)
+
+module _ (axis : Axis) (i : ℕ) {p k p′ k′ : List ℕ} {v v′ : List Float} where
+  -- a store keeps their lengths
+  pub still-for-four : AxisStored axis i p k v p′ k′ v′ → ForFour p k v → ForFour p′ k′ v′
+  still-for-four stored long = (
+    rw (stored .point, length-set) (long .0),
+    rw (stored .both-kinds, length-set, length-set) (long .1),
+    rw (stored .both-values, length-set, length-set) (long .2),
+  )
+
+module _
+    (found : List Axis) (four : length found ≡ 4) {p p₁ p₂ p₃ p₄ k k₁ k₂ k₃ k₄ : List ℕ} {v v₁ v₂ v₃ v₄ : List Float} (long : ForFour p k v)
+    (first : AxisStored (getD found 0 unused-axis) 0 p k v p₁ k₁ v₁)
+    (second : AxisStored (getD found 1 unused-axis) 1 p₁ k₁ v₁ p₂ k₂ v₂)
+    (third : AxisStored (getD found 2 unused-axis) 2 p₂ k₂ v₂ p₃ k₃ v₃)
+    (fourth : AxisStored (getD found 3 unused-axis) 3 p₃ k₃ v₃ p₄ k₄ v₄)
+  where
+    pub four-axes-stored : AxesStored found p₄ k₄ v₄
+    four-axes-stored =
+        let read = four-read found unused-axis four in
+        record {
+          points = rw (fourth .point, third .point, second .point, first .point) (four-stored p _ _ _ _ (long .0)) ∙ ap points-found read;
+          kinds =
+              rw (fourth .both-kinds, third .both-kinds, second .both-kinds, first .both-kinds) (eight-stored k _ _ _ _ _ _ _ _ (long .1))
+              ∙ ap kinds-found read;
+          values =
+              rw (fourth .both-values, third .both-values, second .both-values, first .both-values) (eight-stored v _ _ _ _ _ _ _ _ (long .2))
+              ∙ ap values-found read;
+        }
+
+-- ---- what the numbers are
+
+-- on a refusal all are 0, since no axis is in use
+pub none-found :
+    (points-found (table most-axes (λ i. unused-axis)) ≡ table most-axes (λ i. 0))
+    × (kinds-found (table most-axes (λ i. unused-axis)) ≡ table eight-ends (λ i. 0))
+    × (values-found (table most-axes (λ i. unused-axis)) ≡ zeros eight-ends)
+none-found = (refl, refl, refl)
+
+-- an end, a condition and an axis are told by their numbers
+end-again : (end : End) → end-of (kind-of end) (value-of end) ≡ end
+unfolding end-of
+end-again NotAKnot = refl
+end-again (FirstDerivative value) = refl
+end-again (SecondDerivative value) = refl
+
+lower-not-periodic : (lower : End) (a b : End) → condition-of (kind-of lower) a b ≡ Endpoints a b
+unfolding condition-of
+lower-not-periodic NotAKnot a b = refl
+lower-not-periodic (FirstDerivative value) a b = refl
+lower-not-periodic (SecondDerivative value) a b = refl
+
+abbrev told : Condition → Condition
+told c = condition-of (lower-kind-of c) (end-of (lower-kind-of c) (lower-value-of c)) (end-of (upper-kind-of c) (upper-value-of c))
+
+condition-again : (c : Condition) → told c ≡ c
+unfolding condition-of
+condition-again (Endpoints lower upper) = lower-not-periodic lower _ _ ∙ rw (end-again lower, end-again upper)
+condition-again Periodic = refl
+
+entry-again :
+    (in-use : Bool) (axis : Axis)
+    → cond in-use (record { points = cond in-use axis unused-axis .points; condition = told (cond in-use axis unused-axis .condition) }) unused-axis
+    ≡ cond in-use axis unused-axis
+entry-again true axis = rw (condition-again (axis .condition))
+entry-again false axis = refl
+
+four-same : {a a′ b b′ c c′ d d′ : Axis} → a ≡ a′ → b ≡ b′ → c ≡ c′ → d ≡ d′ → a ∷ b ∷ c ∷ d ∷ [] ≡ a′ ∷ b′ ∷ c′ ∷ d′ ∷ []
+four-same p q r s = rw (p, q, r, s)
+
+-- the calls that take the numbers take them for the sheet's axes
+pub axes-again :
+    (bytes : List ℕ) (n : ℕ)
+    → axes-given n (points-found (entries bytes n)) (kinds-found (entries bytes n)) (values-found (entries bytes n)) ≡ entries bytes n
+unfolding axes-given axis-given condition-given entries
+axes-again bytes n =
+    four-same
+    (entry-again (ltb 0 n) (axis-at bytes (axis-begin bytes 0)))
+    (entry-again (ltb 1 n) (axis-at bytes (axis-begin bytes 1)))
+    (entry-again (ltb 2 n) (axis-at bytes (axis-begin bytes 2)))
+    (entry-again (ltb 3 n) (axis-at bytes (axis-begin bytes 3)))

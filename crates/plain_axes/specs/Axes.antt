@@ -1,0 +1,133 @@
+-- How numbers and plain slices make conditions and the four axes, what 13 is of them, and how the axes of a sheet are numbers again. Ends stand in one slice, kinds[2i] and values[2i] at the lower end of axis i, kinds[2i + 1] and values[2i + 1] at the upper.
+use mathlib.Core.Path.{_≡_}
+use mathlib.Core.Bool.{Bool, cond, _||_}
+use mathlib.Core.List.{List, [], _∷_}
+use Prim.Native.Nat.{ℕ, _+_, _*_, min}
+use lib.Dec.{ltb}
+use lib.ListN.{getD, set}
+use lib.Ieee.{Float}
+use Rattle.rules.specs.Numbers.{plus-zero, at, table, any}
+use Rattle.rules.specs.Ends.{not-a-knot}
+use Rattle.rules.specs.Sizes.{most-axes, unused-axis, Grid}
+use Rattle.rules.specs.declared.Axis.{Axis}
+use Rattle.rules.specs.declared.End.{End}
+use Rattle.rules.specs.declared.End.the-variants.{NotAKnot, FirstDerivative, SecondDerivative}
+use Rattle.rules.specs.declared.Condition.{Condition}
+use Rattle.rules.specs.declared.Condition.the-variants.{Endpoints, Periodic}
+use Rattle.sheet.specs.Kinds.{end-of, condition-of, periodic-at-one-end}
+
+-- how many ends the slices of a call on one axis hold, and those of a call with axes
+abbrev pub two-ends : ℕ
+two-ends = 2
+
+abbrev pub eight-ends : ℕ
+eight-ends = 8
+
+-- the kinds of the ends of axis i
+abbrev pub lower-kind : List ℕ → ℕ → ℕ
+lower-kind kinds i = getD kinds (2 * i) 0
+
+abbrev pub upper-kind : List ℕ → ℕ → ℕ
+upper-kind kinds i = getD kinds (2 * i + 1) 0
+
+-- the condition of axis i; a value is read only where its kind has one
+unfoldable pub condition-given : List ℕ → List Float → ℕ → Condition
+unfolding end-of condition-of
+condition-given kinds values i =
+    condition-of (lower-kind kinds i)
+    (end-of (lower-kind kinds i) (at values (2 * i)))
+    (end-of (upper-kind kinds i) (at values (2 * i + 1)))
+
+-- 13 of one axis: a kind that there is not, or Periodic at one end only
+unfoldable pub kinds-refused : ℕ → ℕ → Bool
+unfolding periodic-at-one-end
+kinds-refused lower upper = ltb 3 lower || ltb 3 upper || periodic-at-one-end lower upper
+
+-- 13 of the axes in use, of which there are four entries at most
+unfoldable pub some-kinds-refused : ℕ → List ℕ → Bool
+unfolding kinds-refused
+some-kinds-refused axes kinds = any (λ i. kinds-refused (lower-kind kinds i) (upper-kind kinds i)) (min axes most-axes)
+
+-- entry i of the four: "entries past the axes in use aren't read", and stand for the unused axis
+unfoldable pub axis-given : ℕ → List ℕ → List ℕ → List Float → ℕ → Axis
+unfolding condition-given
+axis-given axes points kinds values i =
+    cond (ltb i axes) (record { points = getD points i 0; condition = condition-given kinds values i }) unused-axis
+
+unfoldable pub axes-given : ℕ → List ℕ → List ℕ → List Float → List Axis
+unfolding axis-given
+axes-given axes points kinds values = table most-axes (axis-given axes points kinds values)
+
+-- the same of a query, which takes no ends
+unfoldable pub axis-without-ends : ℕ → List ℕ → ℕ → Axis
+axis-without-ends axes points i = cond (ltb i axes) (record { points = getD points i 0; condition = not-a-knot }) unused-axis
+
+unfoldable pub axes-without-ends : ℕ → List ℕ → List Axis
+unfolding axis-without-ends
+axes-without-ends axes points = table most-axes (axis-without-ends axes points)
+
+-- the grid of both
+abbrev pub grid-given : ℕ → List ℕ → List ℕ → List Float → List Float → Grid
+grid-given axes points kinds values knots =
+    record { axes = axes; entries = axes-given axes points kinds values; flat-knots = knots }
+
+abbrev pub grid-without-ends : ℕ → List ℕ → List Float → Grid
+grid-without-ends axes points knots =
+    record { axes = axes; entries = axes-without-ends axes points; flat-knots = knots }
+
+-- ---- the other way, from the axes that a sheet has to numbers
+
+-- the kind of an end, and its value, +0.0 where the kind has none
+abbrev pub kind-of : End → ℕ
+kind-of NotAKnot = 0
+kind-of (FirstDerivative value) = 1
+kind-of (SecondDerivative value) = 2
+
+abbrev pub value-of : End → Float
+value-of NotAKnot = plus-zero
+value-of (FirstDerivative value) = value
+value-of (SecondDerivative value) = value
+
+-- those of the two ends of a condition
+abbrev pub lower-kind-of : Condition → ℕ
+lower-kind-of (Endpoints lower upper) = kind-of lower
+lower-kind-of Periodic = 3
+
+abbrev pub upper-kind-of : Condition → ℕ
+upper-kind-of (Endpoints lower upper) = kind-of upper
+upper-kind-of Periodic = 3
+
+abbrev pub lower-value-of : Condition → Float
+lower-value-of (Endpoints lower upper) = value-of lower
+lower-value-of Periodic = plus-zero
+
+abbrev pub upper-value-of : Condition → Float
+upper-value-of (Endpoints lower upper) = value-of upper
+upper-value-of Periodic = plus-zero
+
+-- the points of the axes, and of each the kinds and the values of its two ends, lower first
+abbrev pub points-found : List Axis → List ℕ
+points-found [] = []
+points-found (axis ∷ rest) = axis .points ∷ points-found rest
+
+abbrev pub kinds-found : List Axis → List ℕ
+kinds-found [] = []
+kinds-found (axis ∷ rest) = lower-kind-of (axis .condition) ∷ upper-kind-of (axis .condition) ∷ kinds-found rest
+
+abbrev pub values-found : List Axis → List Float
+values-found [] = []
+values-found (axis ∷ rest) = lower-value-of (axis .condition) ∷ upper-value-of (axis .condition) ∷ values-found rest
+
+-- slices of points, kinds and values before and after axis i was stored in them
+pub record AxisStored (axis : Axis) (i : ℕ) (points kinds : List ℕ) (values : List Float) (points-later kinds-later : List ℕ) (values-later : List Float) : Type 0 where
+  pub point : points-later ≡ set points i (axis .points)
+  pub both-kinds :
+      kinds-later ≡ set (set kinds (2 * i) (lower-kind-of (axis .condition))) (2 * i + 1) (upper-kind-of (axis .condition))
+  pub both-values :
+      values-later ≡ set (set values (2 * i) (lower-value-of (axis .condition))) (2 * i + 1) (upper-value-of (axis .condition))
+
+-- the same slices after all axes were
+pub record AxesStored (found : List Axis) (points-later kinds-later : List ℕ) (values-later : List Float) : Type 0 where
+  pub points : points-later ≡ points-found found
+  pub kinds : kinds-later ≡ kinds-found found
+  pub values : values-later ≡ values-found found

@@ -1,0 +1,237 @@
+// From numbers and plain slices to conditions and the four axes, and back. Not public: each requires the lengths that the host's own refusal 4 leaves.
+ghost use mathlib.Core.Path.{_≡_};
+ghost use Prim.Native.Nat.{_+_, _*_, _<_, _≤_, min};
+ghost use lib.Dec.{ltb};
+ghost use lib.ListN.{length};
+ghost use Rattle.rules.specs.Sizes.{most-axes, unused-axis};
+ghost use Rattle.plain_axes.specs.Axes.{condition-given, kinds-refused, some-kinds-refused, axis-given, axes-given, axis-without-ends, axes-without-ends, kind-of, value-of, lower-kind-of, upper-kind-of, lower-value-of, upper-value-of, AxisStored, AxesStored};
+use rules::Axis;
+use rules::Condition;
+use rules::End;
+use sheet::kinds::condition_of_kind;
+use sheet::kinds::end_of_kind;
+use sheet::kinds::is_periodic_at_one_end;
+
+// A kind as the wide number that the kinds of a sheet are decided on.
+pub fn wide(kind: u8) -> u64
+    ensures { λ r. ⌜ r ≡ kind ⌝ }
+{
+    kind as u64
+}
+
+// Whether there is no such kind.
+fn is_unknown(kind: u64) -> bool
+    ensures { λ r. ⌜ r ≡ ltb 3 kind ⌝ }
+{
+    match kind {
+        0..=3 => false,
+        _ => true,
+    }
+}
+
+// Whether the kinds of an axis are refused by 13.
+pub fn kinds_refused(lower: u64, upper: u64) -> bool
+    ensures { λ r. ⌜ r ≡ kinds-refused lower upper ⌝ }
+{
+    if is_unknown(lower) {
+        return true;
+    }
+    if is_unknown(upper) {
+        return true;
+    }
+    is_periodic_at_one_end(lower, upper)
+}
+
+// The condition of axis i.
+pub fn condition_given(kinds: &[u8], values: &[f64], i: usize) -> Condition
+    requires { ⌜ (2 * i + 1 < length (now kinds)) × (2 * i + 1 < length (now values)) ⌝ }
+    ensures { λ r. ⌜ r ≡ condition-given (now (kinds .entry)) (now (values .entry)) i ⌝ }
+{
+    let lower = wide(kinds[2 * i]);
+    let upper = wide(kinds[2 * i + 1]);
+    condition_of_kind(
+        lower,
+        end_of_kind(lower, values[2 * i]),
+        end_of_kind(upper, values[2 * i + 1]),
+    )
+}
+
+// An axis not in use.
+fn unused() -> Axis
+    ensures { λ r. ⌜ r ≡ unused-axis ⌝ }
+{
+    Axis {
+        points: 0,
+        condition: Condition::not_a_knot(),
+    }
+}
+
+// Entry i of the four: the axis, where it is in use.
+fn axis_given(axes: usize, points: &[usize], kinds: &[u8], values: &[f64], i: usize) -> Axis
+    requires { ⌜ (i < length (now points)) × (2 * i + 1 < length (now kinds)) × (2 * i + 1 < length (now values)) ⌝ }
+    ensures { λ r. ⌜ r ≡ axis-given axes (now (points .entry)) (now (kinds .entry)) (now (values .entry)) i ⌝ }
+{
+    if i < axes {
+        Axis {
+            points: points[i],
+            condition: condition_given(kinds, values, i),
+        }
+    } else {
+        unused()
+    }
+}
+
+// The four axes.
+pub fn axes_given(axes: usize, points: &[usize], kinds: &[u8], values: &[f64]) -> [Axis; 4]
+    requires { ⌜ (length (now points) ≡ 4) × (length (now kinds) ≡ 8) × (length (now values) ≡ 8) ⌝ }
+    ensures { λ r. ⌜ r ≡ axes-given axes (now (points .entry)) (now (kinds .entry)) (now (values .entry)) ⌝ }
+{
+    [
+        axis_given(axes, points, kinds, values, 0),
+        axis_given(axes, points, kinds, values, 1),
+        axis_given(axes, points, kinds, values, 2),
+        axis_given(axes, points, kinds, values, 3),
+    ]
+}
+
+// Entry i of the four of a query, which takes no ends.
+fn axis_without_ends(axes: usize, points: &[usize], i: usize) -> Axis
+    requires { ⌜ i < length (now points) ⌝ }
+    ensures { λ r. ⌜ r ≡ axis-without-ends axes (now (points .entry)) i ⌝ }
+{
+    if i < axes {
+        Axis {
+            points: points[i],
+            condition: Condition::not_a_knot(),
+        }
+    } else {
+        unused()
+    }
+}
+
+// The four axes of a query.
+pub fn axes_without_ends(axes: usize, points: &[usize]) -> [Axis; 4]
+    requires { ⌜ length (now points) ≡ 4 ⌝ }
+    ensures { λ r. ⌜ r ≡ axes-without-ends axes (now (points .entry)) ⌝ }
+{
+    [
+        axis_without_ends(axes, points, 0),
+        axis_without_ends(axes, points, 1),
+        axis_without_ends(axes, points, 2),
+        axis_without_ends(axes, points, 3),
+    ]
+}
+
+// How many of the four entries are in use.
+fn entries_in_use(axes: usize) -> usize
+    ensures { λ r. ⌜ (r ≡ min axes most-axes) × (r ≤ 4) ⌝ }
+{
+    if axes < 4 { axes } else { 4 }
+}
+
+// Whether the kinds of an axis in use are refused by 13.
+pub fn some_kinds_refused(axes: usize, kinds: &[u8]) -> bool
+    requires { ⌜ length (now kinds) ≡ 8 ⌝ }
+    ensures { λ r. ⌜ r ≡ some-kinds-refused axes (now (kinds .entry)) ⌝ }
+{
+    let n = entries_in_use(axes);
+    let mut i = 0;
+    while i < n {
+        if kinds_refused(wide(kinds[2 * i]), wide(kinds[2 * i + 1])) {
+            return true;
+        }
+        i += 1;
+    }
+    false
+}
+
+// The four entries of a place.
+pub fn place_given(place: &[usize]) -> [usize; 4]
+    requires { ⌜ length (now place) ≡ 4 ⌝ }
+    ensures { λ r. ⌜ r ≡ now (place .entry) ⌝ }
+{
+    [place[0], place[1], place[2], place[3]]
+}
+
+// The number of an end's kind.
+fn kind_of_end(end: End) -> u8
+    ensures { λ r. ⌜ r ≡ kind-of end ⌝ }
+{
+    match end {
+        End::NotAKnot => 0,
+        End::FirstDerivative(_) => 1,
+        End::SecondDerivative(_) => 2,
+    }
+}
+
+// The value of an end, +0.0 where its kind has none.
+fn value_of_end(end: End) -> f64
+    ensures { λ r. ⌜ r ≡ value-of end ⌝ }
+{
+    match end {
+        End::NotAKnot => 0.0,
+        End::FirstDerivative(value) => value,
+        End::SecondDerivative(value) => value,
+    }
+}
+
+// The kinds and the values of the ends of an axis.
+fn lower_kind(condition: Condition) -> u8
+    ensures { λ r. ⌜ r ≡ lower-kind-of condition ⌝ }
+{
+    match condition {
+        Condition::Endpoints(lower, _) => kind_of_end(lower),
+        Condition::Periodic => 3,
+    }
+}
+
+fn upper_kind(condition: Condition) -> u8
+    ensures { λ r. ⌜ r ≡ upper-kind-of condition ⌝ }
+{
+    match condition {
+        Condition::Endpoints(_, upper) => kind_of_end(upper),
+        Condition::Periodic => 3,
+    }
+}
+
+fn lower_value(condition: Condition) -> f64
+    ensures { λ r. ⌜ r ≡ lower-value-of condition ⌝ }
+{
+    match condition {
+        Condition::Endpoints(lower, _) => value_of_end(lower),
+        Condition::Periodic => 0.0,
+    }
+}
+
+fn upper_value(condition: Condition) -> f64
+    ensures { λ r. ⌜ r ≡ upper-value-of condition ⌝ }
+{
+    match condition {
+        Condition::Endpoints(_, upper) => value_of_end(upper),
+        Condition::Periodic => 0.0,
+    }
+}
+
+// One axis goes to its places: entry i of the points, and the two entries of its ends.
+fn store_axis(axis: Axis, i: usize, points: &mut [usize], kinds: &mut [u8], values: &mut [f64])
+    requires { ⌜ (i < 4) × (length (now points) ≡ 4) × (length (now kinds) ≡ 8) × (length (now values) ≡ 8) ⌝ }
+    ensures { λ _. ⌜ AxisStored axis i (now (points .entry)) (now (kinds .entry)) (now (values .entry)) (now (points .exit)) (now (kinds .exit)) (now (values .exit)) ⌝ }
+{
+    let condition = axis.condition;
+    points[i] = axis.points;
+    kinds[2 * i] = lower_kind(condition);
+    kinds[2 * i + 1] = upper_kind(condition);
+    values[2 * i] = lower_value(condition);
+    values[2 * i + 1] = upper_value(condition);
+}
+
+// The four axes go to the slices of points, kinds and values.
+pub fn store_axes(found: [Axis; 4], points: &mut [usize], kinds: &mut [u8], values: &mut [f64])
+    requires { ⌜ (length (now points) ≡ 4) × (length (now kinds) ≡ 8) × (length (now values) ≡ 8) ⌝ }
+    ensures { λ _. ⌜ AxesStored found (now (points .exit)) (now (kinds .exit)) (now (values .exit)) ⌝ }
+{
+    store_axis(found[0], 0, points, kinds, values);
+    store_axis(found[1], 1, points, kinds, values);
+    store_axis(found[2], 2, points, kinds, values);
+    store_axis(found[3], 3, points, kinds, values);
+}
