@@ -44,8 +44,7 @@ pub fn some_knots_refused(axes: usize, all: [Axis; 4], knots: &[f64]) -> bool
     let mut start = 0;
     let mut i = 0;
     while i < axes {
-        let axis = all[i];
-        let end = start + axis.points;
+        let end = start + all[i].points;
         if knots_refused(&knots[start..end]) {
             return true;
         }

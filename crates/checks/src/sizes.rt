@@ -30,8 +30,7 @@ pub fn some_points_refused(axes: usize, all: [Axis; 4]) -> bool
 {
     let mut i = 0;
     while i < axes {
-        let axis = all[i];
-        if points_refused(axis.points) {
+        if points_refused(all[i].points) {
             return true;
         }
         i += 1;
@@ -60,8 +59,7 @@ pub fn knots_length(axes: usize, all: [Axis; 4]) -> usize
     let mut sum = 0;
     let mut i = 0;
     while i < axes {
-        let axis = all[i];
-        sum += axis.points;
+        sum += all[i].points;
         i += 1;
     }
     sum
@@ -75,8 +73,7 @@ pub fn samples_length(axes: usize, all: [Axis; 4]) -> usize
     let mut product = 1;
     let mut i = 0;
     while i < axes {
-        let axis = all[i];
-        product = product * axis.points;
+        product = product * all[i].points;
         i += 1;
     }
     product
@@ -113,8 +110,7 @@ pub fn place_refused(axes: usize, all: [Axis; 4], place: [usize; 4]) -> bool
 {
     let mut i = 0;
     while i < axes {
-        let axis = all[i];
-        if axis.points <= place[i] {
+        if all[i].points <= place[i] {
             return true;
         }
         i += 1;

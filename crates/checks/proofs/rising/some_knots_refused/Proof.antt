@@ -41,31 +41,31 @@ loop-holds : tie.Need-loop-holds Inv-loop μ-loop
 loop-holds c = (search needs, sym (sum-none _), any-none _)
 
 add-end : tie.Need-add-end Inv-loop μ-loop
-add-end c = omega (arith, within (c .before .before))
+add-end c = omega (arith, within c)
 
 mul-start : tie.Need-mul-knots-refused Inv-loop μ-loop
-mul-start c = omega (arith, within (c .before .before))
+mul-start c = omega (arith, within c)
 
 part-end : tie.Need-part-knots-refused-end Inv-loop μ-loop
-part-end c = omega (arith, within (c .before .before))
+part-end c = omega (arith, within c)
 
-here : (c : tie.After-knots-refused Inv-loop μ-loop) → c .knots-refused .result ≡ knots-refused (knots (grid (c .before .before .before .before .before .before .before .args .axes) (c .before .before .before .before .before .before .before .args .t2) (c .before .before .before .before .before .before .before .args .knots .now)) (c .before .before .before .before .before .loop .i)) (points-of (c .before .before .before .before .before .before .before .args .t2) (c .before .before .before .before .before .loop .i))
+here : (c : tie.After-knots-refused Inv-loop μ-loop) → c .knots-refused .result ≡ knots-refused (knots (grid (c .before .before .before .before .before .args .axes) (c .before .before .before .before .before .args .t2) (c .before .before .before .before .before .args .knots .now)) (c .before .before .before .loop .i)) (points-of (c .before .before .before .before .before .args .t2) (c .before .before .before .loop .i))
 here c =
-    let s = c .before .before .before .before .before .before .before in
-    let l = c .before .before .before .before .before .loop in
+    let s = c .before .before .before .before .before in
+    let l = c .before .before .before .loop in
     c .knots-refused .ensures
-    ∙ part-refused (s .args .knots .now) (l .start) (points-of (s .args .t2) (l .i)) (within (c .before .before .before .before))
+    ∙ part-refused (s .args .knots .now) (l .start) (points-of (s .args .t2) (l .i)) (within (c .before .before))
     ∙ ap (λ (start : ℕ). knots-refused (take (points-of (s .args .t2) (l .i)) (drop start (s .args .knots .now))) (points-of (s .args .t2) (l .i))) (l .inv .1)
 
 returns : tie.Need-returns Inv-loop μ-loop
 returns c =
-    sym (any-found _ (c .before .before .before .before .before .before .loop .i) _ (omega arith) (sym (here (c .before)) ∙ c .if1 .taken))
+    sym (any-found _ (c .before .before .before .before .loop .i) _ (omega arith) (sym (here (c .before)) ∙ c .if1 .taken))
 
 loop-again : tie.Need-loop-again Inv-loop μ-loop
 loop-again c = (
   search needs,
-  rw (sum-more, ← c .before .before .before .before .before .before .loop .inv .1),
-  any-more _ _ (c .before .before .before .before .before .before .loop .inv .2) (sym (here (c .before)) ∙ c .if1 .left),
+  rw (sum-more, ← c .before .before .before .before .loop .inv .1),
+  any-more _ _ (c .before .before .before .before .loop .inv .2) (sym (here (c .before)) ∙ c .if1 .left),
 )
 
 returns-2 : tie.Need-returns-2 Inv-loop μ-loop

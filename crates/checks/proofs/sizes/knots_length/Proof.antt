@@ -21,11 +21,11 @@ loop-holds : tie.Need-loop-holds Inv-loop μ-loop
 loop-holds c = (search needs, sym (sum-none _), search needs)
 
 add-sum : tie.Need-add-sum Inv-loop μ-loop
-add-sum c = omega (arith, few (c .before .before))
+add-sum c = omega (arith, few c)
 
 loop-again : tie.Need-loop-again Inv-loop μ-loop
 loop-again c =
-    let h = few (c .before .before) in (omega arith, rw (sum-more, ← c .before .before .before .loop .inv .1), omega arith)
+    let h = few c in (omega arith, rw (sum-more, ← c .before .loop .inv .1), omega arith)
 
 returns : tie.Need-returns Inv-loop μ-loop
 returns c =

@@ -25,15 +25,15 @@ grown c =
 loop-holds : tie.Need-loop-holds Inv-loop μ-loop
 loop-holds c = (search needs, sym (product-none _), search needs)
 
-mul-product : tie.Need-mul-product Inv-loop μ-loop
+mul-product : tie.Need-mul-product-2 Inv-loop μ-loop
 mul-product c =
     fits-64
     (le-trans
-    (of-four _ (c .before .before .before .loop .i + 1) (grown (c .before .before)) (omega (arith, c .before .before .before .before .pre .few-axes)))
+    (of-four _ (c .before .loop .i + 1) (grown c) (omega (arith, c .before .before .pre .few-axes)))
     (lit≤ tt))
 
 loop-again : tie.Need-loop-again Inv-loop μ-loop
-loop-again c = (omega arith, rw (product-more, ← c .before .before .before .loop .inv .1), grown (c .before .before))
+loop-again c = (omega arith, rw (product-more, ← c .before .loop .inv .1), grown c)
 
 returns : tie.Need-returns Inv-loop μ-loop
 returns c =

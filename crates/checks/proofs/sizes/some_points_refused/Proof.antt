@@ -20,10 +20,10 @@ loop-holds : tie.Need-loop-holds Inv-loop μ-loop
 loop-holds c = (search needs, any-none _)
 
 returns : tie.Need-returns Inv-loop μ-loop
-returns c = sym (any-found _ (c .before .before .before .before .loop .i) _ (omega arith) (sym (c .before .points-refused .ensures) ∙ c .if1 .taken))
+returns c = sym (any-found _ (c .before .before .before .loop .i) _ (omega arith) (sym (c .before .points-refused .ensures) ∙ c .if1 .taken))
 
 loop-again : tie.Need-loop-again Inv-loop μ-loop
-loop-again c = (search needs, any-more _ _ (c .before .before .before .before .loop .inv .1) (sym (c .before .points-refused .ensures) ∙ c .if1 .left))
+loop-again c = (search needs, any-more _ _ (c .before .before .before .loop .inv .1) (sym (c .before .points-refused .ensures) ∙ c .if1 .left))
 
 returns-2 : tie.Need-returns-2 Inv-loop μ-loop
 returns-2 c = sym (any-end _ _ _ (c .before .loop .inv .1) (omega arith))
