@@ -8,15 +8,14 @@ run:
 test:
 	.ci/run
 
-# The calls that are exported so far, and how many cases of each are compared with the Rust.
+# The exported calls, and how many cases of each kind are compared with the Rust.
 CALLS = moments curve slopes build change query read sheet_tensor
 CASES = --moments 60000 --curve 60000 --slopes 60000 --build 50000 --change 50000 \
     --change_list 20000 --query 500000 --read 60000 --sheet_tensor 60000 --short_sheet 65793
 SEED = 20240917
 
 # Holds the exported calls against the Rust, bit for bit; fails where there is a difference.
-differential:
-	rt staticlib host
+differential: archive
 	cd oracle && cargo run --offline --release -p differential --features "$(CALLS)" -- \
 	    --seed $(SEED) --cases 0 $(CASES)
 
@@ -36,13 +35,14 @@ archive:
 bench: archive
 	cd oracle && cargo run --offline --release -p bench --features "$(CALLS)"
 
-# The two example hosts, each held against the output that is kept beside them.
+# The two example hosts on one sheet, each held against the output that is kept beside them.
 examples: archive
 	mkdir -p target/examples
+	python3 examples/gain_sheet.py | cmp - examples/gain.sheet
 	gcc -std=c11 -Wall -Wextra -Werror -O2 -Iinclude examples/host.c target/staticlib/libhost.a -o target/examples/host_in_c
 	rustc --edition 2021 -O examples/host.rs -L native=target/staticlib -l static=host -o target/examples/host_in_rust
-	target/examples/host_in_c | diff examples/expected.txt -
-	target/examples/host_in_rust | diff examples/expected.txt -
+	target/examples/host_in_c examples/gain.sheet | diff examples/expected.txt -
+	target/examples/host_in_rust examples/gain.sheet | diff examples/expected.txt -
 
 # Draws the picture of README.md anew, from numbers that the library computes.
 picture: archive

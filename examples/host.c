@@ -1,4 +1,4 @@
-/* A host in C: it holds the parts of a gain surface, asks for a gain, changes one sample and asks again.
+/* A host in C: it loads the sheet of a gain surface, asks for a gain, changes one sample and asks again.
  * Nothing is allocated: every slice that a call is lent stands here. */
 #include "hullashlar.h"
 
@@ -7,7 +7,7 @@
 #include <stdlib.h>
 #include <string.h>
 
-enum { BUFFER = 1024, LONGEST_TENSOR = 4096, SCRATCH = LONGEST_TENSOR + 2048 };
+enum { LONGEST_SHEET = 65536, BUFFER = 1024, LONGEST_TENSOR = 4096, SCRATCH = LONGEST_TENSOR + 2048 };
 
 /* What a sheet says. */
 struct sheet {
@@ -17,15 +17,6 @@ struct sheet {
     double values[8];
     double knots[BUFFER];
     double samples[BUFFER];
-};
-
-/* Gain over frequency, NotAKnot twice, and input level, natural: a row for each frequency. */
-static struct sheet sheet = {
-    .axes = 2,
-    .points = {5, 5, 0, 0},
-    .kinds = {0, 0, 2, 2, 0, 0, 0, 0},
-    .knots = {0.25, 0.5, 1, 2, 4, 40, 55, 65, 80, 95},
-    .samples = {10, 8, 6, 3, 0, 14, 11, 8, 4, 1, 20, 16, 12, 6, 2, 26, 21, 15, 8, 3, 30, 24, 17, 9, 3},
 };
 
 static double tensor[LONGEST_TENSOR];
@@ -60,6 +51,20 @@ static size_t samples_length(const struct sheet *sheet)
 static size_t tensor_length(const struct sheet *sheet)
 {
     return samples_length(sheet) << sheet->axes;
+}
+
+static void load(const char *path, struct sheet *sheet)
+{
+    static uint8_t bytes[LONGEST_SHEET];
+    FILE *file = fopen(path, "rb");
+    if (file == NULL) {
+        perror(path);
+        exit(1);
+    }
+    size_t length = fread(bytes, 1, sizeof bytes, file);
+    fclose(file);
+    accept("read", hullashlar_read(bytes, length, sheet->knots, BUFFER, sheet->samples, BUFFER, &sheet->axes, 1,
+                                   sheet->points, 4, sheet->kinds, 8, sheet->values, 8));
 }
 
 static void build(const struct sheet *sheet, double *numbers)
@@ -106,16 +111,22 @@ static void change_and_compare(struct sheet *sheet, const size_t place[4], doubl
     printf("a fresh build of the new samples has the same bits: %s\n", same ? "yes" : "no");
 }
 
-int main(void)
+int main(int count, char **arguments)
 {
+    static struct sheet sheet;
     const double point[2] = {1.5, 60.0};
     const double no_point[2] = {1.5, NAN};
     const size_t place[4] = {2, 2, 0, 0};
     double gain;
     size_t cell[4];
 
+    if (count != 2) {
+        fprintf(stderr, "%s SHEET\n", arguments[0]);
+        return 2;
+    }
+    load(arguments[1], &sheet);
     build(&sheet, tensor);
-    printf("surface of %zu axes, %zu and %zu points; tensor of %zu numbers\n", sheet.axes, sheet.points[0],
+    printf("sheet of %zu axes, %zu and %zu points; tensor of %zu numbers\n", sheet.axes, sheet.points[0],
            sheet.points[1], tensor_length(&sheet));
     print_gain(&sheet, point);
     change_and_compare(&sheet, place, 15.0);

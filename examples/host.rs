@@ -1,23 +1,11 @@
-//! A host in Rust: it holds the parts of a gain surface, asks for a gain,
+//! A host in Rust: it loads the sheet of a gain surface, asks for a gain,
 //! changes one sample and asks again.
 
 mod hullashlar;
 
 use hullashlar::{Axes, Refusal, BUFFER, LONGEST_TENSOR, SCRATCH};
 use std::process::ExitCode;
-
-/// Frequencies in kHz, and then levels in dB.
-const KNOTS: [f64; 10] = [0.25, 0.5, 1.0, 2.0, 4.0, 40.0, 55.0, 65.0, 80.0, 95.0];
-
-/// A row for each frequency.
-#[rustfmt::skip]
-const SAMPLES: [f64; 25] = [
-    10.0, 8.0, 6.0, 3.0, 0.0,
-    14.0, 11.0, 8.0, 4.0, 1.0,
-    20.0, 16.0, 12.0, 6.0, 2.0,
-    26.0, 21.0, 15.0, 8.0, 3.0,
-    30.0, 24.0, 17.0, 9.0, 3.0,
-];
+use std::{env, fs};
 
 /// A surface, and every slice that its calls are lent.
 struct Surface {
@@ -29,22 +17,16 @@ struct Surface {
 }
 
 impl Surface {
-    /// Gain over frequency, NotAKnot twice, and input level, natural, with its tensor built.
-    fn gains() -> Result<Self, Refusal> {
+    /// The surface of a sheet, with its tensor built.
+    fn load(sheet: &[u8]) -> Result<Self, Refusal> {
+        let (mut knots, mut samples) = ([0.0; BUFFER], [0.0; BUFFER]);
         let mut surface = Self {
-            axes: Axes {
-                count: 2,
-                points: [5, 5, 0, 0],
-                kinds: [0, 0, 2, 2, 0, 0, 0, 0],
-                values: [0.0; 8],
-            },
-            knots: [0.0; BUFFER],
-            samples: [0.0; BUFFER],
+            axes: hullashlar::read(sheet, &mut knots, &mut samples)?,
+            knots,
+            samples,
             tensor: [0.0; LONGEST_TENSOR],
             scratch: [0.0; LONGEST_TENSOR + SCRATCH],
         };
-        surface.knots[..KNOTS.len()].copy_from_slice(&KNOTS);
-        surface.samples[..SAMPLES.len()].copy_from_slice(&SAMPLES);
         surface.build()?;
         Ok(surface)
     }
@@ -90,7 +72,12 @@ impl Surface {
 }
 
 fn main() -> ExitCode {
-    match show() {
+    let Some(path) = env::args().nth(1) else {
+        eprintln!("host SHEET");
+        return ExitCode::from(2);
+    };
+    let sheet = fs::read(path).expect("the sheet can be read");
+    match show(&sheet) {
         Ok(()) => ExitCode::SUCCESS,
         Err(refusal) => {
             eprintln!("refused {refusal}");
@@ -99,11 +86,11 @@ fn main() -> ExitCode {
     }
 }
 
-fn show() -> Result<(), Refusal> {
-    let mut surface = Surface::gains()?;
+fn show(sheet: &[u8]) -> Result<(), Refusal> {
+    let mut surface = Surface::load(sheet)?;
     let Axes { count, points, .. } = surface.axes;
     println!(
-        "surface of {count} axes, {} and {} points; tensor of {} numbers",
+        "sheet of {count} axes, {} and {} points; tensor of {} numbers",
         points[0],
         points[1],
         surface.axes.tensor_length()

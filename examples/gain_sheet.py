@@ -1,0 +1,50 @@
+#!/usr/bin/env python3
+"""Writes gain.sheet: a hearing aid's gain over frequency and input level, as a packed sheet."""
+
+import struct
+import sys
+
+# Kinds of an end.
+NOT_A_KNOT, FIRST_DERIVATIVE, SECOND_DERIVATIVE, PERIODIC = range(4)
+
+# Each axis: its knots, its two kinds, and a value for each kind that has one.
+FREQUENCY = ([0.25, 0.5, 1.0, 2.0, 4.0], [NOT_A_KNOT, NOT_A_KNOT], [])
+LEVEL = ([40.0, 55.0, 65.0, 80.0, 95.0], [SECOND_DERIVATIVE, SECOND_DERIVATIVE], [0.0, 0.0])
+
+# A row for each frequency, a column for each level.
+GAIN = [
+    [10.0, 8.0, 6.0, 3.0, 0.0],
+    [14.0, 11.0, 8.0, 4.0, 1.0],
+    [20.0, 16.0, 12.0, 6.0, 2.0],
+    [26.0, 21.0, 15.0, 8.0, 3.0],
+    [30.0, 24.0, 17.0, 9.0, 3.0],
+]
+
+
+def field(number, width):
+    """A number as so many bits, most significant first."""
+    return format(number, f"0{width}b")
+
+
+def floats(numbers):
+    """The patterns of floats, 64 bits each."""
+    return "".join(field(struct.unpack(">Q", struct.pack(">d", number))[0], 64) for number in numbers)
+
+
+def axis_fields(knots, kinds, values):
+    """Points minus 1, the two kinds, the end values, the knots."""
+    return field(len(knots) - 1, 8) + "".join(field(kind, 2) for kind in kinds) + floats(values) + floats(knots)
+
+
+def packed(axes, samples):
+    """Edition 1, the axes, the samples, and zero bits to the byte."""
+    bits = field(1, 4) + field(len(axes), 3)
+    bits += "".join(axis_fields(*axis) for axis in axes)
+    bits += floats(samples)
+    bits += "0" * (-len(bits) % 8)
+    return int(bits, 2).to_bytes(len(bits) // 8, "big")
+
+
+if __name__ == "__main__":
+    samples = [gain for row in GAIN for gain in row]
+    sys.stdout.buffer.write(packed([FREQUENCY, LEVEL], samples))
