@@ -1,18 +1,13 @@
 -- Finite numbers, told by two comparisons, and the patterns of floats.
 use mathlib.Core.Path.{_≡_, refl, sym, subst, _∙_}
 use mathlib.Core.Bool.{Bool, true, false, not, cond}
-use mathlib.Core.List.{List}
 use Prim.Native.Nat.{ℕ, zero, suc, _+_, _-_, _*_, _%_, _^_, _<_, _≤_}
 use native.Mathlib.Omega.{arith}
-use borrow.Author.Tests.{ltb-true, lt-ltb, le-ltb, not-false}
+use borrow.Author.Tests.{ltb-true, lt-ltb, le-ltb}
 use lib.Dec.{T, ltb}
-use lib.ListN.{length}
 use lib.Ieee.{Float, nan, inf, fin, Format, binary64, prec, low, up, down, ofBits, neg, lt, below, odd, units, round, sum, add, sub, div, isNan, nanBits}
 use lib.Ieee.Bits.{nanBits-is, nanBits-above}
 use lib.Ieee.Scale.{finite, overflow}
-use Rattle.rules.specs.Numbers.{at}
-use Rattle.rules.specs.Refusals.{number-refused, some-number-refused}
-use Rattle.base.proofs.Scan.{any-at}
 
 abbrev pub infinity : Float
 infinity = ofBits binary64 0x7FF0_0000_0000_0000
@@ -108,9 +103,3 @@ unfolding isNan
 finite-not-nan nan e = subst T (sym e) tt
 finite-not-nan (inf s) e = tt
 finite-not-nan (fin s m k) e = tt
-
--- ---- many numbers
-
--- where no infinity and no nan is among them, each is finite
-pub all-finite : (numbers : List Float) → some-number-refused numbers ≡ false → (k : ℕ) → k < length numbers → finite (at numbers k) ≡ true
-all-finite numbers e k l = not-false _ (any-at (λ j. number-refused (at numbers j)) (length numbers) e k l)

@@ -5,8 +5,8 @@ use Prim.Native.Nat.{ℕ, zero, suc, _+_, _<_, _≤_}
 use native.Mathlib.Nat.{not-suc-le-zero, le-of-suc-le-suc}
 use native.Mathlib.Numerals.{add-one}
 use native.Mathlib.Omega.{arith}
-use lib.ListN.{length, getD, take, drop, set, length-append, length-drop, drop-of-length-le}
-use lib.Seq.{length-take-le, take-all}
+use lib.ListN.{length, getD, take, drop, set, drop-of-length-le}
+use lib.Seq.{take-all}
 
 module _ {A : Type 0} where
   -- `old` with its first i elements replaced by those of `new`
@@ -17,10 +17,6 @@ module _ {A : Type 0} where
   pub front-none : (new old : List A) → old ≡ front new 0 old
   unfolding front
   front-none new old = refl
-
-  pub front-length : (new old : List A) (i : ℕ) → i ≤ length new → i ≤ length old → length (front new i old) ≡ length old
-  unfolding front
-  front-length new old i h k = rw (length-append, length-take-le, length-drop) (omega arith)
 
   front-suc : (new old : List A) (i : ℕ) (d : A) → i < length new → i < length old → set (front new i old) i (getD new i d) ≡ front new (suc i) old
   unfolding front

@@ -1,5 +1,5 @@
 -- The lanes of a pass: on which axes they go through all indices, how many indices they have on each, and where each lane starts.
-use mathlib.Core.Bool.{Bool, true, false, cond, _||_}
+use mathlib.Core.Bool.{Bool, false, cond, _||_}
 use Prim.Native.Nat.{ℕ, _<_, _≤_}
 use lib.Dec.{eqb}
 use Rattle.rules.specs.Sizes.{most-in-a-tensor, product-below, Place, unflat, in-mask}

@@ -2,29 +2,21 @@
 use mathlib.Core.Path.{_≡_, refl}
 use mathlib.Core.List.{List}
 use mathlib.Core.Bool.{Bool, true, false, not, _||_}
-use Prim.Native.Nat.{ℕ, zero, suc, _+_, _-_, _<_}
+use Prim.Native.Nat.{ℕ, _+_, _-_}
 use native.Mathlib.Omega.{arith}
-use borrow.Author.Count.{below-more}
 use borrow.Author.Tests.{not-false}
 use lib.ListN.{length}
 use lib.Ieee.{Float, lt}
 use lib.Ieee.Scale.{finite}
-use Rattle.rules.specs.Numbers.{at, any}
+use Rattle.rules.specs.Numbers.{at}
 use Rattle.rules.specs.Steps.{h}
 use Rattle.rules.specs.Refusals.{number-refused, some-number-refused, step-refused, knots-refused}
+use Rattle.base.proofs.Scan.{any-at}
 use Rattle.locate.specs.Answers.{Rising}
 
 neither : (t u : Bool) → t || u ≡ false → (t ≡ false) × (u ≡ false)
 neither true u e = (e, (cc))
 neither false u e = (refl, e)
-
--- a test that holds of no number below n
-none : (test : ℕ → Bool) (n : ℕ) → any test n ≡ false → (k : ℕ) → k < n → test k ≡ false
-unfolding any
-none test zero e k h = absurd (omega arith)
-none test (suc n) e k h =
-    let b = neither (any test n) (test n) e in
-    below-more (λ k. test k ≡ false) n (none test n (b .0)) (b .1) k (omega arith)
 
 step-rises : (knots : List Float) (k : ℕ) → step-refused knots k ≡ false → lt (at knots k) (at knots (k + 1)) ≡ true
 unfolding step-refused
@@ -33,6 +25,6 @@ step-rises knots k e = not-false (lt (at knots k) (at knots (k + 1))) (neither (
 pub accepted-rise : (knots : List Float) (n : ℕ) → length knots ≡ n → some-number-refused knots ≡ false → knots-refused knots n ≡ false → Rising knots n
 accepted-rise knots n count numbers steps = record {
   count = count;
-  finite = λ k l. not-false (finite (at knots k)) (none (λ k. number-refused (at knots k)) (length knots) numbers k (omega arith));
-  rise = λ k l. step-rises knots k (none (step-refused knots) (n - 1) steps k (omega arith));
+  finite = λ k l. not-false (finite (at knots k)) (any-at (λ k. number-refused (at knots k)) (length knots) numbers k (omega arith));
+  rise = λ k l. step-rises knots k (any-at (step-refused knots) (n - 1) steps k (omega arith));
 }

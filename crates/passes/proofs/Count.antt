@@ -3,7 +3,7 @@ use native.Mathlib.Omega.{arith}
 use native.Mathlib.Nat.{add-sub-of-le, zero-mul, suc-mul, two-pow-succ, le-refl, eq-or-lt-of-le}
 use mathlib.Core.Path.{_≡_, refl, ap, _∙_}
 use mathlib.Core.Logic.{⊎-elim}
-use mathlib.Core.Bool.{Bool, true, false, cond}
+use mathlib.Core.Bool.{Bool, false, cond}
 use Prim.Native.Nat.{ℕ, zero, suc, _+_, _-_, _*_, _^_, _<_, _≤_}
 use Rattle.rules.specs.Sizes.{sum-below, product-below, in-mask}
 use Rattle.rules.specs.Change.{product-of-one-more, lane-sum}

@@ -2,19 +2,19 @@
 use mathlib.Core.Path.{_≡_, refl, sym, ap, ap₂, _∙_, subst}
 use mathlib.Core.List.{List}
 use mathlib.Core.Bool.{Bool, true, false, cond, _&&_, _||_}
-use Prim.Native.Nat.{ℕ, zero, suc, _+_, _-_, _*_, _/_, _%_, _^_, _<_, _≤_}
+use Prim.Native.Nat.{ℕ, zero, suc, _+_, _-_, _/_, _^_, _<_, _≤_}
 use native.Mathlib.Omega.{arith}
 use native.Mathlib.Nat.{mod-lt, lt-of-lt-of-le, le-add-right}
 use lib.Arith.{digits-lt, digits-div, digits-mod}
 use lib.Dec.{ltb, eqb}
-use lib.ListN.{length, getD, set}
+use lib.ListN.{length, set}
 use lib.Pow.{pow-pos, pow-mono}
 use lib.Seq.{getD-set-same, getD-set-other}
 use borrow.Author.Tests.{eqb-true, eq-eqb, ltb-true, lt-ltb}
 use lib.Ieee.{Float, nan}
-use Rattle.rules.specs.Numbers.{at, table}
-use Rattle.rules.specs.Sizes.{Grid, points, samples-length, tensor-length, product-below, masks, Place, moved, flat, unflat, spot, in-mask}
-use Rattle.rules.specs.Tensor.{slope-along, entry, sample, tensor, place-at, mask-at}
+use Rattle.rules.specs.Numbers.{at}
+use Rattle.rules.specs.Sizes.{Grid, points, samples-length, tensor-length, masks, Place, moved, flat, unflat, spot, in-mask}
+use Rattle.rules.specs.Tensor.{entry, sample, tensor, place-at, mask-at}
 use Rattle.rules.specs.Change.{agree, can-differ, with-sample, changed-entry, changed-tensor}
 use Rattle.rules.proofs.Cases.{arms-ext, arms-one, not-both}
 use Rattle.rules.proofs.Tables.{at-table, table-ext}

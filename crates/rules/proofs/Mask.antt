@@ -1,7 +1,7 @@
 -- Masks: which axes lie in a mask below 2^i, and in that mask with axis i put in.
 use mathlib.Core.Path.{_≡_, ap, _∙_}
 use mathlib.Core.Bool.{true, false}
-use Prim.Native.Nat.{ℕ, suc, _+_, _-_, _*_, _/_, _%_, _^_, _<_, _≤_}
+use Prim.Native.Nat.{ℕ, suc, _+_, _-_, _*_, _/_, _^_, _<_, _≤_}
 use native.Mathlib.Omega.{arith}
 use native.Mathlib.Nat.{div-eq-of-lt, add-div-right, add-mul-div-right, add-mul-mod-self-right, pow-suc}
 use lib.Pow.{pow-pos, pow-mono, pow-add}

@@ -6,7 +6,7 @@ use Prim.Native.Nat.{ℕ, zero, suc, _+_, _*_, _/_, _%_, _<_}
 use native.Mathlib.Omega.{arith}
 use native.Mathlib.Nat.{add-mul, div-add-mod', div-lt-iff-lt-mul, mod-lt, mul-assoc, mul-one}
 use lib.Arith.{digits-lt, digits-div, digits-mod}
-use lib.Dec.{ltb, eqb}
+use lib.Dec.{eqb}
 use borrow.Author.Tests.{eqb-true, eqb-false, eq-eqb, ne-eqb, lt-ltb, le-ltb}
 use Rattle.rules.specs.Sizes.{Place, moved, flat, unflat, product-below, stride}
 

@@ -1,11 +1,11 @@
 -- "Change": one sample stored, the build's lanes that can differ solved again, and how many these are.
 use mathlib.Core.Bool.{Bool, true, false, cond, _&&_, _||_}
 use mathlib.Core.List.{List, [], _∷_, _++_}
-use Prim.Native.Nat.{ℕ, zero, suc, _+_, _-_, _*_, _/_, _%_, _^_}
+use Prim.Native.Nat.{ℕ, zero, suc, _+_, _-_, _*_, _^_}
 use lib.Dec.{ltb, eqb}
 use lib.Ieee.{Float}
 use Rattle.rules.specs.Numbers.{at, table, filter}
-use Rattle.rules.specs.Sizes.{Grid, points, samples-length, masks, tensor-length, Place, unflat, spot, in-mask}
+use Rattle.rules.specs.Sizes.{Grid, points, samples-length, tensor-length, Place, unflat, spot, in-mask}
 use Rattle.rules.specs.Tensor.{slope-along, place-at, mask-at}
 
 -- whether two places have the same index on each of the first d axes that is not set free

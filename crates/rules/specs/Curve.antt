@@ -1,5 +1,5 @@
 -- "Curve" and "Knot slope": from knots x, samples y and moments m, n + 1 of each.
-use mathlib.Core.Bool.{Bool, true, false, cond}
+use mathlib.Core.Bool.{cond}
 use mathlib.Core.List.{List}
 use Prim.Native.Nat.{ℕ, _+_, _-_}
 use lib.Dec.{ltb}

@@ -1,5 +1,5 @@
 -- "Locate" and "Cell label": the cell of a point among n + 1 knots, and the label for the log.
-use mathlib.Core.Bool.{Bool, true, false, cond}
+use mathlib.Core.Bool.{true, false, cond}
 use mathlib.Core.List.{List}
 use Prim.Native.Nat.{ℕ, zero, suc, _-_, min}
 use lib.Ieee.{Float, lt, le}

@@ -1,7 +1,7 @@
 -- "Rows" and "Periodic": the moments of the spline through the samples y at the knots x, of which there are n + 1.
-use mathlib.Core.Bool.{Bool, true, false, cond}
+use mathlib.Core.Bool.{cond}
 use mathlib.Core.List.{List}
-use Prim.Native.Nat.{ℕ, zero, suc, _+_, _-_}
+use Prim.Native.Nat.{ℕ, _+_, _-_}
 use lib.Dec.{leb, eqb}
 use lib.Ieee.{Float}
 use Rattle.rules.specs.Numbers.{_⊕_, _⊖_, _⊗_, _⊘_, plus-zero, one, two, six, table}

@@ -1,5 +1,5 @@
 -- The numbers of document 01: binary64, each operation rounded once as IEEE 754 says, the Rust's constants, and lists.
-use mathlib.Core.Bool.{Bool, true, false, cond, _||_}
+use mathlib.Core.Bool.{Bool, false, cond, _||_}
 use mathlib.Core.List.{List, [], _∷_}
 use Prim.Native.Nat.{ℕ, zero, suc}
 use lib.ListN.{getD, replicate}

@@ -1,5 +1,5 @@
 -- The solves of the Rust, each row a function of its index. Row k has sub (k - 1), diag k, sup k and rhs k; the last row is row l.
-use mathlib.Core.Bool.{Bool, true, false, cond}
+use mathlib.Core.Bool.{cond}
 use Prim.Native.Nat.{ℕ, zero, suc, _-_}
 use lib.Dec.{eqb}
 use lib.Ieee.{Float, neg}

@@ -1,6 +1,6 @@
 -- The parts of a sheet that is not refused are what a build asks for: it refuses none of their sizes and lengths, and they have places in the buffers.
 use mathlib.Core.Path.{_≡_, refl}
-use mathlib.Core.Bool.{Bool, false}
+use mathlib.Core.Bool.{false}
 use mathlib.Core.List.{List}
 use Prim.Native.Nat.{ℕ, zero, suc, _*_, _<_, _≤_}
 use native.Mathlib.Omega.{arith}
@@ -9,9 +9,9 @@ use lib.ListN.{length, take, drop, getD, length-append}
 use lib.Seq.{take-at}
 use lib.Ieee.{Float}
 use Rattle.rules.proofs.Tables.{length-table}
-use Rattle.rules.specs.Numbers.{any}
 use Rattle.rules.specs.Sizes.{unused-axis, points, sum-below, knots-length, samples-length}
 use Rattle.rules.specs.Refusals.{axes-refused, points-refused, some-points-refused, tensor-refused}
+use Rattle.base.proofs.Scan.{any-never}
 use Rattle.sheet.specs.Fields.{axes, points-at, axis-begin, entries, knots-below, sheet-grid, sheet-samples}
 use Rattle.sheet.specs.Faults.{sheet-refusal}
 use Rattle.sheet.specs.Read.{over}
@@ -23,12 +23,6 @@ use Rattle.sheet.proofs.Sheets.{Accepted, accepted, axes-allowed, size,
 -- the new numbers are the first of a buffer
 pub take-over : (new old : List Float) (n : ℕ) → length new ≡ n → take n (over new old) ≡ new
 take-over new old n e = take-at new (drop (length new) old) n e
-
--- a test that fails everywhere is not met
-never-met : (test : ℕ → Bool) (n : ℕ) → ((i : ℕ) → i < n → test i ≡ false) → any test n ≡ false
-unfolding any
-never-met test zero none = refl
-never-met test (suc n) none = rw (never-met test n (λ i l. none i (omega arith)), none n (omega arith))
 
 knots-none : (bytes : List ℕ) → length (knots-below bytes 0) ≡ 0
 unfolding knots-below
@@ -76,7 +70,7 @@ parts bytes e =
     let ok = accepted bytes e in
     record {
       axes = axes-allowed bytes (ok .said .least) (ok .said .few);
-      points = never-met _ (axes bytes) (enough-points bytes ok);
+      points = any-never _ (axes bytes) (enough-points bytes ok);
       tensor = le-ltb 4096 _ (ok .small);
       knots = knots-sum bytes ok (axes bytes) (omega arith);
       knots-most = omega (arith, sum-most bytes ok (axes bytes) (omega arith), ok .said .few);

@@ -2,7 +2,7 @@
 -- found so far.
 use mathlib.Core.Path.{_≡_}
 use mathlib.Core.List.{List}
-use Prim.Native.Nat.{ℕ, _+_, _*_, _≤_}
+use Prim.Native.Nat.{ℕ, _*_, _≤_}
 use lib.ListN.{length}
 use Rattle.rules.specs.Sizes.{most-axes}
 use Rattle.rules.specs.declared.Axis.{Axis}

@@ -4,16 +4,14 @@ use mathlib.Core.List.{List}
 use Prim.Native.Nat.{ℕ, zero, suc, _≤_}
 use native.Mathlib.Omega.{arith}
 use borrow.Author.Tests.{eq-eqb, ne-eqb, ltb-false}
-use lib.ListN.{length, take, drop, length-append}
+use lib.ListN.{length, take, length-append}
 use lib.Ieee.{Float}
 use Rattle.rules.specs.Sizes.{Grid, knots-length, samples-length, tensor-length}
 use Rattle.rules.specs.Refusals.{length-refused}
 use Rattle.rules.specs.Calls.{stored, scratch-after}
-use Rattle.rules.specs.declared.Axis.{Axis}
-use Rattle.checks.specs.Given.{sizes-of, points-of, InRange}
 use Rattle.checks.proofs.Rows.{axes-few, in-range}
 use Rattle.sheet.specs.Fields.{axes, entries, sheet-grid, sheet-samples}
-use Rattle.sheet.specs.Faults.{or-else, sheet-refusal}
+use Rattle.sheet.specs.Faults.{sheet-refusal}
 use Rattle.sheet.specs.Read.{over, read-refusal, ReadPromise}
 use Rattle.sheet.specs.declared.ReadAnswer.{ReadAnswer}
 use Rattle.sheet.proofs.Walks.{passed as no-test, or-else-met, or-else-passed}

@@ -1,6 +1,6 @@
 -- The lines that document 01 shows, byte by byte.
 use mathlib.Core.Path.{_≡_, refl}
-use mathlib.Core.List.{List, [], _∷_}
+use mathlib.Core.List.{[], _∷_}
 use Rattle.text.specs.Lines.{hex-line, tensor-line, refused-line}
 
 pub record Shown : Type 0 where

@@ -1,7 +1,6 @@
 use mathlib.Core.Path.{sym}
 use native.Mathlib.Omega.{arith}
 use borrow.Author.Tests.{lt-ltb, le-ltb}
-use borrow.Author.Needs.{needs}
 use Rattle.plain_axes.proofs.is_unknown.Statement.{statement}
 use Rattle.plain_axes.proofs.is_unknown.Tie as tie
 

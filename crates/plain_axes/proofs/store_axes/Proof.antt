@@ -1,6 +1,6 @@
 use mathlib.Core.Path.{_≡_}
 use lib.ListN.{length}
-use Rattle.plain_axes.proofs.Found.{ForFour, still-for-four, four-axes-stored}
+use Rattle.plain_axes.proofs.Found.{still-for-four, four-axes-stored}
 use borrow.Author.Needs.{needs}
 use Rattle.plain_axes.proofs.store_axes.Statement.{statement}
 use Rattle.plain_axes.proofs.store_axes.Tie as tie

@@ -6,7 +6,7 @@ use Rattle.sheet_print.proofs.print_tensor.Tie as tie
 
 part-print-numbers-end : tie.Need-part-print-numbers-end
 part-print-numbers-end c =
-    let most = length-most _ _ _ _ _ _ _ _ _ _ (c .before .before .before .before .before .before .before .before .tensor-of-sheet .ensures) in omega arith
+    let most = length-most _ _ _ _ _ _ _ _ _ _ (c .before .before .before .before .before .before .before .before .before .before .tensor-of-sheet .ensures) in omega arith
 
 pub print-tensor-spec : {M : Type 1} → statement M
 print-tensor-spec =
@@ -18,7 +18,6 @@ print-tensor-spec =
     (λ c. search needs)
     (λ c κs. search needs)
     (λ c κs. search needs)
-    (λ c κs. search needs)
     (λ c. search needs)
     (λ c κs. search needs)
     (λ c κs. search needs)
@@ -26,4 +25,7 @@ print-tensor-spec =
     (λ c. search needs)
     part-print-numbers-end
     (λ c κs. search needs)
+    (λ c κs. search needs)
+    (λ c κs. search needs)
+    (λ c. search needs)
     (λ c. search needs))

@@ -1,4 +1,3 @@
-use native.Mathlib.Omega.{arith}
 use borrow.Author.Tests.{lt-ltb, le-ltb}
 use Rattle.replay_list.specs.Words.{word-at}
 use Rattle.replay_list.proofs.Halves.{halves}
