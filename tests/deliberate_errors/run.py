@@ -25,6 +25,7 @@ ERRORS = [
     "solve/corner_dropped_from_u_vec",
     "solve/corner_dropped_for_two_intervals",
     "spline/reciprocal_of_six_in_a_slope",
+    "spline/reciprocal_of_six_in_the_curve",
     "locate/cell_k_at_interior_knot_k",
     "query/reciprocal_of_the_width",
     "query/label_is_the_cell",

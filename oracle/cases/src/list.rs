@@ -53,7 +53,7 @@ pub fn call_named(name: &str) -> Option<Call> {
 }
 
 /// How many accepted cases of each call the list has.
-const ACCEPTED: usize = 24;
+const ACCEPTED: usize = 60;
 
 /// How many cases of each refusal of each call.
 const REFUSED: usize = 3;
