@@ -2,9 +2,37 @@
 ghost use Prim.Native.Nat.{_+_, _≤_};
 use libc::STDIN_FILENO;
 use libc::STDOUT_FILENO;
-use replay_list::cases::case_at;
-use replay_list::words::held;
-use replay_list::words::word;
+use replay_curves::curve;
+use replay_curves::moments;
+use replay_curves::slopes;
+use replay_items::Replayed;
+use replay_items::words::after;
+use replay_items::words::held;
+use replay_items::words::word;
+use replay_sheets::read;
+use replay_sheets::sheet_tensor;
+use replay_surfaces::build;
+use replay_surfaces::change;
+use replay_surfaces::query;
+
+// The case at a place: the number of its call, and its arguments. A number that no call has is no case, and differs.
+fn case_at(list: &[u8], place: usize) -> Replayed {
+    let begin = after(place, 1);
+    match word(list, place) {
+        0 => moments(list, begin),
+        1 => curve(list, begin),
+        2 => slopes(list, begin),
+        3 => build(list, begin),
+        4 => change(list, begin),
+        5 => query(list, begin),
+        6 => read(list, begin),
+        7 => sheet_tensor(list, begin),
+        _ => Replayed {
+            same: false,
+            next: begin,
+        },
+    }
+}
 
 fn print_case(number: usize, same: bool) {
     io::print_decimal(STDOUT_FILENO, number as u64);

@@ -1,7 +1,7 @@
-use Rattle.replay_list.proofs.Halves.{half}
+use Rattle.replay_items.proofs.Halves.{half}
 use borrow.Author.Needs.{needs}
-use Rattle.replay_list.proofs.words.half_word.Statement.{statement}
-use Rattle.replay_list.proofs.words.half_word.Tie as tie
+use Rattle.replay_items.proofs.words.half_word.Statement.{statement}
+use Rattle.replay_items.proofs.words.half_word.Tie as tie
 
 returns : tie.Need-returns
 returns c = (rw (half _ _) (cc), search needs)

@@ -1,7 +1,9 @@
 // The items of a slice, as the list has them, and as a call leaves them.
 ghost use lib.ListN.{length};
 ghost use mathlib.Core.Path.{_≡_};
+ghost use Prim.Native.Nat.{_≤_};
 use crate::words::after;
+use crate::words::held;
 use crate::words::wide;
 use crate::words::word;
 
@@ -188,6 +190,25 @@ pub fn bytes_given(list: &[u8], place: usize) -> [u8; 256] {
     let mut bytes = [0u8; 256];
     fill_bytes(list, place, &mut bytes);
     bytes
+}
+
+// How many floats, whole numbers and bytes the slice at a place has.
+pub fn floats_at(list: &[u8], place: usize) -> usize
+    ensures { λ r. ⌜ r ≤ 8192 ⌝ }
+{
+    held(word(list, place), 8192)
+}
+
+pub fn numbers_at(list: &[u8], place: usize) -> usize
+    ensures { λ r. ⌜ r ≤ 8 ⌝ }
+{
+    held(word(list, place), 8)
+}
+
+pub fn bytes_at(list: &[u8], place: usize) -> usize
+    ensures { λ r. ⌜ r ≤ 256 ⌝ }
+{
+    held(word(list, place), 256)
 }
 
 // Whether a float has a pattern; every pattern of a NaN is one to a NaN.

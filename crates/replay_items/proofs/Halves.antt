@@ -4,7 +4,7 @@ use mathlib.Core.List.{List}
 use Prim.Native.Nat.{ℕ, _+_, _*_}
 use native.Mathlib.Omega.{arith}
 use lib.ListN.{getD}
-use Rattle.replay_list.specs.Words.{bytes-from}
+use Rattle.replay_items.specs.Words.{bytes-from}
 
 pub half : (bytes : List ℕ) (at : ℕ) → bytes-from bytes at 4 ≡ (getD bytes at 0 * 256 + getD bytes (at + 1) 0) * 65536 + (getD bytes (at + 2) 0 * 256 + getD bytes (at + 3) 0)
 unfolding bytes-from

@@ -2,7 +2,7 @@
 ghost use mathlib.Core.Path.{_≡_};
 ghost use Prim.Native.Nat.{_+_, _<_, _≤_};
 ghost use lib.ListN.{length};
-ghost use Rattle.replay_list.specs.Words.{bytes-from, word-at};
+ghost use Rattle.replay_items.specs.Words.{bytes-from, word-at};
 
 pub fn wide(byte: u8) -> u64
     ensures { λ r. ⌜ (r ≡ byte) × (r < 256) ⌝ }

@@ -1,8 +1,8 @@
 use Prim.Native.Nat.{_≤_, _-_}
 use lib.ListN.{length}
 use borrow.Author.Needs.{needs}
-use Rattle.replay_list.proofs.items.bytes_left.Statement.{statement}
-use Rattle.replay_list.proofs.items.bytes_left.Tie as tie
+use Rattle.replay_items.proofs.items.bytes_left.Statement.{statement}
+use Rattle.replay_items.proofs.items.bytes_left.Tie as tie
 
 abbrev Inv-loop : tie.InvT-loop
 Inv-loop list given place s items₀ k₀ items k = k ≤ length s

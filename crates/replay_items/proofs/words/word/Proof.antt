@@ -1,9 +1,9 @@
 use borrow.Author.Tests.{lt-ltb, le-ltb}
-use Rattle.replay_list.specs.Words.{word-at}
-use Rattle.replay_list.proofs.Halves.{halves}
+use Rattle.replay_items.specs.Words.{word-at}
+use Rattle.replay_items.proofs.Halves.{halves}
 use borrow.Author.Needs.{needs}
-use Rattle.replay_list.proofs.words.word.Statement.{statement}
-use Rattle.replay_list.proofs.words.word.Tie as tie
+use Rattle.replay_items.proofs.words.word.Statement.{statement}
+use Rattle.replay_items.proofs.words.word.Tie as tie
 
 returns : tie.Need-returns
 unfolding word-at

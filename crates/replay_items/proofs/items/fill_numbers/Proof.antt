@@ -3,8 +3,8 @@ use mathlib.Core.Path.{_≡_}
 use native.Mathlib.Omega.{arith}
 use lib.ListN.{length, length-set}
 use borrow.Author.Needs.{needs}
-use Rattle.replay_list.proofs.items.fill_bytes.Statement.{statement}
-use Rattle.replay_list.proofs.items.fill_bytes.Tie as tie
+use Rattle.replay_items.proofs.items.fill_numbers.Statement.{statement}
+use Rattle.replay_items.proofs.items.fill_numbers.Tie as tie
 
 abbrev Inv-loop : tie.InvT-loop
 Inv-loop list place to₀ items₀ k₀ to items k = (k ≤ length to) × (length to ≡ length to₀)
@@ -18,8 +18,8 @@ loop-less c = simp length-set (omega arith)
 loop-again : tie.Need-loop-again Inv-loop μ-loop
 loop-again c = (simp length-set (omega arith), simp length-set (search needs))
 
-pub fill-bytes-spec : {M : Type 1} → statement M
-fill-bytes-spec =
+pub fill-numbers-spec : {M : Type 1} → statement M
+fill-numbers-spec =
     tie.close
     (tie.spec
     Inv-loop
