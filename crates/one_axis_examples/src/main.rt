@@ -1,46 +1,74 @@
-// Document 01's examples on one axis, and the refusals of the calls on one axis.
+// Document 01's examples on one axis.
+ghost use Prim.Native.Nat.{_≤_};
+ghost use lib.ListN.{length};
 use example_lines::BEFORE;
+use example_lines::print;
+use example_lines::print_count;
+use one_axis_lines::print_curve;
+use one_axis_lines::print_moments;
+use one_axis_lines::print_slopes;
 use rules::Condition;
 
-mod refused;
-mod shown;
+// The moments, and the slopes at the knots, of which it requires at most 3.
+fn moments_and_slopes(
+    name: &[u8],
+    knots: &[f64],
+    samples: &[f64],
+    condition: Condition,
+    moments: &mut [f64],
+)
+    requires { ⌜ length (now knots) ≤ 3 ⌝ }
+{
+    let points = knots.len();
+    let mut slopes = [BEFORE; 3];
+    print_moments(name, points, knots, samples, condition, moments);
+    print_slopes(
+        name,
+        points,
+        knots,
+        samples,
+        moments,
+        &mut slopes[0..points],
+    );
+}
+
+// The moments, and the curve at a point, which has a name of its own.
+fn moments_and_curve(
+    name: &[u8],
+    knots: &[f64],
+    samples: &[f64],
+    condition: Condition,
+    moments: &mut [f64],
+    name_at_point: &[u8],
+    point: f64,
+) {
+    let points = knots.len();
+    print_moments(name, points, knots, samples, condition, moments);
+    print_curve(name_at_point, points, knots, samples, moments, point);
+}
 
 fn natural() {
     let knots = [0.0, 1.0, 2.0];
     let samples = [0.0, 1.0, 0.0];
     let mut moments = [BEFORE; 3];
-    let mut slopes = [BEFORE; 3];
-    shown::moments(
+    moments_and_slopes(
         b"natural",
-        3,
         &knots,
         &samples,
         Condition::natural(),
         &mut moments,
     );
-    shown::slopes(b"natural", 3, &knots, &samples, &moments, &mut slopes);
-    shown::curve(b"natural at 0.5", 3, &knots, &samples, &moments, 0.5);
+    print_curve(b"natural at 0.5", 3, &knots, &samples, &moments, 0.5);
 }
 
 fn first_derivatives() {
-    let knots = [0.0, 1.0];
-    let samples = [0.0, 1.0];
-    let ends = Condition::first_derivative(0.0, 0.0);
-    let mut moments = [BEFORE; 2];
-    shown::moments(
+    moments_and_curve(
         b"first derivatives",
-        2,
-        &knots,
-        &samples,
-        ends,
-        &mut moments,
-    );
-    shown::curve(
+        &[0.0, 1.0],
+        &[0.0, 1.0],
+        Condition::first_derivative(0.0, 0.0),
+        &mut [BEFORE; 2],
         b"first derivatives at 0.5",
-        2,
-        &knots,
-        &samples,
-        &moments,
         0.5,
     );
 }
@@ -49,55 +77,58 @@ fn not_a_knot() {
     let knots = [0.0, 1.0, 2.0, 3.0];
     let samples = [1.0, 3.0, 5.0, 7.0];
     let mut moments = [BEFORE; 4];
-    shown::moments(
+    moments_and_curve(
         b"not a knot",
-        4,
         &knots,
         &samples,
         Condition::not_a_knot(),
         &mut moments,
+        b"not a knot at 1.5",
+        1.5,
     );
-    shown::curve(b"not a knot at 1.5", 4, &knots, &samples, &moments, 1.5);
-    shown::curve(b"not a knot at 4", 4, &knots, &samples, &moments, 4.0);
+    print_curve(b"not a knot at 4", 4, &knots, &samples, &moments, 4.0);
 }
 
 fn periodic() {
-    let knots = [0.0, 1.0];
-    let samples = [0.0, 5.0];
-    let mut moments = [BEFORE; 2];
-    let mut slopes = [BEFORE; 2];
-    shown::moments(
+    moments_and_slopes(
         b"periodic",
-        2,
-        &knots,
-        &samples,
+        &[0.0, 1.0],
+        &[0.0, 5.0],
         Condition::periodic(),
-        &mut moments,
+        &mut [BEFORE; 2],
     );
-    shown::slopes(b"periodic", 2, &knots, &samples, &moments, &mut slopes);
 }
 
 // A curve that does not give its first sample exactly: 2 comes out one bit higher.
 fn periodic_rounds() {
-    let knots = [0.0, 1.0, 2.0];
-    let samples = [2.0, 5.0, 1.0];
-    let mut moments = [BEFORE; 3];
-    shown::moments(
+    moments_and_curve(
         b"periodic rounds",
-        3,
-        &knots,
-        &samples,
+        &[0.0, 1.0, 2.0],
+        &[2.0, 5.0, 1.0],
         Condition::periodic(),
-        &mut moments,
+        &mut [BEFORE; 3],
+        b"periodic rounds at 0",
+        0.0,
     );
-    shown::curve(b"periodic rounds at 0", 3, &knots, &samples, &moments, 0.0);
+}
+
+// The cell and the label of a point on knots 0 1 2.
+fn cell(name: &[u8], point: f64) {
+    let knots = [0.0, 1.0, 2.0];
+    let cell = locate::locate_lower_index(&knots, point);
+    let label = locate::cell_label(&knots, point, cell);
+    print(name);
+    print(b": cell");
+    print_count(cell);
+    print(b" label");
+    print_count(label);
+    print(b"\n");
 }
 
 fn cells() {
-    let knots = [0.0, 1.0, 2.0];
-    shown::cell(b"point 1 on knots 0 1 2", &knots, 1.0);
-    shown::cell(b"point 2 on knots 0 1 2", &knots, 2.0);
-    shown::cell(b"point -1 on knots 0 1 2", &knots, -1.0);
+    cell(b"point 1 on knots 0 1 2", 1.0);
+    cell(b"point 2 on knots 0 1 2", 2.0);
+    cell(b"point -1 on knots 0 1 2", -1.0);
 }
 
 fn main() {
@@ -107,12 +138,4 @@ fn main() {
     periodic();
     periodic_rounds();
     cells();
-    refused::points();
-    refused::lengths();
-    refused::scratch();
-    refused::not_finite();
-    refused::knots();
-    refused::fewest_points();
-    refused::overflows();
-    refused::not_finite_moments();
 }

@@ -1,10 +1,59 @@
-// Document 01's examples of tensor, query and change, their limits, and lists of changes beside fresh builds.
+// Document 01's examples of tensor, query and change, and their limits.
+ghost use Prim.Native.Nat.{_≤_};
+ghost use lib.ListN.{length};
 use example_lines::BEFORE;
+use example_lines::print;
+use example_lines::print_count;
+use example_lines::print_numbers;
+use example_lines::print_output;
+use example_lines::print_refusal;
+use example_lines::print_scratch;
+use rules::Axis;
 use rules::Condition;
+use surface_lines::grids;
+use surface_lines::print_build;
+use surface_lines::print_query;
 
-mod changes;
-mod grids;
-mod shown;
+// A build on a grid near the limit, with its first numbers.
+fn print_large_build(
+    name: &[u8],
+    axes: usize,
+    all: [Axis; 4],
+    knots: &[f64],
+    samples: &[f64],
+    tensor: &mut [f64],
+)
+    requires { ⌜ 8 ≤ length (now tensor) ⌝ }
+{
+    let mut scratch = [BEFORE; 6144];
+    let refusal = tensor::build(axes, all, knots, samples, tensor, &mut scratch);
+    print_refusal(name, b"build", refusal);
+    if refusal == 0 {
+        print_numbers(&tensor[0..8]);
+    } else {
+        print_output(refusal, tensor);
+    }
+    print_scratch(&scratch);
+}
+
+// A change, with every number of the tensor.
+fn print_change(
+    name: &[u8],
+    axes: usize,
+    all: [Axis; 4],
+    knots: &[f64],
+    tensor: &mut [f64],
+    place: [usize; 4],
+    sample: f64,
+) {
+    let mut scratch = [BEFORE; 2500];
+    let answer = tensor::change(axes, all, knots, tensor, &mut scratch, place, sample);
+    print_refusal(name, b"change", answer.refusal);
+    print(b" lanes");
+    print_count(answer.lanes);
+    print_numbers(tensor);
+    print_scratch(&scratch);
+}
 
 // Natural on both axes: the tensor, the query, and one changed sample.
 fn square() {
@@ -12,7 +61,7 @@ fn square() {
     let all = grids::two(natural, natural);
     let knots = [0.0, 1.0, 0.0, 1.0];
     let mut tensor = [BEFORE; 16];
-    shown::build(
+    print_build(
         b"square",
         2,
         all,
@@ -20,8 +69,8 @@ fn square() {
         &[0.0, 0.0, 0.0, 1.0],
         &mut tensor,
     );
-    shown::query(b"square at 0.5 0.5", 2, all, &knots, &tensor, &[0.5, 0.5]);
-    shown::change(
+    print_query(b"square at 0.5 0.5", 2, all, &knots, &tensor, &[0.5, 0.5]);
+    print_change(
         b"square, sample 0 1 becomes 2",
         2,
         all,
@@ -37,7 +86,7 @@ fn labels() {
     let all = grids::one(3, Condition::natural());
     let knots = [0.0, 1.0, 2.0];
     let mut tensor = [BEFORE; 6];
-    shown::build(
+    print_build(
         b"knots 0 1 2",
         1,
         all,
@@ -45,10 +94,10 @@ fn labels() {
         &[0.0, 1.0, 0.0],
         &mut tensor,
     );
-    shown::query(b"knots 0 1 2 at 1", 1, all, &knots, &tensor, &[1.0]);
-    shown::query(b"knots 0 1 2 at 2", 1, all, &knots, &tensor, &[2.0]);
-    shown::query(b"knots 0 1 2 at -1", 1, all, &knots, &tensor, &[-1.0]);
-    shown::query(b"knots 0 1 2 at NaN", 1, all, &knots, &tensor, &[0.0 / 0.0]);
+    print_query(b"knots 0 1 2 at 1", 1, all, &knots, &tensor, &[1.0]);
+    print_query(b"knots 0 1 2 at 2", 1, all, &knots, &tensor, &[2.0]);
+    print_query(b"knots 0 1 2 at -1", 1, all, &knots, &tensor, &[-1.0]);
+    print_query(b"knots 0 1 2 at NaN", 1, all, &knots, &tensor, &[0.0 / 0.0]);
 }
 
 // 32 by 32 points make 4,096 numbers, the most that a tensor holds.
@@ -59,7 +108,7 @@ fn largest() {
     let mut tensor = [BEFORE; 4096];
     grids::rising(&mut knots, 32);
     grids::sawtooth(&mut samples);
-    shown::large_build(
+    print_large_build(
         b"32 by 32 points",
         2,
         grids::two(natural, natural),
@@ -77,7 +126,7 @@ fn too_large() {
     let samples = [0.0; 1025];
     let mut tensor = [BEFORE; 4100];
     grids::rising(&mut knots, 25);
-    shown::large_build(
+    print_large_build(
         b"25 by 41 points",
         2,
         grids::two(first, second),
@@ -94,8 +143,8 @@ fn axes() {
     let knots = [0.0; 10];
     let samples = [0.0; 32];
     let mut tensor = [BEFORE; 16];
-    shown::build(b"five axes", 5, all, &knots, &samples, &mut tensor);
-    shown::build(b"no axis", 0, all, &knots, &samples, &mut tensor);
+    print_build(b"five axes", 5, all, &knots, &samples, &mut tensor);
+    print_build(b"no axis", 0, all, &knots, &samples, &mut tensor);
 }
 
 fn main() {
@@ -104,8 +153,4 @@ fn main() {
     largest();
     too_large();
     axes();
-    changes::one_axis();
-    changes::two_axes();
-    changes::three_axes();
-    changes::four_axes();
 }

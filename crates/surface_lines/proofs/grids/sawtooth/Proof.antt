@@ -3,8 +3,8 @@ use mathlib.Core.Path.{_≡_}
 use native.Mathlib.Omega.{arith}
 use lib.ListN.{length, length-set}
 use borrow.Author.Needs.{needs}
-use Rattle.surface_examples.proofs.grids.sawtooth.Statement.{statement}
-use Rattle.surface_examples.proofs.grids.sawtooth.Tie as tie
+use Rattle.surface_lines.proofs.grids.sawtooth.Statement.{statement}
+use Rattle.surface_lines.proofs.grids.sawtooth.Tie as tie
 
 abbrev Inv-loop : tie.InvT-loop
 Inv-loop numbers₀ number₀ i₀ numbers number i = (i ≤ length numbers₀) × (length numbers ≡ length numbers₀)

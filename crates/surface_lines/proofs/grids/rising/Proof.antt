@@ -3,8 +3,8 @@ use mathlib.Core.Path.{_≡_}
 use native.Mathlib.Omega.{arith}
 use lib.ListN.{length, length-set}
 use borrow.Author.Needs.{needs}
-use Rattle.surface_examples.proofs.grids.rising.Statement.{statement}
-use Rattle.surface_examples.proofs.grids.rising.Tie as tie
+use Rattle.surface_lines.proofs.grids.rising.Statement.{statement}
+use Rattle.surface_lines.proofs.grids.rising.Tie as tie
 
 abbrev Inv-loop : tie.InvT-loop
 Inv-loop knots₀ first knot₀ i₀ knots knot i = (i ≤ length knots₀) × (length knots ≡ length knots₀)

@@ -1,7 +1,6 @@
 // Each call on one axis, shown as a line: the example's name, the call, the refusal's number, the later contents of what was lent.
 use example_lines::BEFORE;
 use example_lines::print;
-use example_lines::print_count;
 use example_lines::print_number;
 use example_lines::print_output;
 use example_lines::print_refusal;
@@ -9,7 +8,7 @@ use example_lines::print_scratch;
 use rules::Condition;
 
 // The moments, with a scratch of any length.
-pub fn moments_in(
+pub fn print_moments_in(
     name: &[u8],
     points: usize,
     knots: &[f64],
@@ -25,7 +24,7 @@ pub fn moments_in(
 }
 
 // The moments, with a scratch longer than the 2,048 numbers that are asked for.
-pub fn moments(
+pub fn print_moments(
     name: &[u8],
     points: usize,
     knots: &[f64],
@@ -34,7 +33,7 @@ pub fn moments(
     moments: &mut [f64],
 ) {
     let mut scratch = [BEFORE; 2100];
-    moments_in(
+    print_moments_in(
         name,
         points,
         knots,
@@ -45,7 +44,8 @@ pub fn moments(
     );
 }
 
-pub fn slopes(
+// The slopes at the knots.
+pub fn print_slopes(
     name: &[u8],
     points: usize,
     knots: &[f64],
@@ -59,7 +59,8 @@ pub fn slopes(
     print(b"\n");
 }
 
-pub fn curve(
+// The curve at a point.
+pub fn print_curve(
     name: &[u8],
     points: usize,
     knots: &[f64],
@@ -70,17 +71,5 @@ pub fn curve(
     let answer = spline::curve(points, knots, samples, moments, point);
     print_refusal(name, b"curve", answer.refusal);
     print_number(answer.value);
-    print(b"\n");
-}
-
-// The cell and the label of a point among three knots.
-pub fn cell(name: &[u8], knots: &[f64; 3], point: f64) {
-    let cell = locate::locate_lower_index(knots, point);
-    let label = locate::cell_label(knots, point, cell);
-    print(name);
-    print(b": cell");
-    print_count(cell);
-    print(b" label");
-    print_count(label);
     print(b"\n");
 }

@@ -2,8 +2,8 @@ use Prim.Native.Nat.{_≤_, _-_}
 use mathlib.Core.Path.{_≡_}
 use lib.ListN.{length}
 use borrow.Author.Needs.{needs}
-use Rattle.surface_examples.proofs.changes.list.Statement.{statement}
-use Rattle.surface_examples.proofs.changes.list.Tie as tie
+use Rattle.change_examples.proofs.list.Statement.{statement}
+use Rattle.change_examples.proofs.list.Tie as tie
 
 abbrev Inv-loop : tie.InvT-loop
 Inv-loop name axes all knots samples₀ tensor₀ list i₀ samples tensor i =

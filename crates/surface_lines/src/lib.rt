@@ -1,0 +1,53 @@
+// Each call on a grid, shown as a line: the example's name, the call, the refusal's number, the later contents of what was lent.
+use example_lines::BEFORE;
+use example_lines::print;
+use example_lines::print_count;
+use example_lines::print_number;
+use example_lines::print_output;
+use example_lines::print_refusal;
+use example_lines::print_scratch;
+use rules::Axis;
+
+pub mod grids; // grids.rt: the grids and the samples of the examples
+
+// A build, with every number of the tensor.
+pub fn print_build(
+    name: &[u8],
+    axes: usize,
+    all: [Axis; 4],
+    knots: &[f64],
+    samples: &[f64],
+    tensor: &mut [f64],
+) {
+    let mut scratch = [BEFORE; 2500];
+    let refusal = tensor::build(axes, all, knots, samples, tensor, &mut scratch);
+    print_refusal(name, b"build", refusal);
+    print_output(refusal, tensor);
+    print_scratch(&scratch);
+}
+
+// The value at a point, and its labels.
+pub fn print_query(
+    name: &[u8],
+    axes: usize,
+    all: [Axis; 4],
+    knots: &[f64],
+    tensor: &[f64],
+    coordinates: &[f64],
+) {
+    let answer = query::query(axes, all, knots, tensor, coordinates);
+    let labels = answer.labels;
+    print_refusal(name, b"query", answer.refusal);
+    print_number(answer.value);
+    print(b" labels");
+    print_counts(labels);
+    print(b"\n");
+}
+
+// The numbers of a place, or the labels of a point.
+pub fn print_counts(counts: [usize; 4]) {
+    print_count(counts[0]);
+    print_count(counts[1]);
+    print_count(counts[2]);
+    print_count(counts[3]);
+}
