@@ -59,15 +59,16 @@ fn points() {
 fn of_lengths(name: &[u8], knots: usize, samples: usize, moments: usize, slopes: usize)
     requires { ⌜ (knots ≤ 3) × (samples ≤ 3) × (moments ≤ 3) × (slopes ≤ 3) ⌝ }
 {
-    let rising = [0.0, 1.0, 2.0];
+    let x = [0.0, 1.0, 2.0];
+    let y = [0.0, 1.0, 2.0];
     let zeros = [0.0; 3];
     let mut moments_out = [BEFORE; 3];
     let mut slopes_out = [BEFORE; 3];
     each_call(
         name,
         2,
-        &rising[0..knots],
-        &rising[0..samples],
+        &x[0..knots],
+        &y[0..samples],
         &zeros[0..moments],
         &mut moments_out[0..moments],
         &mut slopes_out[0..slopes],
