@@ -1,11 +1,12 @@
 // The changes of each list, refused ones among them.
 use crate::compared::ChangedSample;
 
+// One change: its place, where that stands among the samples, and the new sample.
 fn changed(place: [usize; 4], number: usize, sample: f64) -> ChangedSample {
     ChangedSample {
-        place: place,
-        number: number,
-        sample: sample,
+        place,
+        number,
+        sample,
     }
 }
 
