@@ -1,4 +1,4 @@
--- Finite numbers, told by two comparisons, and the patterns of floats.
+-- Finite numbers, told by two comparisons; differences that are finite; and the patterns of floats.
 use mathlib.Core.Path.{_≡_, refl, sym, subst, _∙_}
 use mathlib.Core.Bool.{Bool, true, false, not, cond}
 use Prim.Native.Nat.{ℕ, zero, suc, _+_, _-_, _*_, _%_, _^_, _<_, _≤_}
