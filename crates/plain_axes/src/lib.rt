@@ -3,7 +3,7 @@ ghost use mathlib.Core.Path.{_≡_};
 ghost use Prim.Native.Nat.{_+_, _*_, _<_, _≤_, min};
 ghost use lib.Dec.{ltb};
 ghost use lib.ListN.{length};
-ghost use Rattle.rules.specs.Sizes.{most-axes, unused-axis};
+ghost use Rattle.rules.specs.Sizes.{most-axes};
 ghost use Rattle.plain_axes.specs.Axes.{condition-given, kinds-refused, some-kinds-refused, axis-given, axes-given, axis-without-ends, axes-without-ends, kind-of, value-of, lower-kind-of, upper-kind-of, lower-value-of, upper-value-of, AxisStored, AxesStored};
 use rules::Axis;
 use rules::Condition;
@@ -56,16 +56,6 @@ pub fn condition_given(kinds: &[u8], values: &[f64], i: usize) -> Condition
     )
 }
 
-// An axis not in use.
-fn unused() -> Axis
-    ensures { λ r. ⌜ r ≡ unused-axis ⌝ }
-{
-    Axis {
-        points: 0,
-        condition: Condition::not_a_knot(),
-    }
-}
-
 // Entry i of the four: the axis, where it is in use.
 fn axis_given(axes: usize, points: &[usize], kinds: &[u8], values: &[f64], i: usize) -> Axis
     requires { ⌜ (i < length (now points)) × (2 * i + 1 < length (now kinds)) × (2 * i + 1 < length (now values)) ⌝ }
@@ -77,7 +67,7 @@ fn axis_given(axes: usize, points: &[usize], kinds: &[u8], values: &[f64], i: us
             condition: condition_given(kinds, values, i),
         }
     } else {
-        unused()
+        Axis::unused()
     }
 }
 
@@ -105,7 +95,7 @@ fn axis_without_ends(axes: usize, points: &[usize], i: usize) -> Axis
             condition: Condition::not_a_knot(),
         }
     } else {
-        unused()
+        Axis::unused()
     }
 }
 

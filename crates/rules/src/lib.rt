@@ -1,6 +1,7 @@
 // The types of document 01: ends, conditions, axes, and what the public calls answer.
 ghost use mathlib.Core.Path.{_≡_};
 ghost use Rattle.rules.specs.Ends.{zero-valued, crossed, not-a-knot, natural, clamped, periodic, first-derivative, second-derivative};
+ghost use Rattle.rules.specs.Sizes.{unused-axis};
 
 // An end of an axis.
 pub enum End {
@@ -120,6 +121,18 @@ impl Condition {
                 Condition::Endpoints(lower.zero_valued(), upper.zero_valued())
             }
             Condition::Periodic => Condition::Periodic,
+        }
+    }
+}
+
+impl Axis {
+    // An axis not in use.
+    pub fn unused() -> Axis
+        ensures { λ r. ⌜ r ≡ unused-axis ⌝ }
+    {
+        Axis {
+            points: 0,
+            condition: Condition::not_a_knot(),
         }
     }
 }

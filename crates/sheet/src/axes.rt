@@ -2,7 +2,6 @@
 ghost use mathlib.Core.Path.{_≡_};
 ghost use Prim.Native.Nat.{_≤_};
 ghost use lib.ListN.{length};
-ghost use Rattle.rules.specs.Sizes.{unused-axis};
 ghost use Rattle.sheet.specs.Fields.{points-at, values-at, axis-at, knots-begin, axis-end, axis-begin, knots-below};
 ghost use Rattle.sheet.specs.Faults.{axis-fault};
 ghost use Rattle.sheet.specs.Read.{over};
@@ -111,22 +110,12 @@ fn after(bytes: &[u8], at: usize) -> usize
     knots_from(bytes, at) + 64 * points(bytes, at)
 }
 
-// An axis not in use.
-pub fn unused() -> Axis
-    ensures { λ r. ⌜ r ≡ unused-axis ⌝ }
-{
-    Axis {
-        points: 0,
-        condition: Condition::not_a_knot(),
-    }
-}
-
 // Looks at the axes, up to the first fault.
 pub fn walk_axes(bytes: &[u8], axes: usize) -> Walk
     requires { ⌜ axes ≤ 4 ⌝ }
     ensures { λ r. ⌜ Walked (now (bytes .entry)) axes r ⌝ }
 {
-    let mut all = [unused(); 4];
+    let mut all = [Axis::unused(); 4];
     let mut at = 7;
     let mut i = 0;
     while i < axes {

@@ -6,7 +6,6 @@ ghost use Rattle.sheet.specs.Read.{answer-of, refused-answer};
 ghost use Rattle.bits.specs.Within.{Within};
 ghost use Rattle.sheet.specs.Within.{Axes, Ended};
 use crate::ReadAnswer;
-use crate::axes::unused;
 use crate::axes::walk_axes;
 use bits::are_short;
 use bits::field_at;
@@ -22,7 +21,7 @@ pub fn refused(refusal: usize) -> ReadAnswer
     ReadAnswer {
         refusal,
         axes: 0,
-        all: [unused(); 4],
+        all: [Axis::unused(); 4],
     }
 }
 

@@ -1,9 +1,7 @@
 // From the bytes of a packed sheet to its tensor: the reader, then the build.
 ghost use mathlib.Core.Path.{_≡_};
-ghost use Rattle.rules.specs.Sizes.{unused-axis};
 ghost use Rattle.sheet_build.specs.SheetTensor.{refused-answer, grid-in, samples-in, PartsGiven, PartsPromise, SheetPromise};
 use rules::Axis;
-use rules::Condition;
 
 // A refusal's number, 0 for none, how many axes there are, the four axes, and how many numbers the tensor has.
 pub struct SheetAnswer {
@@ -13,16 +11,6 @@ pub struct SheetAnswer {
     pub length: usize,
 }
 
-// An axis not in use.
-fn unused() -> Axis
-    ensures { λ r. ⌜ r ≡ unused-axis ⌝ }
-{
-    Axis {
-        points: 0,
-        condition: Condition::not_a_knot(),
-    }
-}
-
 // The answer of a refusal: no axes, none of the four in use, and no numbers.
 fn refused(refusal: usize) -> SheetAnswer
     ensures { λ r. ⌜ r ≡ refused-answer refusal ⌝ }
@@ -30,7 +18,7 @@ fn refused(refusal: usize) -> SheetAnswer
     SheetAnswer {
         refusal,
         axes: 0,
-        all: [unused(); 4],
+        all: [Axis::unused(); 4],
         length: 0,
     }
 }

@@ -9,21 +9,21 @@ pub fn axis(points: usize, condition: Condition) -> Axis {
     }
 }
 
-// An axis that is not in use.
-fn unused() -> Axis {
-    axis(0, Condition::not_a_knot())
-}
-
 pub fn one(points: usize, condition: Condition) -> [Axis; 4] {
-    [axis(points, condition), unused(), unused(), unused()]
+    [
+        axis(points, condition),
+        Axis::unused(),
+        Axis::unused(),
+        Axis::unused(),
+    ]
 }
 
 pub fn two(first: Axis, second: Axis) -> [Axis; 4] {
-    [first, second, unused(), unused()]
+    [first, second, Axis::unused(), Axis::unused()]
 }
 
 pub fn three(first: Axis, second: Axis, third: Axis) -> [Axis; 4] {
-    [first, second, third, unused()]
+    [first, second, third, Axis::unused()]
 }
 
 // The knots of two axes, of which the first has so many: 0, 1, 2 and so on, twice.

@@ -1,6 +1,6 @@
 use borrow.Author.Needs.{needs}
-use Rattle.sheet.proofs.axes.unused.Statement.{statement}
-use Rattle.sheet.proofs.axes.unused.Tie as tie
+use Rattle.rules.proofs.Axis.unused.Statement.{statement}
+use Rattle.rules.proofs.Axis.unused.Tie as tie
 
 returns : tie.Need-returns
 returns c = rw (c .not-a-knot .ensures)
