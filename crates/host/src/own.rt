@@ -1,9 +1,9 @@
 // The host's own refusals, before anything else: 4 for a slice that is not as long as the ends, the axes or the answer want it, then 13 for the kinds of an axis in use, and 0 for none.
 ghost use mathlib.Core.Path.{_≡_};
 ghost use Rattle.host.specs.Exports.{axes-slices-refused, moments-own-refusal, curve-own-refusal, build-own-refusal, change-own-refusal, query-own-refusal, read-own-refusal, sheet-tensor-own-refusal};
-use plain_axes::kinds_refused;
+use kinds::ends::kinds_refused;
+use kinds::ends::wide;
 use plain_axes::some_kinds_refused;
-use plain_axes::wide;
 
 // Of the curve's moments: two ends.
 pub fn moments_own_refusal(kinds: &[u8], values: &[f64]) -> usize

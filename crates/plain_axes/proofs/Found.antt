@@ -9,14 +9,8 @@ use lib.Ieee.{Float}
 use Rattle.rules.specs.Numbers.{zeros, table}
 use Rattle.rules.specs.Sizes.{most-axes, unused-axis}
 use Rattle.rules.specs.declared.Axis.{Axis}
-use Rattle.rules.specs.declared.End.{End}
-use Rattle.rules.specs.declared.End.the-variants.{NotAKnot, FirstDerivative, SecondDerivative}
-use Rattle.rules.specs.declared.Condition.{Condition}
-use Rattle.rules.specs.declared.Condition.the-variants.{Endpoints, Periodic}
-use Rattle.sheet.specs.Kinds.{end-of, condition-of}
-use Rattle.sheet.specs.Fields.{axis-at, axis-begin, entries}
-use Rattle.plain_axes.specs.Axes.{condition-given, axis-given, axes-given, kind-of, value-of, lower-kind-of, upper-kind-of, lower-value-of, upper-value-of, points-found, kinds-found, values-found, AxisStored, AxesStored}
-use Rattle.plain_axes.specs.Axes.{eight-ends}
+use Rattle.kinds.proofs.Told.{told, condition-again}
+use Rattle.plain_axes.specs.Axes.{eight-ends, condition-given, axis-given, axes-given, points-found, kinds-found, values-found, AxisStored, AxesStored}
 use Rattle.plain_axes.proofs.Slots.{four-stored, eight-stored, four-read}
 
 -- slices for four axes
@@ -61,27 +55,7 @@ pub none-found :
     × (values-found (table most-axes (λ i. unused-axis)) ≡ zeros eight-ends)
 none-found = (refl, refl, refl)
 
--- an end, a condition and an axis are told by their numbers
-end-again : (end : End) → end-of (kind-of end) (value-of end) ≡ end
-unfolding end-of
-end-again NotAKnot = refl
-end-again (FirstDerivative value) = refl
-end-again (SecondDerivative value) = refl
-
-lower-not-periodic : (lower : End) (a b : End) → condition-of (kind-of lower) a b ≡ Endpoints a b
-unfolding condition-of
-lower-not-periodic NotAKnot a b = refl
-lower-not-periodic (FirstDerivative value) a b = refl
-lower-not-periodic (SecondDerivative value) a b = refl
-
-abbrev told : Condition → Condition
-told c = condition-of (lower-kind-of c) (end-of (lower-kind-of c) (lower-value-of c)) (end-of (upper-kind-of c) (upper-value-of c))
-
-condition-again : (c : Condition) → told c ≡ c
-unfolding condition-of
-condition-again (Endpoints lower upper) = lower-not-periodic lower _ _ ∙ rw (end-again lower, end-again upper)
-condition-again Periodic = refl
-
+-- an axis is told by its numbers
 entry-again :
     (in-use : Bool) (axis : Axis)
     → cond in-use (record { points = cond in-use axis unused-axis .points; condition = told (cond in-use axis unused-axis .condition) }) unused-axis
@@ -92,14 +66,15 @@ entry-again false axis = refl
 four-same : {a a′ b b′ c c′ d d′ : Axis} → a ≡ a′ → b ≡ b′ → c ≡ c′ → d ≡ d′ → a ∷ b ∷ c ∷ d ∷ [] ≡ a′ ∷ b′ ∷ c′ ∷ d′ ∷ []
 four-same p q r s = rw (p, q, r, s)
 
--- the calls that take the numbers take them for the sheet's axes
+-- the calls that take the numbers take them for the same axes
 pub axes-again :
-    (bytes : List ℕ) (n : ℕ)
-    → axes-given n (points-found (entries bytes n)) (kinds-found (entries bytes n)) (values-found (entries bytes n)) ≡ entries bytes n
-unfolding axes-given axis-given condition-given entries
-axes-again bytes n =
+    (axis : ℕ → Axis) (n : ℕ)
+    → let found = table most-axes (λ i. cond (ltb i n) (axis i) unused-axis) in
+    axes-given n (points-found found) (kinds-found found) (values-found found) ≡ found
+unfolding axes-given axis-given condition-given
+axes-again axis n =
     four-same
-    (entry-again (ltb 0 n) (axis-at bytes (axis-begin bytes 0)))
-    (entry-again (ltb 1 n) (axis-at bytes (axis-begin bytes 1)))
-    (entry-again (ltb 2 n) (axis-at bytes (axis-begin bytes 2)))
-    (entry-again (ltb 3 n) (axis-at bytes (axis-begin bytes 3)))
+    (entry-again (ltb 0 n) (axis 0))
+    (entry-again (ltb 1 n) (axis 1))
+    (entry-again (ltb 2 n) (axis 2))
+    (entry-again (ltb 3 n) (axis 3))

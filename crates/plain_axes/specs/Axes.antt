@@ -1,20 +1,17 @@
 -- How numbers and plain slices make conditions and the four axes, what 13 is of them, and how the axes of a sheet are numbers again. Ends stand in one slice, kinds[2i] and values[2i] at the lower end of axis i, kinds[2i + 1] and values[2i + 1] at the upper.
 use mathlib.Core.Path.{_≡_}
-use mathlib.Core.Bool.{Bool, cond, _||_}
+use mathlib.Core.Bool.{Bool, cond}
 use mathlib.Core.List.{List, [], _∷_}
 use Prim.Native.Nat.{ℕ, _+_, _*_, min}
 use lib.Dec.{ltb}
 use lib.ListN.{getD, set}
 use lib.Ieee.{Float}
-use Rattle.rules.specs.Numbers.{plus-zero, at, table, any}
+use Rattle.rules.specs.Numbers.{at, table, any}
 use Rattle.rules.specs.Ends.{not-a-knot}
 use Rattle.rules.specs.Sizes.{most-axes, unused-axis, Grid}
 use Rattle.rules.specs.declared.Axis.{Axis}
-use Rattle.rules.specs.declared.End.{End}
-use Rattle.rules.specs.declared.End.the-variants.{NotAKnot, FirstDerivative, SecondDerivative}
 use Rattle.rules.specs.declared.Condition.{Condition}
-use Rattle.rules.specs.declared.Condition.the-variants.{Endpoints, Periodic}
-use Rattle.sheet.specs.Kinds.{end-of, condition-of, periodic-at-one-end}
+use Rattle.kinds.specs.Ends.{end-of-kind, condition-of-kind, kinds-refused, lower-kind-of, upper-kind-of, lower-value-of, upper-value-of}
 
 -- how many ends the slices of a call on one axis hold, and those of a call with axes
 abbrev pub two-ends : ℕ
@@ -32,16 +29,11 @@ upper-kind kinds i = getD kinds (2 * i + 1) 0
 
 -- the condition of axis i; a value is read only where its kind has one
 unfoldable pub condition-given : List ℕ → List Float → ℕ → Condition
-unfolding end-of condition-of
+unfolding end-of-kind condition-of-kind
 condition-given kinds values i =
-    condition-of (lower-kind kinds i)
-    (end-of (lower-kind kinds i) (at values (2 * i)))
-    (end-of (upper-kind kinds i) (at values (2 * i + 1)))
-
--- 13 of one axis: a kind that there is not, or Periodic at one end only
-unfoldable pub kinds-refused : ℕ → ℕ → Bool
-unfolding periodic-at-one-end
-kinds-refused lower upper = ltb 3 lower || ltb 3 upper || periodic-at-one-end lower upper
+    condition-of-kind (lower-kind kinds i)
+    (end-of-kind (lower-kind kinds i) (at values (2 * i)))
+    (end-of-kind (upper-kind kinds i) (at values (2 * i + 1)))
 
 -- 13 of the axes in use, of which there are four entries at most
 unfoldable pub some-kinds-refused : ℕ → List ℕ → Bool
@@ -76,34 +68,6 @@ grid-without-ends axes points knots =
     record { axes = axes; entries = axes-without-ends axes points; flat-knots = knots }
 
 -- ---- the other way, from the axes that a sheet has to numbers
-
--- the kind of an end, and its value, +0.0 where the kind has none
-abbrev pub kind-of : End → ℕ
-kind-of NotAKnot = 0
-kind-of (FirstDerivative value) = 1
-kind-of (SecondDerivative value) = 2
-
-abbrev pub value-of : End → Float
-value-of NotAKnot = plus-zero
-value-of (FirstDerivative value) = value
-value-of (SecondDerivative value) = value
-
--- those of the two ends of a condition
-abbrev pub lower-kind-of : Condition → ℕ
-lower-kind-of (Endpoints lower upper) = kind-of lower
-lower-kind-of Periodic = 3
-
-abbrev pub upper-kind-of : Condition → ℕ
-upper-kind-of (Endpoints lower upper) = kind-of upper
-upper-kind-of Periodic = 3
-
-abbrev pub lower-value-of : Condition → Float
-lower-value-of (Endpoints lower upper) = value-of lower
-lower-value-of Periodic = plus-zero
-
-abbrev pub upper-value-of : Condition → Float
-upper-value-of (Endpoints lower upper) = value-of upper
-upper-value-of Periodic = plus-zero
 
 -- the points of the axes, and of each the kinds and the values of its two ends, lower first
 abbrev pub points-found : List Axis → List ℕ

@@ -1,46 +1,19 @@
 // From numbers and plain slices to conditions and the four axes, and back. Not public: each requires the lengths that the host's own refusal 4 leaves.
 ghost use mathlib.Core.Path.{_≡_};
 ghost use Prim.Native.Nat.{_+_, _*_, _<_, _≤_, min};
-ghost use lib.Dec.{ltb};
 ghost use lib.ListN.{length};
 ghost use Rattle.rules.specs.Sizes.{most-axes};
-ghost use Rattle.plain_axes.specs.Axes.{condition-given, kinds-refused, some-kinds-refused, axis-given, axes-given, axis-without-ends, axes-without-ends, kind-of, value-of, lower-kind-of, upper-kind-of, lower-value-of, upper-value-of, AxisStored, AxesStored};
+ghost use Rattle.plain_axes.specs.Axes.{condition-given, some-kinds-refused, axis-given, axes-given, axis-without-ends, axes-without-ends, AxisStored, AxesStored};
+use kinds::ends::condition_of_kind;
+use kinds::ends::end_of_kind;
+use kinds::ends::kinds_refused;
+use kinds::ends::lower_kind;
+use kinds::ends::lower_value;
+use kinds::ends::upper_kind;
+use kinds::ends::upper_value;
+use kinds::ends::wide;
 use rules::Axis;
 use rules::Condition;
-use rules::End;
-use sheet::kinds::condition_of_kind;
-use sheet::kinds::end_of_kind;
-use sheet::kinds::is_periodic_at_one_end;
-
-// A kind as the wide number that the kinds of a sheet are decided on.
-pub fn wide(kind: u8) -> u64
-    ensures { λ r. ⌜ r ≡ kind ⌝ }
-{
-    kind as u64
-}
-
-// Whether there is no such kind.
-fn is_unknown(kind: u64) -> bool
-    ensures { λ r. ⌜ r ≡ ltb 3 kind ⌝ }
-{
-    match kind {
-        0..=3 => false,
-        _ => true,
-    }
-}
-
-// Whether the kinds of an axis are refused by 13.
-pub fn kinds_refused(lower: u64, upper: u64) -> bool
-    ensures { λ r. ⌜ r ≡ kinds-refused lower upper ⌝ }
-{
-    if is_unknown(lower) {
-        return true;
-    }
-    if is_unknown(upper) {
-        return true;
-    }
-    is_periodic_at_one_end(lower, upper)
-}
 
 // The condition of axis i.
 pub fn condition_given(kinds: &[u8], values: &[f64], i: usize) -> Condition
@@ -141,65 +114,6 @@ pub fn place_given(place: &[usize]) -> [usize; 4]
     ensures { λ r. ⌜ r ≡ now (place .entry) ⌝ }
 {
     [place[0], place[1], place[2], place[3]]
-}
-
-// The number of an end's kind.
-fn kind_of_end(end: End) -> u8
-    ensures { λ r. ⌜ r ≡ kind-of end ⌝ }
-{
-    match end {
-        End::NotAKnot => 0,
-        End::FirstDerivative(_) => 1,
-        End::SecondDerivative(_) => 2,
-    }
-}
-
-// The value of an end, +0.0 where its kind has none.
-fn value_of_end(end: End) -> f64
-    ensures { λ r. ⌜ r ≡ value-of end ⌝ }
-{
-    match end {
-        End::NotAKnot => 0.0,
-        End::FirstDerivative(value) => value,
-        End::SecondDerivative(value) => value,
-    }
-}
-
-// The kinds and the values of the ends of an axis.
-fn lower_kind(condition: Condition) -> u8
-    ensures { λ r. ⌜ r ≡ lower-kind-of condition ⌝ }
-{
-    match condition {
-        Condition::Endpoints(lower, _) => kind_of_end(lower),
-        Condition::Periodic => 3,
-    }
-}
-
-fn upper_kind(condition: Condition) -> u8
-    ensures { λ r. ⌜ r ≡ upper-kind-of condition ⌝ }
-{
-    match condition {
-        Condition::Endpoints(_, upper) => kind_of_end(upper),
-        Condition::Periodic => 3,
-    }
-}
-
-fn lower_value(condition: Condition) -> f64
-    ensures { λ r. ⌜ r ≡ lower-value-of condition ⌝ }
-{
-    match condition {
-        Condition::Endpoints(lower, _) => value_of_end(lower),
-        Condition::Periodic => 0.0,
-    }
-}
-
-fn upper_value(condition: Condition) -> f64
-    ensures { λ r. ⌜ r ≡ upper-value-of condition ⌝ }
-{
-    match condition {
-        Condition::Endpoints(_, upper) => value_of_end(upper),
-        Condition::Periodic => 0.0,
-    }
 }
 
 // One axis goes to its places: entry i of the points, and the two entries of its ends.

@@ -8,7 +8,7 @@ use Rattle.rules.specs.Numbers.{plus-zero, one, any}
 use Rattle.rules.specs.Ends.{natural}
 use Rattle.rules.specs.Sizes.{unused-axis, product-below}
 use Rattle.bits.specs.Bits.{bit, field}
-use Rattle.sheet.specs.Kinds.{values-of, end-of, condition-of, periodic-at-one-end}
+use Rattle.kinds.specs.Ends.{values-of-kind, end-of-kind, condition-of-kind, periodic-at-one-end}
 use Rattle.sheet.specs.Fields.{points-at, values-at, axis-at, knots-begin, knots-at, axis-end, axis-begin, entries, knots-below, sheet-grid, sheet-samples}
 use Rattle.sheet.specs.Faults.{axis-fault, axes-fault, tail-refused, samples-fault, sheet-refusal}
 
@@ -55,7 +55,7 @@ pub record Examples : Type 0 where
   pub last-sample : sheet-samples (first-bytes ++ (0x20 ∷ [])) ≡ plus-zero ∷ ofBits binary64 0x3FF0_0000_0000_0001 ∷ []
 
 pub examples : Examples
-unfolding any product-below bit field values-of end-of condition-of periodic-at-one-end points-at values-at axis-at knots-begin knots-at axis-end axis-begin entries knots-below sheet-grid axis-fault axes-fault tail-refused samples-fault sheet-refusal
+unfolding any product-below bit field values-of-kind end-of-kind condition-of-kind periodic-at-one-end points-at values-at axis-at knots-begin knots-at axis-end axis-begin entries knots-below sheet-grid axis-fault axes-fault tail-refused samples-fault sheet-refusal
 examples = record {
   accepted = refl;
   grid = refl;

@@ -5,7 +5,7 @@ use mathlib.Core.List.{List}
 use Prim.Native.Nat.{ℕ, zero, suc, _+_, _*_, _≤_}
 use native.Mathlib.Omega.{arith}
 use lib.Dec.{leb}
-use Rattle.sheet.specs.Kinds.{values-of}
+use Rattle.kinds.specs.Ends.{values-of-kind}
 use Rattle.sheet.specs.Fields.{points-at, lower-kind, upper-kind, values-at, knots-begin, axis-end, axis-begin}
 use Rattle.bits.proofs.Runs.{field-below}
 
@@ -13,15 +13,15 @@ one-or-none : (test : Bool) → cond test 1 0 ≤ 1
 one-or-none true = omega arith
 one-or-none false = omega arith
 
-pub value-most : (kind : ℕ) → values-of kind ≤ 1
-unfolding values-of
+pub value-most : (kind : ℕ) → values-of-kind kind ≤ 1
+unfolding values-of-kind
 value-most kind = one-or-none (leb 1 kind && leb kind 2)
 
 -- the numbers of the axis at bit `at`: its points, its patterns, and where they end. The upper end's pattern is among those of both ends.
 pub record Extent (bytes : List ℕ) (at : ℕ) : Type 0 where
   pub points-least : 1 ≤ points-at bytes at
   pub points-most : points-at bytes at ≤ 256
-  pub lower-values : values-of (lower-kind bytes at) ≤ values-at bytes at
+  pub lower-values : values-of-kind (lower-kind bytes at) ≤ values-at bytes at
   pub values-most : values-at bytes at ≤ 2
   pub begin : knots-begin bytes at ≡ at + 12 + 64 * values-at bytes at
   pub end : axis-end bytes at ≡ knots-begin bytes at + 64 * points-at bytes at

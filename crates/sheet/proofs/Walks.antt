@@ -13,7 +13,7 @@ use Rattle.rules.specs.Sizes.{unused-axis}
 use Rattle.rules.specs.Refusals.{points-refused}
 use Rattle.rules.specs.declared.Axis.{Axis}
 use Rattle.bits.specs.Bits.{short, numbers-short}
-use Rattle.sheet.specs.Kinds.{periodic-at-one-end}
+use Rattle.kinds.specs.Ends.{periodic-at-one-end}
 use Rattle.sheet.specs.Fields.{points-at, lower-kind, upper-kind, values-at, axis-at, axis-end, axis-begin, entries}
 use Rattle.sheet.specs.Faults.{or-else, axis-fault, axes-fault}
 use Rattle.sheet.specs.Within.{Whole, Walked}

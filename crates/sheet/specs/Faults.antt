@@ -8,7 +8,7 @@ use Rattle.rules.specs.Numbers.{any}
 use Rattle.rules.specs.Sizes.{samples-length}
 use Rattle.rules.specs.Refusals.{axes-refused, points-refused, tensor-refused}
 use Rattle.bits.specs.Bits.{bit, short, numbers-short}
-use Rattle.sheet.specs.Kinds.{periodic-at-one-end}
+use Rattle.kinds.specs.Ends.{periodic-at-one-end}
 use Rattle.sheet.specs.Fields.{edition, axes, points-at, lower-kind, upper-kind, values-at, axis-begin, sheet-grid, samples-begin, samples-end}
 
 -- a fault that is met stands before what comes after it

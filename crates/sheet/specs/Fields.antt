@@ -8,7 +8,7 @@ use Rattle.rules.specs.Numbers.{table}
 use Rattle.rules.specs.Sizes.{most-axes, unused-axis, Grid, samples-length}
 use Rattle.rules.specs.declared.Axis.{Axis}
 use Rattle.bits.specs.Bits.{field, number, numbers}
-use Rattle.sheet.specs.Kinds.{values-of, end-of, condition-of}
+use Rattle.kinds.specs.Ends.{values-of-kind, end-of-kind, condition-of-kind}
 
 -- "edition (4 bits, is 1)"
 abbrev pub edition : List ℕ → ℕ
@@ -34,19 +34,19 @@ module _ (bytes : List ℕ) (at : ℕ) where
 
   -- "a 64-bit f64 pattern for each end of kind 1 or 2 (lower first)": how many there are, and their numbers
   unfoldable pub values-at : ℕ
-  values-at = values-of lower-kind + values-of upper-kind
+  values-at = values-of-kind lower-kind + values-of-kind upper-kind
 
   abbrev pub lower-value : Float
   lower-value = number bytes (at + 12)
 
   abbrev pub upper-value : Float
-  upper-value = number bytes (at + 12 + 64 * values-of lower-kind)
+  upper-value = number bytes (at + 12 + 64 * values-of-kind lower-kind)
 
   -- the axis: its points, and its ends with their numbers
   unfoldable pub axis-at : Axis
   axis-at = record {
     points = points-at;
-    condition = condition-of lower-kind (end-of lower-kind lower-value) (end-of upper-kind upper-value);
+    condition = condition-of-kind lower-kind (end-of-kind lower-kind lower-value) (end-of-kind upper-kind upper-value);
   }
 
   -- "the knots (64 each)": where they begin, what they are, and where the axis ends

@@ -1,4 +1,3 @@
-pub mod Kinds
 pub mod Fields
 pub mod Faults
 pub mod Read

@@ -1,4 +1,4 @@
-// The packed sheet: its kinds, and the reader.
+// The packed sheet: its reader.
 ghost use Rattle.sheet.specs.Read.{ReadPromise};
 use crate::axes::store_knots;
 use crate::look::look;
@@ -7,7 +7,6 @@ use bits::fill;
 use checks::sizes::samples_length;
 use rules::Axis;
 
-pub mod kinds; // kinds.rt: ends by the numbers of their kinds, and the classes of refusal numbers
 mod axes; // axes.rt: the axes of a sheet, one after the other
 mod look; // look.rt: all of a sheet, up to its first fault
 

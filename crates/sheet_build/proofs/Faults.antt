@@ -10,7 +10,7 @@ use lib.Ieee.{Float}
 use Rattle.rules.specs.Sizes.{samples-length}
 use Rattle.rules.specs.Refusals.{axes-refused, points-refused, tensor-refused, length-refused}
 use Rattle.bits.specs.Bits.{short, numbers-short}
-use Rattle.sheet.specs.Kinds.{periodic-at-one-end}
+use Rattle.kinds.specs.Ends.{periodic-at-one-end}
 use Rattle.sheet.specs.Fields.{edition, axes, points-at, lower-kind, upper-kind, values-at, axis-begin, sheet-grid, samples-begin, samples-end}
 use Rattle.sheet.specs.Faults.{or-else, axis-fault, axes-fault, tail-refused, samples-fault, sheet-refusal}
 use Rattle.sheet.specs.Read.{read-refusal}

@@ -2,10 +2,10 @@
 ghost use mathlib.Core.Path.{_≡_};
 ghost use Prim.Native.Nat.{_≤_};
 ghost use lib.ListN.{length};
+use kinds::classes::Class;
+use kinds::classes::class_of;
 use libc::STDIN_FILENO;
 use libc::STDOUT_FILENO;
-use sheet::kinds::Class;
-use sheet::kinds::class_of;
 use text::Line;
 
 // Prints a line of text. Not public: that the text starts within the line is required.

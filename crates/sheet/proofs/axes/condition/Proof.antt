@@ -1,6 +1,6 @@
 use mathlib.Core.Path.{_≡_, ap}
 use native.Mathlib.Omega.{arith}
-use Rattle.sheet.specs.Kinds.{values-of}
+use Rattle.kinds.specs.Ends.{values-of-kind}
 use Rattle.sheet.specs.Fields.{lower-kind, axis-at}
 use Rattle.sheet.proofs.Extents.{Extent, extent}
 use borrow.Author.Needs.{needs}
@@ -10,8 +10,8 @@ use Rattle.sheet.proofs.axes.condition.Tie as tie
 known : (c : tie.Start) → Extent (c .args .bytes .now) (c .args .at)
 known c = extent _ _
 
-kind : (c : tie.After-values-of-kind) → values-of (c .before .before .before .field-at .result) ≡ values-of (lower-kind (c .before .before .before .before .before .args .bytes .now) (c .before .before .before .before .before .args .at))
-kind c = ap values-of (c .before .before .before .field-at .ensures)
+kind : (c : tie.After-values-of-kind) → values-of-kind (c .before .before .before .field-at .result) ≡ values-of-kind (lower-kind (c .before .before .before .before .before .args .bytes .now) (c .before .before .before .before .before .args .at))
+kind c = ap values-of-kind (c .before .before .before .field-at .ensures)
 
 field-at-requires : tie.Need-field-at-requires
 field-at-requires c κs = let reach = known (c .before) in search needs

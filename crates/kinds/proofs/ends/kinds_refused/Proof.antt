@@ -1,8 +1,8 @@
 use mathlib.Core.Path.{sym, _∙_}
-use Rattle.plain_axes.specs.Axes.{kinds-refused}
+use Rattle.kinds.specs.Ends.{kinds-refused}
 use borrow.Author.Needs.{needs}
-use Rattle.plain_axes.proofs.kinds_refused.Statement.{statement}
-use Rattle.plain_axes.proofs.kinds_refused.Tie as tie
+use Rattle.kinds.proofs.ends.kinds_refused.Statement.{statement}
+use Rattle.kinds.proofs.ends.kinds_refused.Tie as tie
 
 returns : tie.Need-returns
 unfolding kinds-refused

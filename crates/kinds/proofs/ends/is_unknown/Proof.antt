@@ -1,8 +1,8 @@
 use mathlib.Core.Path.{sym}
 use native.Mathlib.Omega.{arith}
 use borrow.Author.Tests.{lt-ltb, le-ltb}
-use Rattle.plain_axes.proofs.is_unknown.Statement.{statement}
-use Rattle.plain_axes.proofs.is_unknown.Tie as tie
+use Rattle.kinds.proofs.ends.is_unknown.Statement.{statement}
+use Rattle.kinds.proofs.ends.is_unknown.Tie as tie
 
 returns : tie.Need-returns
 returns c = sym (le-ltb 3 (c .before .args .kind) (omega arith))

@@ -1,18 +1,18 @@
 use borrow.Author.Tests.{ne-eqb}
-use Rattle.sheet.specs.Kinds.{end-of}
-use Rattle.sheet.proofs.kinds.end_of_kind.Statement.{statement}
-use Rattle.sheet.proofs.kinds.end_of_kind.Tie as tie
+use Rattle.kinds.specs.Ends.{end-of-kind}
+use Rattle.kinds.proofs.ends.end_of_kind.Statement.{statement}
+use Rattle.kinds.proofs.ends.end_of_kind.Tie as tie
 
 returns : tie.Need-returns
-unfolding end-of
+unfolding end-of-kind
 returns c = rw (c .match .keys1)
 
 returns-2 : tie.Need-returns-2
-unfolding end-of
+unfolding end-of-kind
 returns-2 c = rw (c .match .keys2)
 
 returns-3 : tie.Need-returns-3
-unfolding end-of
+unfolding end-of-kind
 returns-3 c = simp (ne-eqb _ _ (c .match .rest .0 .1), ne-eqb _ _ (c .match .rest .1))
 
 pub end-of-kind-spec : {M : Type 1} → statement M

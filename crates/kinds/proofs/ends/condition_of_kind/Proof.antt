@@ -1,14 +1,14 @@
 use borrow.Author.Tests.{ne-eqb}
-use Rattle.sheet.specs.Kinds.{condition-of}
-use Rattle.sheet.proofs.kinds.condition_of_kind.Statement.{statement}
-use Rattle.sheet.proofs.kinds.condition_of_kind.Tie as tie
+use Rattle.kinds.specs.Ends.{condition-of-kind}
+use Rattle.kinds.proofs.ends.condition_of_kind.Statement.{statement}
+use Rattle.kinds.proofs.ends.condition_of_kind.Tie as tie
 
 returns : tie.Need-returns
-unfolding condition-of
+unfolding condition-of-kind
 returns c = rw (c .match .keys1)
 
 returns-2 : tie.Need-returns-2
-unfolding condition-of
+unfolding condition-of-kind
 returns-2 c = simp (ne-eqb _ _ (c .match .rest .1))
 
 pub condition-of-kind-spec : {M : Type 1} → statement M

@@ -1,8 +1,8 @@
 use native.Mathlib.Omega.{arith}
 use borrow.Author.Tests.{lt-ltb, le-ltb}
-use Rattle.sheet.specs.Kinds.{class}
-use Rattle.sheet.proofs.kinds.class_of.Statement.{statement}
-use Rattle.sheet.proofs.kinds.class_of.Tie as tie
+use Rattle.kinds.specs.Classes.{class}
+use Rattle.kinds.proofs.classes.class_of.Statement.{statement}
+use Rattle.kinds.proofs.classes.class_of.Tie as tie
 
 returns : tie.Need-returns
 unfolding class

@@ -1,7 +1,7 @@
 use borrow.Author.Tests.{ne-eqb}
-use Rattle.sheet.specs.Kinds.{periodic-at-one-end}
-use Rattle.sheet.proofs.kinds.is_periodic_at_one_end.Statement.{statement}
-use Rattle.sheet.proofs.kinds.is_periodic_at_one_end.Tie as tie
+use Rattle.kinds.specs.Ends.{periodic-at-one-end}
+use Rattle.kinds.proofs.ends.is_periodic_at_one_end.Statement.{statement}
+use Rattle.kinds.proofs.ends.is_periodic_at_one_end.Tie as tie
 
 returns : tie.Need-returns
 unfolding periodic-at-one-end

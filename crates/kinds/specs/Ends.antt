@@ -1,0 +1,66 @@
+-- "Kinds: 0 NotAKnot, 1 first derivative, 2 second derivative, 3 Periodic, which must stand at both ends": from numbers to ends, and back.
+use mathlib.Core.Bool.{Bool, not, cond, _&&_, _||_}
+use Prim.Native.Nat.{ℕ}
+use lib.Dec.{ltb, leb, eqb}
+use lib.Ieee.{Float}
+use Rattle.rules.specs.Numbers.{plus-zero}
+use Rattle.rules.specs.declared.End.{End}
+use Rattle.rules.specs.declared.End.the-variants.{NotAKnot, FirstDerivative, SecondDerivative}
+use Rattle.rules.specs.declared.Condition.{Condition}
+use Rattle.rules.specs.declared.Condition.the-variants.{Endpoints, Periodic}
+
+-- a number that is none of the kinds
+abbrev pub unknown-kind : ℕ → Bool
+unknown-kind kind = ltb 3 kind
+
+-- "a 64-bit f64 pattern for each end of kind 1 or 2": how many patterns a kind has
+unfoldable pub values-of-kind : ℕ → ℕ
+values-of-kind kind = cond (leb 1 kind && leb kind 2) 1 0
+
+-- the end of a kind, with its number where the kind has one
+unfoldable pub end-of-kind : ℕ → Float → End
+end-of-kind kind value =
+    cond (eqb kind 1) (FirstDerivative value) (cond (eqb kind 2) (SecondDerivative value) NotAKnot)
+
+-- the condition of two ends, where `kind` is that of the lower one: 3 stands at both ends
+unfoldable pub condition-of-kind : ℕ → End → End → Condition
+condition-of-kind kind lower upper = cond (eqb kind 3) Periodic (Endpoints lower upper)
+
+-- 13: "kind 3 at one end only"
+unfoldable pub periodic-at-one-end : ℕ → ℕ → Bool
+periodic-at-one-end lower upper = cond (eqb lower 3) (not (eqb upper 3)) (eqb upper 3)
+
+-- 13 of one axis whose kinds may be any numbers: a kind that there is not, or Periodic at one end only
+unfoldable pub kinds-refused : ℕ → ℕ → Bool
+unfolding periodic-at-one-end
+kinds-refused lower upper = unknown-kind lower || unknown-kind upper || periodic-at-one-end lower upper
+
+-- ---- the other way
+
+-- the kind of an end, and its value, +0.0 where the kind has none
+abbrev pub kind-of-end : End → ℕ
+kind-of-end NotAKnot = 0
+kind-of-end (FirstDerivative value) = 1
+kind-of-end (SecondDerivative value) = 2
+
+abbrev pub value-of-end : End → Float
+value-of-end NotAKnot = plus-zero
+value-of-end (FirstDerivative value) = value
+value-of-end (SecondDerivative value) = value
+
+-- those of the two ends of a condition
+abbrev pub lower-kind-of : Condition → ℕ
+lower-kind-of (Endpoints lower upper) = kind-of-end lower
+lower-kind-of Periodic = 3
+
+abbrev pub upper-kind-of : Condition → ℕ
+upper-kind-of (Endpoints lower upper) = kind-of-end upper
+upper-kind-of Periodic = 3
+
+abbrev pub lower-value-of : Condition → Float
+lower-value-of (Endpoints lower upper) = value-of-end lower
+lower-value-of Periodic = plus-zero
+
+abbrev pub upper-value-of : Condition → Float
+upper-value-of (Endpoints lower upper) = value-of-end upper
+upper-value-of Periodic = plus-zero
