@@ -1,10 +1,19 @@
--- The classes of refusals, decided by their numbers.
-use mathlib.Core.Bool.{cond}
+-- The classes of refusals, decided by their numbers: what a refusal of the reader or of the build means for the sheet at hand.
+use mathlib.Core.Bool.{Bool, cond, _||_}
 use Prim.Native.Nat.{ℕ}
-use lib.Dec.{ltb}
+use lib.Dec.{eqb}
+use Rattle.kinds.specs.Ranges.{among}
 use Rattle.kinds.specs.declared.classes.Class.{Class}
-use Rattle.kinds.specs.declared.classes.Class.the-variants.{None, Build, Sheet, Unknown}
+use Rattle.kinds.specs.declared.classes.Class.the-variants.{None, Reading, Building, Unknown}
 
--- the class of a refusal's number: 0 is none; 1 to 10 stand in the table of "Refusal numbers", 11 to 14 are the sheet's own
+-- the sheet was not read: nothing of it shows, and its length is not known
+abbrev pub of-reading : ℕ → Bool
+of-reading refusal = among 1 4 refusal || among 11 14 refusal
+
+-- the sheet was read, and its parts stand in the buffers; what it says is not built
+abbrev pub of-building : ℕ → Bool
+of-building refusal = among 5 10 refusal
+
+-- the class of a refusal's number: 0 is no refusal, and a number of no class is Unknown
 unfoldable pub class : ℕ → Class
-class refusal = cond (ltb refusal 1) None (cond (ltb refusal 11) Build (cond (ltb refusal 15) Sheet Unknown))
+class refusal = cond (eqb refusal 0) None (cond (of-reading refusal) Reading (cond (of-building refusal) Building Unknown))

@@ -1,13 +1,14 @@
 -- "Kinds: 0 NotAKnot, 1 first derivative, 2 second derivative, 3 Periodic, which must stand at both ends": from numbers to ends, and back.
-use mathlib.Core.Bool.{Bool, not, cond, _&&_, _||_}
+use mathlib.Core.Bool.{Bool, not, cond, _||_}
 use Prim.Native.Nat.{ℕ}
-use lib.Dec.{ltb, leb, eqb}
+use lib.Dec.{ltb, eqb}
 use lib.Ieee.{Float}
 use Rattle.rules.specs.Numbers.{plus-zero}
 use Rattle.rules.specs.declared.End.{End}
 use Rattle.rules.specs.declared.End.the-variants.{NotAKnot, FirstDerivative, SecondDerivative}
 use Rattle.rules.specs.declared.Condition.{Condition}
 use Rattle.rules.specs.declared.Condition.the-variants.{Endpoints, Periodic}
+use Rattle.kinds.specs.Ranges.{among}
 
 -- a number that is none of the kinds
 abbrev pub unknown-kind : ℕ → Bool
@@ -15,7 +16,7 @@ unknown-kind kind = ltb 3 kind
 
 -- "a 64-bit f64 pattern for each end of kind 1 or 2": how many patterns a kind has
 unfoldable pub values-of-kind : ℕ → ℕ
-values-of-kind kind = cond (leb 1 kind && leb kind 2) 1 0
+values-of-kind kind = cond (among 1 2 kind) 1 0
 
 -- the end of a kind, with its number where the kind has one
 unfoldable pub end-of-kind : ℕ → Float → End

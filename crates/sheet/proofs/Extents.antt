@@ -1,10 +1,10 @@
 -- How far the fields of an axis reach, and that the axes of any sheet are small.
 use mathlib.Core.Path.{_≡_, refl}
-use mathlib.Core.Bool.{Bool, true, false, cond, _&&_}
+use mathlib.Core.Bool.{Bool, true, false, cond}
 use mathlib.Core.List.{List}
 use Prim.Native.Nat.{ℕ, zero, suc, _+_, _*_, _≤_}
 use native.Mathlib.Omega.{arith}
-use lib.Dec.{leb}
+use Rattle.kinds.specs.Ranges.{among}
 use Rattle.kinds.specs.Ends.{values-of-kind}
 use Rattle.sheet.specs.Fields.{points-at, lower-kind, upper-kind, values-at, knots-begin, axis-end, axis-begin}
 use Rattle.bits.proofs.Runs.{field-below}
@@ -15,7 +15,7 @@ one-or-none false = omega arith
 
 pub value-most : (kind : ℕ) → values-of-kind kind ≤ 1
 unfolding values-of-kind
-value-most kind = one-or-none (leb 1 kind && leb kind 2)
+value-most kind = one-or-none (among 1 2 kind)
 
 -- the numbers of the axis at bit `at`: its points, its patterns, and where they end. The upper end's pattern is among those of both ends.
 pub record Extent (bytes : List ℕ) (at : ℕ) : Type 0 where

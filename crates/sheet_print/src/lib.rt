@@ -52,7 +52,9 @@ pub fn print_tensor(sheet: &[u8]) {
             print_line(text::tensor_line(length));
             print_numbers(&tensor[0..length]);
         }
-        _ => print_line(text::refused_line(refusal)),
+        Class::Reading | Class::Building | Class::Unknown => {
+            print_line(text::refused_line(refusal));
+        }
     }
 }
 

@@ -1,6 +1,7 @@
 use native.Mathlib.Omega.{arith}
-use borrow.Author.Tests.{lt-ltb, le-ltb}
+use borrow.Author.Tests.{ne-eqb}
 use Rattle.kinds.specs.Classes.{class}
+use Rattle.kinds.proofs.Among.{within, below, above}
 use Rattle.kinds.proofs.classes.class_of.Statement.{statement}
 use Rattle.kinds.proofs.classes.class_of.Tie as tie
 
@@ -8,21 +9,33 @@ returns : tie.Need-returns
 unfolding class
 returns c = rw (c .match .keys1)
 
+-- 5 to 10
 returns-2 : tie.Need-returns-2
 unfolding class
-returns-2 c = let n = c .before .before .args .refusal in simp (le-ltb n 1 (omega arith), lt-ltb n 11 (omega arith))
+returns-2 c =
+    let n = c .before .before .before .args .refusal in
+    simp (ne-eqb n 0 (omega arith), above 1 4 n (omega arith) (omega arith), below 11 14 n (omega arith), within 5 10 n (omega arith) (omega arith))
 
+-- from 15 on
 returns-3 : tie.Need-returns-3
 unfolding class
 returns-3 c =
-    let n = c .before .before .before .args .refusal in
-    simp (le-ltb n 1 (omega arith), le-ltb n 11 (omega arith), lt-ltb n 15 (omega arith))
+    let n = c .before .before .before .before .args .refusal in
+    simp (ne-eqb n 0 (omega arith), above 1 4 n (omega arith) (omega arith), above 11 14 n (omega arith) (omega arith), above 5 10 n (omega arith) (omega arith))
 
+-- 1 to 4
 returns-4 : tie.Need-returns-4
 unfolding class
 returns-4 c =
-    let n = c .before .before .before .args .refusal in
-    simp (le-ltb n 1 (omega arith), le-ltb n 11 (omega arith), le-ltb n 15 (omega arith))
+    let n = c .before .before .args .refusal in
+    simp (ne-eqb n 0 (omega arith), within 1 4 n (omega arith) (omega arith))
+
+-- 11 to 14
+returns-5 : tie.Need-returns-5
+unfolding class
+returns-5 c =
+    let n = c .before .before .before .before .args .refusal in
+    simp (ne-eqb n 0 (omega arith), above 1 4 n (omega arith) (omega arith), within 11 14 n (omega arith) (omega arith))
 
 pub class-of-spec : {M : Type 1} → statement M
-class-of-spec = tie.close (tie.spec returns returns-2 returns-3 returns-4)
+class-of-spec = tie.close (tie.spec returns returns-2 returns-3 returns-4 returns-5)
