@@ -16,7 +16,7 @@ use Rattle.checks.specs.Given.{points-of, InRange}
 use Rattle.bits.specs.Bits.{short, numbers-short}
 use Rattle.sheet.specs.Fields.{edition, axes, points-at, axis-at, axis-begin, entries, sheet-grid, samples-begin, samples-end}
 use Rattle.sheet.specs.Faults.{or-else, axes-fault, tail-refused, samples-fault, sheet-refusal}
-use Rattle.sheet.specs.Within.{Axes, Ended, Sound}
+use Rattle.sheet.specs.Within.{Axes, Ended, NoFault}
 use Rattle.bits.proofs.Runs.{short-together}
 use Rattle.sheet.proofs.Extents.{extent}
 use Rattle.sheet.proofs.Walks.{passed, or-else-passed, each-faultless, faultless-axis}
@@ -134,8 +134,8 @@ few-samples sizes (suc (suc (suc (suc zero)))) least few most small = omega arit
 few-samples sizes (suc (suc (suc (suc (suc n))))) least few most small = absurd (omega arith)
 
 module _ (bytes : List ℕ) (a : Accepted bytes) where
-  pub sound : Sound bytes (axes bytes)
-  sound = record { few = a .said .few; faultless = a .faultless }
+  pub no-fault : NoFault bytes (axes bytes)
+  no-fault = record { few = a .said .few; faultless = a .faultless }
 
   pub all-ended : (at n : ℕ) (all : List Axis) → n ≡ axes bytes → all ≡ entries bytes (axes bytes) → at ≡ samples-begin bytes → Ended bytes at n all
   all-ended at n all said found end =

@@ -11,7 +11,7 @@ use Rattle.rules.proofs.Tables.{length-table}
 use Rattle.bits.specs.Bits.{numbers}
 use Rattle.sheet.specs.Fields.{points-at, knots-at, knots-begin, axis-end, axis-begin, knots-below}
 use Rattle.sheet.specs.Read.{over}
-use Rattle.sheet.specs.Within.{Whole, Sound}
+use Rattle.sheet.specs.Within.{Whole, NoFault}
 use Rattle.sheet.proofs.Extents.{extent}
 use Rattle.sheet.proofs.Walks.{each-faultless, whole, begin-next}
 
@@ -40,7 +40,7 @@ pub length-knots-at : (bytes : List ℕ) (at : ℕ) → length (knots-at bytes a
 length-knots-at bytes at = rw (knots-at-is bytes at) (length-table (points-at bytes at) _)
 
 pub record Turn (bytes : List ℕ) (n : ℕ) (knots₀ knots : List Float) (at from i : ℕ) : Type 0 where
-  pub sound : Sound bytes n
+  pub no-fault : NoFault bytes n
   pub lent : length knots₀ ≡ 1024
   pub most : i ≤ n
   pub place : at ≡ axis-begin bytes i
@@ -49,10 +49,10 @@ pub record Turn (bytes : List ℕ) (n : ℕ) (knots₀ knots : List Float) (at f
   pub same-length : length knots ≡ length knots₀
   pub done : knots ≡ over (knots-below bytes i) knots₀
 
-pub turn-first : (bytes : List ℕ) (n : ℕ) (knots : List Float) → Sound bytes n → length knots ≡ 1024 → Turn bytes n knots knots 7 0 0
+pub turn-first : (bytes : List ℕ) (n : ℕ) (knots : List Float) → NoFault bytes n → length knots ≡ 1024 → Turn bytes n knots knots 7 0 0
 unfolding axis-begin knots-below
 turn-first bytes n knots s e = record {
-  sound = s;
+  no-fault = s;
   lent = e;
   most = omega arith;
   place = refl;
@@ -66,10 +66,10 @@ module _ (bytes : List ℕ) (n : ℕ) (knots₀ knots : List Float) (at from i p
     (t : Turn bytes n knots₀ knots at from i) (l : i < n) (e : p ≡ points-at bytes at) where
   -- the axis at hand is there, and so are the places of its knots
   pub turn-whole : Whole bytes at
-  turn-whole = rw (t .place) (whole bytes i (omega (arith, t .sound .few)) (each-faultless bytes n i (t .sound .faultless) l))
+  turn-whole = rw (t .place) (whole bytes i (omega (arith, t .no-fault .few)) (each-faultless bytes n i (t .no-fault .faultless) l))
 
   pub turn-room : from + p ≤ 1024
-  turn-room = let here = extent bytes at in omega (arith, t .reach, t .sound .few)
+  turn-room = let here = extent bytes at in omega (arith, t .reach, t .no-fault .few)
 
   pub part-length : length (take (from + p - from) (drop from knots)) ≡ p
   part-length = rw (length-take, length-drop) (omega (arith, turn-room, t .same-length, t .lent))
@@ -85,7 +85,7 @@ module _ (bytes : List ℕ) (n : ℕ) (knots₀ knots : List Float) (at from i p
     turn-next end g =
         let q : from + p - from ≡ p = omega arith in
         record {
-          sound = t .sound;
+          no-fault = t .no-fault;
           lent = t .lent;
           most = omega arith;
           place = g ∙ rw (add-one i, begin-next bytes i, t .place);

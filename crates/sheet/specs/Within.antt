@@ -23,7 +23,7 @@ pub record Walked (bytes : List ℕ) (n : ℕ) (walk : Walk) : Type 0 where
   pub end : walk .refusal ≡ 0 → walk .at ≡ axis-begin bytes n
 
 -- axes that were walked over without a fault
-pub record Sound (bytes : List ℕ) (n : ℕ) : Type 0 where
+pub record NoFault (bytes : List ℕ) (n : ℕ) : Type 0 where
   pub few : n ≤ most-axes
   pub faultless : axes-fault bytes n ≡ 0
 

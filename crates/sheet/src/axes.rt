@@ -6,7 +6,7 @@ ghost use Rattle.sheet.specs.Fields.{points-at, values-at, axis-at, knot
 ghost use Rattle.sheet.specs.Faults.{axis-fault};
 ghost use Rattle.sheet.specs.Read.{over};
 ghost use Rattle.bits.specs.Within.{Within};
-ghost use Rattle.sheet.specs.Within.{Whole, Walked, Sound};
+ghost use Rattle.sheet.specs.Within.{Whole, Walked, NoFault};
 use bits::are_short;
 use bits::field_at;
 use bits::fill;
@@ -136,7 +136,7 @@ pub fn walk_axes(bytes: &[u8], axes: usize) -> Walk
 
 // Stores the knots, axis after axis, in the first places of `knots`. Answers the bit after the last axis.
 pub fn store_knots(bytes: &[u8], axes: usize, knots: &mut [f64]) -> usize
-    requires { ⌜ Sound (now bytes) axes × (length (now knots) ≡ 1024) ⌝ }
+    requires { ⌜ NoFault (now bytes) axes × (length (now knots) ≡ 1024) ⌝ }
     ensures { λ r. ⌜ (r ≡ axis-begin (now (bytes .entry)) axes) × (now (knots .exit) ≡ over (knots-below (now (bytes .entry)) axes) (now (knots .entry))) ⌝ }
 {
     let mut at = 7;

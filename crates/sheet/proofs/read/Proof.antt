@@ -6,7 +6,7 @@ use lib.ListN.{length-take}
 use Rattle.rules.specs.Sizes.{samples-length}
 use Rattle.sheet.specs.Fields.{axes, entries, sheet-grid, samples-begin}
 use Rattle.sheet.proofs.Samples.{count-is}
-use Rattle.sheet.proofs.Sheets.{Accepted, accepted, sound, all-ended, samples-most}
+use Rattle.sheet.proofs.Sheets.{Accepted, accepted, no-fault, all-ended, samples-most}
 use Rattle.sheet.proofs.Promises.{knots-refused, samples-refused, sheet-refused, not-refused, given-axes, given-all, samples-within, samples-stored, sheet-read}
 use borrow.Author.Needs.{needs}
 use Rattle.sheet.proofs.read.Statement.{statement}
@@ -41,7 +41,7 @@ all-are c = given-all _ _ (c .before .look .ensures) (none c)
 store-knots-requires : tie.Need-store-knots-requires
 store-knots-requires c κs =
     let here = c .before .before in
-    (rw (axes-are here) (sound _ (ok here)), omega arith)
+    (rw (axes-are here) (no-fault _ (ok here)), omega arith)
 
 samples-length-requires : tie.Need-samples-length-requires
 samples-length-requires c κs =

@@ -29,9 +29,9 @@ after-requires c κs = axis-requires (c .before) κs
 
 loop-again : tie.Need-loop-again Inv-loop μ-loop
 loop-again c =
-    let sound = c .before .before in
-    let turn = sound .before .before in
-    turn-next _ _ _ _ _ (turn .before .loop .inv) (turn .loop-test .taken) _ _ (sym (sound .before .fault .ensures) ∙ sound .if1 .left)
+    let faultless = c .before .before in
+    let turn = faultless .before .before in
+    turn-next _ _ _ _ _ (turn .before .loop .inv) (turn .loop-test .taken) _ _ (sym (faultless .before .fault .ensures) ∙ faultless .if1 .left)
     (c .before .axis .ensures)
     (c .after .ensures)
 
