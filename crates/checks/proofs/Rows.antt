@@ -2,7 +2,7 @@
 use mathlib.Core.Path.{_≡_, refl, sym, ap, _∙_}
 use mathlib.Core.Bool.{Bool, true, false, cond, _||_, _&&_}
 use mathlib.Core.List.{List, [], _∷_}
-use Prim.Native.Nat.{ℕ, zero, suc, _<_, _≤_}
+use Prim.Native.Nat.{ℕ, _<_, _≤_}
 use native.Mathlib.Omega.{arith}
 use lib.ListN.{length, drop}
 use lib.Dec.{T, ltb, ltb→lt}
@@ -11,6 +11,8 @@ use borrow.Author.Tests.{ltb-false, eqb-true, not-false}
 use Rattle.rules.specs.Numbers.{any}
 use Rattle.rules.specs.Sizes.{most-axes}
 use Rattle.rules.specs.Refusals.{points-refused, length-refused, knots-refused}
+use Rattle.rules.specs.Calls.{or-else}
+use Rattle.rules.proofs.Refused.{or-else-met}
 use Rattle.rules.specs.declared.Axis.{Axis}
 use Rattle.base.proofs.Scan.{neither, any-at}
 use Rattle.checks.specs.Given.{sizes-of, points-of, InRange}
@@ -40,15 +42,6 @@ Past rows k = (answer : ℕ) → answer ≡ lowest (drop k rows) 0 → answer �
 
 -- ---- all rows
 
--- the first of two refusals that is not 0
-abbrev pub first-of : ℕ → ℕ → ℕ
-first-of zero later = later
-first-of (suc number) later = suc number
-
-pub first-stays : (number later : ℕ) → (number ≡ 0 → ⊥) → number ≡ first-of number later
-first-stays zero later h = absurd (h refl)
-first-stays (suc number) later h = refl
-
 -- whether each row has one of the numbers 1 to 9
 abbrev pub numbered : List Refusal → Bool
 numbered [] = true
@@ -72,13 +65,13 @@ module _ (refusal : Refusal) (rows : List Refusal) (n : T (numbered (refusal ∷
   rest = both (ltb (refusal .number) 10) (numbered rows) others .1
 
 -- what comes after the rows counts where they give no number
-pub rows-then : (rows : List Refusal) (later : ℕ) → T (numbered rows) → lowest rows later ≡ first-of (lowest rows 0) later
+pub rows-then : (rows : List Refusal) (later : ℕ) → T (numbered rows) → lowest rows later ≡ or-else (lowest rows 0) later
 rows-then [] later n = refl
 rows-then (refusal ∷ rows) later n =
     in-front (refusal .applies) (above-0 refusal rows n) (rows-then rows later (rest refusal rows n))
   where
-    in-front : (b : Bool) → 0 < refusal .number → lowest rows later ≡ first-of (lowest rows 0) later → cond b (refusal .number) (lowest rows later) ≡ first-of (cond b (refusal .number) (lowest rows 0)) later
-    in-front true h e = first-stays (refusal .number) later (λ z. omega arith)
+    in-front : (b : Bool) → 0 < refusal .number → lowest rows later ≡ or-else (lowest rows 0) later → cond b (refusal .number) (lowest rows later) ≡ or-else (cond b (refusal .number) (lowest rows 0)) later
+    in-front true h e = sym (or-else-met (refusal .number) later (λ z. omega arith))
     in-front false h e = e
 
 -- no row has the number of an outcome
@@ -130,7 +123,7 @@ module _ (axes : ℕ) (entries : List Axis) {number : ℕ} (e : number ≡ sizes
   -- a number that they give is the answer
   pub sizes-stop : (later : ℕ) → (number ≡ 0 → ⊥) → number ≡ lowest (sizes-rows (sizes-of axes entries)) later
   unfolding sizes-check
-  sizes-stop later h = first-stays number later h ∙ rw e (sym (rows-then (sizes-rows (sizes-of axes entries)) later tt))
+  sizes-stop later h = sym (or-else-met number later h) ∙ rw e (sym (rows-then (sizes-rows (sizes-of axes entries)) later tt))
 
   -- where they give none, the rows below answer
   pub sizes-pass : {answer : ℕ} (later : ℕ) → number ≡ 0 → answer ≡ later → answer ≡ lowest (sizes-rows (sizes-of axes entries)) later

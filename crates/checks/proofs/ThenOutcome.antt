@@ -16,14 +16,15 @@ use Rattle.rules.specs.Curve.{curve, knot-slopes}
 use Rattle.rules.specs.Tensor.{tensor}
 use Rattle.rules.specs.Change.{changed-tensor}
 use Rattle.rules.specs.Query.{query}
-use Rattle.rules.specs.Calls.{stored, scratch-after, answered, counted, moments-refusal, curve-refusal, slopes-refusal, build-refusal, change-refusal, query-refusal}
+use Rattle.rules.specs.Calls.{or-else, stored, scratch-after, answered, counted, moments-refusal, curve-refusal, slopes-refusal, build-refusal, change-refusal, query-refusal}
 use Rattle.rules.specs.declared.Condition.{Condition}
+use Rattle.rules.proofs.Refused.{or-else-met}
 use Rattle.checks.specs.Check.{Refusal, lowest, moments-rows, curve-rows, slopes-rows, build-rows, change-rows, query-rows, moments-check, curve-check, slopes-check, build-check, change-check, query-check}
-use Rattle.checks.proofs.Rows.{first-of, first-stays, numbered, rows-then, rows-below-10}
+use Rattle.checks.proofs.Rows.{numbered, rows-then, rows-below-10}
 
 -- the refusal is the check's number, and where that is 0, 10 for an outcome that is refused
 pub record ThenOutcome (check : ℕ) (bad : Bool) (refusal : ℕ) : Type 0 where
-  pub is : refusal ≡ first-of check (cond bad 10 0)
+  pub is : refusal ≡ or-else check (cond bad 10 0)
   pub low : check < 10
 
 -- what a call answers and leaves that its check refuses: the check's number, and all it was lent as it was
@@ -47,7 +48,7 @@ untouched (suc refusal) h l = record {
 module _ {check refusal : ℕ} {bad : Bool} (t : ThenOutcome check bad refusal) where
   -- the check refuses
   pub refused : (check ≡ 0 → ⊥) → Refused check refusal
-  refused h = rw (t .is, ← first-stays check (cond bad 10 0) h) (untouched check h (t .low))
+  refused h = rw (t .is, or-else-met check (cond bad 10 0) h) (untouched check h (t .low))
 
   -- it does not: the outcome decides
   pub outcome : check ≡ 0 → refusal ≡ cond bad 10 0

@@ -5,38 +5,37 @@ use Prim.Native.Nat.{ℕ, zero, suc}
 use lib.ListN.{set}
 use lib.Ieee.{Float}
 use Rattle.rules.specs.Sizes.{place-of, Grid}
-use Rattle.rules.specs.Calls.{MomentsPromise, CurvePromise, BuildPromise, change-answer, ChangePromise, QueryPromise}
+use Rattle.rules.specs.Calls.{or-else, stored, MomentsPromise, CurvePromise, BuildPromise, change-answer, ChangePromise, QueryPromise}
 use Rattle.rules.specs.declared.Condition.{Condition}
 use Rattle.rules.specs.declared.CurveAnswer.{CurveAnswer}
 use Rattle.rules.specs.declared.ChangeAnswer.{ChangeAnswer}
 use Rattle.rules.specs.declared.QueryAnswer.{QueryAnswer}
 use Rattle.rules.specs.declared.Axis.{Axis}
+use Rattle.rules.proofs.Refused.{or-else-met, unchanged}
 use Rattle.sheet.specs.Read.{ReadPromise}
 use Rattle.sheet.specs.declared.ReadAnswer.{ReadAnswer}
 use Rattle.sheet.proofs.Promises.{answer-refusal}
 use Rattle.sheet_build.specs.SheetTensor.{answer-of, SheetPromise}
 use Rattle.sheet_build.specs.declared.SheetAnswer.{SheetAnswer}
 use Rattle.plain_axes.specs.Axes.{condition-given, axes-given, axes-without-ends, points-found, kinds-found, values-found, AxesStored}
-use Rattle.host.specs.Exports.{before, kept, moments-own-refusal, curve-own-refusal, build-own-refusal, change-own-refusal, query-own-refusal, read-own-refusal, sheet-tensor-own-refusal, MomentsExport, CurveExport, BuildExport, ChangeExport, QueryExport, ReadExport, SheetTensorExport}
+use Rattle.host.specs.Exports.{moments-own-refusal, curve-own-refusal, build-own-refusal, change-own-refusal, query-own-refusal, read-own-refusal, sheet-tensor-own-refusal, MomentsExport, CurveExport, BuildExport, ChangeExport, QueryExport, ReadExport, SheetTensorExport}
 use Rattle.host.proofs.Lengths.{curve-lengths, change-lengths, query-lengths, read-lengths, sheet-tensor-lengths}
 use Rattle.plain_axes.proofs.Slots.{one-stored}
 
 -- ---- the host refuses: its number is the answer, and each slice is as it was
 
-own-answer : (own later : ℕ) {r : ℕ} → r ≡ own → (r ≡ 0 → ⊥) → r ≡ before own later
-own-answer zero later e some = absurd (some e)
-own-answer (suc own) later e some = e
+own-answer : (own later : ℕ) {r : ℕ} → r ≡ own → (r ≡ 0 → ⊥) → r ≡ or-else own later
+own-answer own later e some = e ∙ sym (or-else-met own later (λ z. some (e ∙ z)))
 
-untouched : {A : Type 0} (own : ℕ) (lent later : List A) {r : ℕ} → r ≡ own → (r ≡ 0 → ⊥) → lent ≡ kept own lent later
-untouched zero lent later e some = absurd (some e)
-untouched (suc own) lent later e some = refl
+untouched : {A : Type 0} (own : ℕ) (lent later : List A) {r : ℕ} → r ≡ own → (r ≡ 0 → ⊥) → lent ≡ stored own lent later
+untouched own lent later e some = unchanged own lent later (λ z. some (e ∙ z))
 
 -- ---- it does not: the call's number, and what the call leaves
 
-call-answer : (own : ℕ) {later r a : ℕ} → r ≡ own → r ≡ 0 → a ≡ later → a ≡ before own later
+call-answer : (own : ℕ) {later r a : ℕ} → r ≡ own → r ≡ 0 → a ≡ later → a ≡ or-else own later
 call-answer own e none answers = rw (sym e ∙ none) answers
 
-left : {A : Type 0} (own : ℕ) (lent : List A) {later l : List A} {r : ℕ} → r ≡ own → r ≡ 0 → l ≡ later → l ≡ kept own lent later
+left : {A : Type 0} (own : ℕ) (lent : List A) {later l : List A} {r : ℕ} → r ≡ own → r ≡ 0 → l ≡ later → l ≡ stored own lent later
 left own lent e none leaves = rw (sym e ∙ none) leaves
 
 -- ---- the curve's moments
@@ -142,7 +141,7 @@ module _ (axes : ℕ) (points : List ℕ) (knots tensor-lent coordinates value-l
       r ≡ 0 → (all : List Axis) → all ≡ axes-without-ends axes points → (a : QueryAnswer) (labels-later : List ℕ) → labels-later ≡ a .labels
       → QueryPromise (record { axes = axes; entries = all; flat-knots = knots }) tensor-lent coordinates a
       → QueryExport axes points knots tensor-lent coordinates value-lent labels-lent (a .refusal) (set value-lent 0 (a .value)) labels-later
-  query-called none all given a labels-later stored p =
+  query-called none all given a labels-later labels-stored p =
       let q = (rw given at p) .answer in
       record {
         answer = call-answer _ e none (ap (λ (b : QueryAnswer). b .refusal) q);
@@ -150,7 +149,7 @@ module _ (axes : ℕ) (points : List ℕ) (knots tensor-lent coordinates value-l
             left _ _ e none
             (one-stored value-lent (a .value) (query-lengths points value-lent labels-lent (sym e ∙ none) .1)
             ∙ ap (λ (b : QueryAnswer). b .value ∷ []) q);
-        labels = left _ _ e none (stored ∙ ap (λ (b : QueryAnswer). b .labels) q);
+        labels = left _ _ e none (labels-stored ∙ ap (λ (b : QueryAnswer). b .labels) q);
       }
 
 -- ---- the sheet
@@ -174,7 +173,7 @@ module _ (bytes : List ℕ) (knots-lent samples-lent : List Float) (axes-lent po
       → ReadPromise bytes knots-lent samples-lent a k s
       → AxesStored (a .all) points-later kinds-later values-later
       → ReadExport bytes knots-lent samples-lent axes-lent points-lent kinds-lent values-lent (a .refusal) k s (set axes-lent 0 (a .axes)) points-later kinds-later values-later
-  read-called none a p stored = record {
+  read-called none a p axes-stored = record {
     answer = call-answer _ e none (ap (λ (b : ReadAnswer). b .refusal) (p .answer) ∙ answer-refusal _ _ _);
     knots = left _ _ e none (p .knots);
     samples = left _ _ e none (p .samples);
@@ -182,9 +181,9 @@ module _ (bytes : List ℕ) (knots-lent samples-lent : List Float) (axes-lent po
         left _ _ e none
         (one-stored axes-lent (a .axes) (read-lengths axes-lent points-lent kinds-lent values-lent (sym e ∙ none) .3)
         ∙ ap (λ (b : ReadAnswer). b .axes ∷ []) (p .answer));
-    points = left _ _ e none (stored .points ∙ ap (λ (b : ReadAnswer). points-found (b .all)) (p .answer));
-    kinds = left _ _ e none (stored .kinds ∙ ap (λ (b : ReadAnswer). kinds-found (b .all)) (p .answer));
-    values = left _ _ e none (stored .values ∙ ap (λ (b : ReadAnswer). values-found (b .all)) (p .answer));
+    points = left _ _ e none (axes-stored .points ∙ ap (λ (b : ReadAnswer). points-found (b .all)) (p .answer));
+    kinds = left _ _ e none (axes-stored .kinds ∙ ap (λ (b : ReadAnswer). kinds-found (b .all)) (p .answer));
+    values = left _ _ e none (axes-stored .values ∙ ap (λ (b : ReadAnswer). values-found (b .all)) (p .answer));
   }
 
 -- ---- the sheet's tensor

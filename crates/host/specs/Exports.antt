@@ -2,7 +2,7 @@
 use mathlib.Core.Path.{_≡_}
 use mathlib.Core.Bool.{Bool, cond, _||_}
 use mathlib.Core.List.{List, [], _∷_}
-use Prim.Native.Nat.{ℕ, zero, suc, _-_}
+use Prim.Native.Nat.{ℕ, _-_}
 use lib.ListN.{length}
 use lib.Ieee.{Float}
 use Rattle.rules.specs.Sizes.{most-axes, place-of}
@@ -10,23 +10,13 @@ use Rattle.rules.specs.Refusals.{length-refused}
 use Rattle.rules.specs.Moments.{moments}
 use Rattle.rules.specs.Tensor.{tensor}
 use Rattle.rules.specs.Change.{changed-tensor}
-use Rattle.rules.specs.Calls.{stored, scratch-after, moments-refusal, curve-answer, build-refusal, change-refusal, change-answer, query-answer}
+use Rattle.rules.specs.Calls.{or-else, stored, scratch-after, moments-refusal, curve-answer, build-refusal, change-refusal, change-answer, query-answer}
 use Rattle.sheet.specs.Fields.{axes as axes-said, entries, knots-below, sheet-grid, sheet-samples}
 use Rattle.sheet.specs.Read.{over, read-refusal, answer-of as read-answer-of}
 use Rattle.sheet.specs.declared.ReadAnswer.{ReadAnswer}
 use Rattle.sheet_build.specs.SheetTensor.{answer-of, reading-refusal, sheet-tensor-refusal}
 use Rattle.kinds.specs.Ends.{kinds-refused}
 use Rattle.plain_axes.specs.Axes.{two-ends, eight-ends, lower-kind, upper-kind, condition-given, some-kinds-refused, grid-given, grid-without-ends, points-found, kinds-found, values-found}
-
--- the host's own refusal, 0 for none, before the call's
-abbrev pub before : ℕ → ℕ → ℕ
-before zero refusal = refusal
-before (suc own) refusal = suc own
-
--- what stands in a lent slice afterwards: what it had, where the host itself refuses
-abbrev pub kept : {A : Type 0} → ℕ → List A → List A → List A
-kept zero lent later = later
-kept (suc own) lent later = lent
 
 -- 4 of a call with axes: the points of four axes, and their ends
 unfoldable pub axes-slices-refused : List ℕ → List ℕ → List Float → Bool
@@ -47,13 +37,13 @@ module _ (n : ℕ) (knots samples : List Float) (kinds : List ℕ) (values momen
   given-moments-refusal = moments-refusal n knots samples (condition-given kinds values 0) moments-lent scratch-lent
 
   pub record MomentsExport (refusal : ℕ) (moments-later scratch-later : List Float) : Type 0 where
-    pub answer : refusal ≡ before (moments-own-refusal kinds values) given-moments-refusal
+    pub answer : refusal ≡ or-else (moments-own-refusal kinds values) given-moments-refusal
     pub output :
         moments-later
-        ≡ kept (moments-own-refusal kinds values) moments-lent
+        ≡ stored (moments-own-refusal kinds values) moments-lent
         (stored given-moments-refusal moments-lent (moments knots (n - 1) (condition-given kinds values 0) samples))
     pub scratch :
-        scratch-later ≡ kept (moments-own-refusal kinds values) scratch-lent (scratch-after given-moments-refusal scratch-lent)
+        scratch-later ≡ stored (moments-own-refusal kinds values) scratch-lent (scratch-after given-moments-refusal scratch-lent)
 
 -- ---- the curve's value
 
@@ -64,9 +54,9 @@ curve-own-refusal value = cond (length-refused (length value) 1) 4 0
 module _ (n : ℕ) (knots samples moments-in : List Float) (point : Float) (value-lent : List Float) where
   pub record CurveExport (refusal : ℕ) (value-later : List Float) : Type 0 where
     pub answer :
-        refusal ≡ before (curve-own-refusal value-lent) (curve-answer n knots samples moments-in point .refusal)
+        refusal ≡ or-else (curve-own-refusal value-lent) (curve-answer n knots samples moments-in point .refusal)
     pub slot :
-        value-later ≡ kept (curve-own-refusal value-lent) value-lent (curve-answer n knots samples moments-in point .value ∷ [])
+        value-later ≡ stored (curve-own-refusal value-lent) value-lent (curve-answer n knots samples moments-in point .value ∷ [])
 
 -- The knot slopes have no refusal of the host's own: their record is that of `rules`.
 
@@ -83,14 +73,14 @@ module _ (axes : ℕ) (points kinds : List ℕ) (values knots samples tensor-len
   given-build-refusal = build-refusal (grid-given axes points kinds values knots) samples tensor-lent scratch-lent
 
   pub record BuildExport (refusal : ℕ) (tensor-later scratch-later : List Float) : Type 0 where
-    pub answer : refusal ≡ before (build-own-refusal axes points kinds values) given-build-refusal
+    pub answer : refusal ≡ or-else (build-own-refusal axes points kinds values) given-build-refusal
     pub output :
         tensor-later
-        ≡ kept (build-own-refusal axes points kinds values) tensor-lent
+        ≡ stored (build-own-refusal axes points kinds values) tensor-lent
         (stored given-build-refusal tensor-lent (tensor (grid-given axes points kinds values knots) samples))
     pub scratch :
         scratch-later
-        ≡ kept (build-own-refusal axes points kinds values) scratch-lent (scratch-after given-build-refusal scratch-lent)
+        ≡ stored (build-own-refusal axes points kinds values) scratch-lent (scratch-after given-build-refusal scratch-lent)
 
 -- ---- the change
 
@@ -110,16 +100,16 @@ module _ (axes : ℕ) (points kinds : List ℕ) (values knots tensor-lent scratc
   change-own = change-own-refusal axes points kinds values place lanes-lent
 
   pub record ChangeExport (refusal : ℕ) (tensor-later scratch-later : List Float) (lanes-later : List ℕ) : Type 0 where
-    pub answer : refusal ≡ before change-own given-change-refusal
+    pub answer : refusal ≡ or-else change-own given-change-refusal
     pub output :
         tensor-later
-        ≡ kept change-own tensor-lent
+        ≡ stored change-own tensor-lent
         (stored given-change-refusal tensor-lent
         (changed-tensor (grid-given axes points kinds values knots) (place-of place) sample tensor-lent))
-    pub scratch : scratch-later ≡ kept change-own scratch-lent (scratch-after given-change-refusal scratch-lent)
+    pub scratch : scratch-later ≡ stored change-own scratch-lent (scratch-after given-change-refusal scratch-lent)
     pub slot :
         lanes-later
-        ≡ kept change-own lanes-lent
+        ≡ stored change-own lanes-lent
         (change-answer (grid-given axes points kinds values knots) tensor-lent scratch-lent (place-of place) sample .lanes ∷ [])
 
 -- ---- the query
@@ -133,15 +123,15 @@ module _ (axes : ℕ) (points : List ℕ) (knots tensor-lent coordinates value-l
   pub record QueryExport (refusal : ℕ) (value-later : List Float) (labels-later : List ℕ) : Type 0 where
     pub answer :
         refusal
-        ≡ before (query-own-refusal points value-lent labels-lent)
+        ≡ or-else (query-own-refusal points value-lent labels-lent)
         (query-answer (grid-without-ends axes points knots) tensor-lent coordinates .refusal)
     pub slot :
         value-later
-        ≡ kept (query-own-refusal points value-lent labels-lent) value-lent
+        ≡ stored (query-own-refusal points value-lent labels-lent) value-lent
         (query-answer (grid-without-ends axes points knots) tensor-lent coordinates .value ∷ [])
     pub labels :
         labels-later
-        ≡ kept (query-own-refusal points value-lent labels-lent) labels-lent
+        ≡ stored (query-own-refusal points value-lent labels-lent) labels-lent
         (query-answer (grid-without-ends axes points knots) tensor-lent coordinates .labels)
 
 -- ---- the sheet
@@ -163,16 +153,16 @@ module _ (bytes : List ℕ) (knots-lent samples-lent : List Float) (axes-lent po
   read-own = read-own-refusal axes-lent points-lent kinds-lent values-lent
 
   pub record ReadExport (refusal : ℕ) (knots-later samples-later : List Float) (axes-later points-later kinds-later : List ℕ) (values-later : List Float) : Type 0 where
-    pub answer : refusal ≡ before read-own given-read-refusal
+    pub answer : refusal ≡ or-else read-own given-read-refusal
     pub knots :
         knots-later
-        ≡ kept read-own knots-lent (stored given-read-refusal knots-lent (over (knots-below bytes (axes-said bytes)) knots-lent))
+        ≡ stored read-own knots-lent (stored given-read-refusal knots-lent (over (knots-below bytes (axes-said bytes)) knots-lent))
     pub samples :
-        samples-later ≡ kept read-own samples-lent (stored given-read-refusal samples-lent (over (sheet-samples bytes) samples-lent))
-    pub slot : axes-later ≡ kept read-own axes-lent (given-read-answer .axes ∷ [])
-    pub points : points-later ≡ kept read-own points-lent (points-found (given-read-answer .all))
-    pub kinds : kinds-later ≡ kept read-own kinds-lent (kinds-found (given-read-answer .all))
-    pub values : values-later ≡ kept read-own values-lent (values-found (given-read-answer .all))
+        samples-later ≡ stored read-own samples-lent (stored given-read-refusal samples-lent (over (sheet-samples bytes) samples-lent))
+    pub slot : axes-later ≡ stored read-own axes-lent (given-read-answer .axes ∷ [])
+    pub points : points-later ≡ stored read-own points-lent (points-found (given-read-answer .all))
+    pub kinds : kinds-later ≡ stored read-own kinds-lent (kinds-found (given-read-answer .all))
+    pub values : values-later ≡ stored read-own values-lent (values-found (given-read-answer .all))
 
 -- ---- the sheet's tensor
 
@@ -188,22 +178,22 @@ module _ (bytes : List ℕ) (knots-lent samples-lent tensor-lent scratch-lent : 
   given-sheet-refusal = sheet-tensor-refusal bytes knots-lent samples-lent tensor-lent scratch-lent
 
   pub record SheetTensorExport (refusal : ℕ) (knots-later samples-later tensor-later scratch-later : List Float) (length-later : List ℕ) : Type 0 where
-    pub answer : refusal ≡ before (sheet-tensor-own-refusal length-lent) given-sheet-refusal
+    pub answer : refusal ≡ or-else (sheet-tensor-own-refusal length-lent) given-sheet-refusal
     pub knots :
         knots-later
-        ≡ kept (sheet-tensor-own-refusal length-lent) knots-lent
+        ≡ stored (sheet-tensor-own-refusal length-lent) knots-lent
         (stored given-reading-refusal knots-lent (over (sheet-grid bytes .flat-knots) knots-lent))
     pub samples :
         samples-later
-        ≡ kept (sheet-tensor-own-refusal length-lent) samples-lent
+        ≡ stored (sheet-tensor-own-refusal length-lent) samples-lent
         (stored given-reading-refusal samples-lent (over (sheet-samples bytes) samples-lent))
     pub output :
         tensor-later
-        ≡ kept (sheet-tensor-own-refusal length-lent) tensor-lent
+        ≡ stored (sheet-tensor-own-refusal length-lent) tensor-lent
         (stored given-sheet-refusal tensor-lent (over (tensor (sheet-grid bytes) (sheet-samples bytes)) tensor-lent))
     pub scratch :
         scratch-later
-        ≡ kept (sheet-tensor-own-refusal length-lent) scratch-lent (scratch-after given-sheet-refusal scratch-lent)
+        ≡ stored (sheet-tensor-own-refusal length-lent) scratch-lent (scratch-after given-sheet-refusal scratch-lent)
     pub slot :
         length-later
-        ≡ kept (sheet-tensor-own-refusal length-lent) length-lent (answer-of given-sheet-refusal (sheet-grid bytes) .length ∷ [])
+        ≡ stored (sheet-tensor-own-refusal length-lent) length-lent (answer-of given-sheet-refusal (sheet-grid bytes) .length ∷ [])

@@ -20,8 +20,13 @@ use Rattle.rules.specs.declared.CurveAnswer.{CurveAnswer}
 use Rattle.rules.specs.declared.ChangeAnswer.{ChangeAnswer}
 use Rattle.rules.specs.declared.QueryAnswer.{QueryAnswer}
 
+-- a refusal that is met, 0 for none, stands before what comes after it
+abbrev pub or-else : ℕ → ℕ → ℕ
+or-else zero later = later
+or-else (suc refusal) later = suc refusal
+
 -- "Outputs are untouched": what stands in an output after the refusal, 0 for none
-abbrev pub stored : ℕ → List Float → List Float → List Float
+abbrev pub stored : {A : Type 0} → ℕ → List A → List A → List A
 stored zero old new = new
 stored (suc refusal) old new = old
 

@@ -8,13 +8,14 @@ use borrow.Author.Tests.{eq-eqb, ne-eqb}
 use lib.ListN.{length, take, drop, length-take}
 use lib.Ieee.{Float}
 use Rattle.rules.proofs.Tables.{length-table}
+use Rattle.rules.proofs.Refused.{unchanged}
 use Rattle.rules.specs.Refusals.{length-refused}
-use Rattle.rules.specs.Calls.{stored}
+use Rattle.rules.specs.Calls.{or-else}
 use Rattle.rules.specs.Sizes.{samples-length}
 use Rattle.rules.specs.declared.Axis.{Axis}
 use Rattle.bits.specs.Bits.{numbers}
 use Rattle.sheet.specs.Fields.{axes, entries, knots-below, sheet-grid, samples-begin, sheet-samples}
-use Rattle.sheet.specs.Faults.{or-else, sheet-refusal}
+use Rattle.sheet.specs.Faults.{sheet-refusal}
 use Rattle.sheet.specs.Read.{refused-answer, answer-of, over, read-refusal, ReadPromise}
 use Rattle.bits.specs.Within.{Within}
 use Rattle.sheet.specs.declared.ReadAnswer.{ReadAnswer}
@@ -63,10 +64,6 @@ module _ (bytes : List ℕ) (given : ReadAnswer) (e : given ≡ answer-of (sheet
 
 -- ---- the promise
 
-stored-kept : (refusal : ℕ) (old new : List Float) → (refusal ≡ 0 → ⊥) → old ≡ stored refusal old new
-stored-kept zero old new met = absurd (met refl)
-stored-kept (suc refusal) old new met = refl
-
 module _ (bytes : List ℕ) (knots samples : List Float) where
   -- where both buffers have their length, the refusal is the sheet's
   pub refusal-is : length knots ≡ 1024 → length samples ≡ 1024 → read-refusal bytes knots samples ≡ sheet-refusal bytes
@@ -96,8 +93,8 @@ module _ (bytes : List ℕ) (knots samples : List Float) where
         let refused : sheet-refusal bytes ≡ 0 → ⊥ = λ z. met (given-refusal bytes given e ∙ z) in
         record {
           answer = rw (refusal-is k s) e;
-          knots = rw (refusal-is k s) (stored-kept (sheet-refusal bytes) knots _ refused);
-          samples = rw (refusal-is k s) (stored-kept (sheet-refusal bytes) samples _ refused);
+          knots = rw (refusal-is k s) (unchanged (sheet-refusal bytes) knots _ refused);
+          samples = rw (refusal-is k s) (unchanged (sheet-refusal bytes) samples _ refused);
         }
 
     pub sheet-read : given .refusal ≡ 0 → (knots-later samples-later : List Float)

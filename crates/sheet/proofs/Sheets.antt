@@ -9,17 +9,19 @@ use lib.Dec.{ltb, eqb}
 use lib.ListN.{length, getD}
 use Rattle.base.proofs.Scan.{neither}
 use Rattle.rules.proofs.Tables.{at-table}
+use Rattle.rules.proofs.Refused.{or-else-passed}
 use Rattle.rules.specs.Sizes.{unused-axis, product-below, samples-length}
 use Rattle.rules.specs.Refusals.{axes-refused, tensor-refused}
+use Rattle.rules.specs.Calls.{or-else}
 use Rattle.rules.specs.declared.Axis.{Axis}
 use Rattle.checks.specs.Given.{points-of, InRange}
 use Rattle.bits.specs.Bits.{short, numbers-short}
 use Rattle.sheet.specs.Fields.{edition, axes, points-at, axis-at, axis-begin, entries, sheet-grid, samples-begin, samples-end}
-use Rattle.sheet.specs.Faults.{or-else, axes-fault, tail-refused, samples-fault, sheet-refusal}
+use Rattle.sheet.specs.Faults.{axes-fault, tail-refused, samples-fault, sheet-refusal}
 use Rattle.sheet.specs.Within.{Axes, Ended, NoFault}
 use Rattle.bits.proofs.Runs.{short-together}
 use Rattle.sheet.proofs.Extents.{extent}
-use Rattle.sheet.proofs.Walks.{passed, or-else-passed, each-faultless, faultless-axis}
+use Rattle.sheet.proofs.Walks.{passed, each-faultless, faultless-axis}
 use Rattle.sheet.proofs.Samples.{count-is, samples-least}
 
 -- ---- edition and axes

@@ -11,11 +11,13 @@ use borrow.Author.Tests.{ltb-false}
 use lib.ListN.{length, set, replicate}
 use Rattle.rules.specs.Sizes.{unused-axis}
 use Rattle.rules.specs.Refusals.{points-refused}
+use Rattle.rules.specs.Calls.{or-else}
 use Rattle.rules.specs.declared.Axis.{Axis}
+use Rattle.rules.proofs.Refused.{or-else-met, or-else-passed}
 use Rattle.bits.specs.Bits.{short, numbers-short}
 use Rattle.kinds.specs.Ends.{periodic-at-one-end}
 use Rattle.sheet.specs.Fields.{points-at, lower-kind, upper-kind, values-at, axis-at, axis-end, axis-begin, entries}
-use Rattle.sheet.specs.Faults.{or-else, axis-fault, axes-fault}
+use Rattle.sheet.specs.Faults.{axis-fault, axes-fault}
 use Rattle.sheet.specs.Within.{Whole, Walked}
 use Rattle.bits.proofs.Runs.{short-together}
 use Rattle.sheet.proofs.Extents.{extent, begin-most}
@@ -26,14 +28,6 @@ use Rattle.sheet.proofs.Extents.{extent, begin-most}
 pub passed : (test : Bool) (fault later : ℕ) → cond test (suc fault) later ≡ 0 → (test ≡ false) × (later ≡ 0)
 passed true fault later e = absurd (omega (arith, e))
 passed false fault later e = (refl, e)
-
-pub or-else-met : (fault later : ℕ) → (fault ≡ 0 → ⊥) → or-else fault later ≡ fault
-or-else-met zero later met = absurd (met refl)
-or-else-met (suc fault) later met = refl
-
-pub or-else-passed : (fault later : ℕ) → or-else fault later ≡ 0 → (fault ≡ 0) × (later ≡ 0)
-or-else-passed zero later e = (refl, e)
-or-else-passed (suc fault) later e = absurd (omega (arith, e))
 
 -- one axis more
 axes-fault-next : (bytes : List ℕ) (i : ℕ) → axes-fault bytes (suc i) ≡ or-else (axes-fault bytes i) (axis-fault bytes (axis-begin bytes i))

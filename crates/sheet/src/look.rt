@@ -1,7 +1,8 @@
 // All of a sheet looked at, up to its first fault, before anything is stored.
 ghost use mathlib.Core.Path.{_≡_};
+ghost use Rattle.rules.specs.Calls.{or-else};
 ghost use Rattle.sheet.specs.Fields.{axes, entries};
-ghost use Rattle.sheet.specs.Faults.{or-else, axes-fault, tail-refused, samples-fault, sheet-refusal};
+ghost use Rattle.sheet.specs.Faults.{axes-fault, tail-refused, samples-fault, sheet-refusal};
 ghost use Rattle.sheet.specs.Read.{answer-of, refused-answer};
 ghost use Rattle.bits.specs.Within.{Within};
 ghost use Rattle.sheet.specs.Within.{Axes, Ended};

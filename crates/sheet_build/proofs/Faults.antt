@@ -9,10 +9,11 @@ use lib.ListN.{length}
 use lib.Ieee.{Float}
 use Rattle.rules.specs.Sizes.{samples-length}
 use Rattle.rules.specs.Refusals.{axes-refused, points-refused, tensor-refused, length-refused}
+use Rattle.rules.specs.Calls.{or-else}
 use Rattle.bits.specs.Bits.{short, numbers-short}
 use Rattle.kinds.specs.Ends.{periodic-at-one-end}
 use Rattle.sheet.specs.Fields.{edition, axes, points-at, lower-kind, upper-kind, values-at, axis-begin, sheet-grid, samples-begin, samples-end}
-use Rattle.sheet.specs.Faults.{or-else, axis-fault, axes-fault, tail-refused, samples-fault, sheet-refusal}
+use Rattle.sheet.specs.Faults.{axis-fault, axes-fault, tail-refused, samples-fault, sheet-refusal}
 use Rattle.sheet.specs.Read.{read-refusal}
 
 abbrev pub NotTen : ℕ → Type 0

@@ -9,12 +9,13 @@ use lib.Ieee.{Float}
 use Rattle.rules.specs.Sizes.{Grid, knots-length, samples-length, tensor-length}
 use Rattle.rules.specs.Refusals.{length-refused}
 use Rattle.rules.specs.Calls.{stored, scratch-after}
+use Rattle.rules.proofs.Refused.{or-else-met, or-else-passed, unchanged}
 use Rattle.checks.proofs.Rows.{axes-few, in-range}
 use Rattle.sheet.specs.Fields.{axes, entries, sheet-grid, sheet-samples}
 use Rattle.sheet.specs.Faults.{sheet-refusal}
 use Rattle.sheet.specs.Read.{over, read-refusal, ReadPromise}
 use Rattle.sheet.specs.declared.ReadAnswer.{ReadAnswer}
-use Rattle.sheet.proofs.Walks.{passed as no-test, or-else-met, or-else-passed}
+use Rattle.sheet.proofs.Walks.{passed as no-test}
 use Rattle.sheet.proofs.Parts.{Parts, parts, take-over}
 use Rattle.sheet.proofs.Promises.{answer-refusal, lengths-passed}
 use Rattle.sheet_build.specs.SheetTensor.{refused-answer, answer-of, PartsGiven, grid-in, samples-in, parts-refusal, PartsPromise, reading-refusal, sheet-tensor-refusal, SheetPromise}
@@ -26,10 +27,6 @@ use Rattle.sheet_build.proofs.Builds.{refused-is}
 
 ten-alone : (refusal : ℕ) (scratch : List Float) → (refusal ≡ 0 → ⊥) → NotTen refusal → scratch ≡ scratch-after refusal scratch
 ten-alone refusal scratch met other = rw (ne-eqb refusal 0 met, ne-eqb refusal 10 other)
-
-kept : (refusal : ℕ) (old new : List Float) → (refusal ≡ 0 → ⊥) → old ≡ stored refusal old new
-kept zero old new met = absurd (met refl)
-kept (suc refusal) old new met = refl
 
 module _ (bytes : List ℕ) (knots samples lent scratch : List Float) where
   abbrev g : Grid
@@ -62,7 +59,7 @@ module _ (bytes : List ℕ) (knots samples lent scratch : List Float) where
     answer = rw (refusal-met met) (e ∙ refused-is reading g met);
     knots = k;
     samples = s;
-    output = rw (refusal-met met) (kept reading lent _ met);
+    output = rw (refusal-met met) (unchanged reading lent _ met);
     scratch = rw (refusal-met met) (ten-alone reading scratch met other);
   }
 
@@ -76,7 +73,7 @@ module _ (bytes : List ℕ) (knots samples lent scratch : List Float) where
   buffer-refused given other e =
       let is = tensor-length-met other in
       let met : reading ≡ 0 → ⊥ = λ z. omega arith in
-      reading-refused given knots samples met (λ z. omega arith) (rw is e) (kept reading knots _ met) (kept reading samples _ met)
+      reading-refused given knots samples met (λ z. omega arith) (rw is e) (unchanged reading knots _ met) (unchanged reading samples _ met)
 
   -- what the reader answered
   module _ (long : length lent ≡ 4096) (a : ReadAnswer) (k s : List Float) (read : ReadPromise bytes knots samples a k s) where

@@ -6,8 +6,9 @@ use native.Mathlib.Omega.{arith}
 use borrow.Author.Tests.{ltb-true, ltb-false}
 use lib.ListN.{length}
 use Rattle.rules.specs.Refusals.{axes-refused}
+use Rattle.rules.specs.Calls.{or-else}
 use Rattle.sheet.specs.Fields.{edition, axes, sheet-grid}
-use Rattle.sheet.specs.Faults.{or-else, axes-fault, samples-fault, sheet-refusal}
+use Rattle.sheet.specs.Faults.{axes-fault, samples-fault, sheet-refusal}
 use Rattle.sheet.proofs.Sheets.{no-edition, other-edition, no-axes, some-axes, axes-few, axes-many, axes-allowed}
 use borrow.Author.Needs.{needs}
 use Rattle.sheet.proofs.look.look.Statement.{statement}
