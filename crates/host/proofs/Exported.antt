@@ -1,10 +1,10 @@
 -- Each export refuses as the host's own refusal says, or answers as `rules` promises for what was given.
-use mathlib.Core.Path.{_≡_, refl, sym, ap, _∙_}
+use mathlib.Core.Path.{_≡_, sym, ap, _∙_}
 use mathlib.Core.List.{List, [], _∷_}
-use Prim.Native.Nat.{ℕ, zero, suc}
+use Prim.Native.Nat.{ℕ}
 use lib.ListN.{set}
 use lib.Ieee.{Float}
-use Rattle.rules.specs.Sizes.{place-of, Grid}
+use Rattle.rules.specs.Sizes.{place-of}
 use Rattle.rules.specs.Calls.{or-else, stored, MomentsPromise, CurvePromise, BuildPromise, change-answer, ChangePromise, QueryPromise}
 use Rattle.rules.specs.declared.Condition.{Condition}
 use Rattle.rules.specs.declared.CurveAnswer.{CurveAnswer}
@@ -15,8 +15,9 @@ use Rattle.rules.proofs.Refused.{or-else-met, unchanged}
 use Rattle.sheet.specs.Read.{ReadPromise}
 use Rattle.sheet.specs.declared.ReadAnswer.{ReadAnswer}
 use Rattle.sheet.proofs.Promises.{answer-refusal}
-use Rattle.sheet_build.specs.SheetTensor.{answer-of, SheetPromise}
+use Rattle.sheet_build.specs.SheetTensor.{SheetPromise}
 use Rattle.sheet_build.specs.declared.SheetAnswer.{SheetAnswer}
+use Rattle.sheet_build.proofs.Builds.{answered-refusal}
 use Rattle.plain_axes.specs.Axes.{condition-given, axes-given, axes-without-ends, points-found, kinds-found, values-found, AxesStored}
 use Rattle.host.specs.Exports.{moments-own-refusal, curve-own-refusal, build-own-refusal, change-own-refusal, query-own-refusal, read-own-refusal, sheet-tensor-own-refusal, MomentsExport, CurveExport, BuildExport, ChangeExport, QueryExport, ReadExport, SheetTensorExport}
 use Rattle.host.proofs.Lengths.{curve-lengths, change-lengths, query-lengths, read-lengths, sheet-tensor-lengths}
@@ -188,11 +189,6 @@ module _ (bytes : List ℕ) (knots-lent samples-lent : List Float) (axes-lent po
 
 -- ---- the sheet's tensor
 
--- the answer has the refusal's number
-sheet-answer-refusal : (refusal : ℕ) (g : Grid) → answer-of refusal g .refusal ≡ refusal
-sheet-answer-refusal zero g = refl
-sheet-answer-refusal (suc refusal) g = refl
-
 module _ (bytes : List ℕ) (knots-lent samples-lent tensor-lent scratch-lent : List Float) (length-lent : List ℕ) {r : ℕ} (e : r ≡ sheet-tensor-own-refusal length-lent) where
   pub sheet-tensor-refused :
       (r ≡ 0 → ⊥)
@@ -211,7 +207,7 @@ module _ (bytes : List ℕ) (knots-lent samples-lent tensor-lent scratch-lent : 
       → SheetPromise bytes knots-lent samples-lent tensor-lent scratch-lent a k s t w
       → SheetTensorExport bytes knots-lent samples-lent tensor-lent scratch-lent length-lent (a .refusal) k s t w (set length-lent 0 (a .length))
   sheet-tensor-called none a p = record {
-    answer = call-answer _ e none (ap (λ (b : SheetAnswer). b .refusal) (p .answer) ∙ sheet-answer-refusal _ _);
+    answer = call-answer _ e none (ap (λ (b : SheetAnswer). b .refusal) (p .answer) ∙ answered-refusal _ _);
     knots = left _ _ e none (p .knots);
     samples = left _ _ e none (p .samples);
     output = left _ _ e none (p .output);

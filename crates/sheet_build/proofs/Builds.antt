@@ -20,6 +20,11 @@ pub refused-is : (refusal : ℕ) (g : Grid) → (refusal ≡ 0 → ⊥) → refu
 refused-is zero g met = absurd (met refl)
 refused-is (suc refusal) g met = refl
 
+-- and the answer has its number
+pub answered-refusal : (refusal : ℕ) (g : Grid) → answer-of refusal g .refusal ≡ refusal
+answered-refusal zero g = refl
+answered-refusal (suc refusal) g = refl
+
 length-tensor : (g : Grid) (samples : List Float) → length (tensor g samples) ≡ tensor-length g
 unfolding tensor
 length-tensor g samples = length-table (tensor-length g) _

@@ -1,4 +1,5 @@
 pub mod Faults
 pub mod Builds
 pub mod Promises
+pub mod Classes
 pub mod Unique

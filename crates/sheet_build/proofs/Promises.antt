@@ -20,12 +20,12 @@ use Rattle.sheet.proofs.Parts.{Parts, parts, take-over}
 use Rattle.sheet.proofs.Promises.{answer-refusal, lengths-passed}
 use Rattle.sheet_build.specs.SheetTensor.{refused-answer, answer-of, PartsGiven, grid-in, samples-in, parts-refusal, PartsPromise, reading-refusal, sheet-tensor-refusal, SheetPromise}
 use Rattle.sheet_build.specs.declared.SheetAnswer.{SheetAnswer}
-use Rattle.sheet_build.proofs.Faults.{NotTen, read-not-ten}
+use Rattle.sheet_build.proofs.Faults.{reading-of-reading, not-ten}
 use Rattle.sheet_build.proofs.Builds.{refused-is}
 
 -- ---- what comes before the build
 
-ten-alone : (refusal : ℕ) (scratch : List Float) → (refusal ≡ 0 → ⊥) → NotTen refusal → scratch ≡ scratch-after refusal scratch
+ten-alone : (refusal : ℕ) (scratch : List Float) → (refusal ≡ 0 → ⊥) → (refusal ≡ 10 → ⊥) → scratch ≡ scratch-after refusal scratch
 ten-alone refusal scratch met other = rw (ne-eqb refusal 0 met, ne-eqb refusal 10 other)
 
 module _ (bytes : List ℕ) (knots samples lent scratch : List Float) where
@@ -41,26 +41,26 @@ module _ (bytes : List ℕ) (knots samples lent scratch : List Float) where
   abbrev refusal : ℕ
   refusal = sheet-tensor-refusal bytes knots samples lent scratch
 
-  refusal-met : (reading ≡ 0 → ⊥) → refusal ≡ reading
+  pub refusal-met : (reading ≡ 0 → ⊥) → refusal ≡ reading
   unfolding sheet-tensor-refusal
   refusal-met met = or-else-met reading _ met
 
-  refusal-passed : reading ≡ 0 → refusal ≡ parts-refusal g y lent scratch
+  pub refusal-passed : reading ≡ 0 → refusal ≡ parts-refusal g y lent scratch
   unfolding sheet-tensor-refusal
   refusal-passed none = rw none
 
   -- a refusal before the build: the answer says so, and tensor and scratch are as they were
   reading-refused :
-      (given : SheetAnswer) (knots-later samples-later : List Float) → (reading ≡ 0 → ⊥) → NotTen reading → given ≡ refused-answer reading
+      (given : SheetAnswer) (knots-later samples-later : List Float) → (reading ≡ 0 → ⊥) → given ≡ refused-answer reading
       → knots-later ≡ stored reading knots (over (g .flat-knots) knots)
       → samples-later ≡ stored reading samples (over y samples)
       → SheetPromise bytes knots samples lent scratch given knots-later samples-later lent scratch
-  reading-refused given knots-later samples-later met other e k s = record {
+  reading-refused given knots-later samples-later met e k s = record {
     answer = rw (refusal-met met) (e ∙ refused-is reading g met);
     knots = k;
     samples = s;
     output = rw (refusal-met met) (unchanged reading lent _ met);
-    scratch = rw (refusal-met met) (ten-alone reading scratch met other);
+    scratch = rw (refusal-met met) (ten-alone reading scratch met (not-ten reading (reading-of-reading bytes knots samples lent scratch) met));
   }
 
   -- 4 for the tensor's buffer
@@ -73,7 +73,7 @@ module _ (bytes : List ℕ) (knots samples lent scratch : List Float) where
   buffer-refused given other e =
       let is = tensor-length-met other in
       let met : reading ≡ 0 → ⊥ = λ z. omega arith in
-      reading-refused given knots samples met (λ z. omega arith) (rw is e) (unchanged reading knots _ met) (unchanged reading samples _ met)
+      reading-refused given knots samples met (rw is e) (unchanged reading knots _ met) (unchanged reading samples _ met)
 
   -- what the reader answered
   module _ (long : length lent ≡ 4096) (a : ReadAnswer) (k s : List Float) (read : ReadPromise bytes knots samples a k s) where
@@ -94,8 +94,7 @@ module _ (bytes : List ℕ) (knots samples lent scratch : List Float) where
     pub sheet-refused : (given : SheetAnswer) → (a .refusal ≡ 0 → ⊥) → given ≡ refused-answer (a .refusal)
         → SheetPromise bytes knots samples lent scratch given k s lent scratch
     sheet-refused given met e =
-        reading-refused given k s (λ z. met (answered ∙ z)) (λ t. read-not-ten bytes knots samples (sym reading-is ∙ t))
-        (rw answered at e) knots-are samples-are
+        reading-refused given k s (λ z. met (answered ∙ z)) (rw answered at e) knots-are samples-are
 
     -- an accepted sheet: its parts stand in the buffers
     module _ (none : a .refusal ≡ 0) where

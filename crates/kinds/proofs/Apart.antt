@@ -1,0 +1,18 @@
+-- The classes are apart from each other.
+use mathlib.Core.Path.{_≡_, ap}
+use Prim.Native.Nat.{ℕ}
+use native.Mathlib.Omega.{arith}
+use Rattle.kinds.specs.declared.classes.Class.{Class}
+use Rattle.kinds.specs.declared.classes.Class.the-variants.{None, Reading, Building, Unknown}
+
+abbrev place : Class → ℕ
+place None = 0
+place Reading = 1
+place Building = 2
+place Unknown = 3
+
+pub none-not-reading : None ≡ Reading → ⊥
+none-not-reading e = let places = ap place e in omega arith
+
+pub reading-not-building : Reading ≡ Building → ⊥
+reading-not-building e = let places = ap place e in omega arith

@@ -1,0 +1,102 @@
+-- What the class of the call's refusal says of the buffers: after Reading nothing of the sheet shows, after Building its parts stand there.
+use mathlib.Core.Path.{_≡_, refl, sym, ap, _∙_}
+use mathlib.Core.Bool.{_||_}
+use mathlib.Core.List.{List}
+use Prim.Native.Nat.{ℕ, zero, suc}
+use native.Mathlib.Omega.{arith}
+use borrow.Author.Tests.{eq-eqb, ltb-false}
+use lib.ListN.{length, take, length-take}
+use lib.Ieee.{Float}
+use Rattle.rules.specs.Sizes.{Grid, tensor-length, scratch-length}
+use Rattle.rules.specs.Refusals.{length-refused, scratch-refused, some-number-refused, some-ends-refused, some-knots-refused, some-fewness-refused, outcome-refused}
+use Rattle.rules.specs.Tensor.{tensor}
+use Rattle.rules.specs.Calls.{build-refusal}
+use Rattle.rules.proofs.Refused.{unchanged}
+use Rattle.checks.proofs.Rows.{exact}
+use Rattle.kinds.specs.Classes.{class}
+use Rattle.kinds.specs.declared.classes.Class.the-variants.{Reading, Building}
+use Rattle.kinds.proofs.Apart.{none-not-reading, reading-not-building}
+use Rattle.sheet.specs.Fields.{sheet-grid, sheet-samples}
+use Rattle.sheet.specs.Faults.{sheet-refusal}
+use Rattle.sheet.specs.Read.{over, read-refusal}
+use Rattle.sheet.proofs.Walks.{passed}
+use Rattle.sheet.proofs.Parts.{parts}
+use Rattle.sheet.proofs.Promises.{lengths-passed}
+use Rattle.sheet_build.specs.SheetTensor.{parts-refusal, reading-refusal, sheet-tensor-refusal, SheetPromise}
+use Rattle.sheet_build.specs.declared.SheetAnswer.{SheetAnswer}
+use Rattle.sheet_build.proofs.Faults.{Of, no-fault, tested, reading-of-reading}
+use Rattle.sheet_build.proofs.Builds.{answered-refusal}
+use Rattle.sheet_build.proofs.Promises.{refusal-met, refusal-passed}
+
+module _ (bytes : List ℕ) (knots samples lent scratch : List Float) where
+  abbrev g : Grid
+  g = sheet-grid bytes
+
+  abbrev y : List Float
+  y = sheet-samples bytes
+
+  abbrev reading : ℕ
+  reading = reading-refusal bytes knots samples lent scratch
+
+  abbrev refusal : ℕ
+  refusal = sheet-tensor-refusal bytes knots samples lent scratch
+
+  -- the reader refuses
+  reading-class : (reading ≡ 0 → ⊥) → class refusal ≡ Reading
+  reading-class met = ap class (refusal-met bytes knots samples lent scratch met) ∙ reading-of-reading bytes knots samples lent scratch met
+
+  -- it does not: the build has nothing to refuse in the sizes and lengths of what was read
+  read-passed : reading ≡ 0 → (length lent ≡ 4096) × (sheet-refusal bytes ≡ 0)
+  unfolding reading-refusal
+  read-passed none =
+      let both = passed (length-refused (length lent) 4096) 3 (read-refusal bytes knots samples) none in
+      (exact (length lent) 4096 (both .0), lengths-passed bytes knots samples (both .1))
+
+  build-of-building : reading ≡ 0 → Of Building (parts-refusal g y lent scratch)
+  unfolding build-refusal class
+  build-of-building none =
+      let long = read-passed none .0 in
+      let known = parts bytes (read-passed none .1) in
+      let small = ltb-false 4096 (tensor-length g) (known .tensor) in
+      let part : length (take (tensor-length g) lent) ≡ tensor-length g = rw length-take (omega arith) in
+      rw (known .axes, known .points, known .tensor, eq-eqb _ _ (known .knots), eq-eqb _ _ (known .samples), eq-eqb _ _ part)
+      (tested (scratch-refused (length scratch) (scratch-length g)) (λ met. refl)
+      (tested (some-number-refused (g .flat-knots) || some-ends-refused g || some-number-refused y) (λ met. refl)
+      (tested (some-knots-refused g) (λ met. refl)
+      (tested (some-fewness-refused g) (λ met. refl)
+      (tested (outcome-refused (tensor g y)) (λ met. refl) no-fault)))))
+
+  building-class : reading ≡ 0 → (refusal ≡ 0 → ⊥) → class refusal ≡ Building
+  building-class none met =
+      let is = refusal-passed bytes knots samples lent scratch none in
+      ap class is ∙ build-of-building none (λ z. met (is ∙ z))
+
+  -- so the class tells whether the sheet was read
+  not-read : class refusal ≡ Reading → reading ≡ 0 → ⊥
+  unfolding class
+  not-read c none = go refusal refl
+    where
+      go : (number : ℕ) → refusal ≡ number → ⊥
+      go zero e = none-not-reading (sym (ap class e) ∙ c)
+      go (suc number) e = reading-not-building (sym c ∙ building-class none (λ z. omega (arith, e, z)))
+
+  was-read : class refusal ≡ Building → reading ≡ 0
+  was-read c = go reading refl
+    where
+      go : (number : ℕ) → reading ≡ number → reading ≡ 0
+      go zero e = e
+      go (suc number) e = absurd (reading-not-building (sym (reading-class (λ z. omega (arith, e, z))) ∙ c))
+
+  module _ (given : SheetAnswer) (k s t w : List Float) (p : SheetPromise bytes knots samples lent scratch given k s t w) where
+    class-is : class (given .refusal) ≡ class refusal
+    class-is = ap (λ (a : SheetAnswer). class (a .refusal)) (p .answer) ∙ ap class (answered-refusal refusal g)
+
+    pub shows-nothing : class (given .refusal) ≡ Reading → (k ≡ knots) × (s ≡ samples)
+    shows-nothing c =
+        let met = not-read (sym class-is ∙ c) in
+        (p .knots ∙ sym (unchanged reading knots _ met), p .samples ∙ sym (unchanged reading samples _ met))
+
+    pub parts-stand : class (given .refusal) ≡ Building → (k ≡ over (g .flat-knots) knots) × (s ≡ over y samples)
+    parts-stand c =
+        let none = was-read (sym class-is ∙ c) in
+        (rw none at (p .knots), rw none at (p .samples))
