@@ -1,13 +1,12 @@
--- What the steps of the blend give: the weights of an axis, and what is known of a point on each axis.
+-- What the steps of the blend give: the weights of an axis, and a cell with one axis fewer.
 use mathlib.Core.Path.{_≡_}
 use mathlib.Core.List.{List}
 use Prim.Native.Nat.{ℕ, _<_}
-use lib.ListN.{getD, length}
-use lib.Ieee.{Float, nan}
+use lib.ListN.{length}
+use lib.Ieee.{Float}
 use Rattle.rules.specs.Numbers.{_⊕_, _⊗_, at}
 use Rattle.rules.specs.Query.{hermite, without-lowest}
 use Rattle.blend.specs.declared.Weights.{Weights}
-use Rattle.blend.specs.declared.AxisCell.{AxisCell}
 
 -- the last line of `evaluate_hermite_1d`
 abbrev pub weighted : Weights → Float → Float → Float → Float → Float
@@ -21,13 +20,3 @@ pub record WeightsOf (width t : Float) (w : Weights) : Type 0 where
 pub record Removed (cell later : List Float) (size : ℕ) (width t : Float) : Type 0 where
   pub same-length : length later ≡ length cell
   pub smaller : (e : ℕ) → e < size → at later e ≡ without-lowest size width t (at cell) e
-
--- what is known of a point on axis i: the lower knot of its cell, the cell's width, the fraction, and the label
-abbrev pub axis-cell : List AxisCell → ℕ → AxisCell
-axis-cell cells i = getD cells i (record { lower = 0; width = nan; t = nan; label = 0 })
-
-abbrev pub widths : List AxisCell → ℕ → Float
-widths cells i = axis-cell cells i .width
-
-abbrev pub ts : List AxisCell → ℕ → Float
-ts cells i = axis-cell cells i .t

@@ -1,11 +1,11 @@
-// The Hermite blend of a cell, as in the Rust's cubic/utils.rs. `cells` is where the point lies on each of the four axes, `cell` the local cell
-// of 4 to the power of the axes numbers.
+// The Hermite blend of a cell, as in the Rust's cubic/utils.rs. `widths` and `ts` are the cell's width and the point's fraction of it on each
+// of the four axes, `cell` the local cell of 4 to the power of the axes numbers.
 ghost use mathlib.Core.Path.{_≡_};
 ghost use Prim.Native.Nat.{_-_, _*_, _^_, _≤_};
 ghost use lib.ListN.{length};
 ghost use Rattle.rules.specs.Numbers.{at};
 ghost use Rattle.rules.specs.Query as rule;
-ghost use Rattle.blend.specs.Blend.{weighted, WeightsOf, Removed, widths, ts};
+ghost use Rattle.blend.specs.Blend.{weighted, WeightsOf, Removed};
 
 // The Hermite weights of one axis: h00 and h01 for the values at the lower and the upper knot, h10 and h11, times the width, for the slopes.
 struct Weights {
@@ -13,14 +13,6 @@ struct Weights {
     h10: f64,
     h01: f64,
     h11: f64,
-}
-
-// Where a point lies on one axis: the lower knot of its cell, the cell's width, the fraction of it, and the label for the log.
-pub struct AxisCell {
-    pub lower: usize,
-    pub width: f64,
-    pub t: f64,
-    pub label: usize,
 }
 
 // The weights of an axis, computed once for all numbers of a cell.
@@ -67,15 +59,15 @@ fn remove_lowest(cell: &mut [f64], size: usize, width: f64, t: f64)
 
 // The blend of a cell in which the last `left` of the axes are left: each call removes the lowest, until no axis is left and one number remains.
 // Not public: the cell's length is required, and few axes.
-pub fn blend(cell: &mut [f64], left: usize, axes: usize, cells: [AxisCell; 4]) -> f64
+pub fn blend(cell: &mut [f64], left: usize, axes: usize, widths: [f64; 4], ts: [f64; 4]) -> f64
     requires { ⌜ (length (now cell) ≡ 4 ^ left) × (left ≤ axes) × (axes ≤ 4) ⌝ }
-    ensures { λ r. ⌜ r ≡ rule.blend left (axes - left) (widths cells) (ts cells) (at (now (cell .entry))) ⌝ }
+    ensures { λ r. ⌜ r ≡ rule.blend left (axes - left) (at widths) (at ts) (at (now (cell .entry))) ⌝ }
 {
     if left == 0 {
         return cell[0];
     }
     let size = cell.len() / 4;
-    let lowest = cells[axes - left];
-    remove_lowest(cell, size, lowest.width, lowest.t);
-    blend(&mut cell[0..size], left - 1, axes, cells)
+    let lowest = axes - left;
+    remove_lowest(cell, size, widths[lowest], ts[lowest]);
+    blend(&mut cell[0..size], left - 1, axes, widths, ts)
 }

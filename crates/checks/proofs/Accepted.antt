@@ -18,7 +18,7 @@ use Rattle.rules.specs.declared.Condition.{Condition}
 use Rattle.base.proofs.Scan.{neither, any-at}
 use Rattle.checks.specs.Given.{AxisGiven, MomentsGiven, CurveGiven, SlopesGiven, GridGiven, SolveGiven, BuildGiven, ChangeGiven, QueryGiven}
 use Rattle.checks.specs.Check.{moments-rows, curve-rows, slopes-rows, build-rows, change-rows, query-rows, moments-check, curve-check, slopes-check, build-check, change-check, query-check}
-use Rattle.checks.proofs.Products.{sum-within}
+use Rattle.grid.proofs.Products.{sum-within}
 use Rattle.checks.proofs.Rows.{none-applies, axes-few, in-range, exact-2, exact-3, exact-4}
 
 neither-3 : (a b c : Bool) → (a || b || c) ≡ false → (a ≡ false) × (b ≡ false) × (c ≡ false)

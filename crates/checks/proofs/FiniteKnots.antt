@@ -19,7 +19,8 @@ use Rattle.rules.specs.Refusals.{points-refused, number-refused, some-number-re
 use Rattle.rules.specs.declared.Axis.{Axis}
 use Rattle.base.proofs.Scan.{neither, any-at, any-never}
 use Rattle.base.proofs.Finite.{finite-difference}
-use Rattle.checks.specs.Given.{grid, sizes-of, points-of, InRange, FiniteUnless}
+use Rattle.checks.specs.Given.{FiniteUnless}
+use Rattle.grid.specs.Given.{grid, sizes-of, points-of, InRange}
 use Rattle.checks.proofs.Accepted.{knots-step}
 
 -- each knot has a neighbour, and the step between them is finite

@@ -1,4 +1,3 @@
-pub mod Products
 pub mod Rows
 pub mod ThenOutcome
 pub mod Accepted

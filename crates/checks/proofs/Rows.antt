@@ -15,7 +15,7 @@ use Rattle.rules.specs.Calls.{or-else}
 use Rattle.rules.proofs.Refused.{or-else-met}
 use Rattle.rules.specs.declared.Axis.{Axis}
 use Rattle.base.proofs.Scan.{neither, any-at}
-use Rattle.checks.specs.Given.{sizes-of, points-of, InRange}
+use Rattle.grid.specs.Given.{sizes-of, points-of, InRange}
 use Rattle.checks.specs.Check.{Refusal, lowest, sizes-rows, sizes-check}
 
 -- ---- a row of two tests, asked one after the other

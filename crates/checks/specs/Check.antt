@@ -8,7 +8,7 @@ use Rattle.rules.specs.Sizes.{scratch-of-rows, Grid, knots-length, samples-leng
 use Rattle.rules.specs.Refusals.{axes-refused, points-refused, some-points-refused, tensor-refused, length-refused, scratch-refused, place-refused, number-refused, some-number-refused, ends-refused, some-ends-refused, knots-refused, some-knots-refused, fewness-refused, some-fewness-refused}
 use Rattle.rules.specs.declared.Axis.{Axis}
 use Rattle.rules.specs.declared.Condition.{Condition}
-use Rattle.checks.specs.Given.{sizes-of}
+use Rattle.grid.specs.Given.{sizes-of}
 
 -- a row of the table of refusals: its number, and whether it applies
 pub record Refusal : Type 0 where

@@ -1,36 +1,14 @@
 -- What a call was given, and what is known of it once its check has found nothing to refuse.
 use mathlib.Core.Path.{_≡_}
 use mathlib.Core.Bool.{Bool, false}
-use mathlib.Core.List.{List, []}
+use mathlib.Core.List.{List}
 use Prim.Native.Nat.{ℕ, _≤_, _<_}
-use lib.ListN.{getD, length}
+use lib.ListN.{length}
 use lib.Ieee.{Float}
-use Rattle.rules.specs.Sizes.{most-axes, fewest-on-an-axis, most-on-an-axis, most-in-a-tensor, scratch-of-rows, unused-axis, Grid, points, condition, knots-length, knots, samples-length, tensor-length, scratch-length, Place}
+use Rattle.rules.specs.Sizes.{fewest-on-an-axis, most-on-an-axis, most-in-a-tensor, scratch-of-rows, Grid, points, condition, knots-length, knots, samples-length, tensor-length, scratch-length, Place}
 use Rattle.rules.specs.Refusals.{number-refused, some-number-refused, ends-refused, knots-refused, fewness-refused}
-use Rattle.rules.specs.declared.Axis.{Axis}
 use Rattle.rules.specs.declared.Condition.{Condition}
-
--- the grid of a call's axes, their entries and the flat knots
-abbrev pub grid : ℕ → List Axis → List Float → Grid
-grid axes entries flat-knots = record { axes = axes; entries = entries; flat-knots = flat-knots }
-
--- the same without knots: what tests on sizes and ends need
-abbrev pub sizes-of : ℕ → List Axis → Grid
-sizes-of axes entries = grid axes entries []
-
--- the points and the condition of each of the entries
-abbrev pub points-of : List Axis → ℕ → ℕ
-points-of entries i = getD entries i unused-axis .points
-
-abbrev pub condition-of : List Axis → ℕ → Condition
-condition-of entries i = getD entries i unused-axis .condition
-
--- what refusals 1 and 2 leave: 1 to 4 axes, with n i points on axis i
-pub record InRange (axes : ℕ) (n : ℕ → ℕ) : Type 0 where
-  pub some-axes : 1 ≤ axes
-  pub few-axes : axes ≤ most-axes
-  pub some-points : (i : ℕ) → i < axes → fewest-on-an-axis ≤ n i
-  pub few-points : (i : ℕ) → i < axes → n i ≤ most-on-an-axis
+use Rattle.grid.specs.Given.{InRange}
 
 -- what the pass over the knots for refusal 8 says of refusal 7: where it finds nothing, they are all finite
 abbrev pub FiniteUnless : Bool → List Float → Type 0

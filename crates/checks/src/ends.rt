@@ -3,7 +3,7 @@ ghost use mathlib.Core.Path.{_≡_};
 ghost use Prim.Native.Nat.{_≤_};
 ghost use Rattle.rules.specs.Ends.{dropped, fewest-points};
 ghost use Rattle.rules.specs.Refusals.{end-refused, ends-refused, some-ends-refused, fewness-refused, some-fewness-refused};
-ghost use Rattle.checks.specs.Given.{sizes-of};
+ghost use Rattle.grid.specs.Given.{sizes-of};
 use rules::Axis;
 use rules::Condition;
 use rules::End;

@@ -3,8 +3,7 @@ ghost use mathlib.Core.Path.{_≡_};
 ghost use mathlib.Core.Bool.{_||_};
 ghost use Rattle.rules.specs.Sizes.{knots-length, samples-length, tensor-length, scratch-length};
 ghost use Rattle.rules.specs.Refusals.{length-refused, scratch-refused};
-ghost use Rattle.checks.specs.Given.{sizes-of, points-of, InRange};
-use crate::sizes;
+ghost use Rattle.grid.specs.Given.{sizes-of, points-of, InRange};
 use rules::Axis;
 
 // Whether a slice is not of the exact length.
@@ -54,13 +53,13 @@ pub fn build_refused(
     requires { ⌜ InRange axes (points-of all) ⌝ }
     ensures { λ r. ⌜ r ≡ (length-refused knots (knots-length (sizes-of axes all)) || length-refused samples (samples-length (sizes-of axes all)) || length-refused tensor (tensor-length (sizes-of axes all))) ⌝ }
 {
-    if length_refused(knots, sizes::knots_length(axes, all)) {
+    if length_refused(knots, grid::knots_length(axes, all)) {
         return true;
     }
-    if length_refused(samples, sizes::samples_length(axes, all)) {
+    if length_refused(samples, grid::samples_length(axes, all)) {
         return true;
     }
-    length_refused(tensor, sizes::tensor_length(axes, all))
+    length_refused(tensor, grid::tensor_length(axes, all))
 }
 
 // Whether knots or tensor are not as long as a change asks for. Not public, as above.
@@ -68,10 +67,10 @@ pub fn change_refused(axes: usize, all: [Axis; 4], knots: usize, tensor: usize) 
     requires { ⌜ InRange axes (points-of all) ⌝ }
     ensures { λ r. ⌜ r ≡ (length-refused knots (knots-length (sizes-of axes all)) || length-refused tensor (tensor-length (sizes-of axes all))) ⌝ }
 {
-    if length_refused(knots, sizes::knots_length(axes, all)) {
+    if length_refused(knots, grid::knots_length(axes, all)) {
         return true;
     }
-    length_refused(tensor, sizes::tensor_length(axes, all))
+    length_refused(tensor, grid::tensor_length(axes, all))
 }
 
 // Whether knots, tensor or coordinates are not as long as a query asks for. Not public, as above.
@@ -96,5 +95,5 @@ pub fn scratch_refused(axes: usize, all: [Axis; 4], scratch: usize) -> bool
     requires { ⌜ InRange axes (points-of all) ⌝ }
     ensures { λ r. ⌜ r ≡ scratch-refused scratch (scratch-length (sizes-of axes all)) ⌝ }
 {
-    scratch < sizes::tensor_length(axes, all) + 2048
+    scratch < grid::tensor_length(axes, all) + scratch::ROWS
 }

@@ -1,7 +1,7 @@
 // Refusals 1 to 9 as code: for each public call the lowest number that it meets before it works, and 0 where there is none. Of a slice that the call will write, only the length is looked at. The pass over the knots for refusal 8 is made before the numbers are looked at for refusal 7: where it finds nothing, every knot is finite.
 ghost use mathlib.Core.Path.{_≡_};
 ghost use Rattle.rules.specs.Sizes.{place-of};
-ghost use Rattle.checks.specs.Given.{grid};
+ghost use Rattle.grid.specs.Given.{grid};
 ghost use Rattle.checks.specs.Check.{moments-check, curve-check, slopes-check, build-check, change-check, query-check};
 use rules::Axis;
 use rules::Condition;
@@ -29,7 +29,7 @@ pub fn moments_refusal(
     if lengths::axis_refused(points, knots.len(), samples.len(), moments_length) {
         return 4;
     }
-    if scratch_length < 2048 {
+    if scratch_length < scratch::ROWS {
         return 5;
     }
     let knots_refused = rising::knots_refused(knots);

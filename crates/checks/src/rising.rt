@@ -7,7 +7,7 @@ ghost use lib.Ieee.Scale.{finite};
 ghost use Rattle.rules.specs.Numbers.{_⊖_};
 ghost use Rattle.rules.specs.Sizes.{knots-length};
 ghost use Rattle.rules.specs.Refusals.{knots-refused, some-knots-refused};
-ghost use Rattle.checks.specs.Given.{grid, sizes-of, points-of, InRange};
+ghost use Rattle.grid.specs.Given.{grid, sizes-of, points-of, InRange};
 use rules::Axis;
 
 // Whether a knot does not rise to the next, or the step between them overflows. Where it rises the step is never the lower infinity, so one comparison tells whether it is finite.

@@ -1,11 +1,11 @@
-// Refusals 1 to 3 and 6, and the lengths that a grid asks for.
+// Refusals 1 to 3 and 6.
 ghost use mathlib.Core.Path.{_≡_};
 ghost use mathlib.Core.Bool.{_||_};
-ghost use Prim.Native.Nat.{_^_, _≤_};
+ghost use Prim.Native.Nat.{_≤_};
 ghost use lib.Dec.{ltb};
-ghost use Rattle.rules.specs.Sizes.{most-axes, knots-length, samples-length, tensor-length, place-of};
+ghost use Rattle.rules.specs.Sizes.{most-axes, place-of};
 ghost use Rattle.rules.specs.Refusals.{points-refused, some-points-refused, place-refused};
-ghost use Rattle.checks.specs.Given.{sizes-of, points-of, InRange};
+ghost use Rattle.grid.specs.Given.{sizes-of};
 ghost use Rattle.checks.specs.Check.{sizes-check};
 use rules::Axis;
 
@@ -38,55 +38,6 @@ pub fn some_points_refused(axes: usize, all: [Axis; 4]) -> bool
     false
 }
 
-// How many masks there are: 2 to the power of the axes. Not public: few axes are required.
-pub fn masks(axes: usize) -> usize
-    requires { ⌜ (1 ≤ axes) × (axes ≤ 4) ⌝ }
-    ensures { λ r. ⌜ (r ≡ 2 ^ axes) × (r ≤ 16) ⌝ }
-{
-    match axes {
-        1 => 2,
-        2 => 4,
-        3 => 8,
-        _ => 16,
-    }
-}
-
-// How many knots the axes in use have together. Not public: what refusals 1 and 2 leave is required.
-pub fn knots_length(axes: usize, all: [Axis; 4]) -> usize
-    requires { ⌜ InRange axes (points-of all) ⌝ }
-    ensures { λ r. ⌜ (r ≡ knots-length (sizes-of axes all)) × (r ≤ 1024) ⌝ }
-{
-    let mut sum = 0;
-    let mut i = 0;
-    while i < axes {
-        sum += all[i].points;
-        i += 1;
-    }
-    sum
-}
-
-// How many places the grid has, which is how many samples. Not public, as above.
-pub fn samples_length(axes: usize, all: [Axis; 4]) -> usize
-    requires { ⌜ InRange axes (points-of all) ⌝ }
-    ensures { λ r. ⌜ (r ≡ samples-length (sizes-of axes all)) × (r ≤ 4294967296) ⌝ }
-{
-    let mut product = 1;
-    let mut i = 0;
-    while i < axes {
-        product = product * all[i].points;
-        i += 1;
-    }
-    product
-}
-
-// How many numbers the tensor has: one for each place and mask. Not public, as above.
-pub fn tensor_length(axes: usize, all: [Axis; 4]) -> usize
-    requires { ⌜ InRange axes (points-of all) ⌝ }
-    ensures { λ r. ⌜ (r ≡ tensor-length (sizes-of axes all)) × (r ≤ 68719476736) ⌝ }
-{
-    samples_length(axes, all) * masks(axes)
-}
-
 // What every call on a grid meets first: 1, 2, 3, or 0.
 pub fn sizes_refusal(axes: usize, all: [Axis; 4]) -> usize
     ensures { λ r. ⌜ r ≡ sizes-check axes all ⌝ }
@@ -97,7 +48,7 @@ pub fn sizes_refusal(axes: usize, all: [Axis; 4]) -> usize
     if some_points_refused(axes, all) {
         return 2;
     }
-    if 4096 < tensor_length(axes, all) {
+    if 4096 < grid::tensor_length(axes, all) {
         return 3;
     }
     0

@@ -1,33 +1,18 @@
--- What the walks over the axes compute: how many lanes there are, where a lane starts, and strides.
+-- What the walks over the axes compute: how many lanes there are, and where a lane starts.
 use native.Mathlib.Omega.{arith}
-use native.Mathlib.Nat.{div-one, mul-one, mul-le-mul, mul-pos, le-trans, le-refl, le-mul-of-pos-right, le-of-suc-le-suc, eq-or-lt-of-le, lt-of-lt-of-le, lt-of-le-of-lt}
+use native.Mathlib.Nat.{div-one, mul-one, mul-le-mul, le-trans, le-refl, lt-of-lt-of-le}
 use native.Mathlib.Numerals.{add-one}
 use mathlib.Core.Path.{_≡_, sym, ap, _∙_, subst}
-use mathlib.Core.Logic.{_≢_, ⊎-elim}
+use mathlib.Core.Logic.{_≢_}
 use mathlib.Core.Bool.{Bool, true, false, cond}
 use Prim.Native.Nat.{ℕ, zero, suc, _+_, _-_, _*_, _/_, _%_, _<_, _≤_}
-use lib.Dec.{ltb, eqb, lit<}
-use borrow.Author.Tests.{lt-ltb, le-ltb}
-use mir.Val.{Fits}
-use mir.Syntax.{w64}
-use Rattle.rules.specs.Sizes.{Place, moved, flat, product-below, stride}
+use lib.Dec.{eqb}
+use Rattle.rules.specs.Sizes.{Place, moved, flat, product-below}
 use Rattle.rules.proofs.Places.{OnGrid, moved-on, moved-off, flat-below, flat-ext}
-use Rattle.lane_starts.specs.Starts.{SizesGiven, lane-points, lane-place}
+use Rattle.lane_starts.specs.Starts.{lane-points, lane-place}
+use Rattle.grid.specs.Given.{SizesGiven}
+use Rattle.grid.proofs.Products.{sizes-fewer}
 use Rattle.lane_starts.proofs.Starts.{varying, fixed-one, start-last, start-before, start-on-grid}
-
-pub fits-small : {a : ℕ} → a ≤ 4096 → Fits w64 a
-fits-small h = record { fits = lt-of-le-of-lt h (lit< tt) }
-
--- the first of some sizes have no larger product than all
-pub product-grows : (n : ℕ → ℕ) (i d : ℕ) → ((j : ℕ) → j < d → 0 < n j) → i ≤ d → product-below n i ≤ product-below n d
-unfolding product-below
-product-grows n i zero some le = let e : i ≡ 0 = omega arith in rw e (le-refl 1)
-product-grows n i (suc d) some le =
-    ⊎-elim (λ e. rw e (le-refl _))
-    (λ lt.
-    le-trans (product-grows n i d (λ j l. some j (omega arith)) (le-of-suc-le-suc lt))
-    (le-mul-of-pos-right (product-below n d) (some d (omega arith))))
-    (eq-or-lt-of-le le)
 
 -- no more lanes than places
 pub lanes-most : (n : ℕ → ℕ) (vary : ℕ → Bool) (d : ℕ) → ((j : ℕ) → j < d → 0 < n j) → product-below (lane-points n vary) d ≤ product-below n d
@@ -38,14 +23,6 @@ lanes-most n vary (suc d) some = mul-le-mul (lanes-most n vary d (λ j l. some j
     go : (b : Bool) → cond b (n d) 1 ≤ n d
     go true = le-refl (n d)
     go false = some d (omega arith)
-
--- one axis fewer
-pub sizes-fewer : {axes : ℕ} {n : ℕ → ℕ} → SizesGiven axes n → (fewer : ℕ) → fewer ≤ axes → SizesGiven fewer n
-sizes-fewer {axes} {n} given fewer le = record {
-  few-axes = omega (arith, given .few-axes);
-  some-points = λ j l. given .some-points j (omega arith);
-  small = le-trans (product-grows n fewer axes (given .some-points) le) (given .small);
-}
 
 -- ---- how many lanes there are
 
@@ -62,34 +39,6 @@ module _ (axes : ℕ) (n : ℕ → ℕ) (given : SizesGiven axes n) (vary : ℕ 
   lanes-fit l e =
       let fewer = sizes-fewer given (j + 1) (omega arith) in
       rw (lanes-times e) (le-trans (lanes-most n vary (j + 1) (fewer .some-points)) (fewer .small))
-
--- ---- strides
-
-module _ (n : ℕ → ℕ) (i : ℕ) where
-  pub stride-first : 1 ≡ stride n (i + 1) i
-  unfolding stride
-  stride-first = rw add-one (sym (ap (λ (b : Bool). cond b (stride n i i * n i) 1) (le-ltb i i (le-refl i))))
-
-  pub stride-more : (step j : ℕ) → step ≡ stride n j i → i < j → step * n j ≡ stride n (j + 1) i
-  unfolding stride
-  stride-more step j so-far l = rw (add-one, so-far) (sym (ap (λ (b : Bool). cond b (stride n j i * n j) 1) (lt-ltb i j l)))
-
-  product-some : (j : ℕ) → ((k : ℕ) → k < j → 0 < n k) → 1 ≤ product-below n j
-  unfolding product-below
-  product-some zero some = le-refl 1
-  product-some (suc j) some = mul-pos (product-some j (λ k l. some k (omega arith))) (some j (omega arith))
-
-  stride-most : (j : ℕ) → ((k : ℕ) → k < j → 0 < n k) → stride n j i ≤ product-below n j
-  unfolding stride product-below
-  stride-most zero some = le-refl 1
-  stride-most (suc j) some = go (stride-most j (λ k l. some k (omega arith))) (ltb i j)
-    where
-      go : stride n j i ≤ product-below n j → (b : Bool) → cond b (stride n j i * n j) 1 ≤ product-below n j * n j
-      go before true = mul-le-mul before (le-refl (n j))
-      go before false = product-some (suc j) some
-
-  pub stride-fits : (axes j : ℕ) → SizesGiven axes n → j ≤ axes → stride n j i ≤ 4096
-  stride-fits axes j given l = let fewer = sizes-fewer given j l in le-trans (stride-most j (fewer .some-points)) (fewer .small)
 
 -- ---- where a lane starts
 

@@ -1,14 +1,8 @@
 -- The lanes of a pass: on which axes they go through all indices, how many indices they have on each, and where each lane starts.
 use mathlib.Core.Bool.{Bool, false, cond, _||_}
-use Prim.Native.Nat.{ℕ, _<_, _≤_}
+use Prim.Native.Nat.{ℕ}
 use lib.Dec.{eqb}
-use Rattle.rules.specs.Sizes.{most-in-a-tensor, product-below, Place, unflat, in-mask}
-
--- axes whose places are no more than a tensor's numbers
-pub record SizesGiven (axes : ℕ) (n : ℕ → ℕ) : Type 0 where
-  pub few-axes : axes ≤ 4
-  pub some-points : (j : ℕ) → j < axes → 0 < n j
-  pub small : product-below n axes ≤ most-in-a-tensor
+use Rattle.rules.specs.Sizes.{Place, unflat, in-mask}
 
 -- whether the lanes of a pass are bound to no index of the place on axis j
 unfoldable pub free : Bool → ℕ → ℕ → Bool

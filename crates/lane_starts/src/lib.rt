@@ -1,19 +1,11 @@
-// Which lanes a pass along an axis has: how many they are, where each starts, how far apart its numbers stand, and where its knots begin.
+// Which lanes a pass along an axis has: how many they are, and where each starts.
 // The lanes are the whole of them, or those that agree with a place on every axis outside the target, a mask. None of these is a public call.
 ghost use mathlib.Core.Path.{_≡_};
-ghost use Prim.Native.Nat.{ℕ, _<_, _≤_};
-ghost use Rattle.rules.specs.Sizes.{place-of, moved, sum-below, product-below, flat, stride, in-mask};
-ghost use Rattle.checks.specs.Given.{points-of};
-ghost use Rattle.lane_starts.specs.Starts.{varies, lane-points, lane-place, SizesGiven};
+ghost use Prim.Native.Nat.{ℕ, _<_};
+ghost use Rattle.rules.specs.Sizes.{place-of, moved, product-below, flat};
+ghost use Rattle.grid.specs.Given.{points-of, SizesGiven};
+ghost use Rattle.lane_starts.specs.Starts.{varies, lane-points, lane-place};
 use rules::Axis;
-
-// Whether an axis lies in a mask.
-fn in_mask(mask: usize, axis: usize) -> bool
-    requires { ⌜ axis < 4 ⌝ }
-    ensures { λ r. ⌜ r ≡ in-mask mask axis ⌝ }
-{
-    (mask >> axis) % 2 == 1
-}
 
 // Whether the lanes along `axis` go through all indices on axis j: on one that is free, but not on their own.
 fn varies(whole: bool, target: usize, axis: usize, j: usize) -> bool
@@ -26,7 +18,7 @@ fn varies(whole: bool, target: usize, axis: usize, j: usize) -> bool
     if whole {
         return true;
     }
-    in_mask(target, j)
+    grid::in_mask(target, j)
 }
 
 // How many lanes there are. Not public: it requires axes whose places are no more than a tensor's numbers.
@@ -71,34 +63,4 @@ pub fn lane_start(
     }
     let start = lane_start(j, all, place, whole, target, axis, t) * n;
     if j == axis { start } else { start + place[j] }
-}
-
-// How far apart two neighbours along an axis stand. Not public: it requires such axes, and that the axis is one of them.
-pub fn stride(axes: usize, all: [Axis; 4], axis: usize) -> usize
-    requires { ⌜ SizesGiven axes (points-of all) × (axis < axes) ⌝ }
-    ensures { λ r. ⌜ r ≡ stride (points-of all) axes axis ⌝ }
-{
-    let mut step = 1;
-    let mut j = axis + 1;
-    while j < axes {
-        let entry = all[j];
-        step = step * entry.points;
-        j += 1;
-    }
-    step
-}
-
-// How many knots stand before those of an axis. Not public: it requires one of the four axes, and at most 256 points on each before it.
-pub fn knots_before(all: [Axis; 4], axis: usize) -> usize
-    requires { ⌜ (axis < 4) × ((j : ℕ) → j < axis → points-of all j ≤ 256) ⌝ }
-    ensures { λ r. ⌜ r ≡ sum-below (points-of all) axis ⌝ }
-{
-    let mut sum = 0;
-    let mut j = 0;
-    while j < axis {
-        let entry = all[j];
-        sum += entry.points;
-        j += 1;
-    }
-    sum
 }

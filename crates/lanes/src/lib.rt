@@ -2,15 +2,16 @@
 ghost use mathlib.Core.Path.{_≡_};
 ghost use Prim.Native.Nat.{_<_, _≤_};
 ghost use lib.ListN.{length};
+ghost use Rattle.rules.specs.Sizes.{scratch-of-rows};
+ghost use Rattle.scratch.specs.Layout.{row-length};
 ghost use Rattle.lanes.specs.Lanes.{Lies, Gathered, slope-of-rows, Stored, LaneGiven, LaneSolved};
+use moments::curve::knot_slope;
 use rules::Condition;
-
-// Where the moments begin.
-const MOMENTS: usize = 1792;
+use scratch::MOMENTS;
 
 // The lane's n numbers go to the row of samples.
 fn gather(w: &mut [f64], n: usize, from: usize, step: usize)
-    requires { ⌜ Lies (now w) n from step × (n ≤ 256) ⌝ }
+    requires { ⌜ Lies (now w) n from step × (n ≤ row-length) ⌝ }
     ensures { λ _. ⌜ Gathered (now (w .entry)) (now (w .exit)) n from step ⌝ }
 {
     let mut k = 0;
@@ -22,16 +23,16 @@ fn gather(w: &mut [f64], n: usize, from: usize, step: usize)
 
 // The knot slope at k, from the samples and the moments in their rows.
 fn slope(w: &[f64], x: &[f64], k: usize) -> f64
-    requires { ⌜ (2048 ≤ length (now w)) × (2 ≤ length (now x)) × (length (now x) ≤ 256) × (k < length (now x)) ⌝ }
+    requires { ⌜ (scratch-of-rows ≤ length (now w)) × (2 ≤ length (now x)) × (length (now x) ≤ row-length) × (k < length (now x)) ⌝ }
     ensures { λ r. ⌜ r ≡ slope-of-rows (now (w .entry)) (now (x .entry)) k ⌝ }
 {
     let n = x.len();
-    spline::knot_slope(x, &w[0..n], &w[MOMENTS..MOMENTS + n], k)
+    knot_slope(x, &w[0..n], &w[MOMENTS..MOMENTS + n], k)
 }
 
 // The knot slopes go to `to`, to + step, ..
 fn store_slopes(w: &mut [f64], x: &[f64], to: usize, step: usize)
-    requires { ⌜ Lies (now w) (length (now x)) to step × (1 ≤ step) × (2 ≤ length (now x)) × (length (now x) ≤ 256) ⌝ }
+    requires { ⌜ Lies (now w) (length (now x)) to step × (1 ≤ step) × (2 ≤ length (now x)) × (length (now x) ≤ row-length) ⌝ }
     ensures { λ _. ⌜ Stored (now (w .entry)) (now (w .exit)) (slope-of-rows (now (w .entry)) (now (x .entry))) (length (now (x .entry))) to step ⌝ }
 {
     let mut k = 0;

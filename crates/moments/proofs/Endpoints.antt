@@ -14,7 +14,7 @@ use Rattle.rules.specs.Moments.{inner, first-moment, last-moment, moment}
 use Rattle.rules.specs.declared.End.{End}
 use Rattle.rules.specs.declared.End.the-variants.{NotAKnot, FirstDerivative, SecondDerivative}
 use Rattle.rules.specs.declared.Condition.the-variants.{Endpoints}
-use Rattle.solve.specs.Rows.{row}
+use Rattle.scratch.specs.Layout.{row}
 use Rattle.rows.specs.Rows.{samples-in}
 use Rattle.moments.specs.Lanes.{InnerSolved, lower-moment, upper-moment, OneStored, MomentsSolved}
 use Rattle.moments.proofs.RowsOfBothEnds.{zero-or-more, dropped-most}

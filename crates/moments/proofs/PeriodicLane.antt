@@ -13,15 +13,15 @@ use Rattle.rules.specs.Numbers.{at, plus-zero}
 use Rattle.rules.specs.Steps.{h}
 use Rattle.rules.specs.Moments.{periodic-diag, periodic-rhs, periodic-moment, moment}
 use Rattle.rules.specs.declared.Condition.the-variants.{Periodic}
-use Rattle.solve.specs.Rows.{row}
+use Rattle.scratch.specs.Layout.{row}
 use Rattle.solve.specs.Cyclic.{CyclicSolved}
 use Rattle.solve.proofs.Agreement.{same-cyclic}
-use Rattle.rows.specs.Rows.{samples-in, LaneGiven, InteriorRows, FirstRow, periodic-row}
+use Rattle.rows.specs.Rows.{samples-in, RowsFit, InteriorRows, FirstRow, periodic-row}
 use Rattle.moments.specs.Lanes.{MomentsSolved}
 use Rattle.moments.proofs.RowsOfBothEnds.{zero-or-more}
 
 module _
-    (w w₁ w₂ w₃ x : List Float) (given : LaneGiven w x) (more : 3 ≤ length x)
+    (w w₁ w₂ w₃ x : List Float) (given : RowsFit w x) (more : 3 ≤ length x)
     (between : InteriorRows w w₁ x (samples-in w x) 0 (length x - 1))
     (first : FirstRow w₁ w₂ (periodic-row x (samples-in w x)))
     (solved : CyclicSolved w₂ w₃ (length x - 1 - 1) (h x (length x - 1 - 1)))
@@ -103,7 +103,7 @@ module _
     }
 
 -- one interval: two zeros
-pub one-interval : (w x : List Float) → LaneGiven w x → length x < 3 → MomentsSolved w (set (set w 1792 plus-zero) 1793 plus-zero) x Periodic
+pub one-interval : (w x : List Float) → RowsFit w x → length x < 3 → MomentsSolved w (set (set w 1792 plus-zero) 1793 plus-zero) x Periodic
 unfolding moment
 one-interval w x given few =
     let w₁ : List Float = set w 1792 plus-zero in

@@ -16,9 +16,10 @@ use Rattle.rules.specs.Moments.{lower-row, upper-row, sub, diag, sup, rhs, inne
 use Rattle.rules.specs.declared.End.{End}
 use Rattle.rules.specs.declared.End.the-variants.{NotAKnot, FirstDerivative, SecondDerivative}
 use Rattle.rows.specs.declared.EndRow.{EndRow}
-use Rattle.solve.specs.Rows.{row, Solved}
+use Rattle.solve.specs.Rows.{Solved}
+use Rattle.scratch.specs.Layout.{row}
 use Rattle.solve.proofs.Agreement.{same-thomas}
-use Rattle.rows.specs.Rows.{lower-end-row, upper-end-row, samples-in, LaneGiven, InteriorRows, FirstRow, LastRow}
+use Rattle.rows.specs.Rows.{lower-end-row, upper-end-row, samples-in, RowsFit, InteriorRows, FirstRow, LastRow}
 use Rattle.moments.specs.Lanes.{InnerSolved}
 
 -- a number is 0 or more
@@ -27,7 +28,7 @@ zero-or-more zero = inl refl
 zero-or-more (suc k) = inr (omega arith)
 
 module _
-    (w w₁ w₂ w₃ w₄ x : List Float) (lower upper : End) (given : LaneGiven w x)
+    (w w₁ w₂ w₃ w₄ x : List Float) (lower upper : End) (given : RowsFit w x)
     (enough : 2 + dropped lower + dropped upper ≤ length x)
   where
     abbrev n : ℕ
@@ -151,7 +152,7 @@ upper-drops x y end last e = ap (λ (r : EndRow). r .dropped) e
 -- the same of the rows as they are found
 pub rows-solved :
     (w w₁ w₂ w₃ w₄ x : List Float) (lower upper : End) (first last : EndRow)
-    → LaneGiven w x → 2 + dropped lower + dropped upper ≤ length x
+    → RowsFit w x → 2 + dropped lower + dropped upper ≤ length x
     → first ≡ lower-end-row x (samples-in w x) lower → last ≡ upper-end-row x (samples-in w x) upper
     → InteriorRows w w₁ x (samples-in w x) (first .dropped) (length x - 1 - first .dropped - last .dropped)
     → FirstRow w₁ w₂ (first .row)

@@ -1,26 +1,28 @@
-// The moments of a lane whose samples stand in front of the scratch: its rows solved, and the dropped moments. They go from RESULT on.
+// The moments of a lane whose samples stand in front of the scratch: its rows solved, and the dropped moments. They go to the row of moments.
 // The steps of `compute_m` require a scratch of 2,048 numbers, 2 to 256 knots, and the fewest points of the ends.
 ghost use Prim.Native.Nat.{_+_, _-_, _≤_};
 ghost use lib.ListN.{length};
 ghost use Rattle.rules.specs.Ends.{dropped, fewest-points};
-ghost use Rattle.rows.specs.Rows.{LaneGiven};
+ghost use Rattle.rules.specs.Sizes.{scratch-of-rows};
+ghost use Rattle.scratch.specs.Layout.{row-length, moments-row};
+ghost use Rattle.rows.specs.Rows.{RowsFit};
 ghost use Rattle.moments.specs.Lanes.{lower-moment, upper-moment, OneStored, InnerSolved, MomentsSolved};
 use rules::Condition;
 use rules::End;
+use scratch::MOMENTS;
 
-// Where the moments begin.
-const RESULT: usize = 1792;
+pub mod curve; // curve.rt: the knot slope and the value in a cell, from the moments
 
 // The first moment, where the lower end dropped it, from the two after it.
 fn drop_lower(w: &mut [f64], x: &[f64], lower: End)
-    requires { ⌜ (2048 ≤ length (now w)) × (2 + dropped lower ≤ length (now x)) ⌝ }
-    ensures { λ _. ⌜ OneStored (now (w .entry)) (now (w .exit)) 1792 (lower-moment (now (w .entry)) (now (x .entry)) lower) ⌝ }
+    requires { ⌜ (scratch-of-rows ≤ length (now w)) × (2 + dropped lower ≤ length (now x)) ⌝ }
+    ensures { λ _. ⌜ OneStored (now (w .entry)) (now (w .exit)) moments-row (lower-moment (now (w .entry)) (now (x .entry)) lower) ⌝ }
 {
     match lower {
         End::NotAKnot => {
             let h0 = x[1] - x[0];
             let h1 = x[2] - x[1];
-            w[RESULT] = ((h0 + h1) * w[RESULT + 1] - h0 * w[RESULT + 2]) / h1;
+            w[MOMENTS] = ((h0 + h1) * w[MOMENTS + 1] - h0 * w[MOMENTS + 2]) / h1;
         }
         End::FirstDerivative(_) => {}
         End::SecondDerivative(_) => {}
@@ -29,8 +31,8 @@ fn drop_lower(w: &mut [f64], x: &[f64], lower: End)
 
 // The last moment, where the upper end dropped it, from the two before it.
 fn drop_upper(w: &mut [f64], x: &[f64], upper: End)
-    requires { ⌜ (2048 ≤ length (now w)) × (2 + dropped upper ≤ length (now x)) × (length (now x) ≤ 256) ⌝ }
-    ensures { λ _. ⌜ OneStored (now (w .entry)) (now (w .exit)) (1792 + (length (now (x .entry)) - 1)) (upper-moment (now (w .entry)) (now (x .entry)) (length (now (x .entry)) - 1) upper) ⌝ }
+    requires { ⌜ (scratch-of-rows ≤ length (now w)) × (2 + dropped upper ≤ length (now x)) × (length (now x) ≤ row-length) ⌝ }
+    ensures { λ _. ⌜ OneStored (now (w .entry)) (now (w .exit)) (moments-row + (length (now (x .entry)) - 1)) (upper-moment (now (w .entry)) (now (x .entry)) (length (now (x .entry)) - 1) upper) ⌝ }
 {
     match upper {
         End::NotAKnot => {
@@ -39,8 +41,8 @@ fn drop_upper(w: &mut [f64], x: &[f64], upper: End)
             let before = n - 2;
             let h_last = x[last + 1] - x[last];
             let h_before = x[before + 1] - x[before];
-            let m = (h_before + h_last) * w[RESULT + last] - h_last * w[RESULT + before];
-            w[RESULT + n] = m / h_before;
+            let m = (h_before + h_last) * w[MOMENTS + last] - h_last * w[MOMENTS + before];
+            w[MOMENTS + n] = m / h_before;
         }
         End::FirstDerivative(_) => {}
         End::SecondDerivative(_) => {}
@@ -49,7 +51,7 @@ fn drop_upper(w: &mut [f64], x: &[f64], upper: End)
 
 // The moments that the rows of both ends give, from the first knot that is not dropped on.
 fn inner_moments(w: &mut [f64], x: &[f64], lower: End, upper: End)
-    requires { ⌜ LaneGiven (now w) (now x) × (2 + dropped lower + dropped upper ≤ length (now x)) ⌝ }
+    requires { ⌜ RowsFit (now w) (now x) × (2 + dropped lower + dropped upper ≤ length (now x)) ⌝ }
     ensures { λ _. ⌜ InnerSolved (now (w .entry)) (now (w .exit)) (now (x .entry)) lower upper ⌝ }
 {
     let points = x.len();
@@ -60,12 +62,12 @@ fn inner_moments(w: &mut [f64], x: &[f64], lower: End, upper: End)
     rows::interior_rows(w, x, start, l);
     rows::first_row(w, first.row);
     rows::last_row(w, l, last.row);
-    solve::thomas(w, l, RESULT + start);
+    solve::thomas(w, l, MOMENTS + start);
 }
 
 // The moments of a lane under two ends.
 fn endpoint_moments(w: &mut [f64], x: &[f64], lower: End, upper: End)
-    requires { ⌜ LaneGiven (now w) (now x) × (2 + dropped lower + dropped upper ≤ length (now x)) ⌝ }
+    requires { ⌜ RowsFit (now w) (now x) × (2 + dropped lower + dropped upper ≤ length (now x)) ⌝ }
     ensures { λ _. ⌜ MomentsSolved (now (w .entry)) (now (w .exit)) (now (x .entry)) (Condition.Endpoints lower upper) ⌝ }
 {
     inner_moments(w, x, lower, upper);
@@ -75,7 +77,7 @@ fn endpoint_moments(w: &mut [f64], x: &[f64], lower: End, upper: End)
 
 // The moments of a periodic lane of more than one interval.
 fn cyclic_moments(w: &mut [f64], x: &[f64])
-    requires { ⌜ LaneGiven (now w) (now x) × (3 ≤ length (now x)) ⌝ }
+    requires { ⌜ RowsFit (now w) (now x) × (3 ≤ length (now x)) ⌝ }
     ensures { λ _. ⌜ MomentsSolved (now (w .entry)) (now (w .exit)) (now (x .entry)) Condition.Periodic ⌝ }
 {
     let points = x.len();
@@ -85,26 +87,26 @@ fn cyclic_moments(w: &mut [f64], x: &[f64])
     rows::interior_rows(w, x, 0, n);
     rows::first_row(w, row);
     solve::cyclic_thomas(w, last, x[last + 1] - x[last]);
-    w[RESULT + n] = w[RESULT];
+    w[MOMENTS + n] = w[MOMENTS];
 }
 
 // The moments of a periodic lane: two zeros for one interval.
 fn periodic_moments(w: &mut [f64], x: &[f64])
-    requires { ⌜ LaneGiven (now w) (now x) ⌝ }
+    requires { ⌜ RowsFit (now w) (now x) ⌝ }
     ensures { λ _. ⌜ MomentsSolved (now (w .entry)) (now (w .exit)) (now (x .entry)) Condition.Periodic ⌝ }
 {
     if x.len() < 3 {
-        w[RESULT] = 0.0;
-        w[RESULT + 1] = 0.0;
+        w[MOMENTS] = 0.0;
+        w[MOMENTS + 1] = 0.0;
     } else {
         cyclic_moments(w, x);
     }
 }
 
-// The moments of the lane whose samples stand in front of the scratch, under a condition. They go from RESULT on.
+// The moments of the lane whose samples stand in front of the scratch, under a condition. They go to the row of moments.
 // Not public: it requires a scratch of 2,048 numbers, 2 to 256 knots, and the fewest points of the condition.
 pub fn compute_m(w: &mut [f64], x: &[f64], condition: Condition)
-    requires { ⌜ LaneGiven (now w) (now x) × (fewest-points condition ≤ length (now x)) ⌝ }
+    requires { ⌜ RowsFit (now w) (now x) × (fewest-points condition ≤ length (now x)) ⌝ }
     ensures { λ _. ⌜ MomentsSolved (now (w .entry)) (now (w .exit)) (now (x .entry)) condition ⌝ }
 {
     match condition {

@@ -9,22 +9,23 @@ use lib.ListN.{length}
 use lib.Pow.{pow-pos}
 use lib.Ieee.{Float}
 use Rattle.rules.specs.Sizes.{Grid, points, Place}
-use Rattle.checks.proofs.Products.{sum-none, sum-more}
-use Rattle.passes.specs.Passes.{lanes-on-axis, lanes-below, On, Given, PassGiven, AxisPassed, Refreshed}
+use Rattle.grid.proofs.Products.{sum-none, sum-more}
+use Rattle.passes.specs.Passes.{lanes-on-axis, lanes-solved-below, WorkGiven, PassGiven, AxisPassed, Refreshed}
+use Rattle.grid.specs.Given.{On}
 use Rattle.passes.proofs.Count.{sum-bound}
 use Rattle.passes.proofs.MaskTurns.{given-again, axis-fits}
 use Rattle.passes.proofs.Refresh.{no-axis, one-axis-more}
 
 pub record Turn (g : Grid) (w₀ w : List Float) (whole : Bool) (place : Place) (lanes i : ℕ) : Type 0 where
-  pub given : Given g w₀
+  pub given : WorkGiven g w₀
   pub on-the-grid : On g place
   pub most : i ≤ g .axes
   pub same-length : length w ≡ length w₀
   pub done : Refreshed g w₀ w whole place i
-  pub count : lanes ≡ lanes-below (points g) (g .axes) whole i
+  pub count : lanes ≡ lanes-solved-below (points g) (g .axes) whole i
 
-pub turn-first : (g : Grid) (w : List Float) (whole : Bool) (place : Place) → Given g w → On g place → Turn g w w whole place 0 0
-unfolding lanes-below
+pub turn-first : (g : Grid) (w : List Float) (whole : Bool) (place : Place) → WorkGiven g w → On g place → Turn g w w whole place 0 0
+unfolding lanes-solved-below
 turn-first g w whole place given on = record {
   given = given;
   on-the-grid = on;
@@ -44,12 +45,12 @@ module _ (g : Grid) (w₀ w : List Float) (whole : Bool) (place : Place) (lanes 
   }
 
   module _ (w′ : List Float) (solved : ℕ) (lt : i < g .axes) (axis : AxisPassed g w w′ whole place i (2 ^ i) × (solved ≡ lanes-on-axis (points g) (g .axes) whole i)) where
-    counted : lanes + solved ≡ lanes-below (points g) (g .axes) whole (i + 1)
-    unfolding lanes-below
+    counted : lanes + solved ≡ lanes-solved-below (points g) (g .axes) whole (i + 1)
+    unfolding lanes-solved-below
     counted = ap₂ _+_ (turn .count) (axis .1) ∙ sym (sum-more (lanes-on-axis (points g) (g .axes) whole) i)
 
     pub count-fits : lanes + solved ≤ 262144
-    unfolding lanes-below lanes-on-axis
+    unfolding lanes-solved-below lanes-on-axis
     count-fits =
         rw counted
         (le-trans
@@ -67,7 +68,7 @@ module _ (g : Grid) (w₀ w : List Float) (whole : Bool) (place : Place) (lanes 
       count = counted;
     }
 
-  pub turn-last : g .axes ≤ i → Refreshed g w₀ w whole place (g .axes) × (lanes ≡ lanes-below (points g) (g .axes) whole (g .axes))
+  pub turn-last : g .axes ≤ i → Refreshed g w₀ w whole place (g .axes) × (lanes ≡ lanes-solved-below (points g) (g .axes) whole (g .axes))
   turn-last ge =
       let e : i ≡ g .axes = omega (arith, turn .most) in
       (rw e at (turn .done), rw e at (turn .count))

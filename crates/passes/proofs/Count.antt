@@ -12,7 +12,7 @@ use Rattle.rules.proofs.Sums.{sum-ext, product-ext, product-stops, points-produ
 use Rattle.lane_starts.specs.Starts.{free, varies, lane-points}
 use Rattle.lane_starts.proofs.Agreement.{varies-own, varies-other}
 use Rattle.lane_starts.proofs.Axes.{lanes-most}
-use Rattle.passes.specs.Passes.{lanes-solved, lanes-on-axis, lanes-below}
+use Rattle.passes.specs.Passes.{lanes-solved, lanes-on-axis, lanes-solved-below}
 
 -- ---- bounds
 
@@ -42,8 +42,8 @@ of-change n d i mask in-use low =
         (eq-or-lt-of-le above)
 
 -- "the sum over axes i of the product, over axes j below i, of (1 + points on j)"
-pub change-count : (n : ℕ → ℕ) (d i : ℕ) → i ≤ d → lanes-below n d false i ≡ lane-sum n i
-unfolding lanes-below lanes-on-axis sum-below lane-sum
+pub change-count : (n : ℕ → ℕ) (d i : ℕ) → i ≤ d → lanes-solved-below n d false i ≡ lane-sum n i
+unfolding lanes-solved-below lanes-on-axis sum-below lane-sum
 change-count n d zero le = refl
 change-count n d (suc i) le =
     let along : lanes-on-axis n d false i ≡ product-of-one-more n i =

@@ -9,14 +9,14 @@ use lib.Dec.{lit<}
 use lib.ListN.{length}
 use lib.Ieee.{Float}
 use Rattle.rules.specs.Sizes.{Grid, points, sum-below, Place}
-use Rattle.checks.proofs.Products.{sum-none, sum-more}
-use Rattle.passes.specs.Passes.{lanes-solved, lanes-on-axis, Given, PassGiven, Passed, AxisPassed}
+use Rattle.grid.proofs.Products.{sum-none, sum-more}
+use Rattle.passes.specs.Passes.{lanes-solved, lanes-on-axis, WorkGiven, PassGiven, Passed, AxisPassed}
 use Rattle.passes.proofs.Pass.{sizes-given}
 use Rattle.passes.proofs.Count.{axis-most}
 use Rattle.passes.proofs.Refresh.{no-pass, one-pass-more}
 
 -- a scratch of the same length is as good
-pub given-again : {g : Grid} {w : List Float} (w′ : List Float) → length w′ ≡ length w → Given g w → Given g w′
+pub given-again : {g : Grid} {w : List Float} (w′ : List Float) → length w′ ≡ length w → WorkGiven g w → WorkGiven g w′
 given-again w′ long given = record {
   in-range = given .in-range;
   small = given .small;
@@ -27,7 +27,7 @@ given-again w′ long given = record {
 
 -- no more lanes along an axis than its masks times the places
 pub axis-fits :
-    (g : Grid) (w : List Float) (whole : Bool) (i limit : ℕ) → Given g w → i < g .axes → limit ≤ 2 ^ i
+    (g : Grid) (w : List Float) (whole : Bool) (i limit : ℕ) → WorkGiven g w → i < g .axes → limit ≤ 2 ^ i
     → sum-below (lanes-solved (points g) (g .axes) whole i) limit ≤ 65536
 axis-fits g w whole i limit given in-use most =
     let sizes = sizes-given given in

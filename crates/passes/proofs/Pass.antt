@@ -7,7 +7,7 @@ use mathlib.Core.List.{List}
 use mathlib.Core.Bool.{Bool, true, false, cond}
 use Prim.Native.Nat.{ℕ, zero, suc, _+_, _-_, _*_, _/_, _%_, _^_, _<_, _≤_}
 use lib.Arith.{digits-lt, digits-div, digits-mod}
-use lib.Dec.{ltb, eqb, lit<}
+use lib.Dec.{eqb, lit<}
 use borrow.Author.Tests.{eqb-false, ltb-false}
 use lib.ListN.{length, take, drop, length-drop}
 use lib.Seq.{length-take-le}
@@ -15,7 +15,8 @@ use lib.Pow.{pow-pos, pow-mono}
 use lib.Ieee.{Float}
 use Rattle.rules.specs.Numbers.{at}
 use Rattle.rules.specs.Ends.{zero-valued, condition-at, dropped, fewest-points}
-use Rattle.rules.specs.Sizes.{Grid, points, condition, knots, masks, Place, moved, flat, sum-below, product-below, stride, spot}
+use Rattle.rules.specs.Sizes.{Grid, points, condition, knots, masks, Place, moved, flat, sum-below, product-below, spot}
+use Rattle.grid.specs.Strides.{stride}
 use Rattle.rules.specs.Change.{agree}
 use Rattle.rules.specs.Curve.{lane-slope}
 use Rattle.rules.specs.Tensor.{slope-along}
@@ -25,14 +26,15 @@ use Rattle.rules.specs.declared.Condition.{Condition}
 use Rattle.rules.specs.declared.Condition.the-variants.{Endpoints, Periodic}
 use Rattle.rules.proofs.Cases.{not-both}
 use Rattle.rules.proofs.Tables.{table-ext}
-use Rattle.rules.proofs.Places.{One, moved-on, moved-off, moved-on-grid, moved-own, flat-below, flat-ext, flat-one, stride-along}
-use Rattle.checks.proofs.Products.{sum-within}
+use Rattle.rules.proofs.Places.{One, moved-on, moved-off, moved-on-grid, moved-own, flat-below, flat-ext, flat-one}
+use Rattle.grid.proofs.Strides.{stride-some, stride-along, stride-fits}
+use Rattle.grid.proofs.Products.{sum-within}
 use Rattle.lanes.specs.Lanes.{Lies, LaneGiven, LaneSolved}
-use Rattle.lane_starts.specs.Starts.{SizesGiven, free, varies, lane-points, lane-place}
+use Rattle.lane_starts.specs.Starts.{free, varies, lane-points, lane-place}
+use Rattle.grid.specs.Given.{SizesGiven, On}
 use Rattle.lane_starts.proofs.Starts.{across, lane-number, number-below, start-on-grid, number-of-start, start-of-number}
-use Rattle.lane_starts.proofs.Axes.{stride-fits}
 use Rattle.lane_starts.proofs.Agreement.{agree-at, agree-all, varies-own, varies-other, varies-not-own, free-own}
-use Rattle.passes.specs.Passes.{solves, lanes-solved, working, On, Given, PassGiven, Passed}
+use Rattle.passes.specs.Passes.{solves, lanes-solved, working, WorkGiven, PassGiven, Passed}
 
 -- two numbers of two digits each that are equal have the same digits
 pub digits-one : (size a b x y : ℕ) → x < size → y < size → a * size + x ≡ b * size + y → (a ≡ b) × (x ≡ y)
@@ -40,15 +42,6 @@ digits-one size a b x y hx hy e = (
   sym (digits-div a hx) ∙ ap (λ (z : ℕ). z / size) e ∙ digits-div b hy,
   sym (digits-mod a hx) ∙ ap (λ (z : ℕ). z % size) e ∙ digits-mod b hy,
 )
-
-stride-some : (n : ℕ → ℕ) (d i : ℕ) → ((j : ℕ) → j < d → 0 < n j) → 1 ≤ stride n d i
-unfolding stride
-stride-some n zero i some = omega arith
-stride-some n (suc d) i some = go (mul-pos (stride-some n d i (λ j l. some j (omega arith))) (some d (omega arith))) (ltb i d)
-  where
-    go : 1 ≤ stride n d i * n d → (b : Bool) → 1 ≤ cond b (stride n d i * n d) 1
-    go h true = h
-    go h false = omega arith
 
 -- the mask with axis i put in is a mask of the grid
 pub target-below : (i mask d : ℕ) → i < d → mask < 2 ^ i → mask + 2 ^ i < 2 ^ d
@@ -66,7 +59,7 @@ fewest-at (suc mask) (Endpoints lower upper) = ap₂ (λ (a b : ℕ). 2 + a + b)
 fewest-at (suc mask) Periodic = refl
 
 -- the sizes of a grid that was not refused
-pub sizes-given : {g : Grid} {w : List Float} → Given g w → SizesGiven (g .axes) (points g)
+pub sizes-given : {g : Grid} {w : List Float} → WorkGiven g w → SizesGiven (g .axes) (points g)
 sizes-given {g} given = record {
   few-axes = given .in-range .few-axes;
   some-points = λ j l. omega (arith, given .in-range .some-points j l);
@@ -75,7 +68,7 @@ sizes-given {g} given = record {
 
 -- the knots of an axis, as the code finds them among all
 pub knots-are :
-    {g : Grid} {w : List Float} (i from n : ℕ) → Given g w → i < g .axes → from ≡ sum-below (points g) i → n ≡ points g i
+    {g : Grid} {w : List Float} (i from n : ℕ) → WorkGiven g w → i < g .axes → from ≡ sum-below (points g) i → n ≡ points g i
     → (from + n ≤ length (g .flat-knots)) × (take (from + n - from) (drop from (g .flat-knots)) ≡ knots g i) × (length (knots g i) ≡ points g i)
 knots-are {g} i from n given in-use from-is n-is =
     let within = sum-within (points g) i (g .axes) in-use in

@@ -8,7 +8,8 @@ use lib.ListN.{length}
 use lib.Ieee.{Float}
 use Rattle.rules.specs.Ends.{condition-at}
 use Rattle.rules.specs.Sizes as Sizes
-use Rattle.rules.specs.Sizes.{Grid, points, knots, Place, moved, flat, product-below, stride}
+use Rattle.rules.specs.Sizes.{Grid, points, knots, Place, moved, flat, product-below}
+use Rattle.grid.specs.Strides.{stride}
 use Rattle.rules.specs.declared.Condition.{Condition}
 use Rattle.lanes.specs.Lanes.{LaneGiven, LaneSolved}
 use Rattle.lane_starts.specs.Starts.{varies, lane-points, lane-place}

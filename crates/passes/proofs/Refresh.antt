@@ -15,7 +15,8 @@ use Rattle.rules.specs.Tensor.{slope-along}
 use Rattle.rules.proofs.Cases.{arms, arms-one, not-both}
 use Rattle.rules.proofs.Places.{moved-on-grid}
 use Rattle.rules.proofs.Locality.{slope-along-ext}
-use Rattle.passes.specs.Passes.{solves, working, On, Passed, AxisPassed, refreshed, Refreshed}
+use Rattle.passes.specs.Passes.{solves, working, Passed, AxisPassed, refreshed, Refreshed}
+use Rattle.grid.specs.Given.{On}
 use Rattle.passes.proofs.Pass.{target-below}
 
 module _ (g : Grid) (whole : Bool) (place : Place) where

@@ -11,7 +11,8 @@ use Rattle.rules.specs.Sizes.{most-in-a-tensor, Grid, points, condition, knots-
 use Rattle.rules.specs.Refusals.{fewness-refused}
 use Rattle.rules.specs.Tensor.{slope-along}
 use Rattle.rules.specs.Change.{agree}
-use Rattle.checks.specs.Given.{InRange}
+use Rattle.grid.specs.Given.{InRange, On}
+use Rattle.scratch.specs.Layout.{tensor-begin, row}
 use Rattle.lane_starts.specs.Starts.{free, varies, lane-points}
 
 -- ---- the lanes of a pass
@@ -30,23 +31,19 @@ lanes-solved n axes whole i mask = product-below (lane-points n (varies whole (m
 
 -- the number of a place and a mask
 abbrev pub working : Grid → List Float → Place → ℕ → Float
-working g w p mask = at w (2048 + spot g p mask)
+working g w p mask = row w tensor-begin (spot g p mask)
 
 -- a grid that was not refused, and a scratch with room for its tensor
-pub record Given (g : Grid) (w : List Float) : Type 0 where
+pub record WorkGiven (g : Grid) (w : List Float) : Type 0 where
   pub in-range : InRange (g .axes) (points g)
   pub small : tensor-length g ≤ most-in-a-tensor
   pub knots-exact : length (g .flat-knots) ≡ knots-length g
   pub enough-points : (i : ℕ) → i < g .axes → fewness-refused (condition g i) (points g i) ≡ false
   pub room : scratch-length g ≤ length w
 
--- the place lies on the grid
-abbrev pub On : Grid → Place → Type 0
-On g p = (j : ℕ) → j < g .axes → p j < points g j
-
 -- what a pass along axis i of the numbers at a mask is given
 pub record PassGiven (g : Grid) (w : List Float) (place : Place) (i mask : ℕ) : Type 0 where
-  pub given : Given g w
+  pub given : WorkGiven g w
   pub on-the-grid : On g place
   pub in-use : i < g .axes
   pub low : mask < 2 ^ i
@@ -95,6 +92,6 @@ unfoldable pub lanes-on-axis : (ℕ → ℕ) → ℕ → Bool → ℕ → ℕ
 unfolding sum-below lanes-solved
 lanes-on-axis n axes whole i = sum-below (lanes-solved n axes whole i) (2 ^ i)
 
-unfoldable pub lanes-below : (ℕ → ℕ) → ℕ → Bool → ℕ → ℕ
+unfoldable pub lanes-solved-below : (ℕ → ℕ) → ℕ → Bool → ℕ → ℕ
 unfolding sum-below lanes-on-axis
-lanes-below n axes whole i = sum-below (lanes-on-axis n axes whole) i
+lanes-solved-below n axes whole i = sum-below (lanes-on-axis n axes whole) i

@@ -1,29 +1,20 @@
 // A pass solves the lanes along an axis of the numbers at one mask, and stores their slopes at the target, the mask with the axis put in:
 // the whole of them for a build, for a change those that agree with its place on every axis outside the target. None of these is a public call.
 ghost use mathlib.Core.Path.{_≡_};
-ghost use Prim.Native.Nat.{_^_, _≤_};
+ghost use Prim.Native.Nat.{_^_};
 ghost use Rattle.rules.specs.Ends.{condition-at};
 ghost use Rattle.rules.specs.Sizes.{place-of};
-ghost use Rattle.checks.specs.Given.{grid, points-of};
-ghost use Rattle.passes.specs.Passes.{lanes-solved, lanes-on-axis, lanes-below, PassGiven, Given, On, Passed, AxisPassed, Refreshed};
-use lane_starts::knots_before;
+ghost use Rattle.grid.specs.Given.{grid, points-of, On};
+ghost use Rattle.passes.specs.Passes.{lanes-solved, lanes-on-axis, lanes-solved-below, PassGiven, WorkGiven, Passed, AxisPassed, Refreshed};
+use grid::knots_before;
+use grid::masks;
+use grid::stride;
 use lane_starts::lane_count;
 use lane_starts::lane_start;
-use lane_starts::stride;
 use lanes::solve_lane;
 use rules::Axis;
 use rules::Condition;
-
-// Where the working tensor begins.
-pub const TENSOR: usize = 2048;
-
-// 2 to the power i. Not public: it requires at most 4.
-pub fn power(i: usize) -> usize
-    requires { ⌜ i ≤ 4 ⌝ }
-    ensures { λ r. ⌜ r ≡ 2 ^ i ⌝ }
-{
-    1 << i
-}
+use scratch::TENSOR;
 
 // Mask 0 uses the axis's own ends, any other mask the same kinds with value zero.
 fn condition_at(mask: usize, condition: Condition) -> Condition
@@ -56,13 +47,13 @@ fn solve_lanes(
     let x = &knots[first..first + n];
     let ends = entry.condition;
     let condition = condition_at(mask, ends);
-    let masks = power(axes);
-    let target = mask + power(axis);
-    let step = stride(axes, all, axis) * masks;
+    let all_masks = masks(axes);
+    let target = mask + masks(axis);
+    let step = stride(axes, all, axis) * all_masks;
     let lanes = lane_count(axes, all, whole, target, axis);
     let mut t = 0;
     while t < lanes {
-        let start = lane_start(axes, all, place, whole, target, axis, t) * masks;
+        let start = lane_start(axes, all, place, whole, target, axis, t) * all_masks;
         solve_lane(
             w,
             x,
@@ -89,10 +80,10 @@ fn solve_masks(
     requires { ⌜ PassGiven (grid axes all (now knots)) (now w) (place-of place) axis 0 ⌝ }
     ensures { λ r. ⌜ AxisPassed (grid axes all (now (knots .entry))) (now (w .entry)) (now (w .exit)) whole (place-of place) axis (2 ^ axis) × (r ≡ lanes-on-axis (points-of all) axes whole axis) ⌝ }
 {
-    let masks = power(axis);
+    let limit = masks(axis);
     let mut lanes = 0;
     let mut mask = 0;
-    while mask < masks {
+    while mask < limit {
         lanes += solve_lanes(w, axes, all, knots, place, whole, axis, mask);
         mask += 1;
     }
@@ -109,8 +100,8 @@ pub fn solve_axes(
     place: [usize; 4],
     whole: bool,
 ) -> usize
-    requires { ⌜ Given (grid axes all (now knots)) (now w) × On (grid axes all (now knots)) (place-of place) ⌝ }
-    ensures { λ r. ⌜ Refreshed (grid axes all (now (knots .entry))) (now (w .entry)) (now (w .exit)) whole (place-of place) axes × (r ≡ lanes-below (points-of all) axes whole axes) ⌝ }
+    requires { ⌜ WorkGiven (grid axes all (now knots)) (now w) × On (grid axes all (now knots)) (place-of place) ⌝ }
+    ensures { λ r. ⌜ Refreshed (grid axes all (now (knots .entry))) (now (w .entry)) (now (w .exit)) whole (place-of place) axes × (r ≡ lanes-solved-below (points-of all) axes whole axes) ⌝ }
 {
     let mut lanes = 0;
     let mut axis = 0;

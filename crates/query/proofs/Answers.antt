@@ -4,7 +4,7 @@ use mathlib.Core.Path.{_≡_, refl, sym, ap, _∙_}
 use mathlib.Core.Logic.{_≢_}
 use mathlib.Core.Bool.{Bool, true, false, not, cond}
 use mathlib.Core.List.{List}
-use Prim.Native.Nat.{ℕ, zero, suc, _+_, _-_, _*_, _/_, _%_, _^_, _<_}
+use Prim.Native.Nat.{ℕ, zero, suc, _+_, _-_, _*_, _/_, _%_, _^_, _<_, _≤_}
 use lib.Dec.{ltb}
 use lib.ListN.{length, drop}
 use lib.Seq.{getD-take, getD-drop}
@@ -12,26 +12,38 @@ use lib.Ieee.{Float, nan}
 use lib.Ieee.Scale.{finite}
 use borrow.Author.Tests.{ltb-true, ltb-false, not-false}
 use Rattle.rules.specs.Numbers.{at, table}
-use Rattle.rules.specs.Sizes.{most-axes, Grid, points, knots, sum-below, masks, Place}
+use Rattle.rules.specs.Sizes.{most-axes, Grid, points, knots, sum-below, masks, Place, place-of}
 use Rattle.rules.specs.Refusals.{number-refused, answer-refused}
 use Rattle.rules.specs.Query.{corner, cell, cell-of, query}
 use Rattle.rules.specs.Calls.{answered, labelled, labels, query-refusal, query-answer, QueryPromise}
 use Rattle.rules.specs.declared.QueryAnswer.{QueryAnswer}
 use Rattle.rules.proofs.Places.{One, flat-ext}
-use Rattle.rules.proofs.Tables.{table-ext}
+use Rattle.rules.proofs.Tables.{at-table, table-ext}
 use Rattle.base.proofs.Scan.{any-at}
 use Rattle.checks.specs.Given.{GridGiven, QueryGiven}
-use Rattle.checks.proofs.Products.{sum-within}
+use Rattle.grid.specs.Given.{CellInside}
+use Rattle.grid.proofs.Products.{sum-within}
 use Rattle.checks.specs.Check.{query-check}
 use Rattle.checks.proofs.Accepted.{query-given, knots-step, knots-of-axis}
 use Rattle.checks.proofs.ThenOutcome.{refused, outcome-bad, outcome-good, query-outcome}
 use Rattle.locate.specs.Answers.{Rising}
-use Rattle.blend.specs.Blend.{axis-cell}
-use Rattle.blend.specs.declared.AxisCell.{AxisCell}
 use Rattle.blend.proofs.Blending.{blend-ext}
 use Rattle.query.specs.Answer.{refused-with}
-use Rattle.query.specs.Cell.{lowers, Inside, blended}
-use Rattle.query.specs.Located.{AxisAccepted, on-axis, Accepted, OnAxes}
+use Rattle.query.specs.Cell.{blended}
+use Rattle.query.specs.Located.{axis-cell, lowers, widths, fractions, AxisAccepted, on-axis, Accepted, OnAxes}
+use Rattle.query.specs.declared.located.AxisCell.{AxisCell}
+
+-- ---- what is known of a point, each apart
+
+module _ (cells : List AxisCell) (i : ℕ) (lt : i < most-axes) where
+  lower-at : place-of (lowers cells) i ≡ axis-cell cells i .lower
+  lower-at = at-table most-axes (λ j. axis-cell cells j .lower) i 0 lt
+
+  width-at : at (widths cells) i ≡ axis-cell cells i .width
+  width-at = at-table most-axes (λ j. axis-cell cells j .width) i nan lt
+
+  fraction-at : at (fractions cells) i ≡ axis-cell cells i .t
+  fraction-at = at-table most-axes (λ j. axis-cell cells j .t) i nan lt
 
 -- ---- what the check lets pass
 
@@ -75,12 +87,12 @@ module _ (g : Grid) (tensor-given : ℕ) (coordinates : List Float) (given : Que
     points-exact = exact;
   }
 
-  pub located-inside : (cells : List AxisCell) → OnAxes g coordinates (g .axes) cells → Inside (g .axes) (g .entries) cells
+  pub located-inside : (cells : List AxisCell) → OnAxes g coordinates (g .axes) cells → CellInside (g .axes) (g .entries) (place-of (lowers cells))
   located-inside cells on = record {
     some-axes = on-grid .in-range .some-axes;
     few-axes = on-grid .in-range .few-axes;
     small = on-grid .small;
-    upper = on .inside;
+    upper = λ i lt. rw (lower-at cells i (omega (arith, on-grid .in-range .few-axes))) (on .inside i lt);
   }
 
 -- ---- the value and the labels
@@ -91,14 +103,19 @@ cell-ext g tensor p q same e =
     ap (λ (place : ℕ). at tensor (place * masks g + e % masks g))
     (flat-ext (points g) (g .axes) _ _ (λ j h. ap (λ (l : ℕ). l + e / masks g / 2 ^ (g .axes - 1 - j) % 2) (same j h)))
 
-module _ (g : Grid) (tensor coordinates : List Float) (cells : List AxisCell) (on : OnAxes g coordinates (g .axes) cells) where
-  pub value-is : blended (g .axes) (g .entries) cells tensor ≡ query g tensor (at coordinates)
+-- the blend of the cell around a located point
+abbrev blended-in : Grid → List AxisCell → List Float → Float
+blended-in g cells tensor = blended (g .axes) (g .entries) (lowers cells) (widths cells) (fractions cells) tensor
+
+module _ (g : Grid) (tensor coordinates : List Float) (few : g .axes ≤ most-axes) (cells : List AxisCell) (on : OnAxes g coordinates (g .axes) cells) where
+  pub value-is : blended-in g cells tensor ≡ query g tensor (at coordinates)
   unfolding query cell-of cell
   value-is =
       blend-ext (g .axes) 0 _ _ _ _ _ _
-      (λ i a b. ap (λ (c : AxisCell). c .width) (on .found i (omega arith)))
-      (λ i a b. ap (λ (c : AxisCell). c .t) (on .found i (omega arith)))
-      (λ e b. cell-ext g tensor (lowers cells) (cell-of g (at coordinates)) (λ i h. ap (λ (c : AxisCell). c .lower) (on .found i h)) e)
+      (λ i a b. width-at cells i (omega arith) ∙ ap (λ (c : AxisCell). c .width) (on .found i (omega arith)))
+      (λ i a b. fraction-at cells i (omega arith) ∙ ap (λ (c : AxisCell). c .t) (on .found i (omega arith)))
+      (λ e b. cell-ext g tensor (place-of (lowers cells)) (cell-of g (at coordinates))
+      (λ i h. lower-at cells i (omega arith) ∙ ap (λ (c : AxisCell). c .lower) (on .found i h)) e)
 
   pub labels-are : table most-axes (λ i. axis-cell cells i .label) ≡ labels g tensor coordinates
   unfolding labels
@@ -134,9 +151,12 @@ module _ (g : Grid) (tensor coordinates : List Float) (check : ℕ) (checked : c
   check-passes none = query-given g (length tensor) coordinates (sym checked ∙ none)
 
   module _ (none : check ≡ 0) (cells : List AxisCell) (on : OnAxes g coordinates (g .axes) cells)
-      (value : Float) (blend : value ≡ blended (g .axes) (g .entries) cells tensor) (is-finite : Bool) (tested : is-finite ≡ finite value) where
+      (value : Float) (blend : value ≡ blended-in g cells tensor) (is-finite : Bool) (tested : is-finite ≡ finite value) where
+    few : g .axes ≤ most-axes
+    few = check-passes none .grid-given .in-range .few-axes
+
     outcome-is : answer-refused (query g tensor (at coordinates)) ≡ not is-finite
-    outcome-is = rw (tested, blend, value-is g tensor coordinates cells on) refl
+    outcome-is = rw (tested, blend, value-is g tensor coordinates few cells on) refl
 
     pub value-refused : is-finite ≡ false → (r : QueryAnswer) → r ≡ refused-with 10 → QueryPromise g tensor coordinates r
     value-refused e r is = record {
@@ -147,11 +167,11 @@ module _ (g : Grid) (tensor coordinates : List Float) (check : ℕ) (checked : c
     answer-is : (given : List ℕ) → query-refusal g tensor coordinates ≡ 0 → given ≡ labels g tensor coordinates
         → record { refusal = 0; value = value; labels = given } ≡ query-answer g tensor coordinates
     unfolding query-answer
-    answer-is given e l = rw (e, l, blend, value-is g tensor coordinates cells on) refl
+    answer-is given e l = rw (e, l, blend, value-is g tensor coordinates few cells on) refl
 
     pub value-given : is-finite ≡ true → (given : List ℕ) → given ≡ table most-axes (λ i. axis-cell cells i .label) → QueryPromise g tensor coordinates (record { refusal = 0; value = value; labels = given })
     value-given e given l = record {
       answer = answer-is given
           (outcome-good (query-outcome g tensor coordinates) (sym checked ∙ none) (outcome-is ∙ ap not e))
-          (l ∙ labels-are g tensor coordinates cells on);
+          (l ∙ labels-are g tensor coordinates few cells on);
     }

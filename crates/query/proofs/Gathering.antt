@@ -12,15 +12,14 @@ use lib.Seq.{length-take-le, getD-take, getD-drop, getD-append-add}
 use lib.Ieee.{Float, nan}
 use borrow.Author.Tests.{ltb-true, ltb-false}
 use Rattle.rules.specs.Numbers.{at}
-use Rattle.rules.specs.Sizes.{Grid, Place, flat, product-below, tensor-length}
+use Rattle.rules.specs.Sizes.{Grid, Place, place-of, flat, product-below, tensor-length}
 use Rattle.rules.specs.Query.{corner, cell, blend}
 use Rattle.rules.specs.declared.Axis.{Axis}
 use Rattle.rules.proofs.Places.{flat-below}
-use Rattle.checks.specs.Given.{sizes-of, points-of}
-use Rattle.blend.specs.declared.AxisCell.{AxisCell}
+use Rattle.grid.specs.Given.{sizes-of, points-of, CellInside}
 use Rattle.blend.proofs.Blending.{blend-ext}
-use Rattle.query.specs.Cell.{lowers, Inside, Gathered}
-use Rattle.query.proofs.Corners.{side-by-side, corner-on-grid}
+use Rattle.query.specs.Cell.{Gathered}
+use Rattle.grid.proofs.Corners.{side-by-side, corner-on-grid}
 
 -- ---- a part of a list replaced by another of the same length
 
@@ -83,8 +82,8 @@ module _ (axes : ℕ) (all : List Axis) (tensor : List Float) (lower : Place) (m
 -- ---- the turns
 
 -- the corners below `bits` are gathered
-pub record Turn (cell₀ : List Float) (axes : ℕ) (all : List Axis) (cells : List AxisCell) (tensor : List Float) (masks : ℕ) (gathered : List Float) (bits : ℕ) : Type 0 where
-  pub inside : Inside axes all cells
+pub record Turn (cell₀ : List Float) (axes : ℕ) (all : List Axis) (lower : List ℕ) (tensor : List Float) (masks : ℕ) (gathered : List Float) (bits : ℕ) : Type 0 where
+  pub inside : CellInside axes all (place-of lower)
   pub tensor-exact : length tensor ≡ tensor-length (sizes-of axes all)
   pub power : masks ≡ 2 ^ axes
   pub few-masks : masks ≤ 16
@@ -92,7 +91,7 @@ pub record Turn (cell₀ : List Float) (axes : ℕ) (all : List Axis) (cells : L
   pub same-length : length gathered ≡ length cell₀
   pub even : bits % 2 ≡ 0
   pub most : bits ≤ masks
-  pub done : (e : ℕ) → e < bits * masks → at gathered e ≡ cell (sizes-of axes all) tensor (lowers cells) e
+  pub done : (e : ℕ) → e < bits * masks → at gathered e ≡ cell (sizes-of axes all) tensor (place-of lower) e
 
 -- what the slices have room for in one turn
 pub record Room (tensor gathered : List Float) (masks bits place : ℕ) : Type 0 where
@@ -101,10 +100,10 @@ pub record Room (tensor gathered : List Float) (masks bits place : ℕ) : Type 0
   pub few : length gathered ≤ 256
   pub small : length tensor ≤ 4096
 
-module _ (cell₀ : List Float) (axes : ℕ) (all : List Axis) (cells : List AxisCell) (tensor : List Float) (masks : ℕ) where
+module _ (cell₀ : List Float) (axes : ℕ) (all : List Axis) (lower : List ℕ) (tensor : List Float) (masks : ℕ) where
   pub turn-first :
-      Inside axes all cells × (length cell₀ ≡ 4 ^ axes) × (length tensor ≡ tensor-length (sizes-of axes all)) → (masks ≡ 2 ^ axes) × (masks ≤ 16)
-      → Turn cell₀ axes all cells tensor masks cell₀ 0
+      CellInside axes all (place-of lower) × (length cell₀ ≡ 4 ^ axes) × (length tensor ≡ tensor-length (sizes-of axes all)) → (masks ≡ 2 ^ axes) × (masks ≤ 16)
+      → Turn cell₀ axes all lower tensor masks cell₀ 0
   turn-first given m = record {
     inside = given .0;
     tensor-exact = given .2;
@@ -117,8 +116,8 @@ module _ (cell₀ : List Float) (axes : ℕ) (all : List Axis) (cells : List Axi
     done = λ e h. absurd (omega arith);
   }
 
-  module _ (gathered : List Float) (bits place : ℕ) (turn : Turn cell₀ axes all cells tensor masks gathered bits) (lt : bits < masks)
-      (is : place ≡ flat (points-of all) axes (corner axes (lowers cells) bits)) where
+  module _ (gathered : List Float) (bits place : ℕ) (turn : Turn cell₀ axes all lower tensor masks gathered bits) (lt : bits < masks)
+      (is : place ≡ flat (points-of all) axes (corner axes (place-of lower) bits)) where
     two-more : bits + 2 ≤ masks
     two-more =
         let e : masks % 2 ≡ 0 = rw (turn .power) (even-power axes (turn .inside .some-axes)) in omega (arith, turn .even)
@@ -128,8 +127,8 @@ module _ (cell₀ : List Float) (axes : ℕ) (all : List Axis) (cells : List Axi
         omega (
           arith,
           is,
-          side-by-side (lowers cells) bits (turn .even) (points-of all) axes (turn .inside .some-axes),
-          flat-below (points-of all) axes (corner axes (lowers cells) (bits + 1)) (corner-on-grid axes all cells (bits + 1) (turn .inside)),
+          side-by-side (place-of lower) bits (turn .even) (points-of all) axes (turn .inside .some-axes),
+          flat-below (points-of all) axes (corner axes (place-of lower) (bits + 1)) (corner-on-grid axes all (place-of lower) (bits + 1) (turn .inside)),
         )
 
     pub room : Room tensor gathered masks bits place
@@ -175,10 +174,10 @@ module _ (cell₀ : List Float) (axes : ℕ) (all : List Axis) (cells : List Axi
         rw (add-sub-cancel-left (bits * masks) (2 * masks))
         (replaced-within gathered run (bits * masks) (2 * masks) (room .to) run-length k h ∙ run-at k h)
 
-    done-next : (e : ℕ) → e < (bits + 2) * masks → at later e ≡ cell (sizes-of axes all) tensor (lowers cells) e
+    done-next : (e : ℕ) → e < (bits + 2) * masks → at later e ≡ cell (sizes-of axes all) tensor (place-of lower) e
     done-next e h = go (ltb e (bits * masks)) refl
       where
-        go : (b : Bool) → ltb e (bits * masks) ≡ b → at later e ≡ cell (sizes-of axes all) tensor (lowers cells) e
+        go : (b : Bool) → ltb e (bits * masks) ≡ b → at later e ≡ cell (sizes-of axes all) tensor (place-of lower) e
         go true t = later-before e (ltb-true e (bits * masks) t) ∙ turn .done e (ltb-true e (bits * masks) t)
         go false f =
             let from : bits * masks ≤ e = ltb-false e (bits * masks) f in
@@ -187,10 +186,10 @@ module _ (cell₀ : List Float) (axes : ℕ) (all : List Axis) (cells : List Axi
             ap (at later) split
             ∙ later-within (e - bits * masks) less
             ∙ ap (λ (p : ℕ). at tensor (p * masks + (e - bits * masks))) is
-            ∙ sym (two-corners axes all tensor (lowers cells) masks (turn .power) bits (turn .even) (turn .inside .some-axes) (e - bits * masks) less)
-            ∙ ap (cell (sizes-of axes all) tensor (lowers cells)) (sym split)
+            ∙ sym (two-corners axes all tensor (place-of lower) masks (turn .power) bits (turn .even) (turn .inside .some-axes) (e - bits * masks) less)
+            ∙ ap (cell (sizes-of axes all) tensor (place-of lower)) (sym split)
 
-    pub turn-next : Turn cell₀ axes all cells tensor masks later (bits + 2)
+    pub turn-next : Turn cell₀ axes all lower tensor masks later (bits + 2)
     turn-next = record {
       inside = turn .inside;
       tensor-exact = turn .tensor-exact;
@@ -203,7 +202,7 @@ module _ (cell₀ : List Float) (axes : ℕ) (all : List Axis) (cells : List Axi
       done = done-next;
     }
 
-  pub turn-last : (gathered : List Float) (bits : ℕ) → Turn cell₀ axes all cells tensor masks gathered bits → masks ≤ bits → Gathered (sizes-of axes all) tensor (lowers cells) gathered
+  pub turn-last : (gathered : List Float) (bits : ℕ) → Turn cell₀ axes all lower tensor masks gathered bits → masks ≤ bits → Gathered (sizes-of axes all) tensor (place-of lower) gathered
   turn-last gathered bits turn h =
       let e : bits ≡ masks = omega (arith, turn .most) in
       let all-of-them : 4 ^ axes ≡ bits * masks = rw (e, turn .power) (four-power axes) in

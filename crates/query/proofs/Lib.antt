@@ -1,4 +1,3 @@
-pub mod Corners
 pub mod Gathering
 pub mod Locating
 pub mod Answers

@@ -12,11 +12,10 @@ use Rattle.rules.specs.Numbers.{_⊖_, _⊘_, at, plus-zero}
 use Rattle.rules.specs.Sizes.{Grid, points, knots, sum-below}
 use Rattle.rules.specs.Steps.{h}
 use Rattle.rules.specs.Query.{fraction}
-use Rattle.checks.proofs.Products.{sum-more, sum-within}
+use Rattle.grid.proofs.Products.{sum-more, sum-within}
 use Rattle.locate.specs.Answers as locate
-use Rattle.blend.specs.Blend.{axis-cell}
-use Rattle.blend.specs.declared.AxisCell.{AxisCell}
-use Rattle.query.specs.Located.{AxisAccepted, OnAxis, on-axis, Accepted, OnAxes}
+use Rattle.query.specs.declared.located.AxisCell.{AxisCell}
+use Rattle.query.specs.Located.{axis-cell, AxisAccepted, OnAxis, on-axis, Accepted, OnAxes}
 
 -- ---- one axis
 

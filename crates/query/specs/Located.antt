@@ -3,17 +3,30 @@ use mathlib.Core.Path.{_≡_}
 use mathlib.Core.Bool.{true}
 use mathlib.Core.List.{List}
 use Prim.Native.Nat.{ℕ, _+_, _-_, _<_, _≤_}
-use lib.ListN.{length}
-use lib.Ieee.{Float}
+use lib.ListN.{getD, length}
+use lib.Ieee.{Float, nan}
 use lib.Ieee.Scale.{finite}
-use Rattle.rules.specs.Numbers.{at}
+use Rattle.rules.specs.Numbers.{at, table}
 use Rattle.rules.specs.Sizes.{most-axes, fewest-on-an-axis, most-on-an-axis, Grid, points, knots-length, knots}
 use Rattle.rules.specs.Steps.{h}
 use Rattle.rules.specs.Locate.{locate, label}
 use Rattle.rules.specs.Query.{fraction}
 use Rattle.locate.specs.Answers.{Rising}
-use Rattle.blend.specs.Blend.{axis-cell}
-use Rattle.blend.specs.declared.AxisCell.{AxisCell}
+use Rattle.query.specs.declared.located.AxisCell.{AxisCell}
+
+-- what is known of a point on axis i: the lower knot of its cell, the cell's width, the fraction, and the label
+abbrev pub axis-cell : List AxisCell → ℕ → AxisCell
+axis-cell cells i = getD cells i (record { lower = 0; width = nan; t = nan; label = 0 })
+
+-- the same, each apart
+abbrev pub lowers : List AxisCell → List ℕ
+lowers cells = table most-axes (λ i. axis-cell cells i .lower)
+
+abbrev pub widths : List AxisCell → List Float
+widths cells = table most-axes (λ i. axis-cell cells i .width)
+
+abbrev pub fractions : List AxisCell → List Float
+fractions cells = table most-axes (λ i. axis-cell cells i .t)
 
 -- a point and the knots of an axis that the refusals let pass
 pub record AxisAccepted (knots : List Float) (point : Float) : Type 0 where

@@ -1,7 +1,7 @@
 // The query of a tensor: a point located on each axis, and the blend of the cell around it.
 ghost use mathlib.Core.Path.{_≡_};
 ghost use Rattle.rules.specs.Calls.{QueryPromise};
-ghost use Rattle.checks.specs.Given.{grid};
+ghost use Rattle.grid.specs.Given.{grid};
 ghost use Rattle.query.specs.Answer.{refused-with};
 use rules::Axis;
 use rules::QueryAnswer;
@@ -36,7 +36,10 @@ pub fn query(
         return refused(refusal);
     }
     let cells = located::locate_on_axes(axes, all, knots, coordinates);
-    let value = cell::value(axes, all, cells, tensor);
+    let lower = located::lowers(cells);
+    let widths = located::widths(cells);
+    let ts = located::fractions(cells);
+    let value = cell::value(axes, all, lower, widths, ts, tensor);
     if base::is_finite(value) {
         QueryAnswer {
             refusal: 0,

@@ -1,11 +1,17 @@
 // Where an accepted point lies on the axes, and its labels. None of these is public.
 ghost use mathlib.Core.Path.{_≡_};
 ghost use Rattle.rules.specs.Numbers.{table};
-ghost use Rattle.checks.specs.Given.{grid};
-ghost use Rattle.blend.specs.Blend.{axis-cell};
-ghost use Rattle.query.specs.Located.{AxisAccepted, OnAxis, Accepted, OnAxes};
-use blend::AxisCell;
+ghost use Rattle.grid.specs.Given.{grid};
+ghost use Rattle.query.specs.Located.{axis-cell, lowers, widths, fractions, AxisAccepted, OnAxis, Accepted, OnAxes};
 use rules::Axis;
+
+// Where a point lies on one axis: the lower knot of its cell, the cell's width, the fraction of it, and the label for the log.
+pub struct AxisCell {
+    pub lower: usize,
+    pub width: f64,
+    pub t: f64,
+    pub label: usize,
+}
 
 // Where a point lies among the knots of an axis.
 fn locate_on_axis(knots: &[f64], point: f64) -> AxisCell
@@ -50,6 +56,37 @@ pub fn locate_on_axes(
         i += 1;
     }
     cells
+}
+
+// The lower knots of the four axes.
+pub fn lowers(cells: [AxisCell; 4]) -> [usize; 4]
+    ensures { λ r. ⌜ r ≡ lowers cells ⌝ }
+{
+    [
+        cells[0].lower,
+        cells[1].lower,
+        cells[2].lower,
+        cells[3].lower,
+    ]
+}
+
+// The widths of the cells on the four axes.
+pub fn widths(cells: [AxisCell; 4]) -> [f64; 4]
+    ensures { λ r. ⌜ r ≡ widths cells ⌝ }
+{
+    [
+        cells[0].width,
+        cells[1].width,
+        cells[2].width,
+        cells[3].width,
+    ]
+}
+
+// The fractions on the four axes.
+pub fn fractions(cells: [AxisCell; 4]) -> [f64; 4]
+    ensures { λ r. ⌜ r ≡ fractions cells ⌝ }
+{
+    [cells[0].t, cells[1].t, cells[2].t, cells[3].t]
 }
 
 // The labels of the four axes.

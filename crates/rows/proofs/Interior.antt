@@ -11,8 +11,8 @@ use lib.Ieee.{Float, nan}
 use borrow.Author.Count.{below-more}
 use Rattle.rules.specs.Numbers.{at, _⊕_, _⊖_, _⊗_, _⊘_, two, six}
 use Rattle.rules.specs.Steps.{h, s, u}
-use Rattle.solve.specs.Rows.{row, Outside}
-use Rattle.rows.specs.Rows.{samples-in, LaneGiven, InteriorRows}
+use Rattle.scratch.specs.Layout.{row, Outside}
+use Rattle.rows.specs.Rows.{samples-in, RowsFit, InteriorRows}
 
 -- y has the samples that w has
 abbrev pub SamplesOf : List Float → List Float → List Float → Type 0
@@ -20,7 +20,7 @@ SamplesOf w x y = (i : ℕ) → i < length x → at y i ≡ at w i
 
 -- the rows below j are done; h and s of the step before row j's knot are known
 pub record Turn (w₀ w x y : List Float) (start stop : ℕ) (h-before s-before : Float) (j : ℕ) : Type 0 where
-  pub given : LaneGiven w₀ x
+  pub given : RowsFit w₀ x
   pub fit : start + stop < length x
   pub samples : SamplesOf w₀ x y
   pub least : 0 < j
@@ -49,7 +49,7 @@ front-samples : (w x : List Float) → SamplesOf w x (samples-in w x)
 front-samples w x i below = getD-take (length x) w i nan below
 
 pub turn-first :
-    (w x : List Float) (start stop : ℕ) → LaneGiven w x → start + stop < length x → 0 < stop
+    (w x : List Float) (start stop : ℕ) → RowsFit w x → start + stop < length x → 0 < stop
     → Turn w w x (samples-in w x) start stop
     (at x (start + 1) ⊖ at x start) ((at w (start + 1) ⊖ at w start) ⊘ (at x (start + 1) ⊖ at x start)) 1
 turn-first w x start stop given fit more = record {

@@ -4,16 +4,15 @@ ghost use mathlib.Core.Path.{_≡_};
 ghost use Prim.Native.Nat.{_+_, _<_, _≤_};
 ghost use lib.ListN.{length};
 ghost use Rattle.rules.specs.Ends.{dropped};
-ghost use Rattle.rows.specs.Rows.{lower-end-row, upper-end-row, periodic-row, samples-in, LaneGiven, InteriorRows, FirstRow, LastRow};
+ghost use Rattle.rules.specs.Sizes.{scratch-of-rows};
+ghost use Rattle.scratch.specs.Layout.{row-length};
+ghost use Rattle.rows.specs.Rows.{lower-end-row, upper-end-row, periodic-row, samples-in, RowsFit, InteriorRows, FirstRow, LastRow};
 use rules::End;
 use rules::Row;
-
-// Where each row of the scratch begins. The lane's samples stand at 0, and sub at 256.
-const DIAG: usize = 512;
-
-const SUP: usize = 768;
-
-const RHS: usize = 1024;
+use scratch::DIAG;
+use scratch::RHS;
+use scratch::SUB_BEFORE;
+use scratch::SUP;
 
 // An end's row, and beside it how many unknowns its kind drops: 1 for NotAKnot, whose row stands at the next knot, and 0 for any other.
 pub struct EndRow {
@@ -23,7 +22,7 @@ pub struct EndRow {
 
 // The rows 1 to stop - 1, row j at knot start + j: what the steps before and after that knot give.
 pub fn interior_rows(w: &mut [f64], x: &[f64], start: usize, stop: usize)
-    requires { ⌜ LaneGiven (now w) (now x) × (start + stop < length (now x)) × (0 < stop) ⌝ }
+    requires { ⌜ RowsFit (now w) (now x) × (start + stop < length (now x)) × (0 < stop) ⌝ }
     ensures { λ _. ⌜ InteriorRows (now (w .entry)) (now (w .exit)) (now (x .entry)) (samples-in (now (w .entry)) (now (x .entry))) start stop ⌝ }
 {
     let mut h = x[start + 1] - x[start];
@@ -33,7 +32,7 @@ pub fn interior_rows(w: &mut [f64], x: &[f64], start: usize, stop: usize)
         let i = start + j;
         let next_h = x[i + 1] - x[i];
         let next_s = (w[i + 1] - w[i]) / next_h;
-        w[255 + j] = h;
+        w[SUB_BEFORE + j] = h;
         w[DIAG + j] = 2.0 * (h + next_h);
         w[SUP + j] = next_h;
         w[RHS + j] = 6.0 * (next_s - s);
@@ -143,7 +142,7 @@ pub fn periodic_row(x: &[f64], y: &[f64]) -> Row
 
 // The first row of a solve is the lower end's.
 pub fn first_row(w: &mut [f64], lower: Row)
-    requires { ⌜ 2048 ≤ length (now w) ⌝ }
+    requires { ⌜ scratch-of-rows ≤ length (now w) ⌝ }
     ensures { λ _. ⌜ FirstRow (now (w .entry)) (now (w .exit)) lower ⌝ }
 {
     w[DIAG] = lower.diagonal;
@@ -153,10 +152,10 @@ pub fn first_row(w: &mut [f64], lower: Row)
 
 // The last row of a solve, row l, is the upper end's.
 pub fn last_row(w: &mut [f64], l: usize, upper: Row)
-    requires { ⌜ (2048 ≤ length (now w)) × (l < 256) ⌝ }
+    requires { ⌜ (scratch-of-rows ≤ length (now w)) × (l < row-length) ⌝ }
     ensures { λ _. ⌜ LastRow (now (w .entry)) (now (w .exit)) l upper ⌝ }
 {
-    w[255 + l] = upper.neighbour;
+    w[SUB_BEFORE + l] = upper.neighbour;
     w[DIAG + l] = upper.diagonal;
     w[RHS + l] = upper.right;
 }

@@ -4,11 +4,11 @@ use mathlib.Core.Logic.{_≢_}
 use mathlib.Core.Bool.{Bool, true, false, cond}
 use Prim.Native.Nat.{ℕ, zero, suc, _+_, _*_, _/_, _%_, _<_}
 use native.Mathlib.Omega.{arith}
-use native.Mathlib.Nat.{add-mul, div-add-mod', div-lt-iff-lt-mul, mod-lt, mul-assoc, mul-one}
+use native.Mathlib.Nat.{div-add-mod', div-lt-iff-lt-mul, mod-lt}
 use lib.Arith.{digits-lt, digits-div, digits-mod}
 use lib.Dec.{eqb}
-use borrow.Author.Tests.{eqb-true, eqb-false, eq-eqb, ne-eqb, lt-ltb, le-ltb}
-use Rattle.rules.specs.Sizes.{Place, moved, flat, unflat, product-below, stride}
+use borrow.Author.Tests.{eqb-true, eqb-false, eq-eqb, ne-eqb}
+use Rattle.rules.specs.Sizes.{Place, moved, flat, unflat, product-below}
 
 -- p lies on the first d axes of a grid of n points each
 abbrev pub OnGrid : (ℕ → ℕ) → ℕ → Place → Type 0
@@ -109,41 +109,3 @@ unflat-on-grid n (suc d) f some j below =
 pub flat-one : (n : ℕ → ℕ) (d : ℕ) (p q : Place) → OnGrid n d p → OnGrid n d q → flat n d p ≡ flat n d q → One d p q
 flat-one n d p q on-p on-q e j below =
     sym (unflat-flat n d p on-p j below) ∙ ap (λ (f : ℕ). unflat n d f j) e ∙ unflat-flat n d q on-q j below
-
--- ---- strides: neighbours along axis i stand a stride apart
-
-stride-before : (n : ℕ → ℕ) (d i : ℕ) → i < d → stride n (suc d) i ≡ stride n d i * n d
-unfolding stride
-stride-before n d i lt = ap (λ (b : Bool). cond b (stride n d i * n d) 1) (lt-ltb i d lt)
-
-stride-last : (n : ℕ → ℕ) (d : ℕ) → stride n (suc d) d ≡ 1
-unfolding stride
-stride-last n d = ap (λ (b : Bool). cond b (stride n d d * n d) 1) (le-ltb d d (omega arith))
-
-one-digit-more : (a b size digit k step : ℕ) → a ≡ b + k * step → a * size + digit ≡ b * size + digit + k * (step * size)
-one-digit-more a b size digit k step e =
-    omega (arith, ap (λ (x : ℕ). x * size) e, add-mul b (k * step) size, mul-assoc k step size)
-
-stride-along-before :
-    (n : ℕ → ℕ) (d i k : ℕ) (p : Place) → i < d
-    → flat n d (moved p i k) ≡ flat n d (moved p i 0) + k * stride n d i
-    → flat n (suc d) (moved p i k) ≡ flat n (suc d) (moved p i 0) + k * stride n (suc d) i
-unfolding flat
-stride-along-before n d i k p lt less =
-    rw (stride-before n d i lt, moved-off p i k d (omega arith), moved-off p i 0 d (omega arith))
-    (one-digit-more (flat n d (moved p i k)) (flat n d (moved p i 0)) (n d) (p d) k (stride n d i) less)
-
-stride-along-last : (n : ℕ → ℕ) (d k : ℕ) (p : Place) → flat n (suc d) (moved p d k) ≡ flat n (suc d) (moved p d 0) + k * stride n (suc d) d
-unfolding flat
-stride-along-last n d k p =
-    let e : flat n d (moved p d k) ≡ flat n d (moved p d 0) =
-    flat-ext n d (moved p d k) (moved p d 0) (λ j below. moved-off p d k j (omega arith) ∙ sym (moved-off p d 0 j (omega arith))) in
-    rw (stride-last n d, moved-on p d k, moved-on p d 0) (omega (arith, ap (λ (x : ℕ). x * n d) e, mul-one k))
-
-pub stride-along : (n : ℕ → ℕ) (d i k : ℕ) (p : Place) → i < d → flat n d (moved p i k) ≡ flat n d (moved p i 0) + k * stride n d i
-stride-along n zero i k p lt = absurd (omega arith)
-stride-along n (suc d) i k p lt =
-    below-or-last (λ (i : ℕ). flat n (suc d) (moved p i k) ≡ flat n (suc d) (moved p i 0) + k * stride n (suc d) i) d i
-    (stride-along-last n d k p)
-    (λ before. stride-along-before n d i k p before (stride-along n d i k p before))
-    lt

@@ -2,7 +2,7 @@
 use mathlib.Core.Bool.{Bool, cond}
 use mathlib.Core.List.{List}
 use Prim.Native.Nat.{ℕ, zero, suc, _+_, _*_, _/_, _%_, _^_}
-use lib.Dec.{ltb, eqb}
+use lib.Dec.{eqb}
 use lib.ListN.{getD, take, drop}
 use lib.Ieee.{Float}
 use Rattle.rules.specs.Ends.{not-a-knot}
@@ -95,11 +95,6 @@ flat n (suc d) p = flat n d p * n d + p d
 unfoldable pub unflat : (ℕ → ℕ) → ℕ → ℕ → Place
 unflat n zero f j = 0
 unflat n (suc d) f j = cond (eqb j d) (f % n d) (unflat n d (f / n d) j)
-
--- how far apart two neighbours along axis i stand
-unfoldable pub stride : (ℕ → ℕ) → ℕ → ℕ → ℕ
-stride n zero i = 1
-stride n (suc d) i = cond (ltb i d) (stride n d i * n d) 1
 
 -- "in the tensor the mask is fastest of all": where the number of a place and a mask stands
 abbrev pub spot : Grid → Place → ℕ → ℕ

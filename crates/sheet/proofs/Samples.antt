@@ -12,7 +12,7 @@ use lib.Pow.{pow-pos}
 use Rattle.rules.specs.Numbers.{any}
 use Rattle.rules.specs.Sizes.{product-below, samples-length, tensor-length}
 use Rattle.rules.specs.declared.Axis.{Axis}
-use Rattle.checks.specs.Given.{sizes-of, points-of}
+use Rattle.grid.specs.Given.{sizes-of, points-of}
 use Rattle.bits.specs.Bits.{bit, field, numbers-short}
 use Rattle.sheet.specs.Fields.{samples-begin, sheet-grid}
 use Rattle.sheet.specs.Faults.{tail-refused, samples-fault}

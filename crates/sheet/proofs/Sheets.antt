@@ -14,7 +14,7 @@ use Rattle.rules.specs.Sizes.{unused-axis, product-below, samples-length}
 use Rattle.rules.specs.Refusals.{axes-refused, tensor-refused}
 use Rattle.rules.specs.Calls.{or-else}
 use Rattle.rules.specs.declared.Axis.{Axis}
-use Rattle.checks.specs.Given.{points-of, InRange}
+use Rattle.grid.specs.Given.{points-of, InRange}
 use Rattle.bits.specs.Bits.{short, numbers-short}
 use Rattle.sheet.specs.Fields.{edition, axes, points-at, axis-at, axis-begin, entries, sheet-grid, samples-begin, samples-end}
 use Rattle.sheet.specs.Faults.{axes-fault, tail-refused, samples-fault, sheet-refusal}

@@ -6,7 +6,7 @@ use Prim.Native.Nat.{ℕ, _*_, _≤_}
 use lib.ListN.{length}
 use Rattle.rules.specs.Sizes.{most-axes}
 use Rattle.rules.specs.declared.Axis.{Axis}
-use Rattle.checks.specs.Given.{points-of, InRange}
+use Rattle.grid.specs.Given.{points-of, InRange}
 use Rattle.sheet.specs.Fields.{axes, axis-end, axis-begin, entries}
 use Rattle.sheet.specs.Faults.{axes-fault}
 use Rattle.sheet.specs.declared.axes.Walk.{Walk}

@@ -4,7 +4,7 @@ use crate::axes::store_knots;
 use crate::look::look;
 use crate::look::refused;
 use bits::fill;
-use checks::sizes::samples_length;
+use grid::samples_length;
 use rules::Axis;
 
 mod axes; // axes.rt: the axes of a sheet, one after the other

@@ -11,8 +11,8 @@ use crate::axes::walk_axes;
 use bits::are_short;
 use bits::field_at;
 use bits::is_short;
-use checks::sizes::samples_length;
-use checks::sizes::tensor_length;
+use grid::samples_length;
+use grid::tensor_length;
 use rules::Axis;
 
 // The answer of a refusal: no axes, and none of the four in use.

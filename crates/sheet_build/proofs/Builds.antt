@@ -10,7 +10,7 @@ use Rattle.rules.specs.Sizes.{Grid, knots-length, samples-length, tensor-length
 use Rattle.rules.specs.Tensor.{tensor}
 use Rattle.rules.specs.Calls.{stored, BuildPromise}
 use Rattle.rules.specs.declared.Axis.{Axis}
-use Rattle.checks.specs.Given.{grid, sizes-of}
+use Rattle.grid.specs.Given.{grid, sizes-of}
 use Rattle.sheet.specs.Read.{over}
 use Rattle.sheet_build.specs.SheetTensor.{refused-answer, answer-of, grid-in, samples-in, parts-refusal, PartsPromise}
 use Rattle.sheet_build.specs.declared.SheetAnswer.{SheetAnswer}

@@ -11,7 +11,7 @@ use Rattle.rules.specs.Refusals.{length-refused}
 use Rattle.rules.specs.Tensor.{tensor}
 use Rattle.rules.specs.Calls.{or-else, stored, scratch-after, build-refusal}
 use Rattle.rules.specs.declared.Axis.{Axis}
-use Rattle.checks.specs.Given.{grid, sizes-of, points-of, InRange}
+use Rattle.grid.specs.Given.{grid, sizes-of, points-of, InRange}
 use Rattle.sheet.specs.Fields.{sheet-grid, sheet-samples}
 use Rattle.sheet.specs.Read.{over, read-refusal}
 use Rattle.sheet_build.specs.declared.SheetAnswer.{SheetAnswer}

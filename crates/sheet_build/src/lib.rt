@@ -35,9 +35,9 @@ fn build_parts(
     requires { ⌜ PartsGiven axes all (now knots) (now samples) (now tensor) ⌝ }
     ensures { λ r. ⌜ PartsPromise (grid-in axes all (now (knots .entry))) (samples-in axes all (now (samples .entry))) (now (tensor .entry)) (now (scratch .entry)) r (now (tensor .exit)) (now (scratch .exit)) ⌝ }
 {
-    let knots_end = checks::sizes::knots_length(axes, all);
-    let samples_end = checks::sizes::samples_length(axes, all);
-    let length = checks::sizes::tensor_length(axes, all);
+    let knots_end = grid::knots_length(axes, all);
+    let samples_end = grid::samples_length(axes, all);
+    let length = grid::tensor_length(axes, all);
     let refusal = tensor::build(
         axes,
         all,

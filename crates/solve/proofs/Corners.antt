@@ -9,7 +9,8 @@ use lib.Seq.{getD-set-same, getD-set-other}
 use lib.Ieee.{Float, nan}
 use borrow.Author.Count.{below-more}
 use Rattle.rules.specs.Numbers.{at, _⊖_, _⊗_, _⊘_, plus-zero}
-use Rattle.solve.specs.Rows.{row, Outside, Given}
+use Rattle.solve.specs.Rows.{RowsGiven}
+use Rattle.scratch.specs.Layout.{row, Outside}
 use Rattle.solve.specs.Cyclic.{DiagMod, UVec}
 
 -- a at a row's first place and then b at its last
@@ -26,7 +27,7 @@ module _ (w : List Float) (base l : ℕ) (a b : Float) (more : 0 < l) (inside : 
   at-other : (j : ℕ) → j ≢ base → j ≢ base + l → at ends j ≡ at w j
   at-other j m n = getD-set-other (set w base a) (base + l) j b nan n ∙ getD-set-other w base j a nan m
 
-module _ (w : List Float) (l : ℕ) (gamma corner : Float) (g : Given w l) (more : 0 < l) where
+module _ (w : List Float) (l : ℕ) (gamma corner : Float) (g : RowsGiven w l) (more : 0 < l) where
   abbrev a : Float
   a = at w 512 ⊖ gamma
 
@@ -43,14 +44,14 @@ module _ (w : List Float) (l : ℕ) (gamma corner : Float) (g : Given w l) (more
 
 -- the right side is zero after its first place and before place k
 pub record Turn (w₀ w : List Float) (l k : ℕ) : Type 0 where
-  pub given : Given w₀ l
+  pub given : RowsGiven w₀ l
   pub least : 0 < k
   pub most : k ≤ l
   pub same-length : length w ≡ length w₀
   pub between : (j : ℕ) → j < k → 0 < j → row w 1024 j ≡ plus-zero
   pub kept : (j : ℕ) → Outside 1024 (suc l) j → at w j ≡ at w₀ j
 
-pub turn-first : (w : List Float) (l : ℕ) → Given w l → 0 < l → Turn w w l 1
+pub turn-first : (w : List Float) (l : ℕ) → RowsGiven w l → 0 < l → Turn w w l 1
 turn-first w l g more = record {
   given = g;
   least = omega arith;

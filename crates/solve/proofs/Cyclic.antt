@@ -13,7 +13,8 @@ use lib.Ieee.{Float, nan, neg}
 use borrow.Author.Tests.{eq-eqb, ne-eqb}
 use Rattle.rules.specs.Numbers.{at, _⊕_, _⊖_, _⊗_, _⊘_}
 use Rattle.rules.specs.Solve.{diag-mod, u-vec, y, z, factor, cyclic-thomas}
-use Rattle.solve.specs.Rows.{row, of-rows, Given, Solved}
+use Rattle.solve.specs.Rows.{of-rows, RowsGiven, Solved}
+use Rattle.scratch.specs.Layout.{row}
 use Rattle.solve.specs.Cyclic.{DiagMod, UVec, factor-of, Subtracted, CyclicSolved}
 use Rattle.solve.proofs.Agreement.{same-thomas}
 
@@ -36,7 +37,7 @@ by-two-solves sub diag sup rhs corner zero k n = absurd (n refl)
 by-two-solves sub diag sup rhs corner (suc l) k n = refl
 
 -- one unknown
-pub alone : (w : List Float) (corner : Float) (l : ℕ) → Given w l → l ≡ 0 → CyclicSolved w (set w 1792 (at w 1024 ⊘ (at w 512 ⊕ corner ⊕ corner))) l corner
+pub alone : (w : List Float) (corner : Float) (l : ℕ) → RowsGiven w l → l ≡ 0 → CyclicSolved w (set w 1792 (at w 1024 ⊘ (at w 512 ⊕ corner ⊕ corner))) l corner
 unfolding cyclic-thomas
 alone w corner l g e = record {
   same-length = simp length-set;
@@ -45,7 +46,7 @@ alone w corner l g e = record {
 }
 
 module _
-    (w₀ w₁ w₂ w₃ w₄ w₅ : List Float) (l : ℕ) (corner f : Float) (given : Given w₀ l) (more : l ≢ 0)
+    (w₀ w₁ w₂ w₃ w₄ w₅ : List Float) (l : ℕ) (corner f : Float) (given : RowsGiven w₀ l) (more : l ≢ 0)
     (modified : DiagMod w₀ w₁ l (neg (at w₀ 512)) corner)
     (first : Solved w₁ w₂ l 1792)
     (right : UVec w₂ w₃ l (neg (at w₀ 512)) corner)

@@ -9,16 +9,17 @@ use lib.Seq.{getD-set-same, getD-set-other}
 use lib.Ieee.{Float, nan}
 use borrow.Author.Count.{below-more}
 use Rattle.rules.specs.Numbers.{at, _⊖_, _⊗_}
-use Rattle.solve.specs.Rows.{row, Given}
+use Rattle.solve.specs.Rows.{RowsGiven}
+use Rattle.scratch.specs.Layout.{row}
 use Rattle.solve.specs.Cyclic.{Subtracted}
 
 -- the numbers before number k are done
 pub record Turn (w₀ w : List Float) (l : ℕ) (factor : Float) (k : ℕ) : Type 0 where
-  pub given : Given w₀ l
+  pub given : RowsGiven w₀ l
   pub most : k ≤ l + 1
   pub done : Subtracted w₀ w k factor
 
-pub turn-first : (w : List Float) (l : ℕ) (factor : Float) → Given w l → Turn w w l factor 0
+pub turn-first : (w : List Float) (l : ℕ) (factor : Float) → RowsGiven w l → Turn w w l factor 0
 turn-first w l factor g = record {
   given = g;
   most = omega arith;

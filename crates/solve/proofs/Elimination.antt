@@ -12,11 +12,12 @@ use borrow.Author.Count.{below-more}
 use Rattle.rules.specs.Numbers.{at, _⊖_, _⊗_, _⊘_}
 use Rattle.rules.specs.Solve as Solve
 use Rattle.rules.specs.Solve.{cp, dp}
-use Rattle.solve.specs.Rows.{row, of-rows, Outside, Given, Eliminated}
+use Rattle.solve.specs.Rows.{of-rows, RowsGiven, Eliminated}
+use Rattle.scratch.specs.Layout.{row, Outside}
 
 -- the rows below k are done; row k's divisor and second number are known
 pub record Turn (w₀ w : List Float) (l : ℕ) (divisor d : Float) (k : ℕ) : Type 0 where
-  pub given : Given w₀ l
+  pub given : RowsGiven w₀ l
   pub most : k ≤ l
   pub same-length : length w ≡ length w₀
   pub divisor-is : divisor ≡ of-rows Solve.w w₀ k
@@ -25,7 +26,7 @@ pub record Turn (w₀ w : List Float) (l : ℕ) (divisor d : Float) (k : ℕ) : 
   pub second : (j : ℕ) → j < k → row w 1536 j ≡ of-rows dp w₀ j
   pub kept : (j : ℕ) → Outside 1280 512 j → at w j ≡ at w₀ j
 
-pub turn-first : (w : List Float) (l : ℕ) → Given w l → Turn w w l (at w 512) (at w 1024 ⊘ at w 512) 0
+pub turn-first : (w : List Float) (l : ℕ) → RowsGiven w l → Turn w w l (at w 512) (at w 1024 ⊘ at w 512) 0
 unfolding Solve.w dp
 turn-first w l g = record {
   given = g;

@@ -6,7 +6,8 @@ use Prim.Native.Nat.{ℕ, zero, suc, _-_, _≤_}
 use lib.Ieee.{Float}
 use Rattle.rules.specs.Numbers.{at}
 use Rattle.rules.specs.Solve.{before-last, thomas}
-use Rattle.solve.specs.Rows.{row, of-rows, Eliminated, Substituted, Solved}
+use Rattle.solve.specs.Rows.{of-rows, Eliminated, Substituted, Solved}
+use Rattle.scratch.specs.Layout.{row}
 
 module _ (w₀ w₁ w₂ : List Float) (l to : ℕ) (forth : Eliminated w₀ w₁ l) (back : Substituted w₁ w₂ l to 0) where
   before : (j : ℕ) → j ≤ l → row w₂ to (l - j) ≡ of-rows before-last w₀ l j

@@ -9,17 +9,18 @@ use lib.ListN.{length, set, length-set}
 use lib.Seq.{getD-set-same, getD-set-other}
 use lib.Ieee.{Float, nan}
 use Rattle.rules.specs.Numbers.{at, _⊖_, _⊗_}
-use Rattle.solve.specs.Rows.{row, Given, Place, Substituted}
+use Rattle.solve.specs.Rows.{RowsGiven, ResultPlace, Substituted}
+use Rattle.scratch.specs.Layout.{row}
 
 -- once x is stored at row k, the rows from k on are done
 pub record Turn (w₀ w : List Float) (l to : ℕ) (x : Float) (k : ℕ) : Type 0 where
-  pub given : Given w₀ l
-  pub place : Place l to
+  pub given : RowsGiven w₀ l
+  pub place : ResultPlace l to
   pub most : k ≤ l
   pub same-length : length w ≡ length w₀
   pub done : Substituted w₀ (set w (to + k) x) l to k
 
-pub turn-first : (w : List Float) (l to : ℕ) → Given w l → Place l to → Turn w w l to (at w (1536 + l)) l
+pub turn-first : (w : List Float) (l to : ℕ) → RowsGiven w l → ResultPlace l to → Turn w w l to (at w (1536 + l)) l
 turn-first w l to g p = record {
   given = g;
   place = p;

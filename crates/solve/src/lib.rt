@@ -2,27 +2,19 @@
 // No function here is public: each requires a scratch of at least 2,048 numbers and l below 256.
 ghost use mathlib.Core.Path.{_≡_};
 ghost use Prim.Native.Nat.{_+_, _<_};
-ghost use Rattle.solve.specs.Rows.{Given, Place, Eliminated, Substituted, Solved};
+ghost use Rattle.solve.specs.Rows.{RowsGiven, ResultPlace, Eliminated, Substituted, Solved};
 ghost use Rattle.solve.specs.Cyclic.{DiagMod, UVec, factor-of, Subtracted, CyclicSolved};
-
-// Where each row begins, and the result of `cyclic_thomas`.
-const SUB: usize = 256;
-
-const DIAG: usize = 512;
-
-const SUP: usize = 768;
-
-const RHS: usize = 1024;
-
-const CP: usize = 1280;
-
-const DP: usize = 1536;
-
-const RESULT: usize = 1792;
+use scratch::CP;
+use scratch::DIAG;
+use scratch::DP;
+use scratch::MOMENTS;
+use scratch::RHS;
+use scratch::SUB;
+use scratch::SUP;
 
 // The helper rows of `thomas`, the first row first. The last cp is never read, and is left as it was.
 fn eliminate(w: &mut [f64], l: usize)
-    requires { ⌜ Given (now w) l ⌝ }
+    requires { ⌜ RowsGiven (now w) l ⌝ }
     ensures { λ _. ⌜ Eliminated (now (w .entry)) (now (w .exit)) l ⌝ }
 {
     let mut divisor = w[DIAG];
@@ -42,7 +34,7 @@ fn eliminate(w: &mut [f64], l: usize)
 
 // The result of `thomas` from its helper rows, the last row first.
 fn substitute(w: &mut [f64], l: usize, to: usize)
-    requires { ⌜ Given (now w) l × Place l to ⌝ }
+    requires { ⌜ RowsGiven (now w) l × ResultPlace l to ⌝ }
     ensures { λ _. ⌜ Substituted (now (w .entry)) (now (w .exit)) l to 0 ⌝ }
 {
     let mut x = w[DP + l];
@@ -58,7 +50,7 @@ fn substitute(w: &mut [f64], l: usize, to: usize)
 // The solve of a tridiagonal matrix, its result from `to` on. It requires that the result lies before the tensor and outside the helper
 // rows; it may lie over the rows that were solved.
 pub fn thomas(w: &mut [f64], l: usize, to: usize)
-    requires { ⌜ Given (now w) l × Place l to ⌝ }
+    requires { ⌜ RowsGiven (now w) l × ResultPlace l to ⌝ }
     ensures { λ _. ⌜ Solved (now (w .entry)) (now (w .exit)) l to ⌝ }
 {
     eliminate(w, l);
@@ -67,7 +59,7 @@ pub fn thomas(w: &mut [f64], l: usize, to: usize)
 
 // The diagonal without the corners.
 fn diag_mod(w: &mut [f64], l: usize, gamma: f64, corner: f64)
-    requires { ⌜ Given (now w) l × (0 < l) ⌝ }
+    requires { ⌜ RowsGiven (now w) l × (0 < l) ⌝ }
     ensures { λ _. ⌜ DiagMod (now (w .entry)) (now (w .exit)) l gamma corner ⌝ }
 {
     w[DIAG] = w[DIAG] - gamma;
@@ -76,7 +68,7 @@ fn diag_mod(w: &mut [f64], l: usize, gamma: f64, corner: f64)
 
 // The right side of the second solve: gamma, zeros, corner.
 fn u_vec(w: &mut [f64], l: usize, gamma: f64, corner: f64)
-    requires { ⌜ Given (now w) l × (0 < l) ⌝ }
+    requires { ⌜ RowsGiven (now w) l × (0 < l) ⌝ }
     ensures { λ _. ⌜ UVec (now (w .entry)) (now (w .exit)) l gamma corner ⌝ }
 {
     let mut k = 1;
@@ -90,39 +82,39 @@ fn u_vec(w: &mut [f64], l: usize, gamma: f64, corner: f64)
 
 // How many times z is taken from y.
 fn factor(w: &[f64], l: usize, gamma: f64, corner: f64) -> f64
-    requires { ⌜ Given (now w) l ⌝ }
+    requires { ⌜ RowsGiven (now w) l ⌝ }
     ensures { λ r. ⌜ r ≡ factor-of (now (w .entry)) l gamma corner ⌝ }
 {
     let c_over_g = corner / gamma;
-    let vt_y = w[RESULT] + c_over_g * w[RESULT + l];
+    let vt_y = w[MOMENTS] + c_over_g * w[MOMENTS + l];
     let vt_z = w[RHS] + c_over_g * w[RHS + l];
     vt_y / (1.0 + vt_z)
 }
 
 // y less factor times z, in the place of y.
 fn subtract(w: &mut [f64], l: usize, factor: f64)
-    requires { ⌜ Given (now w) l ⌝ }
+    requires { ⌜ RowsGiven (now w) l ⌝ }
     ensures { λ _. ⌜ Subtracted (now (w .entry)) (now (w .exit)) (l + 1) factor ⌝ }
 {
     let mut k = 0;
     while k <= l {
-        w[RESULT + k] = w[RESULT + k] - factor * w[RHS + k];
+        w[MOMENTS + k] = w[MOMENTS + k] - factor * w[RHS + k];
         k += 1;
     }
 }
 
-// The solve of a tridiagonal matrix with `corner` in the first row's last place and the last row's first, its result from RESULT on.
+// The solve of a tridiagonal matrix with `corner` in the first row's last place and the last row's first, its result in the row of moments.
 // Two solves without the corners make it, y for the right side and z for the corners; diag and rhs are overwritten.
 pub fn cyclic_thomas(w: &mut [f64], l: usize, corner: f64)
-    requires { ⌜ Given (now w) l ⌝ }
+    requires { ⌜ RowsGiven (now w) l ⌝ }
     ensures { λ _. ⌜ CyclicSolved (now (w .entry)) (now (w .exit)) l corner ⌝ }
 {
     if l == 0 {
-        w[RESULT] = w[RHS] / (w[DIAG] + corner + corner);
+        w[MOMENTS] = w[RHS] / (w[DIAG] + corner + corner);
     } else {
         let gamma = -w[DIAG];
         diag_mod(w, l, gamma, corner);
-        thomas(w, l, RESULT);
+        thomas(w, l, MOMENTS);
         u_vec(w, l, gamma, corner);
         thomas(w, l, RHS);
         let f = factor(w, l, gamma, corner);

@@ -24,9 +24,10 @@ use Rattle.checks.proofs.ThenOutcome.{refused, outcome, outcome-bad, outcome-go
 use Rattle.checks.proofs.Accepted.{moments-given, curve-given, slopes-given}
 use Rattle.locate.specs.Answers.{Located}
 use Rattle.locate.proofs.Accepted.{accepted-rise}
-use Rattle.rows.specs.Rows.{samples-in, LaneGiven}
+use Rattle.rows.specs.Rows.{samples-in, RowsFit}
 use Rattle.moments.specs.Lanes.{MomentsSolved}
-use Rattle.spline.specs.Work.{AxisLengths, outcome-number, MomentsWorked}
+use Rattle.spline.specs.Work.{outcome-number, MomentsWorked}
+use Rattle.moments.specs.Curve.{AxisLengths}
 
 -- ---- the knot slopes, one by one
 
@@ -147,7 +148,7 @@ cleared false r lent e = rw e
 
 module _
     (x y : List Float) (condition : Condition) (out scratch w w₂ : List Float)
-    (lane : LaneGiven scratch x) (exact : length y ≡ length x) (front : w ≡ y ++ drop (length x) scratch)
+    (lane : RowsFit scratch x) (exact : length y ≡ length x) (front : w ≡ y ++ drop (length x) scratch)
     (solved : MomentsSolved w w₂ x condition)
   where
     abbrev all : List Float
@@ -204,7 +205,7 @@ module _ (n : ℕ) (x y : List Float) (condition : Condition) (out scratch : Lis
     moments-known : MomentsGiven n x y condition (length out) (length scratch)
     moments-known = moments-given n x y condition (length out) (length scratch) none
 
-    pub moments-lane : LaneGiven scratch x
+    pub moments-lane : RowsFit scratch x
     moments-lane =
         let axis = moments-known .axis in
         let room = moments-known .scratch-enough in

@@ -2,7 +2,7 @@
 use mathlib.Core.Path.{_≡_}
 use mathlib.Core.Bool.{cond}
 use mathlib.Core.List.{List}
-use Prim.Native.Nat.{ℕ, _-_, _≤_}
+use Prim.Native.Nat.{ℕ, _-_}
 use lib.ListN.{length}
 use lib.Ieee.{Float}
 use Rattle.rules.specs.Numbers.{zeros}
@@ -10,12 +10,6 @@ use Rattle.rules.specs.Refusals.{outcome-refused}
 use Rattle.rules.specs.Moments.{moments}
 use Rattle.rules.specs.Calls.{stored}
 use Rattle.rules.specs.declared.Condition.{Condition}
-
--- a sample and a moment for each of at least two knots
-pub record AxisLengths (x y m : List Float) : Type 0 where
-  pub least : 2 ≤ length x
-  pub samples : length x ≤ length y
-  pub moments : length x ≤ length m
 
 -- the number that the outcome gives: 10 where it is refused
 abbrev pub outcome-number : List Float → ℕ

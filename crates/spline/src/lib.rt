@@ -1,47 +1,19 @@
-// The spline of one lane and of one axis: moments, knot slopes and the curve's value.
+// The public calls on one axis: the moments of a curve, its value at a point, and its slopes at the knots.
 ghost use mathlib.Core.Path.{_≡_};
 ghost use Prim.Native.Nat.{_+_, _-_, _<_, _≤_};
 ghost use lib.ListN.{length};
 ghost use Rattle.rules.specs.Ends.{fewest-points};
-ghost use Rattle.rules.specs.Curve.{knot-slope, knot-slopes, curve-in-cell};
+ghost use Rattle.rules.specs.Curve.{knot-slopes};
 ghost use Rattle.rules.specs.Refusals.{outcome-refused};
 ghost use Rattle.rules.specs.Calls.{MomentsPromise, CurvePromise, SlopesPromise};
-ghost use Rattle.rows.specs.Rows.{LaneGiven};
-ghost use Rattle.spline.specs.Work.{AxisLengths, MomentsWorked};
+ghost use Rattle.rows.specs.Rows.{RowsFit};
+ghost use Rattle.spline.specs.Work.{MomentsWorked};
+ghost use Rattle.moments.specs.Curve.{AxisLengths};
+use moments::curve::curve_in_cell;
+use moments::curve::knot_slope;
 use rules::Condition;
 use rules::CurveAnswer;
-
-// The slope of the curve at knot i. Not public: it requires a sample and a moment for each of at least two knots.
-pub fn knot_slope(x: &[f64], y: &[f64], m: &[f64], i: usize) -> f64
-    requires { ⌜ AxisLengths (now x) (now y) (now m) × (i < length (now x)) ⌝ }
-    ensures { λ r. ⌜ r ≡ knot-slope (now (x .entry)) (length (now (x .entry)) - 1) (now (y .entry)) (now (m .entry)) i ⌝ }
-{
-    let n = x.len() - 1;
-    if i < n {
-        let h = x[i + 1] - x[i];
-        (y[i + 1] - y[i]) / h - h * (2.0 * m[i] + m[i + 1]) / 6.0
-    } else {
-        let last = n - 1;
-        let h = x[last + 1] - x[last];
-        (y[last + 1] - y[last]) / h + h * (m[last] + 2.0 * m[n]) / 6.0
-    }
-}
-
-// The curve's value at a point, by the cubic of cell i. Not public: it requires a sample and a moment for each knot, and that the cell is one.
-pub fn curve_in_cell(x: &[f64], y: &[f64], m: &[f64], i: usize, point: f64) -> f64
-    requires { ⌜ AxisLengths (now x) (now y) (now m) × (i + 1 < length (now x)) ⌝ }
-    ensures { λ r. ⌜ r ≡ curve-in-cell (now (x .entry)) (now (y .entry)) (now (m .entry)) i point ⌝ }
-{
-    let h = x[i + 1] - x[i];
-    let dx = point - x[i];
-    let dx_r = h - dx;
-    let six_h = 6.0 * h;
-    let h2_over_six = h * h / 6.0;
-    m[i] * dx_r * dx_r * dx_r / six_h
-        + m[i + 1] * dx * dx * dx / six_h
-        + (y[i] - m[i] * h2_over_six) * dx_r / h
-        + (y[i + 1] - m[i + 1] * h2_over_six) * dx / h
-}
+use scratch::MOMENTS;
 
 // Whether a knot slope would be an infinity or NaN. Not public: it requires what `knot_slope` does.
 fn some_slope_refused(x: &[f64], y: &[f64], m: &[f64]) -> bool
@@ -131,18 +103,18 @@ fn work_moments(
     moments: &mut [f64],
     scratch: &mut [f64],
 ) -> usize
-    requires { ⌜ LaneGiven (now scratch) (now knots) × (fewest-points condition ≤ length (now knots)) ⌝ }
+    requires { ⌜ RowsFit (now scratch) (now knots) × (fewest-points condition ≤ length (now knots)) ⌝ }
     requires { ⌜ (length (now samples) ≡ length (now knots)) × (length (now moments) ≡ length (now knots)) ⌝ }
     ensures { λ r. ⌜ MomentsWorked (now (knots .entry)) (now (samples .entry)) condition (now (moments .entry)) (now (scratch .entry)) r (now (moments .exit)) (now (scratch .exit)) ⌝ }
 {
     let n = knots.len();
     base::copy(&mut scratch[0..n], samples);
     moments::compute_m(scratch, knots, condition);
-    if base::any_not_finite(&scratch[1792..1792 + n]) {
+    if base::any_not_finite(&scratch[MOMENTS..MOMENTS + n]) {
         base::clear(scratch);
         return 10;
     }
-    base::copy(moments, &scratch[1792..1792 + n]);
+    base::copy(moments, &scratch[MOMENTS..MOMENTS + n]);
     base::clear(scratch);
     0
 }

@@ -17,7 +17,8 @@ use Rattle.checks.specs.Check.{build-check}
 use Rattle.checks.specs.Given.{BuildGiven}
 use Rattle.checks.proofs.ThenOutcome.{refused, build-outcome}
 use Rattle.lanes.specs.Lanes.{Lies, Stored}
-use Rattle.passes.specs.Passes.{Given, On, Refreshed}
+use Rattle.passes.specs.Passes.{WorkGiven, Refreshed}
+use Rattle.grid.specs.Given.{On}
 use Rattle.passes.proofs.MaskTurns.{given-again}
 use Rattle.tensor.specs.Working.{outcome-in, Finished}
 use Rattle.tensor.proofs.Outcome.{built, samples-stored}
@@ -31,7 +32,7 @@ origin (suc (suc zero)) = refl
 origin (suc (suc (suc zero))) = refl
 origin (suc (suc (suc (suc j)))) = refl
 
-pub origin-on : {g : Grid} {w : List Float} → Given g w → On g (place-of (0 ∷ 0 ∷ 0 ∷ 0 ∷ []))
+pub origin-on : {g : Grid} {w : List Float} → WorkGiven g w → On g (place-of (0 ∷ 0 ∷ 0 ∷ 0 ∷ []))
 origin-on given j below = omega (arith, origin j, given .in-range .some-points j below)
 
 module _ (g : Grid) (samples tensor-out scratch : List Float) where
@@ -41,7 +42,7 @@ module _ (g : Grid) (samples tensor-out scratch : List Float) where
       record { answer = e ∙ sym (left .same); output = left .output tensor-out (tensor g samples); scratch = left .scratch scratch }
 
   module _ (known : BuildGiven g samples (length tensor-out) (length scratch)) where
-    pub build-given-passes : Given g scratch
+    pub build-given-passes : WorkGiven g scratch
     build-given-passes = given-of (known .grid-given) (known .solve-given)
 
     -- the samples have their places

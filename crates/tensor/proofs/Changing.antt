@@ -20,7 +20,7 @@ use Rattle.rules.proofs.LaneCount.{lane-count}
 use Rattle.checks.specs.Check.{change-check}
 use Rattle.checks.specs.Given.{ChangeGiven}
 use Rattle.checks.proofs.ThenOutcome.{refused, change-outcome}
-use Rattle.passes.specs.Passes.{lanes-below, Given, Refreshed}
+use Rattle.passes.specs.Passes.{lanes-solved-below, WorkGiven, Refreshed}
 use Rattle.passes.proofs.Count.{change-count}
 use Rattle.passes.proofs.MaskTurns.{given-again}
 use Rattle.tensor.specs.Working.{Loaded, outcome-in, Finished}
@@ -43,7 +43,7 @@ module _ (g : Grid) (tensor-lent scratch : List Float) (changed : Place) (v : Fl
       }
 
   module _ (known : ChangeGiven g tensor-lent (length scratch) changed v) where
-    pub change-given-passes : Given g scratch
+    pub change-given-passes : WorkGiven g scratch
     change-given-passes = given-of (known .grid-given) (known .solve-given)
 
     -- where the new sample goes, as the code computes it
@@ -62,7 +62,7 @@ module _ (g : Grid) (tensor-lent scratch : List Float) (changed : Place) (v : Fl
         (r at-spot lanes : ℕ) (w w′ tensor-later scratch-later : List Float) (passed : change-check g tensor-lent (length scratch) changed v ≡ 0)
         (spot-is : at-spot ≡ spot g changed 0)
         (begun : Loaded scratch w tensor-lent at-spot v)
-        (after : Refreshed g w w′ false changed (g .axes) × (lanes ≡ lanes-below (points g) (g .axes) false (g .axes)))
+        (after : Refreshed g w w′ false changed (g .axes) × (lanes ≡ lanes-solved-below (points g) (g .axes) false (g .axes)))
         (finished : Finished tensor-lent w′ r tensor-later scratch-later)
       where
         long : length w′ ≡ length scratch

@@ -1,5 +1,4 @@
 pub mod Outcome
-pub mod Placing
 pub mod Loading
 pub mod Finishing
 pub mod Promises

@@ -22,7 +22,8 @@ use Rattle.rules.proofs.Locality.{rest-below, slope-along-ext}
 use Rattle.lanes.proofs.Parts.{part-is-table}
 use Rattle.lane_starts.specs.Starts.{free}
 use Rattle.lane_starts.proofs.Agreement.{agree-at, agree-all}
-use Rattle.passes.specs.Passes.{solves, working, On, Given, refreshed, Refreshed}
+use Rattle.passes.specs.Passes.{solves, working, WorkGiven, refreshed, Refreshed}
+use Rattle.grid.specs.Given.{On}
 use Rattle.passes.proofs.Pass.{digits-one}
 
 module _ (g : Grid) where
@@ -75,7 +76,7 @@ module _ (g : Grid) where
 
   -- ---- the working tensor as a list
 
-  module _ (w : List Float) (given : Given g w) where
+  module _ (w : List Float) (given : WorkGiven g w) where
     some : (j : ℕ) → j < g .axes → 0 < points g j
     some j below = omega (arith, given .in-range .some-points j below)
 
@@ -94,7 +95,7 @@ module _ (g : Grid) where
         ap (λ (x : ℕ). at w (2048 + x)) (number-at e lt)
         ∙ holds (place-at g e) (mask-at g e) (unflat-on-grid (points g) (g .axes) (e / masks g) some) (mod-lt e (pow-pos (g .axes))))
 
-  module _ (w w′ : List Float) (given : Given g w′) where
+  module _ (w w′ : List Float) (given : WorkGiven g w′) where
     -- the samples stored and every lane solved: the tensor of a build
     pub built :
         (place : Place) (samples : List Float) → ((p : Place) → On g p → working g w p 0 ≡ sample g samples p)

@@ -11,11 +11,11 @@ use Rattle.rules.specs.Refusals.{outcome-refused}
 use Rattle.rules.specs.Calls.{stored, scratch-after}
 use Rattle.checks.specs.Given.{GridGiven, SolveGiven}
 use Rattle.checks.proofs.ThenOutcome.{ThenOutcome, outcome}
-use Rattle.passes.specs.Passes.{Given}
+use Rattle.passes.specs.Passes.{WorkGiven}
 use Rattle.tensor.specs.Working.{outcome-in, Finished}
 
 -- what the checks leave is what the passes are given
-pub given-of : {g : Grid} {tensor-given : ℕ} {w : List Float} → GridGiven g tensor-given → SolveGiven g (length w) → Given g w
+pub given-of : {g : Grid} {tensor-given : ℕ} {w : List Float} → GridGiven g tensor-given → SolveGiven g (length w) → WorkGiven g w
 given-of grid solve = record {
   in-range = grid .in-range;
   small = grid .small;

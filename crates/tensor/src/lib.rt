@@ -1,7 +1,7 @@
 // The tensor of document 01: every lane of a build, or those of a change that can differ, solved in the scratch behind its rows.
 ghost use Rattle.rules.specs.Sizes.{place-of};
 ghost use Rattle.rules.specs.Calls.{BuildPromise, ChangePromise};
-ghost use Rattle.checks.specs.Given.{grid};
+ghost use Rattle.grid.specs.Given.{grid};
 use rules::Axis;
 use rules::ChangeAnswer;
 
@@ -23,7 +23,7 @@ pub fn build(
     if refusal != 0 {
         return refusal;
     }
-    let masks = passes::power(axes);
+    let masks = grid::masks(axes);
     working::store_samples(scratch, samples, masks);
     passes::solve_axes(scratch, axes, all, knots, [0; 4], true);
     working::finish(tensor, scratch)
@@ -47,7 +47,7 @@ pub fn change(
     if refusal != 0 {
         return ChangeAnswer { refusal, lanes: 0 };
     }
-    let spot = working::place_number(axes, all, place) * passes::power(axes);
+    let spot = grid::place_number(axes, all, place) * grid::masks(axes);
     working::load(scratch, tensor, spot, sample);
     let lanes = passes::solve_axes(scratch, axes, all, knots, place, false);
     let outcome = working::finish(tensor, scratch);

@@ -1,25 +1,16 @@
 // The working tensor in the scratch: what is stored there before the passes, and what is done with it after them. None of these is public.
-ghost use mathlib.Core.Path.{_≡_};
-ghost use Prim.Native.Nat.{ℕ, _+_, _<_, _≤_};
+ghost use Prim.Native.Nat.{_+_, _<_, _≤_};
 ghost use lib.ListN.{length};
 ghost use Rattle.rules.specs.Numbers.{at};
-ghost use Rattle.rules.specs.Sizes.{place-of, flat};
-ghost use Rattle.checks.specs.Given.{points-of};
+ghost use Rattle.scratch.specs.Layout.{tensor-begin};
 ghost use Rattle.lanes.specs.Lanes.{Lies, Stored};
-ghost use Rattle.lane_starts.specs.Starts.{SizesGiven};
 ghost use Rattle.tensor.specs.Working.{Loaded, Finished};
-use passes::TENSOR;
-use rules::Axis;
-
-// The refusal of an outcome, and none.
-const OUTCOME: usize = 10;
-
-const NONE: usize = 0;
+use scratch::TENSOR;
 
 // The samples go to mask 0.
 pub fn store_samples(w: &mut [f64], samples: &[f64], masks: usize)
-    requires { ⌜ Lies (now w) (length (now samples)) 2048 masks × (1 ≤ masks) ⌝ }
-    ensures { λ _. ⌜ Stored (now (w .entry)) (now (w .exit)) (at (now (samples .entry))) (length (now (samples .entry))) 2048 masks ⌝ }
+    requires { ⌜ Lies (now w) (length (now samples)) tensor-begin masks × (1 ≤ masks) ⌝ }
+    ensures { λ _. ⌜ Stored (now (w .entry)) (now (w .exit)) (at (now (samples .entry))) (length (now (samples .entry))) tensor-begin masks ⌝ }
 {
     let mut k = 0;
     while k < samples.len() {
@@ -28,24 +19,9 @@ pub fn store_samples(w: &mut [f64], samples: &[f64], masks: usize)
     }
 }
 
-// The flat number of a place.
-pub fn place_number(axes: usize, all: [Axis; 4], place: [usize; 4]) -> usize
-    requires { ⌜ SizesGiven axes (points-of all) × ((j : ℕ) → j < axes → place-of place j < points-of all j) ⌝ }
-    ensures { λ r. ⌜ r ≡ flat (points-of all) axes (place-of place) ⌝ }
-{
-    let mut number = 0;
-    let mut j = 0;
-    while j < axes {
-        let entry = all[j];
-        number = number * entry.points + place[j];
-        j += 1;
-    }
-    number
-}
-
 // The tensor is copied to the scratch, and then one of its numbers stored there.
 pub fn load(w: &mut [f64], tensor: &[f64], spot: usize, number: f64)
-    requires { ⌜ (2048 + length (now tensor) ≤ length (now w)) × (spot < length (now tensor)) ⌝ }
+    requires { ⌜ (tensor-begin + length (now tensor) ≤ length (now w)) × (spot < length (now tensor)) ⌝ }
     ensures { λ _. ⌜ Loaded (now (w .entry)) (now (w .exit)) (now (tensor .entry)) spot number ⌝ }
 {
     let end = TENSOR + tensor.len();
@@ -55,15 +31,15 @@ pub fn load(w: &mut [f64], tensor: &[f64], spot: usize, number: f64)
 
 // What came out is looked at, and stored when all of it is finite; then the scratch is cleared. It answers 10, or 0 where the tensor was stored.
 pub fn finish(tensor: &mut [f64], w: &mut [f64]) -> usize
-    requires { ⌜ 2048 + length (now tensor) ≤ length (now w) ⌝ }
+    requires { ⌜ tensor-begin + length (now tensor) ≤ length (now w) ⌝ }
     ensures { λ r. ⌜ Finished (now (tensor .entry)) (now (w .entry)) r (now (tensor .exit)) (now (w .exit)) ⌝ }
 {
     let end = TENSOR + tensor.len();
     if base::any_not_finite(&w[TENSOR..end]) {
         base::clear(w);
-        return OUTCOME;
+        return 10;
     }
     base::copy(tensor, &w[TENSOR..end]);
     base::clear(w);
-    NONE
+    0
 }

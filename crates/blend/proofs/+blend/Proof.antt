@@ -8,7 +8,7 @@ use lib.Seq.{length-take-le}
 use borrow.Author.Needs.{needs}
 use borrow.Fn.Kinds.{In}
 use borrow.Fn.PlainCycle.{Measures, is, falls, and}
-use Rattle.blend.specs.Blend.{widths, ts}
+use Rattle.rules.specs.Numbers.{at}
 use Rattle.blend.proofs.Blending.{quarter, few, none-left, one-fewer}
 use Rattle.blend.proofs.blend.Reads as blend
 use Rattle.blend.proofs.blend.Kinds as blend-kinds
@@ -40,20 +40,22 @@ pub +blend-spec : {M : Type 1} → statement M
     (λ c. search needs)
     (λ c. search needs)
     (λ c. search needs)
-    (λ c κs. (let s = c .before .before .before .before in
-    let q = quarter (s .args .left) _ (c .before .before .if1 .left) (s .pre .1 .0) in
+    (λ c. search needs)
+    (λ c. search needs)
+    (λ c κs. (let s = c .before .before .before in
+    let q = quarter (s .args .left) _ (c .before .if1 .left) (s .pre .1 .0) in
     let f = few (s .args .left - 1) (omega (arith, s .pre .1 .1, s .pre .1 .2)) in (omega arith, omega arith)))
     (λ c. search needs)
     (λ c. search needs)
     (λ c. (let k = c .before .before .remove-lowest .kept .0 in omega arith))
     (λ c. search needs)
     (λ c κs. (let removed = c .before .before .before in
-    let s = removed .before .before .before .before .before in
+    let s = removed .before .before .before .before in
     let k = removed .remove-lowest .kept .0 in (
       omega arith,
       (
         rw (sub-zero, length-take-le (length (s .args .cell .now) / 4) (removed .remove-lowest .last .0) (omega arith))
-            (quarter (s .args .left) _ (removed .before .before .before .if1 .left) (s .pre .1 .0)),
+            (quarter (s .args .left) _ (removed .before .before .if1 .left) (s .pre .1 .0)),
         omega (arith, s .pre .1 .1),
         s .pre .1 .2,
       ),
@@ -62,9 +64,9 @@ pub +blend-spec : {M : Type 1} → statement M
     (λ c.
     let rest = c .before .before in
     let removed = rest .before .before .before .before in
-    let s = removed .before .before .before .before .before in
-    let some = removed .before .before .before .if1 .left in
-    one-fewer (s .args .left) (s .args .axes) _ (widths (s .args .t4)) (ts (s .args .t4)) (s .args .cell .now) _ some (s .pre .1 .1)
+    let s = removed .before .before .before .before in
+    let some = removed .before .before .if1 .left in
+    one-fewer (s .args .left) (s .args .axes) _ (at (s .args .t4)) (at (s .args .t5)) (s .args .cell .now) _ some (s .pre .1 .1)
     (quarter (s .args .left) _ some (s .pre .1 .0))
     (removed .remove-lowest .ensures)
     _

@@ -5,7 +5,8 @@ use native.Mathlib.Omega.{arith}
 use borrow.Author.Needs.{needs}
 use borrow.Fn.Kinds.{In}
 use borrow.Fn.PlainCycle.{Measures, is, falls, and}
-use Rattle.lane_starts.proofs.Axes.{sizes-fewer, start-of-none, lane-varying, lane-own, lane-fixed, varying-fits, bound-fits, fixed-fits}
+use Rattle.lane_starts.proofs.Axes.{start-of-none, lane-varying, lane-own, lane-fixed, varying-fits, bound-fits, fixed-fits}
+use Rattle.grid.proofs.Products.{sizes-fewer}
 use Rattle.lane_starts.proofs.lane_start.Reads as lane-start
 use Rattle.lane_starts.proofs.lane_start.Kinds as lane-start-kinds
 use Rattle.lane_starts.proofs.+lane_start.Lts-lane_start as lane-start-lts

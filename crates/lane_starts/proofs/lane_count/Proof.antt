@@ -4,10 +4,10 @@ use mathlib.Core.Path.{_≡_, sym, _∙_}
 use mathlib.Core.Logic.{⊎-elim}
 use Prim.Native.Nat.{_-_, _≤_}
 use Rattle.rules.specs.Sizes.{product-below}
-use Rattle.checks.specs.Given.{points-of}
-use Rattle.checks.proofs.Products.{product-none}
+use Rattle.grid.specs.Given.{points-of}
+use Rattle.grid.proofs.Products.{product-none, fits-small}
 use Rattle.lane_starts.specs.Starts.{varies, lane-points}
-use Rattle.lane_starts.proofs.Axes.{fits-small, lanes-times, lanes-same, lanes-fit}
+use Rattle.lane_starts.proofs.Axes.{lanes-times, lanes-same, lanes-fit}
 use Rattle.lane_starts.proofs.lane_count.Statement.{statement}
 use Rattle.lane_starts.proofs.lane_count.Tie as tie
 

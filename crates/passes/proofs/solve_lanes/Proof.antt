@@ -3,7 +3,7 @@ use mathlib.Core.Path.{_≡_, refl, ap, _∙_}
 use Prim.Native.Nat.{_+_, _-_, _*_, _<_, _≤_}
 use lib.ListN.{length}
 use Rattle.rules.specs.Sizes.{place-of}
-use Rattle.checks.specs.Given.{grid, points-of}
+use Rattle.grid.specs.Given.{grid, points-of}
 use Rattle.passes.proofs.Pass.{Turn, turn-first, sizes-given, knots-are, target-fits, step-fits}
 use Rattle.passes.proofs.PassTurns.{Told, fits, given, next, last}
 use borrow.Author.Needs.{needs}
@@ -29,7 +29,7 @@ knots-before-requires c κs =
 within : (c : tie.After-knots-before Inv-loop μ-loop) → c .knots-before .result + points-of (c .before .before .before .before .args .t3) (c .before .before .before .before .args .axis) ≤ length (c .before .before .before .before .args .knots .now)
 within c =
     let start = c .before .before .before .before in
-    knots-are (start .args .axis) _ _ (start .pre .given) (start .pre .in-use) (c .knots-before .ensures) refl .0
+    knots-are (start .args .axis) _ _ (start .pre .given) (start .pre .in-use) (c .knots-before .ensures .0) refl .0
 
 add-x : tie.Need-add-x Inv-loop μ-loop
 add-x c = omega (arith, within c)
@@ -43,7 +43,7 @@ part-x-end c = omega (arith, within c)
 add-target : tie.Need-add-target Inv-loop μ-loop
 add-target c =
     let start = c .before .before .before .before .before .before .before .before in
-    omega (arith, c .power2 .ensures, target-fits _ (start .args .whole) _ _ _ _ (start .pre))
+    omega (arith, c .masks2 .ensures .0, target-fits _ (start .args .whole) _ _ _ _ (start .pre))
 
 stride-requires : tie.Need-stride-requires Inv-loop μ-loop
 stride-requires c κs = let pre = c .before .before .before .before .before .before .before .before .pre in (sizes-given (pre .given), pre .in-use)
@@ -51,7 +51,7 @@ stride-requires c κs = let pre = c .before .before .before .before .before .bef
 mul-step : tie.Need-mul-step Inv-loop μ-loop
 mul-step c =
     let start = c .before .before .before .before .before .before .before .before .before in
-    rw (c .stride .ensures, c .before .before .power .ensures) (omega (arith, step-fits _ (start .args .whole) _ _ _ _ (start .pre)))
+    rw (c .stride .ensures, c .before .before .masks .ensures .0) (omega (arith, step-fits _ (start .args .whole) _ _ _ _ (start .pre)))
 
 lane-count-requires : tie.Need-lane-count-requires Inv-loop μ-loop
 lane-count-requires c κs = sizes-given (c .before .before .before .before .before .before .before .before .before .pre .given)
@@ -64,14 +64,14 @@ loop-holds c =
     let condition = masks .before in
     let knots = condition .before .before in
     let start = knots .before .before .before .before in
-    let found = knots-are (start .args .axis) _ _ (start .pre .given) (start .pre .in-use) (knots .knots-before .ensures) refl in (
+    let found = knots-are (start .args .axis) _ _ (start .pre .given) (start .pre .in-use) (knots .knots-before .ensures .0) refl in (
       record {
         pass = start .pre;
         x-is = found .1;
         x-long = ap length (found .1) ∙ found .2;
         condition-is = condition .condition-at .ensures;
-        masks-is = masks .power .ensures;
-        target-is = rw (target .power2 .ensures);
+        masks-is = masks .masks .ensures .0;
+        target-is = rw (target .masks2 .ensures .0);
         step-is = rw (stride .stride .ensures);
         lanes-is = c .lane-count .ensures;
       },
@@ -83,7 +83,7 @@ lane-start-requires : tie.Need-lane-start-requires Inv-loop μ-loop
 lane-start-requires c κs = let pre = c .before .before .before .before .before .before .before .before .before .before .before .before .pre in (sizes-given (pre .given), pre .on-the-grid)
 
 -- a lane's numbers have small places
-room : (c : tie.After-lane-start Inv-loop μ-loop) → c .lane-start .result * c .before .before .before .before .before .before .power .result + (c .before .before .before .before .before .before .before .before .before .before .before .before .before .args .mask + (c .before .before .before .before .before .before .before .before .before .before .before .before .before .args .mask + c .before .before .before .before .before .power2 .result)) < 8192
+room : (c : tie.After-lane-start Inv-loop μ-loop) → c .lane-start .result * c .before .before .before .before .before .before .masks .result + (c .before .before .before .before .before .before .before .before .before .before .before .before .before .args .mask + (c .before .before .before .before .before .before .before .before .before .before .before .before .before .args .mask + c .before .before .before .before .before .masks2 .result)) < 8192
 room c = let turn = c .before .before in fits _ _ _ _ _ _ _ _ _ _ _ _ (turn .loop .inv .0) (turn .loop .w) _ _ (c .lane-start .ensures)
 
 mul-start : tie.Need-mul-start Inv-loop μ-loop

@@ -3,7 +3,7 @@ use native.Mathlib.Omega.{arith}
 use mathlib.Core.Path.{_≡_}
 use Prim.Native.Nat.{_-_, _^_}
 use Rattle.rules.specs.Sizes.{place-of}
-use Rattle.checks.specs.Given.{grid}
+use Rattle.grid.specs.Given.{grid}
 use Rattle.passes.proofs.MaskTurns.{Turn, turn-first, pass-given, count-fits, turn-next, turn-last}
 use Rattle.passes.proofs.solve_masks.Statement.{statement}
 use Rattle.passes.proofs.solve_masks.Tie as tie
@@ -15,11 +15,11 @@ Inv-loop w₀ axes all knots place whole axis masks lanes₀ mask₀ w lanes mas
 abbrev μ-loop : tie.MeasureT-loop
 μ-loop w₀ axes all knots place whole axis masks lanes₀ mask₀ w lanes mask = masks - mask
 
-power-requires : tie.Need-power-requires Inv-loop μ-loop
-power-requires c κs = let pre = c .before .before .pre in omega (arith, pre .in-use, pre .given .in-range .few-axes)
+masks-requires : tie.Need-masks-requires Inv-loop μ-loop
+masks-requires c κs = let pre = c .before .before .pre in omega (arith, pre .in-use, pre .given .in-range .few-axes)
 
 loop-holds : tie.Need-loop-holds Inv-loop μ-loop
-loop-holds c = (c .power .ensures, turn-first _ _ _ _ _ (c .before .before .before .pre))
+loop-holds c = (c .masks .ensures .0, turn-first _ _ _ _ _ (c .before .before .before .pre))
 
 solve-lanes-requires : tie.Need-solve-lanes-requires Inv-loop μ-loop
 solve-lanes-requires c κs =
@@ -46,7 +46,7 @@ solve-masks-spec =
     (tie.spec
     Inv-loop
     μ-loop
-    power-requires
+    masks-requires
     loop-holds
     solve-lanes-requires
     add-lanes

@@ -1,4 +1,4 @@
-use Rattle.checks.specs.Given.{grid}
+use Rattle.grid.specs.Given.{grid}
 use Rattle.query.proofs.Answers.{accepted, located-inside, check-refuses, check-passes, value-refused, value-given}
 use borrow.Author.Needs.{needs}
 use Rattle.query.proofs.query.Statement.{statement}
@@ -16,18 +16,23 @@ locate-on-axes-requires c κs =
 
 value-requires : tie.Need-value-requires
 value-requires c κs =
-    let check = c .before .before in
+    let located = c .before .before .before in
+    let check = located .before .before in
     let s = check .before .before .before .before .args in
     let given =
     check-passes (grid (s .axes) (s .all) (s .knots .now)) (s .tensor .now) (s .coordinates .now) _
     (check .query-refusal .ensures)
-    (c .before .if1 .left)
-    in (located-inside _ _ _ given _ (c .locate-on-axes .ensures), given .grid-given .tensor-exact)
+    (located .before .if1 .left)
+    in (
+      rw (c .before .before .lowers .ensures) (located-inside _ _ _ given _ (located .locate-on-axes .ensures)),
+      given .grid-given .tensor-exact,
+    )
 
 returns-2 : tie.Need-returns-2
 returns-2 c =
     let tested = c .before .before in
-    let located = tested .before .before in
+    let apart = tested .before .before in
+    let located = apart .before .before .before in
     let check = located .before .before in
     value-given _ _ _ _
     (check .query-refusal .ensures)
@@ -35,7 +40,7 @@ returns-2 c =
     _
     (located .locate-on-axes .ensures)
     _
-    (tested .before .value .ensures)
+    (rw (apart .before .before .lowers .ensures, apart .before .widths .ensures, apart .fractions .ensures) at (tested .before .value .ensures))
     _
     (tested .is-finite .ensures)
     (c .before .if2 .taken)
@@ -44,7 +49,8 @@ returns-2 c =
 returns-3 : tie.Need-returns-3
 returns-3 c =
     let tested = c .before .before in
-    let located = tested .before .before in
+    let apart = tested .before .before in
+    let located = apart .before .before .before in
     let check = located .before .before in
     value-refused _ _ _ _
     (check .query-refusal .ensures)
@@ -52,7 +58,7 @@ returns-3 c =
     _
     (located .locate-on-axes .ensures)
     _
-    (tested .before .value .ensures)
+    (rw (apart .before .before .lowers .ensures, apart .before .widths .ensures, apart .fractions .ensures) at (tested .before .value .ensures))
     _
     (tested .is-finite .ensures)
     (c .before .if2 .left)
@@ -66,6 +72,9 @@ query-spec =
     (λ c κs. search needs)
     returns
     locate-on-axes-requires
+    (λ c κs. search needs)
+    (λ c κs. search needs)
+    (λ c κs. search needs)
     value-requires
     (λ c κs. search needs)
     (λ c κs. search needs)

@@ -8,7 +8,7 @@ use Rattle.spline.proofs.curve.Lts as lts
 use Rattle.base.proofs.is_finite.Reads as is-finite-reads
 use Rattle.checks.proofs.curve_refusal.Reads as curve-refusal-reads
 use Rattle.locate.proofs.locate_lower_index.Reads as locate-lower-index-reads
-use Rattle.spline.proofs.curve_in_cell.Reads as curve-in-cell-reads
+use Rattle.moments.proofs.curve.curve_in_cell.Reads as curve-in-cell-reads
 
 curve-refusal-requires : tie.Need-curve-refusal-requires
 curve-refusal-requires c κs = search needs

@@ -14,7 +14,7 @@ use Rattle.spline.proofs.some_slope_refused.Tie as tie
 use Rattle.spline.proofs.some_slope_refused.Reads as reads
 use Rattle.spline.proofs.some_slope_refused.Lts as lts
 use Rattle.base.proofs.is_finite.Reads as is-finite-reads
-use Rattle.spline.proofs.knot_slope.Reads as knot-slope-reads
+use Rattle.moments.proofs.curve.knot_slope.Reads as knot-slope-reads
 
 abbrev Inv-loop : tie.InvT-loop
 Inv-loop x y m i₀ i =

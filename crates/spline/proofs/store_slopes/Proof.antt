@@ -11,7 +11,7 @@ use Rattle.spline.proofs.store_slopes.Statement.{statement}
 use Rattle.spline.proofs.store_slopes.Tie as tie
 use Rattle.spline.proofs.store_slopes.Reads as reads
 use Rattle.spline.proofs.store_slopes.Lts as lts
-use Rattle.spline.proofs.knot_slope.Reads as knot-slope-reads
+use Rattle.moments.proofs.curve.knot_slope.Reads as knot-slope-reads
 
 abbrev Inv-loop : tie.InvT-loop
 Inv-loop x y m slopes₀ i₀ slopes i =

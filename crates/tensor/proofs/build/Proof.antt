@@ -3,7 +3,8 @@ use native.Mathlib.Omega.{arith}
 use mathlib.Core.Path.{_≡_, sym, _∙_}
 use lib.ListN.{length}
 use lib.Pow.{pow-pos}
-use Rattle.checks.specs.Given.{grid, BuildGiven}
+use Rattle.checks.specs.Given.{BuildGiven}
+use Rattle.grid.specs.Given.{grid}
 use Rattle.checks.specs.Check.{build-check}
 use Rattle.checks.proofs.Accepted.{build-given}
 use Rattle.passes.proofs.MaskTurns.{given-again}
@@ -24,16 +25,16 @@ known c = build-given _ _ _ _ (passed c)
 returns : tie.Need-returns
 returns c = build-refused _ _ _ _ _ (c .before .build-refusal .ensures) (c .if1 .taken)
 
-power-requires : tie.Need-power-requires
-power-requires c κs = omega (arith, known c .grid-given .in-range .few-axes)
+masks-requires : tie.Need-masks-requires
+masks-requires c κs = omega (arith, known c .grid-given .in-range .few-axes)
 
 store-samples-requires : tie.Need-store-samples-requires
 store-samples-requires c κs =
-    let power = c .before in
-    let checked = power .before in
+    let masks = c .before in
+    let checked = masks .before in
     let args = start checked .args in (
-      samples-lie _ _ (args .tensor .now) (args .scratch .now) (known checked) _ (power .power .ensures),
-      rw (power .power .ensures) (pow-pos (args .axes)),
+      samples-lie _ _ (args .tensor .now) (args .scratch .now) (known checked) _ (masks .masks .ensures .0),
+      rw (masks .masks .ensures .0) (pow-pos (args .axes)),
     )
 
 solve-axes-requires : tie.Need-solve-axes-requires
@@ -62,10 +63,10 @@ returns-2 c =
     let finished = c .before .before .before .before in
     let solved = finished .before .before .before .before .before in
     let stored = solved .before .before .before .before in
-    let power = stored .before .before in
-    let checked = power .before in
+    let masks = stored .before .before in
+    let checked = masks .before in
     let args = start checked .args in
-    build-done _ _ (args .tensor .now) (args .scratch .now) (known checked) _ _ _ _ _ _ _ (passed checked) (power .power .ensures)
+    build-done _ _ (args .tensor .now) (args .scratch .now) (known checked) _ _ _ _ _ _ _ (passed checked) (masks .masks .ensures .0)
     (stored .store-samples .ensures) (solved .solve-axes .ensures .0) (finished .finish .ensures)
 
 pub build-spec : {M : Type 1} → statement M
@@ -74,7 +75,7 @@ build-spec =
     (tie.spec
     (λ c κs. search needs)
     returns
-    power-requires
+    masks-requires
     store-samples-requires
     solve-axes-requires
     finish-requires

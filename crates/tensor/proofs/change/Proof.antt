@@ -3,7 +3,8 @@ use native.Mathlib.Omega.{arith}
 use mathlib.Core.Path.{_≡_, sym, _∙_}
 use lib.ListN.{length}
 use Rattle.rules.specs.Sizes.{place-of}
-use Rattle.checks.specs.Given.{grid, ChangeGiven}
+use Rattle.checks.specs.Given.{ChangeGiven}
+use Rattle.grid.specs.Given.{grid}
 use Rattle.checks.specs.Check.{change-check}
 use Rattle.checks.proofs.Accepted.{change-given}
 use Rattle.passes.proofs.Pass.{sizes-given}
@@ -29,8 +30,8 @@ place-number-requires : tie.Need-place-number-requires
 place-number-requires c κs =
     (sizes-given (change-given-passes _ _ (start c .args .scratch .now) _ _ (known c)), known c .on-the-grid)
 
-power-requires : tie.Need-power-requires
-power-requires c κs = omega (arith, known (c .before) .grid-given .in-range .few-axes)
+masks-requires : tie.Need-masks-requires
+masks-requires c κs = omega (arith, known (c .before) .grid-given .in-range .few-axes)
 
 mul-spot : tie.Need-mul-spot
 mul-spot c =
@@ -39,18 +40,18 @@ mul-spot c =
     let scratch = start checked .args .scratch .now in
     omega (
       arith,
-      spot-is _ _ scratch _ _ (known checked) _ _ (placed .place-number .ensures) (c .power .ensures),
+      spot-is _ _ scratch _ _ (known checked) _ _ (placed .place-number .ensures) (c .masks .ensures .0),
       changed-small _ _ scratch _ _ (known checked),
     )
 
 load-requires : tie.Need-load-requires
 load-requires c κs =
-    let power = c .before .before in
-    let placed = power .before in
+    let masks = c .before .before in
+    let placed = masks .before in
     let checked = placed .before in
     let scratch = start checked .args .scratch .now in (
       omega (arith, known checked .grid-given .tensor-exact, known checked .solve-given .scratch-enough),
-      rw (spot-is _ _ scratch _ _ (known checked) _ _ (placed .place-number .ensures) (power .power .ensures))
+      rw (spot-is _ _ scratch _ _ (known checked) _ _ (placed .place-number .ensures) (masks .masks .ensures .0))
           (changed-inside _ _ scratch _ _ (known checked)),
     )
 
@@ -80,12 +81,12 @@ returns-2 c =
     let finished = c .before .before .before .before .before in
     let solved = finished .before .before .before .before .before in
     let loaded = solved .before .before .before .before in
-    let power = loaded .before .before .before in
-    let placed = power .before in
+    let masks = loaded .before .before .before in
+    let placed = masks .before in
     let checked = placed .before in
     let scratch = start checked .args .scratch .now in
     change-stopped _ _ scratch _ _ (known checked) _ _ _ _ _ _ _ (passed checked)
-    (spot-is _ _ scratch _ _ (known checked) _ _ (placed .place-number .ensures) (power .power .ensures))
+    (spot-is _ _ scratch _ _ (known checked) _ _ (placed .place-number .ensures) (masks .masks .ensures .0))
     (loaded .load .ensures) (solved .solve-axes .ensures) (finished .finish .ensures) (c .if2 .taken)
 
 returns-3 : tie.Need-returns-3
@@ -93,12 +94,12 @@ returns-3 c =
     let finished = c .before .before .before .before .before in
     let solved = finished .before .before .before .before .before in
     let loaded = solved .before .before .before .before in
-    let power = loaded .before .before .before in
-    let placed = power .before in
+    let masks = loaded .before .before .before in
+    let placed = masks .before in
     let checked = placed .before in
     let scratch = start checked .args .scratch .now in
     change-done _ _ scratch _ _ (known checked) _ _ _ _ _ _ _ (passed checked)
-    (spot-is _ _ scratch _ _ (known checked) _ _ (placed .place-number .ensures) (power .power .ensures))
+    (spot-is _ _ scratch _ _ (known checked) _ _ (placed .place-number .ensures) (masks .masks .ensures .0))
     (loaded .load .ensures) (solved .solve-axes .ensures) (finished .finish .ensures) (c .if2 .left)
 
 pub change-spec : {M : Type 1} → statement M
@@ -109,7 +110,7 @@ change-spec =
     (λ c. search needs)
     returns
     place-number-requires
-    power-requires
+    masks-requires
     mul-spot
     load-requires
     solve-axes-requires

@@ -5,7 +5,7 @@ use native.Mathlib.Omega.{arith}
 use Rattle.rules.specs.Numbers.{any}
 use Rattle.rules.specs.Refusals.{ends-refused}
 use Rattle.base.proofs.Scan.{any-none, any-more, any-found, any-end}
-use Rattle.checks.specs.Given.{condition-of}
+use Rattle.grid.specs.Given.{condition-of}
 use borrow.Author.Needs.{needs}
 use Rattle.checks.proofs.ends.some_ends_refused.Statement.{statement}
 use Rattle.checks.proofs.ends.some_ends_refused.Tie as tie

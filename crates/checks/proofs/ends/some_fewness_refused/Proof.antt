@@ -5,7 +5,7 @@ use native.Mathlib.Omega.{arith}
 use Rattle.rules.specs.Numbers.{any}
 use Rattle.rules.specs.Refusals.{fewness-refused}
 use Rattle.base.proofs.Scan.{any-none, any-more, any-found, any-end}
-use Rattle.checks.specs.Given.{points-of, condition-of}
+use Rattle.grid.specs.Given.{points-of, condition-of}
 use borrow.Author.Needs.{needs}
 use Rattle.checks.proofs.ends.some_fewness_refused.Statement.{statement}
 use Rattle.checks.proofs.ends.some_fewness_refused.Tie as tie

@@ -10,8 +10,8 @@ use Rattle.rules.specs.Numbers.{any}
 use Rattle.rules.specs.Sizes.{sum-below, knots}
 use Rattle.rules.specs.Refusals.{knots-refused}
 use Rattle.base.proofs.Scan.{any-none, any-more, any-found, any-end}
-use Rattle.checks.specs.Given.{grid, points-of}
-use Rattle.checks.proofs.Products.{sum-none, sum-more, sum-within}
+use Rattle.grid.specs.Given.{grid, points-of}
+use Rattle.grid.proofs.Products.{sum-none, sum-more, sum-within}
 use borrow.Author.Needs.{needs}
 use Rattle.checks.proofs.rising.some_knots_refused.Statement.{statement}
 use Rattle.checks.proofs.rising.some_knots_refused.Tie as tie

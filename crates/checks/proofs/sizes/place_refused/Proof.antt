@@ -7,7 +7,7 @@ use lib.Dec.{leb}
 use Rattle.rules.specs.Numbers.{any}
 use Rattle.rules.specs.Sizes.{place-of}
 use Rattle.base.proofs.Scan.{any-none, any-more, any-found, any-end}
-use Rattle.checks.specs.Given.{points-of}
+use Rattle.grid.specs.Given.{points-of}
 use borrow.Author.Needs.{needs}
 use Rattle.checks.proofs.sizes.place_refused.Statement.{statement}
 use Rattle.checks.proofs.sizes.place_refused.Tie as tie

@@ -5,7 +5,7 @@ use native.Mathlib.Omega.{arith}
 use Rattle.rules.specs.Numbers.{any}
 use Rattle.rules.specs.Refusals.{points-refused}
 use Rattle.base.proofs.Scan.{any-none, any-more, any-found, any-end}
-use Rattle.checks.specs.Given.{points-of}
+use Rattle.grid.specs.Given.{points-of}
 use borrow.Author.Needs.{needs}
 use Rattle.checks.proofs.sizes.some_points_refused.Statement.{statement}
 use Rattle.checks.proofs.sizes.some_points_refused.Tie as tie

@@ -6,39 +6,39 @@ use Rattle.query.proofs.cell.gather.Statement.{statement}
 use Rattle.query.proofs.cell.gather.Tie as tie
 
 abbrev Inv-loop : tie.InvT-loop
-Inv-loop cell₀ axes all cells tensor masks two bits₀ cell bits = Turn cell₀ axes all cells tensor masks cell bits
+Inv-loop cell₀ axes all lower tensor masks two bits₀ cell bits = Turn cell₀ axes all lower tensor masks cell bits
 
 abbrev μ-loop : tie.MeasureT-loop
-μ-loop cell₀ axes all cells tensor masks two bits₀ cell bits = masks - bits
+μ-loop cell₀ axes all lower tensor masks two bits₀ cell bits = masks - bits
 
 masks-requires : tie.Need-masks-requires Inv-loop μ-loop
-masks-requires c κs = (c .before .before .pre .0 .some-axes, c .before .before .pre .0 .few-axes)
+masks-requires c κs = c .before .before .pre .0 .few-axes
 
 loop-holds : tie.Need-loop-holds Inv-loop μ-loop
 loop-holds c = turn-first _ _ _ _ _ _ (c .before .before .before .pre) (c .masks .ensures)
 
-corner-place-requires : tie.Need-corner-place-requires Inv-loop μ-loop
-corner-place-requires c κs = c .before .loop .inv .inside
+corner-number-requires : tie.Need-corner-number-requires Inv-loop μ-loop
+corner-number-requires c κs = c .before .loop .inv .inside
 
 -- what the slices have room for, once the corner's place is known
-room-at : (c : tie.After-corner-place Inv-loop μ-loop) → Room
+room-at : (c : tie.After-corner-number Inv-loop μ-loop) → Room
     (c .before .before .before .before .before .before .args .tensor .now)
     (c .before .before .loop .cell)
     (c .before .before .before .masks .result)
     (c .before .before .loop .bits)
-    (c .corner-place .result)
-room-at c = room _ _ _ _ _ _ _ _ _ (c .before .before .loop .inv) (c .before .loop-test .taken) (c .corner-place .ensures)
+    (c .corner-number .result)
+room-at c = room _ _ _ _ _ _ _ _ _ (c .before .before .loop .inv) (c .before .loop-test .taken) (c .corner-number .ensures)
 
 copy-requires : tie.Need-copy-requires Inv-loop μ-loop
 copy-requires c κs =
     let place = c .before .before in
-    same-parts _ _ _ _ _ _ _ _ _ (place .before .before .loop .inv) (place .before .loop-test .taken) (place .corner-place .ensures)
+    same-parts _ _ _ _ _ _ _ _ _ (place .before .before .loop .inv) (place .before .loop-test .taken) (place .corner-number .ensures)
 
 loop-again : tie.Need-loop-again Inv-loop μ-loop
 loop-again c =
     let place = c .before .before .before .before .before in
     rw (c .before .before .copy .ensures)
-    (turn-next _ _ _ _ _ _ _ _ _ (place .before .before .loop .inv) (place .before .loop-test .taken) (place .corner-place .ensures))
+    (turn-next _ _ _ _ _ _ _ _ _ (place .before .before .loop .inv) (place .before .loop-test .taken) (place .corner-number .ensures))
 
 returns : tie.Need-returns Inv-loop μ-loop
 returns c = turn-last _ _ _ _ _ _ _ _ (c .before .loop .inv) (c .loop-test .left)
@@ -52,7 +52,7 @@ gather-spec =
     masks-requires
     (λ c. search needs)
     loop-holds
-    corner-place-requires
+    corner-number-requires
     (λ c. let r = room-at c in omega arith)
     (λ c. let r = room-at c in omega arith)
     (λ c. let r = room-at c in omega arith)

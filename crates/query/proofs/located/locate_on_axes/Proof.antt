@@ -1,7 +1,7 @@
 use borrow.Author.Needs.{needs}
 use native.Mathlib.Omega.{arith}
 use Prim.Native.Nat.{_-_}
-use Rattle.checks.specs.Given.{grid}
+use Rattle.grid.specs.Given.{grid}
 use Rattle.query.proofs.Locating.{Turn, turn-first, end-within, axis-accepted, turn-next, turn-last}
 use Rattle.query.proofs.located.locate_on_axes.Statement.{statement}
 use Rattle.query.proofs.located.locate_on_axes.Tie as tie

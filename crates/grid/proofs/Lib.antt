@@ -1,0 +1,4 @@
+pub mod Products
+pub mod Strides
+pub mod Placing
+pub mod Corners
