@@ -298,6 +298,14 @@ fn the_example_sheet_is_printed() {
     assert_eq!(printed(&sheet), expected);
 }
 
+/// The sheet and the lines that `make sheet-by-hand` uses.
+#[test]
+fn the_sheet_packed_by_hand_is_printed() {
+    let sheet = include_bytes!("../../../tests/sheet_by_hand/two_axes.sheet");
+    let expected = include_str!("../../../tests/sheet_by_hand/expected.txt");
+    assert_eq!(printed(sheet), expected);
+}
+
 #[test]
 fn the_empty_sheet_is_refused() {
     assert_eq!(printed(&[]), "refused 11\n");
