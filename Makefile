@@ -1,6 +1,6 @@
-.PHONY: run test differential deliberate-errors oracle-test replay-list archive bench examples picture
+.PHONY: run test differential deliberate-errors sheet-by-hand rules-page oracle-test replay-list archive bench examples picture
 
-# Prints the tensor of document 01's example sheet.
+# Prints the tensor of the example sheet, which docs/RULES.md takes apart bit by bit.
 run:
 	rt check sheet_tensor
 	target/bin/sheet_tensor < crates/sheet_tensor/stdin
@@ -23,7 +23,17 @@ differential: archive
 deliberate-errors:
 	python3 tests/deliberate_errors/run.py
 
-# The Rust side's own tests: the unchanged files, the examples of document 01, the generator.
+# Packs a sheet by docs/RULES.md alone and runs it. The oracle's tests hold the same sheet and the same lines against the Rust.
+sheet-by-hand:
+	rt check sheet_tensor
+	python3 tests/sheet_by_hand/sheet.py | cmp - tests/sheet_by_hand/two_axes.sheet
+	target/bin/sheet_tensor < tests/sheet_by_hand/two_axes.sheet | diff tests/sheet_by_hand/expected.txt -
+
+# Holds docs/RULES.md against the definitions: each definition is named in its chapter.
+rules-page:
+	python3 tests/rules_page.py
+
+# The Rust side's own tests: the unchanged files, the worked examples, the generator.
 oracle-test:
 	cd oracle && cargo test --offline
 

@@ -7,26 +7,24 @@
 #include <stdlib.h>
 #include <string.h>
 
-enum { LONGEST_SHEET = 65536, BUFFER = 1024, LONGEST_TENSOR = 4096, SCRATCH = LONGEST_TENSOR + 2048 };
-
 /* What a sheet says. */
 struct sheet {
     size_t axes;
-    size_t points[4];
-    uint8_t kinds[8];
-    double values[8];
-    double knots[BUFFER];
-    double samples[BUFFER];
+    size_t points[HULLASHLAR_AXES];
+    uint8_t kinds[HULLASHLAR_ENDS];
+    double values[HULLASHLAR_ENDS];
+    double knots[HULLASHLAR_BUFFER];
+    double samples[HULLASHLAR_BUFFER];
 };
 
-static double tensor[LONGEST_TENSOR];
-static double fresh[LONGEST_TENSOR];
-static double scratch[SCRATCH];
+static double tensor[HULLASHLAR_TENSOR];
+static double fresh[HULLASHLAR_TENSOR];
+static double scratch[HULLASHLAR_MOST_SCRATCH];
 
 /* Ends the program where a call that should be accepted is refused. */
 static void accept(const char *call, size_t refusal)
 {
-    if (refusal != 0) {
+    if (refusal != HULLASHLAR_ACCEPTED) {
         fprintf(stderr, "%s: refused %zu\n", call, refusal);
         exit(1);
     }
@@ -53,9 +51,10 @@ static size_t tensor_length(const struct sheet *sheet)
     return samples_length(sheet) << sheet->axes;
 }
 
+/* Of a file that is too long one byte more than the longest sheet is enough to have it refused. */
 static void load(const char *path, struct sheet *sheet)
 {
-    static uint8_t bytes[LONGEST_SHEET];
+    static uint8_t bytes[HULLASHLAR_SHEET + 1];
     FILE *file = fopen(path, "rb");
     if (file == NULL) {
         perror(path);
@@ -63,43 +62,46 @@ static void load(const char *path, struct sheet *sheet)
     }
     size_t length = fread(bytes, 1, sizeof bytes, file);
     fclose(file);
-    accept("read", hullashlar_read(bytes, length, sheet->knots, BUFFER, sheet->samples, BUFFER, &sheet->axes, 1,
-                                   sheet->points, 4, sheet->kinds, 8, sheet->values, 8));
+    accept("read", hullashlar_read(bytes, length, sheet->knots, HULLASHLAR_BUFFER, sheet->samples, HULLASHLAR_BUFFER,
+                                   &sheet->axes, 1, sheet->points, HULLASHLAR_AXES, sheet->kinds, HULLASHLAR_ENDS,
+                                   sheet->values, HULLASHLAR_ENDS));
 }
 
 static void build(const struct sheet *sheet, double *numbers)
 {
-    accept("build", hullashlar_build(sheet->axes, sheet->points, 4, sheet->kinds, 8, sheet->values, 8, sheet->knots,
-                                     knots_length(sheet), sheet->samples, samples_length(sheet), numbers,
-                                     tensor_length(sheet), scratch, SCRATCH));
+    accept("build", hullashlar_build(sheet->axes, sheet->points, HULLASHLAR_AXES, sheet->kinds, HULLASHLAR_ENDS,
+                                     sheet->values, HULLASHLAR_ENDS, sheet->knots, knots_length(sheet), sheet->samples,
+                                     samples_length(sheet), numbers, tensor_length(sheet), scratch,
+                                     HULLASHLAR_MOST_SCRATCH));
 }
 
-static size_t change(const struct sheet *sheet, const size_t place[4], double sample)
+static size_t change(const struct sheet *sheet, const size_t place[HULLASHLAR_AXES], double sample)
 {
     size_t lanes;
-    accept("change", hullashlar_change(sheet->axes, sheet->points, 4, sheet->kinds, 8, sheet->values, 8, sheet->knots,
-                                       knots_length(sheet), tensor, tensor_length(sheet), scratch, SCRATCH, place, 4,
+    accept("change", hullashlar_change(sheet->axes, sheet->points, HULLASHLAR_AXES, sheet->kinds, HULLASHLAR_ENDS,
+                                       sheet->values, HULLASHLAR_ENDS, sheet->knots, knots_length(sheet), tensor,
+                                       tensor_length(sheet), scratch, HULLASHLAR_MOST_SCRATCH, place, HULLASHLAR_AXES,
                                        sample, &lanes, 1));
     return lanes;
 }
 
-static size_t query(const struct sheet *sheet, const double *coordinates, double *value, size_t labels[4])
+static size_t query(const struct sheet *sheet, const double *coordinates, double *value, size_t labels[HULLASHLAR_AXES])
 {
-    return hullashlar_query(sheet->axes, sheet->points, 4, sheet->knots, knots_length(sheet), tensor,
-                            tensor_length(sheet), coordinates, sheet->axes, value, 1, labels, 4);
+    return hullashlar_query(sheet->axes, sheet->points, HULLASHLAR_AXES, sheet->knots, knots_length(sheet), tensor,
+                            tensor_length(sheet), coordinates, sheet->axes, value, 1, labels, HULLASHLAR_AXES);
 }
 
 static void print_gain(const struct sheet *sheet, const double *coordinates)
 {
     double gain;
-    size_t cell[4];
+    size_t cell[HULLASHLAR_AXES];
     accept("query", query(sheet, coordinates, &gain, cell));
     printf("gain at %.1f kHz and %.1f dB: %.6f dB, in cell %zu, %zu\n", coordinates[0], coordinates[1], gain, cell[0],
            cell[1]);
 }
 
 /* The gain between measured points moves with the sample, and no number of the tensor is an old one. */
-static void change_and_compare(struct sheet *sheet, const size_t place[4], double sample)
+static void change_and_compare(struct sheet *sheet, const size_t place[HULLASHLAR_AXES], double sample)
 {
     double *changed = &sheet->samples[place[0] * sheet->points[1] + place[1]];
     size_t lanes = change(sheet, place, sample);
@@ -116,9 +118,9 @@ int main(int count, char **arguments)
     static struct sheet sheet;
     const double point[2] = {1.5, 60.0};
     const double no_point[2] = {1.5, NAN};
-    const size_t place[4] = {2, 2, 0, 0};
+    const size_t place[HULLASHLAR_AXES] = {2, 2};
     double gain;
-    size_t cell[4];
+    size_t cell[HULLASHLAR_AXES];
 
     if (count != 2) {
         fprintf(stderr, "%s SHEET\n", arguments[0]);

@@ -1,40 +1,39 @@
-/* Hullashlar for C: every public call over numbers and plain slices.
+/* Hullashlar for C: every public call over numbers and plain slices. docs/RULES.md says what each computes and when it
+ * refuses, in its chapters Calls, Read, SheetTensor and Exports.
  *
- * A slice is a pointer and then its length. No two slices of a call may overlap where one of them is written.
- * No call allocates memory, keeps a pointer or changes anything but the slices named as written.
+ * The machine. The archive, target/staticlib/libhost.a, is code for x86-64, with SSE2 and the System V calling
+ * convention. Of its host it wants memcpy and memset, and nothing else. It computes under the caller's MXCSR, which
+ * must be as a C program finds it at its start: rounding to nearest, subnormal numbers neither flushed to zero nor
+ * taken for zero (FTZ and DAZ clear), all exceptions masked. No call changes these settings; exception flags may be set
+ * when it returns.
  *
- * Every call returns a refusal's number, 0 for none; the lowest that applies is given, and of a sheet's own faults the
- * first in reading order.
+ * Slices. A slice is a pointer and then its length, in elements. Pointers to double and to size_t are aligned to 8
+ * bytes. A slice that a call writes overlaps no other slice of that call.
  *
- *    1  axes are not 1 to 4
- *    2  an axis has fewer than 2 or more than 256 points
- *    3  the tensor would pass 4,096 numbers
- *    4  a slice is not of its length
- *    5  scratch is too short
- *    6  the changed place is off the grid
- *    7  an infinity or NaN among knots, end values, samples or coordinates; for a change also in the tensor
- *    8  knots do not rise strictly, or a step between neighbours overflows
- *    9  NotAKnot at one end with fewer than 3 points, at both with fewer than 4
- *   10  an outcome is infinite or NaN
- *   11  a sheet's field needs more bits than remain
- *   12  a sheet's edition is not 1
- *   13  kind 3 stands at one end only
- *   14  after a sheet's last sample come 8 or more bits, or a bit that is not zero
+ * State. No call allocates memory, keeps a pointer, has data of its own, or writes anything but its stack and the
+ * slices named as written. So calls may run at the same time, on threads or in handlers, where none writes a slice that
+ * another uses.
  *
- * The boundary's own refusals come before all others, and then nothing is written: 4 where points, kinds, values,
- * place, value, labels, lanes, axes or length is not of the length below; then 13 where on an axis in use a kind is
- * above 3, or 3 stands at one end only. On any other refusal the answer slots are written (value +0.0, labels 0,
- * lanes 0, length 0, and by a read axes, points, kinds and values 0) and every other output is untouched, but for the
- * knots and samples of a sheet that only the build refuses. Scratch is untouched but for success and 10, after which
- * all of it is +0.0.
+ * Memory for the largest grid: tensor 32,768 bytes, scratch 49,152, the two buffers of a sheet 16,384, together 98,304.
+ * docs/BENCH.md has the stack of each call (below 6,000 bytes), the size of the code (below 28,000 bytes) and what the
+ * archive's proofs rest on.
  *
- * The ends of axis i: kinds[2 i] is the lower one's, kinds[2 i + 1] the upper one's; values likewise.
- * Kinds: 0 NotAKnot, 1 first derivative, 2 second derivative, 3 Periodic, which stands at both ends.
- * A value is read only for kinds 1 and 2.
+ * Axes. Points, kinds, values, places and labels are lent for four axes. What stands past the axes in use is not read,
+ * and labels there are 0. kinds[2 i] and values[2 i] are the lower end of axis i, kinds[2 i + 1] and values[2 i + 1]
+ * the upper one. A value is read where its kind is a first or a second derivative.
  *
- * Points, kinds, values, place and labels are for four axes; what is past the axes in use is not read, and labels
- * there are 0. Knots are flat, axis after axis. Samples and tensor are flat, last axis fastest; in the tensor, which
- * has 2^axes numbers for each sample, the mask is fastest of all, and bit i of it means "derivative along axis i".
+ * Grids. The knots of an axis follow those of the axis before it. Of samples and tensors, neighbours along the last
+ * axis stand side by side; a tensor has 2^axes numbers for each sample, one for each mask, and these stand side by side
+ * too. Bit i of a mask says that the number is a derivative along axis i. docs/RULES.md draws it, in Sizes.
+ *
+ * Refusals. Every call returns its refusal. It looks for one in this order:
+ *   - points, kinds, values, place, or a slot for the answer (value, labels, lanes, axes, length) of another length
+ *     than below: 4, and nothing is written;
+ *   - kinds of an axis in use that are none, or Periodic at one end only: 13, and nothing is written;
+ *   - the refusals of its own list, in the list's order. After these the answer slots are 0 or +0.0, by a read also
+ *     points, kinds and values, and every other output is as it was; but where only the build of a sheet is refused,
+ *     its knots and samples stand in their buffers.
+ * All of scratch is +0.0 after success and after 10, and else as it was.
  */
 #ifndef HULLASHLAR_H
 #define HULLASHLAR_H
@@ -43,12 +42,55 @@
 #include <stdint.h>
 
 #ifdef __cplusplus
+static_assert(sizeof(size_t) == 8, "the archive is for x86-64, where a size_t has 8 bytes");
 extern "C" {
+#else
+_Static_assert(sizeof(size_t) == 8, "the archive is for x86-64, where a size_t has 8 bytes");
 #endif
+
+/* What a call returns. */
+enum hullashlar_refusal {
+    HULLASHLAR_ACCEPTED = 0,         /* no refusal */
+    HULLASHLAR_REFUSED_AXES = 1,     /* no axes, or more than four */
+    HULLASHLAR_REFUSED_POINTS = 2,   /* an axis of one point or none, or of more than 256 */
+    HULLASHLAR_REFUSED_TENSOR = 3,   /* the grid needs a tensor of more than 4,096 numbers */
+    HULLASHLAR_REFUSED_LENGTH = 4,   /* a slice of another length than it must have */
+    HULLASHLAR_REFUSED_SCRATCH = 5,  /* too little scratch */
+    HULLASHLAR_REFUSED_PLACE = 6,    /* no place of the grid */
+    HULLASHLAR_REFUSED_NUMBER = 7,   /* a given number is infinite or NaN; a change looks at its tensor too */
+    HULLASHLAR_REFUSED_KNOTS = 8,    /* a knot is not above the one before it, or too far above for a double */
+    HULLASHLAR_REFUSED_FEWNESS = 9,  /* fewer points than NotAKnot needs: 3, or 4 where both ends are so */
+    HULLASHLAR_REFUSED_OUTCOME = 10, /* what came out is infinite or NaN */
+    HULLASHLAR_REFUSED_SHORT = 11,   /* a sheet ends before its fields do */
+    HULLASHLAR_REFUSED_EDITION = 12, /* a sheet of another edition than 1 */
+    HULLASHLAR_REFUSED_KINDS = 13,   /* Periodic at one end of an axis and not at the other, or no kind at all */
+    HULLASHLAR_REFUSED_TAIL = 14     /* a sheet goes on after its fields, by a byte or by a bit that is set */
+};
+
+/* The kinds of an end. Periodic stands at both ends of an axis or at neither. */
+enum hullashlar_kind {
+    HULLASHLAR_NOT_A_KNOT = 0,
+    HULLASHLAR_FIRST_DERIVATIVE = 1,
+    HULLASHLAR_SECOND_DERIVATIVE = 2,
+    HULLASHLAR_PERIODIC = 3
+};
+
+/* Sizes, in elements. */
+enum hullashlar_size {
+    HULLASHLAR_AXES = 4,             /* the most axes, and the length of points, place and labels */
+    HULLASHLAR_ENDS = 8,             /* the length of kinds and values */
+    HULLASHLAR_AXIS_ENDS = 2,        /* the same in a call on one axis */
+    HULLASHLAR_POINTS = 256,         /* the most points on an axis */
+    HULLASHLAR_TENSOR = 4096,        /* the most numbers in a tensor */
+    HULLASHLAR_SCRATCH = 2048,       /* the scratch that is needed beside the tensor's length */
+    HULLASHLAR_MOST_SCRATCH = 6144,  /* enough scratch for every grid */
+    HULLASHLAR_BUFFER = 1024,        /* the length of the buffers that a sheet is read into */
+    HULLASHLAR_SHEET = 10308         /* the bytes of the longest sheet that is accepted */
+};
 
 /* The moments of a curve on one axis: one for each point.
  * Lengths: knots, samples and moments as many as points; kinds and values 2; scratch at least 2,048.
- * Written: moments, scratch. Refuses by 2, 4, 5, 7, 8, 9, 10 and 13. */
+ * Written: moments, scratch. Refuses by 2, 4, 5, 7, 8, 9, 10. */
 size_t hullashlar_moments(size_t points,
                           const double *knots, size_t knots_length,
                           const double *samples, size_t samples_length,
@@ -59,7 +101,7 @@ size_t hullashlar_moments(size_t points,
 
 /* The curve's value at a point, beyond the knots too, by the boundary cubic.
  * Lengths: knots, samples and moments as many as points; value 1.
- * Written: value. Refuses by 2, 4, 7, 8 and 10. */
+ * Written: value. Refuses by 2, 4, 7, 8, 10. */
 size_t hullashlar_curve(size_t points,
                         const double *knots, size_t knots_length,
                         const double *samples, size_t samples_length,
@@ -69,7 +111,7 @@ size_t hullashlar_curve(size_t points,
 
 /* The curve's slope at every knot.
  * Lengths: knots, samples, moments and slopes as many as points.
- * Written: slopes. Refuses by 2, 4, 7, 8 and 10. */
+ * Written: slopes. Refuses by 2, 4, 7, 8, 10. */
 size_t hullashlar_slopes(size_t points,
                          const double *knots, size_t knots_length,
                          const double *samples, size_t samples_length,
@@ -78,8 +120,8 @@ size_t hullashlar_slopes(size_t points,
 
 /* The tensor of samples on a grid.
  * Lengths: points 4; kinds and values 8; knots as many as the points of all axes together; samples one for each place
- * of the grid; tensor 2^axes for each place; scratch at least the tensor's length and 2,048.
- * Written: tensor, scratch. Refuses by 1, 2, 3, 4, 5, 7, 8, 9, 10 and 13. */
+ * of the grid; tensor 2^axes for each place; scratch at least 2,048 longer than the tensor.
+ * Written: tensor, scratch. Refuses by 1, 2, 3, 4, 5, 7, 8, 9, 10. */
 size_t hullashlar_build(size_t axes,
                         const size_t *points, size_t points_length,
                         const uint8_t *kinds, size_t kinds_length,
@@ -89,10 +131,12 @@ size_t hullashlar_build(size_t axes,
                         double *tensor, size_t tensor_length,
                         double *scratch, size_t scratch_length);
 
-/* One sample changed in a tensor: every number that a fresh build would give, and how many lanes were solved again.
+/* One sample changed in a tensor, every lane that can differ solved again, and how many these were. Where the tensor
+ * comes from an accepted build, whatever changes followed, each of its numbers then has the bits of a fresh build from
+ * the samples that stand now. Of any other tensor the lanes' numbers are renewed and the rest are kept.
  * Lengths: points and place 4; kinds and values 8; knots as many as the points of all axes together; tensor 2^axes for
- * each place of the grid; scratch at least the tensor's length and 2,048; lanes 1.
- * Written: tensor, scratch, lanes. Refuses by 1 to 10 and 13. */
+ * each place of the grid; scratch at least 2,048 longer than the tensor; lanes 1.
+ * Written: tensor, scratch, lanes. Refuses by 1, 2, 3, 4, 5, 6, 7, 8, 9, 10. */
 size_t hullashlar_change(size_t axes,
                          const size_t *points, size_t points_length,
                          const uint8_t *kinds, size_t kinds_length,
@@ -104,11 +148,11 @@ size_t hullashlar_change(size_t axes,
                          double sample,
                          size_t *lanes, size_t lanes_length);
 
-/* The surface's value at the coordinates, beyond the grid too, and the cell label of each axis: the largest i with
- * knot[i] <= coordinate, held to 0 .. points - 2.
+/* The surface's value at the coordinates, beyond the grid too, and a label for each axis: the number of the cell that
+ * the coordinate lies in or beyond, on a knot between two cells that of the upper one.
  * Lengths: points 4; knots as many as the points of all axes together; tensor 2^axes for each place of the grid;
  * coordinates as many as axes; value 1; labels 4.
- * Written: value, labels. Refuses by 1, 2, 3, 4, 7, 8 and 10. */
+ * Written: value, labels. Refuses by 1, 2, 3, 4, 7, 8, 10. */
 size_t hullashlar_query(size_t axes,
                         const size_t *points, size_t points_length,
                         const double *knots, size_t knots_length,
@@ -119,9 +163,11 @@ size_t hullashlar_query(size_t axes,
 
 /* The parts of a packed sheet: knots and samples in the first places of their buffers, whose other places are as they
  * were; how many axes there are; and of each axis the points, and the kinds and values of its ends, as the calls above
- * take them. Points, kinds and values past the axes in use are 0, and so is the value of a kind that has none.
+ * take them. Points, kinds and values past the axes in use are 0, and so is the value of a kind that has none. Numbers
+ * are handed over as they stand in the sheet, but a NaN as some NaN: its sign and payload are lost.
  * Lengths: bytes any; knots and samples 1,024 each; axes 1; points 4; kinds and values 8.
- * Written: knots, samples, axes, points, kinds, values. Refuses by 4, then by 11, 12, 1, 2, 13, 3 or 14. */
+ * Written: knots, samples, axes, points, kinds, values. Refuses by 4, and then by the first of 11, 12, 1, 2, 13, 3, 14
+ * that is met on the way through the sheet. */
 size_t hullashlar_read(const uint8_t *bytes, size_t bytes_length,
                        double *knots, size_t knots_length,
                        double *samples, size_t samples_length,
@@ -132,10 +178,9 @@ size_t hullashlar_read(const uint8_t *bytes, size_t bytes_length,
 
 /* The tensor of a packed sheet, read and built in one call: knots, samples and tensor in the first places of their
  * buffers, whose other places are as they were, and how many numbers the tensor has.
- * Lengths: bytes any; knots and samples 1,024 each; tensor 4,096; scratch at least the tensor's numbers and 2,048, so
- * 6,144 is enough for every sheet; length 1.
- * Written: knots, samples, tensor, scratch, length. Refuses by 4, then by 11, 12, 1, 2, 13, 3 or 14, then as a build by
- * 5, 7, 8, 9 or 10, after which knots and samples hold those of the sheet. */
+ * Lengths: bytes any; knots and samples 1,024 each; tensor 4,096; scratch at least 2,048 and a number for each number
+ * of the sheet's tensor, so that 6,144 is enough for every sheet; length 1.
+ * Written: knots, samples, tensor, scratch, length. Refuses as a read does, then as a build by 5, 7, 8, 9, 10. */
 size_t hullashlar_sheet_tensor(const uint8_t *bytes, size_t bytes_length,
                                double *knots, size_t knots_length,
                                double *samples, size_t samples_length,

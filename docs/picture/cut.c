@@ -12,12 +12,13 @@
 #include <string.h>
 
 enum { AXES = 2, FREQUENCIES = 5, LEVELS = 6, MASKS = 4, TENSOR = FREQUENCIES * LEVELS * MASKS };
-enum { KNOTS = FREQUENCIES + LEVELS, SAMPLES = FREQUENCIES * LEVELS, SCRATCH = TENSOR + 2048 };
+enum { KNOTS = FREQUENCIES + LEVELS, SAMPLES = FREQUENCIES * LEVELS, SCRATCH = TENSOR + HULLASHLAR_SCRATCH };
 
 /* Both axes natural. */
-static const size_t points[4] = {FREQUENCIES, LEVELS, 0, 0};
-static const uint8_t kinds[8] = {2, 2, 2, 2, 0, 0, 0, 0};
-static const double values[8];
+static const size_t points[HULLASHLAR_AXES] = {FREQUENCIES, LEVELS};
+static const uint8_t kinds[HULLASHLAR_ENDS] = {HULLASHLAR_SECOND_DERIVATIVE, HULLASHLAR_SECOND_DERIVATIVE,
+                                               HULLASHLAR_SECOND_DERIVATIVE, HULLASHLAR_SECOND_DERIVATIVE};
+static const double values[HULLASHLAR_ENDS];
 
 /* Frequencies in octaves above 250 Hz, levels in dB. */
 static const double knots[KNOTS] = {0, 1, 2, 3, 4, 40, 50, 60, 70, 80, 90};
@@ -31,14 +32,14 @@ static const double samples[SAMPLES] = {
 
 /* The sample at 1 kHz and 60 dB was recorded as 0, and is put right. */
 enum { ROW = 2, COLUMN = 2 };
-static const size_t place[4] = {ROW, COLUMN, 0, 0};
+static const size_t place[HULLASHLAR_AXES] = {ROW, COLUMN};
 static const double new_sample = 16;
 
 static double scratch[SCRATCH];
 
 static void accept(size_t refusal)
 {
-    if (refusal != 0) {
+    if (refusal != HULLASHLAR_ACCEPTED) {
         fprintf(stderr, "refused %zu\n", refusal);
         exit(1);
     }
@@ -48,8 +49,9 @@ static double gain(const double *tensor, double level)
 {
     const double coordinates[AXES] = {knots[ROW], level};
     double value;
-    size_t labels[4];
-    accept(hullashlar_query(AXES, points, 4, knots, KNOTS, tensor, TENSOR, coordinates, AXES, &value, 1, labels, 4));
+    size_t labels[HULLASHLAR_AXES];
+    accept(hullashlar_query(AXES, points, HULLASHLAR_AXES, knots, KNOTS, tensor, TENSOR, coordinates, AXES, &value, 1,
+                            labels, HULLASHLAR_AXES));
     return value;
 }
 
@@ -70,14 +72,14 @@ int main(void)
     double before[TENSOR], stale[TENSOR], after[TENSOR];
     size_t lanes;
 
-    accept(hullashlar_build(AXES, points, 4, kinds, 8, values, 8, knots, KNOTS, samples, SAMPLES, before, TENSOR,
-                            scratch, SCRATCH));
+    accept(hullashlar_build(AXES, points, HULLASHLAR_AXES, kinds, HULLASHLAR_ENDS, values, HULLASHLAR_ENDS, knots,
+                            KNOTS, samples, SAMPLES, before, TENSOR, scratch, SCRATCH));
     /* The fault: the sample is stored at mask 0, and every derivative stays as it was. */
     memcpy(stale, before, sizeof before);
     stale[(ROW * LEVELS + COLUMN) * MASKS] = new_sample;
     memcpy(after, before, sizeof before);
-    accept(hullashlar_change(AXES, points, 4, kinds, 8, values, 8, knots, KNOTS, after, TENSOR, scratch, SCRATCH,
-                             place, 4, new_sample, &lanes, 1));
+    accept(hullashlar_change(AXES, points, HULLASHLAR_AXES, kinds, HULLASHLAR_ENDS, values, HULLASHLAR_ENDS, knots,
+                             KNOTS, after, TENSOR, scratch, SCRATCH, place, HULLASHLAR_AXES, new_sample, &lanes, 1));
 
     print_samples();
     for (double level = 40; level <= 90; level += 0.25)

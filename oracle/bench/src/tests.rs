@@ -1,5 +1,5 @@
 //! The stand-in that is made for speed gives the bits of the simple one, which
-//! the reading of document 01 stands on.
+//! the reading of the rules stands on.
 
 use crate::inputs::{Inputs, Surface};
 use ninterp_quick::evaluate_spline_corner_cached;

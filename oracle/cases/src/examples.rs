@@ -1,4 +1,4 @@
-//! The examples with numbers of document 01, as cases.
+//! The worked examples as cases.
 
 use crate::case::{Argument, Calls, Case};
 use crate::grid::Grid;
@@ -12,7 +12,7 @@ const FIRST: u8 = 1;
 const SECOND: u8 = 2;
 const PERIODIC: u8 = 3;
 
-/// Every example, in the order of the document.
+/// Every example, on one axis first.
 pub fn examples() -> Vec<Case> {
     // Only what the answers are written over is random.
     let random = &mut Random::new(0);

@@ -9,7 +9,7 @@ use crate::random::Random;
 use crate::sheet::{damaged_sheet, good_sheet, swept_sheet};
 use reading::CURVE_SCRATCH;
 
-/// The kinds of cases: the examples of document 01, one kind for each call, lists
+/// The kinds of cases: the worked examples, one kind for each call, lists
 /// of changes, and the sheets of up to two bytes.
 #[derive(Debug, Clone, Copy, PartialEq, Eq)]
 pub enum Kind {

@@ -1,4 +1,4 @@
-//! Generated calls, and their comparison with the reading of document 01.
+//! Generated calls, and their comparison with the reading of the rules.
 
 mod case;
 mod comparison;

@@ -1,4 +1,4 @@
-//! The reading of document 01 as something that answers calls.
+//! The reading of the rules as something that answers calls.
 
 use crate::case::{Argument, Call, Calls, Case};
 

@@ -72,7 +72,7 @@ fn pack(fields: &Fields) -> Vec<u8> {
     bytes
 }
 
-/// The sheet of document 01: one natural axis with knots and samples 0 and 1.
+/// The example sheet: one natural axis with knots and samples 0 and 1.
 pub fn example_sheet() -> Vec<u8> {
     let line = [0.0, 1.0];
     let grid = Grid {

@@ -1,4 +1,4 @@
-//! Holds the archive against the reading of document 01, bit for bit.
+//! Holds the archive against the reading of the rules, bit for bit.
 
 mod archive;
 

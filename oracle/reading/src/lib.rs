@@ -1,8 +1,8 @@
-//! Document 01 read in Rust, with every call in the form that the archive
+//! The rules read in Rust, with every call in the form that the archive
 //! exports. All float arithmetic is done by the unchanged functions of ninterp.
 //!
 //! Every call returns the refusal number, 0 for none, and leaves what it was
-//! lent as the document says.
+//! lent as the rules say.
 
 mod bits;
 mod curve;

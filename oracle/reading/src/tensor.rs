@@ -178,8 +178,8 @@ fn meets(lane: &Lane, place: &[usize]) -> bool {
     outside.all(|axis| lane.start[axis] == place[axis])
 }
 
-/// Solves lanes one after the other from the tensor's numbers as they then stand.
-/// Mask 0 has the axis's own ends, any other mask the same kinds with value zero.
+/// Solves lanes one after the other, each from what the tensor holds by then: mask 0
+/// under the axis's own ends, every other mask under the same kinds with zeros.
 pub fn solve_lanes(
     shape: &Shape,
     conditions: &[Condition],

@@ -1,4 +1,5 @@
-//! Small inputs on which the Rust's code and its comments part. The code decides.
+//! The inputs of docs/DIFFERENCES.md, on which the Rust's code does another thing
+//! than its comments say. The code decides.
 
 use ninterp_unchanged::*;
 
@@ -16,61 +17,77 @@ fn slopes(knots: &[f64], samples: &[f64], condition: &Condition) -> Vec<f64> {
     knot_derivatives_from_m(knots, samples, &moments)
 }
 
-/// "The largest i such that grid[i] <= point".
+/// How many floats of one sign lie between two of them, the second one counted.
+fn floats_apart(a: f64, b: f64) -> u64 {
+    assert_eq!(a.is_sign_negative(), b.is_sign_negative());
+    a.to_bits().abs_diff(b.to_bits())
+}
+
+/// The comment has the knot's own index.
 #[test]
 fn an_interior_knot_lies_in_the_cell_before_it() {
     let knots = [0.0, 1.0, 2.0];
     assert_eq!(locate_lower_index(knots.as_slice().into(), &1.0), 0);
 }
 
-/// "Clamped to [0, grid.len() - 2]".
+/// The comment holds every point to the cells.
 #[test]
 fn a_point_that_is_no_number_lies_past_the_last_cell() {
     let knots = [0.0, 1.0];
     assert_eq!(locate_lower_index(knots.as_slice().into(), &f64::NAN), 1);
 }
 
-/// "Passes through every supplied value exactly".
+/// The comment has the curve pass through its samples exactly.
 #[test]
 fn a_periodic_curve_misses_a_sample() {
-    let (knots, samples) = ([0.0, 1.0, 2.0], [2.0, 5.0, 1.0]);
+    let (knots, samples) = ([0.0, 1.0, 2.0], [-1.0, 3.0, 0.0]);
     let value = curve_at(&knots, &samples, &Condition::Periodic, 0.0);
-    assert_eq!(value, 2.0000000000000004);
+    assert_eq!(value, -0.9999999999999996);
+    assert_eq!(floats_apart(value, -1.0), 4);
 }
 
-/// "Constructs a C² piecewise cubic polynomial through all data points".
 #[test]
 fn a_clamped_curve_misses_a_sample() {
-    let (knots, samples) = ([0.0, 1.0], [1.0, 1.0]);
-    let condition = Condition::first_derivative(1.0, 0.0);
+    let (knots, samples) = ([0.0, 1.0], [1.0, 0.0]);
+    let condition = Condition::first_derivative(0.0, 1.0);
     let value = curve_at(&knots, &samples, &condition, 0.0);
-    assert_eq!(value, 0.9999999999999999);
+    assert_eq!(value, 0.9999999999999998);
+    assert_eq!(floats_apart(value, 1.0), 2);
 }
 
-/// "First and second derivatives match at both endpoints".
+#[test]
+fn a_natural_curve_misses_a_sample() {
+    let (knots, samples) = ([0.0, 1.0, 2.0, 3.0], [0.0, 1.0, 0.0, 1.0]);
+    let condition = Condition::second_derivative(0.0, 0.0);
+    let value = curve_at(&knots, &samples, &condition, 1.0);
+    assert_eq!(value, 0.9999999999999999);
+    assert_eq!(floats_apart(value, 1.0), 1);
+}
+
+/// The comment has one slope for both ends of a period.
 #[test]
 fn a_periodic_curve_has_two_slopes_at_its_seam() {
-    let (knots, samples) = ([0.0, 1.0, 2.0], [2.0, -2.0, 1.0]);
+    let (knots, samples) = ([0.0, 1.0, 2.0], [-1.0, 3.0, 0.0]);
     let slopes = slopes(&knots, &samples, &Condition::Periodic);
-    assert_eq!(
-        (slopes[0], slopes[2]),
-        (-0.5000000000000013, -0.49999999999999867)
-    );
+    let seam = (slopes[0], slopes[2]);
+    assert_eq!(seam, (0.5000000000000013, 0.49999999999999867));
+    assert_eq!(floats_apart(seam.0, seam.1), 36);
 }
 
-/// "Specified first derivative at this endpoint".
+/// The comment has the given slope at the end.
 #[test]
 fn a_clamped_end_has_another_slope() {
-    let (knots, samples) = ([0.0, 1.0, 2.0], [0.0, 1.0, -1.0]);
-    let slopes = slopes(&knots, &samples, &Condition::first_derivative(1.0, 1.0));
-    assert_eq!((slopes[0], slopes[2]), (1.0, 0.9999999999999996));
+    let (knots, samples) = ([0.0, 1.0, 2.0], [0.0, 1.0, 0.0]);
+    let slopes = slopes(&knots, &samples, &Condition::first_derivative(0.0, 0.0));
+    assert_eq!((slopes[0], slopes[2]), (0.0, -3.3306690738754696e-16));
 }
 
-/// "Specified second derivative at this endpoint".
+/// The comment has the given second derivative at the end.
 #[test]
 fn a_second_derivative_of_minus_zero_loses_its_sign_at_the_upper_end() {
-    let line = [0.0, 1.0];
-    let moments = compute_m(&line, &line, &Condition::second_derivative(-0.0, -0.0));
+    let (knots, samples) = ([0.0, 1.0], [0.0, 0.0]);
+    let condition = Condition::second_derivative(-0.0, -0.0);
+    let moments = compute_m(&knots, &samples, &condition);
     assert_eq!(moments[0].to_bits(), (-0.0f64).to_bits());
     assert_eq!(moments[1].to_bits(), 0.0f64.to_bits());
 }

@@ -1,4 +1,4 @@
-//! Every example with numbers of document 01.
+//! Every worked example.
 
 use reading::*;
 
@@ -248,7 +248,7 @@ fn tensors_at_and_past_the_limit() {
     assert_eq!(refusal_of_build(5, [2, 2, 2, 2]), 1);
 }
 
-/// The sheet of document 01 with one axis: 403 bits.
+/// The example sheet, of one axis: 403 bits.
 fn example_sheet() -> Vec<u8> {
     let one = 1.0f64.to_bits();
     let fields = [(1, 4), (1, 3), (1, 8), (2, 2), (2, 2), (0, 64), (0, 64)];
@@ -296,6 +296,14 @@ fn the_example_sheet_is_printed() {
     let expected =
         "tensor 4\n0000000000000000\n3FF0000000000000\n3FF0000000000000\n3FF0000000000000\n";
     assert_eq!(printed(&sheet), expected);
+}
+
+/// The sheet and the lines that `make sheet-by-hand` uses.
+#[test]
+fn the_sheet_packed_by_hand_is_printed() {
+    let sheet = include_bytes!("../../../tests/sheet_by_hand/two_axes.sheet");
+    let expected = include_str!("../../../tests/sheet_by_hand/expected.txt");
+    assert_eq!(printed(sheet), expected);
 }
 
 #[test]

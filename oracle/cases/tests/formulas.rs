@@ -1,4 +1,4 @@
-//! The formulas of document 01, written out as it words them, give the bits of
+//! The formulas of docs/RULES.md, written out as they stand there, give the bits of
 //! the unchanged functions. The two solves are the unchanged ones.
 
 mod altered;
@@ -127,7 +127,7 @@ fn moments_again(given: &Case, answered: &mut Case) {
 }
 
 #[test]
-fn moments_are_as_the_document_words_them() {
+fn moments_are_as_the_rules_word_them() {
     let again = Altered {
         call: Call::Moments,
         alter: moments_again,
@@ -150,7 +150,7 @@ fn slopes_again(given: &Case, answered: &mut Case) {
 }
 
 #[test]
-fn slopes_are_as_the_document_words_them() {
+fn slopes_are_as_the_rules_word_them() {
     let again = Altered {
         call: Call::Slopes,
         alter: slopes_again,
