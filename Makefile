@@ -8,15 +8,14 @@ run:
 test:
 	.ci/run
 
-# The exported calls, and how many cases of each kind are compared with the Rust.
-CALLS = moments curve slopes build change query read sheet_tensor
+# How many cases of each kind are compared with the Rust.
 CASES = --moments 60000 --curve 60000 --slopes 60000 --build 50000 --change 50000 \
     --change_list 20000 --query 500000 --read 60000 --sheet_tensor 60000 --short_sheet 65793
 SEED = 20240917
 
 # Holds the exported calls against the Rust, bit for bit; fails where there is a difference.
 differential: archive
-	cd oracle && cargo run --offline --release -p differential --features "$(CALLS)" -- \
+	cd oracle && cargo run --offline --release -p differential -- \
 	    --seed $(SEED) --cases 0 $(CASES)
 
 # Runs copies of the code, each with one deliberate error, on the oracle's fixed list of answers; fails where an error is not found.
@@ -33,7 +32,7 @@ archive:
 
 # Measures the exported calls beside the Rust's functions and prints the tables of docs/BENCH.md; wants valgrind.
 bench: archive
-	cd oracle && cargo run --offline --release -p bench --features "$(CALLS)"
+	cd oracle && cargo run --offline --release -p bench
 
 # The two example hosts on one sheet, each held against the output that is kept beside them.
 examples: archive
@@ -52,6 +51,6 @@ picture: archive
 
 # The fixed list of the oracle's answers that the program `replay` is run on, and what it prints where every case is the same.
 replay-list:
-	cd oracle && cargo run --offline --release -q -p cases --bin replay_list -- $(CALLS) > ../crates/replay/stdin
+	cd oracle && cargo run --offline --release -q -p cases --bin replay_list > ../crates/replay/stdin
 	od -An -tu8 --endian=big -N8 crates/replay/stdin \
 	    | awk '{ for (i = 1; i <= $$1; i++) print i, "same"; print $$1, "cases,", $$1, "the same" }' > crates/replay/stdout

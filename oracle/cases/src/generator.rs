@@ -58,6 +58,11 @@ impl Kind {
             Kind::ShortSheet => "short_sheet",
         }
     }
+
+    /// Whether a case of the kind is one call that is generated.
+    pub fn is_single_call(self) -> bool {
+        !matches!(self, Kind::Example | Kind::ChangeList | Kind::ShortSheet)
+    }
 }
 
 /// So many cases in a hundred get a fault; some fail without one.

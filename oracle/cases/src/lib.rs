@@ -19,7 +19,7 @@ pub use case::{Argument, Call, Calls, Case};
 pub use comparison::{compare_all, Plan};
 pub use generator::{Kind, KINDS};
 pub use lent::Lent;
-pub use list::{call_named, list, CALLS};
+pub use list::{list, CALLS};
 pub use reading_calls::Reading;
 pub use report::{Counts, Report};
 pub use sheet::SHORT_SHEETS;

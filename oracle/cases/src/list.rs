@@ -34,24 +34,6 @@ pub const CALLS: [Call; 8] = [
     Call::SheetTensor,
 ];
 
-/// The names of the calls, in the same order.
-const NAMES: [&str; 8] = [
-    "moments",
-    "curve",
-    "slopes",
-    "build",
-    "change",
-    "query",
-    "read",
-    "sheet_tensor",
-];
-
-/// The call of a name.
-pub fn call_named(name: &str) -> Option<Call> {
-    let number = NAMES.iter().position(|call| *call == name);
-    number.map(|number| CALLS[number])
-}
-
 /// How many accepted cases of each call the list has.
 const ACCEPTED: usize = 60;
 
@@ -64,16 +46,12 @@ const LONGEST_CASE: usize = 200;
 /// How many generated cases of a kind are looked at.
 const LOOKED_AT: u64 = 3_000;
 
-/// The words of the list of some calls: the examples of document 01, and generated cases.
-pub fn list(seed: u64, calls: &[Call]) -> Vec<u64> {
-    let mut examples = examples();
-    examples.retain(|case| calls.contains(&case.call));
-    let mut cases: Vec<Vec<u64>> = examples.iter().map(|case| answered(case).1).collect();
+/// The words of the list: the examples of document 01, and generated cases of every call.
+pub fn list(seed: u64) -> Vec<u64> {
+    let mut cases: Vec<Vec<u64>> = examples().iter().map(|case| answered(case).1).collect();
     cases.retain(|words| words.len() <= LONGEST_CASE);
-    for kind in KINDS {
-        if call_named(kind.name()).is_some_and(|call| calls.contains(&call)) {
-            cases.extend(chosen(seed, kind));
-        }
+    for kind in KINDS.into_iter().filter(|kind| kind.is_single_call()) {
+        cases.extend(chosen(seed, kind));
     }
     let mut words = vec![cases.len() as u64];
     words.extend(cases.concat());

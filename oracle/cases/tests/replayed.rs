@@ -75,7 +75,7 @@ impl Words {
 #[test]
 fn the_list_gives_the_readings_answers_back() {
     let mut words = Words {
-        words: list(1, &CALLS).into_iter(),
+        words: list(1).into_iter(),
     };
     let count = words.next();
     let mut seen = [[0; 15]; CALLS.len()];
