@@ -1,6 +1,8 @@
 //! Holds the archive against the reading of document 01, bit for bit.
 
 mod archive;
+#[cfg(test)]
+mod tests;
 
 use archive::Archive;
 use cases::{compare_all, Kind, Plan, KINDS};
