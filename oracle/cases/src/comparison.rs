@@ -11,7 +11,7 @@ use crate::numbers::ordinary;
 use crate::random::Random;
 use crate::reading_calls::Reading;
 use crate::report::{describe, Report};
-use crate::sheet::short_sheet;
+use crate::sheet::{short_sheet, SHORT_SHEETS};
 use reading::LONGEST_TENSOR;
 
 /// A seed, and how many cases of each kind.
@@ -25,12 +25,12 @@ pub struct Plan {
 const CHANGES_IN_A_LIST: u64 = 25;
 
 impl Plan {
-    /// About so many calls of each kind, and the examples once. The sheets of up
-    /// to two bytes, which are all refused, stand in a plan only by their number.
+    /// About so many calls of each kind, the examples once, and no sheet of up to
+    /// two bytes twice.
     pub fn of_each_kind(seed: u64, calls: u64) -> Self {
         let cases = KINDS.map(|kind| match kind {
             Kind::Example => 1,
-            Kind::ShortSheet => 0,
+            Kind::ShortSheet => calls.min(SHORT_SHEETS),
             Kind::ChangeList => calls.div_ceil(CHANGES_IN_A_LIST),
             _ => calls,
         });

@@ -1,6 +1,7 @@
 //! What a run has seen, and how a difference is printed.
 
 use crate::case::Case;
+use crate::comparison::Plan;
 use crate::generator::{Kind, KINDS};
 use crate::lent::GUARDS;
 use std::fmt::{self, Write};
@@ -50,6 +51,13 @@ impl Report {
             }
         }
         total
+    }
+
+    /// The kinds that a plan has and of which nothing was compared.
+    pub fn not_compared(&self, plan: &Plan) -> Vec<Kind> {
+        let mut kinds = KINDS.to_vec();
+        kinds.retain(|kind| plan.cases[*kind as usize] > 0 && self.of(*kind).compared == 0);
+        kinds
     }
 
     pub(crate) fn difference(&mut self, kind: Kind, text: impl FnOnce() -> String) {
