@@ -1,4 +1,4 @@
-.PHONY: run test differential deliberate-errors oracle-test replay-list archive bench examples picture
+.PHONY: run test differential deliberate-errors oracle-test expected archive bench examples picture
 
 # Prints the tensor of document 01's example sheet.
 run:
@@ -21,7 +21,7 @@ differential: archive
 deliberate-errors:
 	python3 tests/deliberate_errors/run.py
 
-# The Rust side's own tests: the unchanged files, the examples of document 01, the generator.
+# The Rust side's own tests: the unchanged files, the examples of document 01, the generator, what is kept beside the programs.
 oracle-test:
 	cd oracle && cargo test --offline
 
@@ -48,8 +48,7 @@ picture: archive
 	gcc -std=c11 -Wall -Wextra -Werror -O2 -Iinclude docs/picture/cut.c target/staticlib/libhost.a -o target/picture/cut
 	target/picture/cut | python3 docs/picture/draw.py > docs/picture/stale-derivatives.svg
 
-# The fixed list of the oracle's answers that the program `replay` is run on, and what it prints where every case is the same.
-replay-list:
+# The fixed list of the oracle's answers, and what every program must print, by the oracle.
+expected:
 	cd oracle && cargo run --offline --release -q -p cases --bin replay_list > ../crates/replay/stdin
-	od -An -tu8 --endian=big -N8 crates/replay/stdin \
-	    | awk '{ for (i = 1; i <= $$1; i++) print i, "same"; print $$1, "cases,", $$1, "the same" }' > crates/replay/stdout
+	cd oracle && cargo run --offline --release -q -p printed -- ../crates

@@ -78,7 +78,7 @@ const STORED: &[u8] = include_bytes!("../../../crates/replay/stdin");
 #[test]
 fn the_stored_list_is_the_one_that_is_made() {
     let made: Vec<u8> = list().into_iter().flat_map(u64::to_be_bytes).collect();
-    assert!(made == STORED, "make replay-list makes another one");
+    assert!(made == STORED, "make expected makes another one");
 }
 
 #[test]
