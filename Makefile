@@ -48,7 +48,9 @@ picture: archive
 	gcc -std=c11 -Wall -Wextra -Werror -O2 -Iinclude docs/picture/cut.c target/staticlib/libhost.a -o target/picture/cut
 	target/picture/cut | python3 docs/picture/draw.py > docs/picture/stale-derivatives.svg
 
-# The fixed list of the oracle's answers, and what every program must print, by the oracle.
+# What the programs are run on and what they must print: sheets by a script, the fixed list and all outputs by the oracle. It changes
+# nothing unless the script, the generator, an example or the reading has changed.
 expected:
+	python3 tests/make_sheets.py
 	cd oracle && cargo run --offline --release -q -p cases --bin replay_list > ../crates/replay/stdin
 	cd oracle && cargo run --offline --release -q -p printed -- ../crates

@@ -16,7 +16,7 @@ pub use host::host;
 /// is no such program.
 pub fn printed(program: &str, input: &[u8]) -> Option<String> {
     let text = match program {
-        "sheet_tensor" | "sheet_empty" | "sheet_longest" | "sheet_too_long" => {
+        "sheet_tensor" | "sheet_empty" | "sheet_largest" | "sheet_one_byte_more" => {
             sheets::tensor(input)
         }
         "sheet_cases" => sheets::tensors(input),
