@@ -1,4 +1,4 @@
-.PHONY: run test differential deliberate-errors sheet-by-hand rules-page oracle-test replay-list archive bench examples picture
+.PHONY: run test differential deliberate-errors sheet-by-hand rules-page oracle-test expected archive bench examples picture
 
 # Prints the tensor of the example sheet, which docs/RULES.md takes apart bit by bit.
 run:
@@ -8,16 +8,14 @@ run:
 test:
 	.ci/run
 
-# The exported calls, and how many cases of each kind are compared with the Rust.
-CALLS = moments curve slopes build change query read sheet_tensor
+# How many cases of each kind are compared with the Rust; of a kind that is not named here there are 10,000.
 CASES = --moments 60000 --curve 60000 --slopes 60000 --build 50000 --change 50000 \
-    --change_list 20000 --query 500000 --read 60000 --sheet_tensor 60000 --short_sheet 65793
+    --change_list 20000 --query 400000 --read 60000 --sheet_tensor 60000 --short_sheet 65793
 SEED = 20240917
 
-# Holds the exported calls against the Rust, bit for bit; fails where there is a difference.
+# Holds the exported calls against the Rust, bit for bit; fails where there is a difference, or nothing was compared of a kind.
 differential: archive
-	cd oracle && cargo run --offline --release -p differential --features "$(CALLS)" -- \
-	    --seed $(SEED) --cases 0 $(CASES)
+	cd oracle && cargo run --offline --release -p differential -- --seed $(SEED) $(CASES)
 
 # Runs copies of the code, each with one deliberate error, on the oracle's fixed list of answers; fails where an error is not found.
 deliberate-errors:
@@ -33,7 +31,7 @@ sheet-by-hand:
 rules-page:
 	python3 tests/rules_page.py
 
-# The Rust side's own tests: the unchanged files, the worked examples, the generator.
+# The Rust side's own tests: the unchanged files, the worked examples, the generator, what is kept beside the programs.
 oracle-test:
 	cd oracle && cargo test --offline
 
@@ -43,7 +41,7 @@ archive:
 
 # Measures the exported calls beside the Rust's functions and prints the tables of docs/BENCH.md; wants valgrind.
 bench: archive
-	cd oracle && cargo run --offline --release -p bench --features "$(CALLS)"
+	cd oracle && cargo run --offline --release -p bench
 
 # The two example hosts on one sheet, each held against the output that is kept beside them.
 examples: archive
@@ -60,8 +58,9 @@ picture: archive
 	gcc -std=c11 -Wall -Wextra -Werror -O2 -Iinclude docs/picture/cut.c target/staticlib/libhost.a -o target/picture/cut
 	target/picture/cut | python3 docs/picture/draw.py > docs/picture/stale-derivatives.svg
 
-# The fixed list of the oracle's answers that the program `replay` is run on, and what it prints where every case is the same.
-replay-list:
-	cd oracle && cargo run --offline --release -q -p cases --bin replay_list -- $(CALLS) > ../crates/replay/stdin
-	od -An -tu8 --endian=big -N8 crates/replay/stdin \
-	    | awk '{ for (i = 1; i <= $$1; i++) print i, "same"; print $$1, "cases,", $$1, "the same" }' > crates/replay/stdout
+# What the programs are run on and what they must print: sheets by a script, the fixed list and all outputs by the oracle. It changes
+# nothing unless the script, the generator, an example or the reading has changed.
+expected:
+	python3 tests/make_sheets.py
+	cd oracle && cargo run --offline --release -q -p cases --bin replay_list > ../crates/replay/stdin
+	cd oracle && cargo run --offline --release -q -p printed -- ../crates

@@ -36,13 +36,17 @@ def axis_fields(knots, kinds, values):
     return field(len(knots) - 1, 8) + "".join(field(kind, 2) for kind in kinds) + floats(values) + floats(knots)
 
 
-def packed(axes, samples):
-    """Edition 1, the axes, the samples, and zero bits to the byte."""
-    bits = field(1, 4) + field(len(axes), 3)
-    bits += "".join(axis_fields(*axis) for axis in axes)
-    bits += floats(samples)
+def whole_bytes(bits):
+    """The bits, and zero bits to the byte."""
     bits += "0" * (-len(bits) % 8)
     return int(bits, 2).to_bytes(len(bits) // 8, "big")
+
+
+def packed(axes, samples):
+    """Edition 1, the axes and the samples."""
+    bits = field(1, 4) + field(len(axes), 3)
+    bits += "".join(axis_fields(*axis) for axis in axes)
+    return whole_bytes(bits + floats(samples))
 
 
 if __name__ == "__main__":

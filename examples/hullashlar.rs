@@ -6,6 +6,11 @@
 // A program need not make every call; one that is not made is not linked either.
 #![allow(dead_code)]
 
+#[path = "../include/hullashlar.rs"]
+mod declared;
+
+use declared::*;
+
 /// The number of a refusal, which is never 0.
 pub type Refusal = usize;
 
@@ -46,82 +51,6 @@ impl Axes {
     pub fn tensor_length(&self) -> usize {
         self.samples_length() << self.count
     }
-}
-
-#[rustfmt::skip]
-extern "C" {
-    fn hullashlar_moments(
-        points: usize,
-        knots: *const f64, knots_length: usize,
-        samples: *const f64, samples_length: usize,
-        kinds: *const u8, kinds_length: usize,
-        values: *const f64, values_length: usize,
-        moments: *mut f64, moments_length: usize,
-        scratch: *mut f64, scratch_length: usize,
-    ) -> usize;
-    fn hullashlar_curve(
-        points: usize,
-        knots: *const f64, knots_length: usize,
-        samples: *const f64, samples_length: usize,
-        moments: *const f64, moments_length: usize,
-        point: f64,
-        value: *mut f64, value_length: usize,
-    ) -> usize;
-    fn hullashlar_slopes(
-        points: usize,
-        knots: *const f64, knots_length: usize,
-        samples: *const f64, samples_length: usize,
-        moments: *const f64, moments_length: usize,
-        slopes: *mut f64, slopes_length: usize,
-    ) -> usize;
-    fn hullashlar_build(
-        axes: usize,
-        points: *const usize, points_length: usize,
-        kinds: *const u8, kinds_length: usize,
-        values: *const f64, values_length: usize,
-        knots: *const f64, knots_length: usize,
-        samples: *const f64, samples_length: usize,
-        tensor: *mut f64, tensor_length: usize,
-        scratch: *mut f64, scratch_length: usize,
-    ) -> usize;
-    fn hullashlar_change(
-        axes: usize,
-        points: *const usize, points_length: usize,
-        kinds: *const u8, kinds_length: usize,
-        values: *const f64, values_length: usize,
-        knots: *const f64, knots_length: usize,
-        tensor: *mut f64, tensor_length: usize,
-        scratch: *mut f64, scratch_length: usize,
-        place: *const usize, place_length: usize,
-        sample: f64,
-        lanes: *mut usize, lanes_length: usize,
-    ) -> usize;
-    fn hullashlar_query(
-        axes: usize,
-        points: *const usize, points_length: usize,
-        knots: *const f64, knots_length: usize,
-        tensor: *const f64, tensor_length: usize,
-        coordinates: *const f64, coordinates_length: usize,
-        value: *mut f64, value_length: usize,
-        labels: *mut usize, labels_length: usize,
-    ) -> usize;
-    fn hullashlar_read(
-        bytes: *const u8, bytes_length: usize,
-        knots: *mut f64, knots_length: usize,
-        samples: *mut f64, samples_length: usize,
-        axes: *mut usize, axes_length: usize,
-        points: *mut usize, points_length: usize,
-        kinds: *mut u8, kinds_length: usize,
-        values: *mut f64, values_length: usize,
-    ) -> usize;
-    fn hullashlar_sheet_tensor(
-        bytes: *const u8, bytes_length: usize,
-        knots: *mut f64, knots_length: usize,
-        samples: *mut f64, samples_length: usize,
-        tensor: *mut f64, tensor_length: usize,
-        scratch: *mut f64, scratch_length: usize,
-        length: *mut usize, length_length: usize,
-    ) -> usize;
 }
 
 /// The refusal's number as an error.

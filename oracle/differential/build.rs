@@ -1,4 +1,4 @@
-//! Links the archive when at least one of its calls is compared.
+//! Links the archive. The tests make no call of it, so they are built where there is none.
 
 use std::env;
 use std::path::{Path, PathBuf};
@@ -6,17 +6,13 @@ use std::path::{Path, PathBuf};
 fn main() {
     println!("cargo::rerun-if-env-changed=HULLASHLAR_ARCHIVE_DIR");
     println!("cargo::rerun-if-changed=build.rs");
-    let on = env::vars_os().any(|(name, _)| name.to_string_lossy().starts_with("CARGO_FEATURE_"));
-    if !on {
-        return;
-    }
     let folder = archive_folder();
     let archive = folder.join("libhost.a");
     println!("cargo::rerun-if-changed={}", archive.display());
     if !archive.is_file() {
         println!(
-            "cargo::error=the archive is missing: {}; build it with `rt staticlib host`, \
-             or set HULLASHLAR_ARCHIVE_DIR to its folder",
+            "cargo::warning=the archive is missing: {}; all but the tests wants it: make it with \
+             `rt staticlib host`, or set HULLASHLAR_ARCHIVE_DIR to its folder",
             archive.display()
         );
         return;

@@ -27,31 +27,19 @@ const THE_ORACLE: &str = "the oracle's reader";
 /// Why no measured call is refused.
 const ACCEPTED: &str = "the inputs are good ones";
 
-/// The lines of the calls that the archive has.
+/// Every line, in the order of the table.
 pub fn lines(inputs: &Inputs) -> Vec<Line<'_>> {
     let mut lines = Vec::new();
-    if cfg!(feature = "build") {
-        lines.extend(builds(inputs));
-    }
-    if cfg!(feature = "query") {
-        lines.extend(queries(inputs));
-    }
-    if cfg!(feature = "change") {
-        lines.extend(changes(inputs));
-    }
-    if cfg!(feature = "moments") {
-        lines.push(moments(&inputs.line_of_256));
-    }
-    if cfg!(feature = "slopes") {
-        lines.push(slopes(&inputs.line_of_256));
-    }
-    if cfg!(feature = "curve") {
-        lines.push(curve("curve, 16", &inputs.line_of_16));
-        lines.push(curve("curve, 256", &inputs.line_of_256));
-    }
-    if cfg!(feature = "read") {
-        lines.push(read(&inputs.two_axes));
-    }
+    lines.extend(builds(inputs));
+    lines.extend(queries(inputs));
+    lines.extend(changes(inputs));
+    lines.extend([
+        moments(&inputs.line_of_256),
+        slopes(&inputs.line_of_256),
+        curve("curve, 16", &inputs.line_of_16),
+        curve("curve, 256", &inputs.line_of_256),
+        read(&inputs.two_axes),
+    ]);
     lines
 }
 
@@ -127,7 +115,7 @@ fn rust_query(surface: &Surface) -> Work<'_> {
     Box::new(move || evaluate_spline_corner_cached(&knots, tensor.view(), &point))
 }
 
-fn changes(inputs: &Inputs) -> Vec<Line<'_>> {
+fn changes(inputs: &Inputs) -> [Line<'_>; 4] {
     let two_axes = (&inputs.two_axes, &inputs.two_axes_changed);
     let four_axes = (&inputs.four_axes, &inputs.four_axes_changed);
     let line = |name, held_against, surface, other| Line {
@@ -138,15 +126,12 @@ fn changes(inputs: &Inputs) -> Vec<Line<'_>> {
     };
     let of_16 = "change, middle of 16×16";
     let of_4 = "change, middle of 4×4×4×4";
-    let mut lines = vec![
+    [
         line(of_16, RUST_BUILD, two_axes.0, rust_build(two_axes.1)),
         line(of_4, RUST_BUILD, four_axes.0, rust_build(four_axes.1)),
-    ];
-    if cfg!(feature = "build") {
-        lines.push(line(of_16, OUR_BUILD, two_axes.0, our_build(two_axes.1)));
-        lines.push(line(of_4, OUR_BUILD, four_axes.0, our_build(four_axes.1)));
-    }
-    lines
+        line(of_16, OUR_BUILD, two_axes.0, our_build(two_axes.1)),
+        line(of_4, OUR_BUILD, four_axes.0, our_build(four_axes.1)),
+    ]
 }
 
 fn our_change(surface: &Surface) -> Work<'_> {

@@ -12,43 +12,26 @@ pub struct Stack {
     pub bytes: usize,
 }
 
-/// The stacks of the calls that the archive has.
-pub fn stacks(inputs: &Inputs) -> Vec<Stack> {
+/// The stack of every exported call.
+pub fn stacks(inputs: &Inputs) -> [Stack; 8] {
     let surfaces = inputs.surfaces();
     let lines = [&inputs.line_of_256, &inputs.periodic_line];
-    let mut stacks = Vec::new();
-    let mut add = |call, deepest: Option<usize>| {
-        let bytes = deepest.expect("every call has inputs");
-        stacks.push(Stack { call, bytes });
-    };
-    if cfg!(feature = "build") {
-        add("hullashlar_build", surfaces.map(build).into_iter().max());
-    }
-    if cfg!(feature = "change") {
-        add("hullashlar_change", surfaces.map(change).into_iter().max());
-    }
-    if cfg!(feature = "query") {
-        add("hullashlar_query", surfaces.map(query).into_iter().max());
-    }
-    if cfg!(feature = "read") {
-        add("hullashlar_read", surfaces.map(read).into_iter().max());
-    }
-    if cfg!(feature = "sheet_tensor") {
-        add(
-            "hullashlar_sheet_tensor",
-            surfaces.map(sheet_tensor).into_iter().max(),
-        );
-    }
-    if cfg!(feature = "moments") {
-        add("hullashlar_moments", lines.map(moments).into_iter().max());
-    }
-    if cfg!(feature = "slopes") {
-        add("hullashlar_slopes", lines.map(slopes).into_iter().max());
-    }
-    if cfg!(feature = "curve") {
-        add("hullashlar_curve", lines.map(curve).into_iter().max());
-    }
-    stacks
+    [
+        deepest("hullashlar_build", &surfaces.map(build)),
+        deepest("hullashlar_change", &surfaces.map(change)),
+        deepest("hullashlar_query", &surfaces.map(query)),
+        deepest("hullashlar_read", &surfaces.map(read)),
+        deepest("hullashlar_sheet_tensor", &surfaces.map(sheet_tensor)),
+        deepest("hullashlar_moments", &lines.map(moments)),
+        deepest("hullashlar_slopes", &lines.map(slopes)),
+        deepest("hullashlar_curve", &lines.map(curve)),
+    ]
+}
+
+fn deepest(call: &'static str, depths: &[usize]) -> Stack {
+    let deepest = depths.iter().max();
+    let bytes = *deepest.expect("every call has inputs");
+    Stack { call, bytes }
 }
 
 fn build(surface: &Surface) -> usize {

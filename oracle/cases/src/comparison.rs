@@ -11,7 +11,7 @@ use crate::numbers::ordinary;
 use crate::random::Random;
 use crate::reading_calls::Reading;
 use crate::report::{describe, Report};
-use crate::sheet::short_sheet;
+use crate::sheet::{short_sheet, SHORT_SHEETS};
 use reading::LONGEST_TENSOR;
 
 /// A seed, and how many cases of each kind.
@@ -25,12 +25,12 @@ pub struct Plan {
 const CHANGES_IN_A_LIST: u64 = 25;
 
 impl Plan {
-    /// About so many calls of each kind, and the examples once. The sheets of up
-    /// to two bytes, which are all refused, stand in a plan only by their number.
+    /// About so many calls of each kind, the examples once, and no sheet of up to
+    /// two bytes twice.
     pub fn of_each_kind(seed: u64, calls: u64) -> Self {
         let cases = KINDS.map(|kind| match kind {
             Kind::Example => 1,
-            Kind::ShortSheet => 0,
+            Kind::ShortSheet => calls.min(SHORT_SHEETS),
             Kind::ChangeList => calls.div_ceil(CHANGES_IN_A_LIST),
             _ => calls,
         });
@@ -92,6 +92,7 @@ impl Run<'_> {
         let counts = self.report.of_mut(self.kind);
         counts.calls += 1;
         counts.refusals[refusal] += 1;
+        self.report.reached.count(given, refusal);
         let mut found = given.clone();
         let Some(answer) = self.subject.run(&mut found) else {
             return (refusal, expected, true);
@@ -119,9 +120,9 @@ impl Run<'_> {
         self.compare(&lending::sheet_tensor(random, bytes, LONGEST_TENSOR));
     }
 
-    /// A list of changes from a built tensor. After each change the tensor is
-    /// the fresh build of the samples that then stand. Spoiled changes stand
-    /// between them; what they are lent is thrown away.
+    /// A list of changes from a built tensor, shorter on a large one. After each
+    /// change the tensor is the fresh build of the samples that then stand. Spoiled
+    /// changes stand between them; what they are lent is thrown away.
     fn change_list(&mut self, random: &mut Random) {
         let grid = Grid::generate(random);
         let mut samples: Vec<f64> = (0..grid.samples()).map(|_| ordinary(random)).collect();
@@ -129,7 +130,8 @@ impl Run<'_> {
         if refusal != 0 {
             return;
         }
-        for _ in 0..random.between(10, 40) {
+        let most = if grid.tensor() > 1000 { 10 } else { 40 };
+        for _ in 0..random.between(most / 4, most) {
             let mut given = generator::change_of(random, &grid, &tensor);
             if random.percent(38) {
                 spoil(random, &mut given);

@@ -1,6 +1,7 @@
 //! Faults put into a case that would be accepted without them.
 
 use crate::case::{Argument, Call, Case};
+use crate::grid::around_an_overflow;
 use crate::numbers::not_finite;
 use crate::random::Random;
 
@@ -31,6 +32,7 @@ const OF_MOMENTS: &[Fault] = &[
     scratch_short,
     number_not_finite,
     knots_not_rising,
+    step_overflowing,
     too_few_points,
     kind_off,
     overflow,
@@ -42,6 +44,7 @@ const OF_CURVE: &[Fault] = &[
     length_off,
     number_not_finite,
     knots_not_rising,
+    step_overflowing,
     overflow,
 ];
 
@@ -55,6 +58,7 @@ const OF_TENSOR: &[Fault] = &[
     place_off,
     number_not_finite,
     knots_not_rising,
+    step_overflowing,
     too_few_points,
     kind_off,
     overflow,
@@ -68,6 +72,7 @@ const OF_QUERY: &[Fault] = &[
     length_off,
     number_not_finite,
     knots_not_rising,
+    step_overflowing,
     overflow,
 ];
 
@@ -244,6 +249,15 @@ fn knots_not_rising(random: &mut Random, case: &mut Case) {
         (-1e308, 1e308),
     ];
     (knots[lower], knots[lower + 1]) = random.pick(&pairs);
+}
+
+/// Knots whose only fault is one step, unless that lies between two axes.
+fn step_overflowing(random: &mut Random, case: &mut Case) {
+    let knots = case.argument_mut("knots").floats_mut();
+    if knots.len() > 1 {
+        let around = around_an_overflow(random, knots.len());
+        knots.copy_from_slice(&around);
+    }
 }
 
 fn too_few_points(random: &mut Random, case: &mut Case) {

@@ -5,6 +5,7 @@ use crate::faults::spoil;
 use crate::grid::Grid;
 use crate::lending;
 use crate::numbers::list;
+use crate::overflow::take_an_end_to_the_edge;
 use crate::random::Random;
 use crate::sheet::{damaged_sheet, good_sheet, swept_sheet};
 use reading::CURVE_SCRATCH;
@@ -58,10 +59,18 @@ impl Kind {
             Kind::ShortSheet => "short_sheet",
         }
     }
+
+    /// Whether a case of the kind is one call that is generated.
+    pub fn is_single_call(self) -> bool {
+        !matches!(self, Kind::Example | Kind::ChangeList | Kind::ShortSheet)
+    }
 }
 
 /// So many cases in a hundred get a fault; some fail without one.
 const FAULTY: usize = 36;
+
+/// So many get an end's value at the edge of overflow, where they have an end.
+const AT_THE_EDGE: usize = 1;
 
 /// A damaged sheet is often still a good one for the reader, so it gets more
 /// faults; of what it accepts the build refuses some.
@@ -90,7 +99,7 @@ fn moments(random: &mut Random) -> Case {
     let line = Grid::line(random);
     let samples = list(random, line.samples());
     let case = lending::moments(random, &line, &samples);
-    spoiled_at_times(random, case)
+    altered_at_times(random, case)
 }
 
 /// The curve at a generated point.
@@ -98,14 +107,14 @@ fn curve(random: &mut Random) -> Case {
     let (line, samples, moments) = solved_curve(random);
     let point = line.coordinates(random)[0];
     let case = lending::curve(random, &line.knots, &samples, &moments, point);
-    spoiled_at_times(random, case)
+    altered_at_times(random, case)
 }
 
 /// The slopes of a generated curve.
 fn slopes(random: &mut Random) -> Case {
     let (line, samples, moments) = solved_curve(random);
     let case = lending::slopes(random, &line.knots, &samples, &moments);
-    spoiled_at_times(random, case)
+    altered_at_times(random, case)
 }
 
 /// The build of generated samples.
@@ -113,7 +122,7 @@ fn build(random: &mut Random) -> Case {
     let grid = Grid::generate(random);
     let samples = list(random, grid.samples());
     let case = lending::build(random, &grid, &samples);
-    spoiled_at_times(random, case)
+    altered_at_times(random, case)
 }
 
 /// A change in a generated tensor.
@@ -121,7 +130,7 @@ fn change(random: &mut Random) -> Case {
     let grid = Grid::generate(random);
     let tensor = tensor(random, &grid);
     let case = change_of(random, &grid, &tensor);
-    spoiled_at_times(random, case)
+    altered_at_times(random, case)
 }
 
 /// A change somewhere in a tensor on a grid.
@@ -137,7 +146,7 @@ fn query(random: &mut Random) -> Case {
     let tensor = tensor(random, &grid);
     let coordinates = grid.coordinates(random);
     let case = lending::query(random, &grid, &tensor, &coordinates);
-    spoiled_at_times(random, case)
+    altered_at_times(random, case)
 }
 
 /// A sheet to be read: first every cut and every single damaged bit of a small
@@ -155,9 +164,12 @@ fn sheet_tensor(random: &mut Random, number: usize) -> Case {
     sheet_case(random, number, FAULTY_TO_BUILD, lending::sheet_tensor)
 }
 
-fn spoiled_at_times(random: &mut Random, mut case: Case) -> Case {
-    if random.percent(FAULTY) {
+fn altered_at_times(random: &mut Random, mut case: Case) -> Case {
+    let share = random.below(100);
+    if share < FAULTY {
         spoil(random, &mut case);
+    } else if share < FAULTY + AT_THE_EDGE {
+        take_an_end_to_the_edge(random, &mut case);
     }
     case
 }

@@ -1,7 +1,9 @@
 //! Axes that no call refuses: points, ends and knots.
 
-use crate::numbers::{edge, not_finite, ordinary};
+use crate::numbers::{edge, far_below_zero, huge, not_finite, ordinary, subnormal};
+use crate::overflow::largest_upper_knot;
 use crate::random::Random;
+use reading::LONGEST_TENSOR;
 
 /// Shapes whose tensor has 4,096 numbers or an axis of 256 points.
 const LARGE: [&[usize]; 12] = [
@@ -40,8 +42,9 @@ impl Grid {
     pub fn line(random: &mut Random) -> Self {
         let points = match random.below(100) {
             0 => random.pick(&[255, 256]),
-            1..=3 => random.between(9, 64),
-            4..=39 => random.between(2, 3),
+            1..=2 => random.between(65, 254),
+            3..=5 => random.between(9, 64),
+            6..=39 => random.between(2, 3),
             _ => random.between(2, 8),
         };
         Self::of_shape(random, &[points])
@@ -72,8 +75,7 @@ impl Grid {
         for (end, kind) in kinds.into_iter().enumerate() {
             self.kinds[2 * axis + end] = kind;
             if matches!(kind, 1 | 2) {
-                let number = ordinary(random);
-                self.values[2 * axis + end] = random.pick(&[number, number, 0.0, -0.0]);
+                self.values[2 * axis + end] = end_value(random);
             }
         }
     }
@@ -124,40 +126,82 @@ fn ends(random: &mut Random, points: usize) -> [u8; 2] {
     }
 }
 
+/// The value of an end: an ordinary number or a zero, seldom one at an edge of the
+/// format.
+fn end_value(random: &mut Random) -> f64 {
+    match random.below(100) {
+        0 => huge(random),
+        1 => edge(random),
+        2..=3 => subnormal(random),
+        4..=51 => ordinary(random),
+        _ => random.pick(&[0.0, -0.0]),
+    }
+}
+
 /// The points of each axis: small, now and then a few more, seldom the most.
 fn shape(random: &mut Random) -> Vec<usize> {
-    if random.below(400) == 0 {
-        return random.pick(&LARGE).to_vec();
+    match random.below(400) {
+        0 => return random.pick(&LARGE).to_vec(),
+        1..=2 => return nearly_full(random),
+        3..=4 => return vec![random.between(65, 254)],
+        _ => (),
     }
     let axes = random.pick(&[1, 1, 1, 2, 2, 2, 2, 3, 3, 4]);
     let most = [9, 5, 4, 3][axes - 1];
     (0..axes).map(|_| random.between(2, most)).collect()
 }
 
+/// Two to four axes that leave little of the longest tensor unused.
+fn nearly_full(random: &mut Random) -> Vec<usize> {
+    let axes = random.between(2, 4);
+    let mut samples = LONGEST_TENSOR >> axes;
+    let mut shape = Vec::new();
+    for further in (0..axes).rev() {
+        let most = (samples >> further).min(256);
+        let points = if further == 0 {
+            most
+        } else {
+            random.between(2, most)
+        };
+        shape.push(points);
+        samples /= points;
+    }
+    shape.rotate_left(random.below(axes));
+    shape
+}
+
 /// A point of one axis.
 fn coordinate(random: &mut Random, knots: &[f64]) -> f64 {
     let lower = random.below(knots.len() - 1);
     let step = knots[lower + 1] - knots[lower];
-    match random.below(10) {
+    match random.below(11) {
         0..=2 => random.pick(knots),
-        3 => knots[0] - step * random.between(1, 3) as f64,
-        4 => knots[knots.len() - 1] + step * random.between(1, 3) as f64,
-        5 if random.percent(20) => edge(random),
-        5 => ordinary(random),
+        3 => beside(random, knots),
+        4 => knots[0] - step * random.between(1, 3) as f64,
+        5 => knots[knots.len() - 1] + step * random.between(1, 3) as f64,
+        6 if random.percent(20) => edge(random),
+        6 => ordinary(random),
         _ => knots[lower] + step * (random.between(1, 15) as f64 / 16.0),
     }
 }
 
+/// The neighbour of a knot, on either side.
+fn beside(random: &mut Random, knots: &[f64]) -> f64 {
+    let knot = random.pick(knots);
+    random.pick(&[knot.next_down(), knot.next_up()])
+}
+
 /// Knots that rise strictly, by finite steps.
 fn rising_knots(random: &mut Random, count: usize) -> Vec<f64> {
-    let knots = match random.below(20) {
-        0 => neighbours(random, count),
-        1 => stepped(random, count, -1.6e308, |_| 1.25e306),
-        2 => stepped(random, count, -0.0, |random| {
+    let knots = match random.below(40) {
+        0 => around_the_largest_step(random, count),
+        1..=2 => neighbours(random, count),
+        3..=4 => stepped(random, count, -1.6e308, |_| 1.25e306),
+        5..=6 => stepped(random, count, -0.0, |random| {
             2f64.powi(random.between(0, 60) as i32 - 30)
         }),
-        3..=9 => stepped(random, count, 0.0, |_| 1.0),
-        10..=13 => {
+        7..=20 => stepped(random, count, 0.0, |_| 1.0),
+        21..=28 => {
             let first = ordinary(random);
             stepped(random, count, first, |random| {
                 random.between(1, 12) as f64 / 4.0
@@ -199,6 +243,35 @@ fn neighbours(random: &mut Random, count: usize) -> Vec<f64> {
     for _ in 0..count {
         knots.push(f64::from_bits(pattern));
         pattern += random.between(1, 3) as u64;
+    }
+    knots
+}
+
+/// Knots that rise once by the largest finite step, and else to the next number of
+/// the format.
+fn around_the_largest_step(random: &mut Random, count: usize) -> Vec<f64> {
+    let lower = far_below_zero(random);
+    let [upper, _] = largest_upper_knot(lower);
+    around_a_step(random, count, lower, upper)
+}
+
+/// The same knots with the next larger step, which overflows.
+pub fn around_an_overflow(random: &mut Random, count: usize) -> Vec<f64> {
+    let lower = far_below_zero(random);
+    let [_, upper] = largest_upper_knot(lower);
+    around_a_step(random, count, lower, upper)
+}
+
+fn around_a_step(random: &mut Random, count: usize, lower: f64, upper: f64) -> Vec<f64> {
+    let mut below = vec![lower];
+    for at in 0..random.below(count - 1) {
+        below.push(below[at].next_down());
+    }
+    let mut knots: Vec<f64> = below.into_iter().rev().collect();
+    let mut knot = upper;
+    while knots.len() < count {
+        knots.push(knot);
+        knot = knot.next_up();
     }
     knots
 }

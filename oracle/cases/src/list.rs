@@ -34,23 +34,8 @@ pub const CALLS: [Call; 8] = [
     Call::SheetTensor,
 ];
 
-/// The names of the calls, in the same order.
-const NAMES: [&str; 8] = [
-    "moments",
-    "curve",
-    "slopes",
-    "build",
-    "change",
-    "query",
-    "read",
-    "sheet_tensor",
-];
-
-/// The call of a name.
-pub fn call_named(name: &str) -> Option<Call> {
-    let number = NAMES.iter().position(|call| *call == name);
-    number.map(|number| CALLS[number])
-}
+/// The seed of the list; another one makes another list.
+const SEED: u64 = 1;
 
 /// How many accepted cases of each call the list has.
 const ACCEPTED: usize = 60;
@@ -64,16 +49,12 @@ const LONGEST_CASE: usize = 200;
 /// How many generated cases of a kind are looked at.
 const LOOKED_AT: u64 = 3_000;
 
-/// The words of the list of some calls: the examples of document 01, and generated cases.
-pub fn list(seed: u64, calls: &[Call]) -> Vec<u64> {
-    let mut examples = examples();
-    examples.retain(|case| calls.contains(&case.call));
-    let mut cases: Vec<Vec<u64>> = examples.iter().map(|case| answered(case).1).collect();
+/// The words of the list: the examples of document 01, and generated cases of every call.
+pub fn list() -> Vec<u64> {
+    let mut cases: Vec<Vec<u64>> = examples().iter().map(|case| answered(case).1).collect();
     cases.retain(|words| words.len() <= LONGEST_CASE);
-    for kind in KINDS {
-        if call_named(kind.name()).is_some_and(|call| calls.contains(&call)) {
-            cases.extend(chosen(seed, kind));
-        }
+    for kind in KINDS.into_iter().filter(|kind| kind.is_single_call()) {
+        cases.extend(chosen(kind));
     }
     let mut words = vec![cases.len() as u64];
     words.extend(cases.concat());
@@ -82,12 +63,12 @@ pub fn list(seed: u64, calls: &[Call]) -> Vec<u64> {
 
 /// Cases of a kind, with enough of every refusal. They are taken from the last on:
 /// the first sheets that are read are all one sheet with its damages.
-fn chosen(seed: u64, kind: Kind) -> Vec<Vec<u64>> {
+fn chosen(kind: Kind) -> Vec<Vec<u64>> {
     let mut wanted = [REFUSED; 15];
     wanted[0] = ACCEPTED;
     let mut chosen = Vec::new();
     for number in (0..LOOKED_AT).rev() {
-        let mut random = Random::of_case(seed, kind as u64, number);
+        let mut random = Random::of_case(SEED, kind as u64, number);
         let (refusal, words) = answered(&single(kind, number as usize, &mut random));
         if wanted[refusal] > 0 && words.len() <= LONGEST_CASE {
             wanted[refusal] -= 1;

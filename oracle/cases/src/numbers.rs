@@ -52,6 +52,11 @@ pub fn huge(random: &mut Random) -> f64 {
     within_one(random) * 1.7e308
 }
 
+/// A number from which a step to another finite number can overflow.
+pub fn far_below_zero(random: &mut Random) -> f64 {
+    f64::MAX * (0.45 * within_one(random) - 0.5)
+}
+
 /// A finite number at an edge of the format.
 pub fn edge(random: &mut Random) -> f64 {
     random.pick(&EDGES)

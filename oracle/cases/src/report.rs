@@ -1,8 +1,10 @@
 //! What a run has seen, and how a difference is printed.
 
 use crate::case::Case;
+use crate::comparison::Plan;
 use crate::generator::{Kind, KINDS};
 use crate::lent::GUARDS;
+use crate::reached::Reached;
 use std::fmt::{self, Write};
 
 /// How many differing cases of a kind are printed in full.
@@ -21,10 +23,12 @@ pub struct Counts {
     pub differences: u64,
 }
 
-/// What was seen of every kind, and the first differing cases.
+/// What was seen of every kind, the edges that were reached, and the first
+/// differing cases.
 #[derive(Debug, Default)]
 pub struct Report {
     counts: [Counts; KINDS.len()],
+    pub(crate) reached: Reached,
     differing: Vec<String>,
 }
 
@@ -52,6 +56,18 @@ impl Report {
         total
     }
 
+    /// Every edge that cases are to reach, and how many have.
+    pub fn reached(&self) -> impl Iterator<Item = (&'static str, u64)> + '_ {
+        self.reached.edges()
+    }
+
+    /// The kinds that a plan has and of which nothing was compared.
+    pub fn not_compared(&self, plan: &Plan) -> Vec<Kind> {
+        let mut kinds = KINDS.to_vec();
+        kinds.retain(|kind| plan.cases[*kind as usize] > 0 && self.of(*kind).compared == 0);
+        kinds
+    }
+
     pub(crate) fn difference(&mut self, kind: Kind, text: impl FnOnce() -> String) {
         self.of_mut(kind).differences += 1;
         if self.of(kind).differences <= PRINTED {
@@ -68,7 +84,11 @@ impl fmt::Display for Report {
         for kind in KINDS {
             write_counts(formatter, kind.name(), self.of(kind))?;
         }
-        write_counts(formatter, "all", &self.total())
+        write_counts(formatter, "all", &self.total())?;
+        for (edge, cases) in self.reached() {
+            writeln!(formatter, "reached by {cases} calls: {edge}")?;
+        }
+        Ok(())
     }
 }
 

@@ -1,6 +1,6 @@
 //! The generated cases reach every refusal, and most are accepted.
 
-use cases::{compare_all, Calls, Case, Kind, Plan, KINDS, SHORT_SHEETS};
+use cases::{compare_all, Calls, Case, Kind, Plan, Reading, KINDS, SHORT_SHEETS};
 
 /// Answers no call: the generator alone runs.
 struct Nobody;
@@ -22,7 +22,7 @@ fn refusals(kind: Kind) -> &'static [usize] {
         Kind::Query => &[1, 2, 3, 4, 7, 8, 10],
         Kind::Read => &[1, 2, 3, 4, 11, 12, 13, 14],
         Kind::SheetTensor => &[1, 2, 3, 4, 5, 7, 8, 9, 10, 11, 12, 13, 14],
-        Kind::ShortSheet => &[],
+        Kind::ShortSheet => &[1, 11, 12],
     }
 }
 
@@ -40,13 +40,15 @@ fn every_refusal_is_seen_and_no_other() {
 fn about_sixty_in_a_hundred_are_accepted() {
     let report = compare_all(&Nobody, &Plan::of_each_kind(2, 4000));
     let generated = |kind: &Kind| !matches!(kind, Kind::Example | Kind::ShortSheet);
+    let (mut calls, mut accepted) = (0, 0);
     for kind in KINDS.into_iter().filter(generated) {
         let counts = report.of(kind);
         let share = 100 * counts.refusals[0] / counts.calls;
         assert!((50..=70).contains(&share), "{}: {share}", kind.name());
+        calls += counts.calls;
+        accepted += counts.refusals[0];
     }
-    let total = report.total();
-    let share = 100 * total.refusals[0] / total.calls;
+    let share = 100 * accepted / calls;
     assert!((55..=65).contains(&share), "{share}");
 }
 
@@ -71,4 +73,14 @@ fn a_change_is_the_fresh_build_of_the_samples_then_standing() {
     let total = compare_all(&Nobody, &plan).total();
     assert!(total.calls > 20_000);
     assert_eq!(total.differences, 0);
+}
+
+#[test]
+fn a_planned_kind_of_which_nothing_is_compared_is_named() {
+    let plan = Plan::of_each_kind(6, 500);
+    assert_eq!(compare_all(&Reading, &plan).not_compared(&plan), []);
+    assert_eq!(compare_all(&Nobody, &plan).not_compared(&plan), KINDS);
+    let curves = Plan::of_kind(6, Kind::Curve, 1);
+    let not_compared = compare_all(&Nobody, &curves).not_compared(&curves);
+    assert_eq!(not_compared, [Kind::Curve]);
 }

@@ -72,10 +72,19 @@ impl Words {
     }
 }
 
+/// The list that the program `replay` is run on.
+const STORED: &[u8] = include_bytes!("../../../crates/replay/stdin");
+
+#[test]
+fn the_stored_list_is_the_one_that_is_made() {
+    let made: Vec<u8> = list().into_iter().flat_map(u64::to_be_bytes).collect();
+    assert!(made == STORED, "make expected makes another one");
+}
+
 #[test]
 fn the_list_gives_the_readings_answers_back() {
     let mut words = Words {
-        words: list(1, &CALLS).into_iter(),
+        words: list().into_iter(),
     };
     let count = words.next();
     let mut seen = [[0; 15]; CALLS.len()];

@@ -1,19 +1,10 @@
-//! The archive as something that answers calls, one feature for each of them.
-#![cfg_attr(
-    not(all(
-        feature = "moments",
-        feature = "curve",
-        feature = "slopes",
-        feature = "build",
-        feature = "change",
-        feature = "query",
-        feature = "read",
-        feature = "sheet_tensor"
-    )),
-    allow(dead_code, unused_imports)
-)]
+//! The archive as something that answers calls.
+
+#[path = "../../../include/hullashlar.rs"]
+mod declared;
 
 use cases::{Argument, Call, Calls, Case};
+use declared::*;
 
 /// A slice as the archive takes it to read: where it begins, and its length.
 fn lent<T>(slice: &[T]) -> (*const T, usize) {
@@ -25,115 +16,26 @@ fn lent_mut<T>(slice: &mut [T]) -> (*mut T, usize) {
     (slice.as_mut_ptr(), slice.len())
 }
 
-#[rustfmt::skip]
-extern "C" {
-    fn hullashlar_moments(
-        points: usize,
-        knots: *const f64, knots_length: usize,
-        samples: *const f64, samples_length: usize,
-        kinds: *const u8, kinds_length: usize,
-        values: *const f64, values_length: usize,
-        moments: *mut f64, moments_length: usize,
-        scratch: *mut f64, scratch_length: usize,
-    ) -> usize;
-    fn hullashlar_curve(
-        points: usize,
-        knots: *const f64, knots_length: usize,
-        samples: *const f64, samples_length: usize,
-        moments: *const f64, moments_length: usize,
-        point: f64,
-        value: *mut f64, value_length: usize,
-    ) -> usize;
-    fn hullashlar_slopes(
-        points: usize,
-        knots: *const f64, knots_length: usize,
-        samples: *const f64, samples_length: usize,
-        moments: *const f64, moments_length: usize,
-        slopes: *mut f64, slopes_length: usize,
-    ) -> usize;
-    fn hullashlar_build(
-        axes: usize,
-        points: *const usize, points_length: usize,
-        kinds: *const u8, kinds_length: usize,
-        values: *const f64, values_length: usize,
-        knots: *const f64, knots_length: usize,
-        samples: *const f64, samples_length: usize,
-        tensor: *mut f64, tensor_length: usize,
-        scratch: *mut f64, scratch_length: usize,
-    ) -> usize;
-    fn hullashlar_change(
-        axes: usize,
-        points: *const usize, points_length: usize,
-        kinds: *const u8, kinds_length: usize,
-        values: *const f64, values_length: usize,
-        knots: *const f64, knots_length: usize,
-        tensor: *mut f64, tensor_length: usize,
-        scratch: *mut f64, scratch_length: usize,
-        place: *const usize, place_length: usize,
-        sample: f64,
-        lanes: *mut usize, lanes_length: usize,
-    ) -> usize;
-    fn hullashlar_query(
-        axes: usize,
-        points: *const usize, points_length: usize,
-        knots: *const f64, knots_length: usize,
-        tensor: *const f64, tensor_length: usize,
-        coordinates: *const f64, coordinates_length: usize,
-        value: *mut f64, value_length: usize,
-        labels: *mut usize, labels_length: usize,
-    ) -> usize;
-    fn hullashlar_read(
-        bytes: *const u8, bytes_length: usize,
-        knots: *mut f64, knots_length: usize,
-        samples: *mut f64, samples_length: usize,
-        axes: *mut usize, axes_length: usize,
-        points: *mut usize, points_length: usize,
-        kinds: *mut u8, kinds_length: usize,
-        values: *mut f64, values_length: usize,
-    ) -> usize;
-    fn hullashlar_sheet_tensor(
-        bytes: *const u8, bytes_length: usize,
-        knots: *mut f64, knots_length: usize,
-        samples: *mut f64, samples_length: usize,
-        tensor: *mut f64, tensor_length: usize,
-        scratch: *mut f64, scratch_length: usize,
-        length: *mut usize, length_length: usize,
-    ) -> usize;
-}
-
-/// The archive; a call whose feature is off is not answered.
+/// The archive, which answers every call.
 pub struct Archive;
 
 impl Calls for Archive {
     fn run(&self, case: &mut Case) -> Option<usize> {
         let arguments = case.arguments.as_mut_slice();
-        match case.call {
-            #[cfg(feature = "moments")]
-            Call::Moments => Some(moments(arguments)),
-            #[cfg(feature = "curve")]
-            Call::Curve => Some(curve(arguments)),
-            #[cfg(feature = "slopes")]
-            Call::Slopes => Some(slopes(arguments)),
-            #[cfg(feature = "build")]
-            Call::Build => Some(build(arguments)),
-            #[cfg(feature = "change")]
-            Call::Change => Some(change(arguments)),
-            #[cfg(feature = "query")]
-            Call::Query => Some(query(arguments)),
-            #[cfg(feature = "read")]
-            Call::Read => Some(read(arguments)),
-            #[cfg(feature = "sheet_tensor")]
-            Call::SheetTensor => Some(sheet_tensor(arguments)),
-            #[allow(unreachable_patterns)]
-            _ => {
-                let _ = arguments;
-                None
-            }
-        }
+        let refusal = match case.call {
+            Call::Moments => moments(arguments),
+            Call::Curve => curve(arguments),
+            Call::Slopes => slopes(arguments),
+            Call::Build => build(arguments),
+            Call::Change => change(arguments),
+            Call::Query => query(arguments),
+            Call::Read => read(arguments),
+            Call::SheetTensor => sheet_tensor(arguments),
+        };
+        Some(refusal)
     }
 }
 
-#[cfg(feature = "moments")]
 #[rustfmt::skip]
 fn moments(arguments: &mut [Argument]) -> usize {
     let [points, knots, samples, kinds, values, moments, scratch] = arguments else {
@@ -154,7 +56,6 @@ fn moments(arguments: &mut [Argument]) -> usize {
     }
 }
 
-#[cfg(feature = "curve")]
 #[rustfmt::skip]
 fn curve(arguments: &mut [Argument]) -> usize {
     let [points, knots, samples, moments, point, value] = arguments else {
@@ -173,7 +74,6 @@ fn curve(arguments: &mut [Argument]) -> usize {
     }
 }
 
-#[cfg(feature = "slopes")]
 #[rustfmt::skip]
 fn slopes(arguments: &mut [Argument]) -> usize {
     let [points, knots, samples, moments, slopes] = arguments else {
@@ -192,7 +92,6 @@ fn slopes(arguments: &mut [Argument]) -> usize {
     }
 }
 
-#[cfg(feature = "build")]
 #[rustfmt::skip]
 fn build(arguments: &mut [Argument]) -> usize {
     let [axes, points, kinds, values, knots, samples, tensor, scratch] = arguments else {
@@ -214,7 +113,6 @@ fn build(arguments: &mut [Argument]) -> usize {
     }
 }
 
-#[cfg(feature = "change")]
 #[rustfmt::skip]
 fn change(arguments: &mut [Argument]) -> usize {
     let [axes, points, kinds, values, knots, tensor, scratch, place, sample, lanes] = arguments else {
@@ -238,7 +136,6 @@ fn change(arguments: &mut [Argument]) -> usize {
     }
 }
 
-#[cfg(feature = "query")]
 #[rustfmt::skip]
 fn query(arguments: &mut [Argument]) -> usize {
     let [axes, points, knots, tensor, coordinates, value, labels] = arguments else {
@@ -259,7 +156,6 @@ fn query(arguments: &mut [Argument]) -> usize {
     }
 }
 
-#[cfg(feature = "read")]
 #[rustfmt::skip]
 fn read(arguments: &mut [Argument]) -> usize {
     let [bytes, knots, samples, axes, points, kinds, values] = arguments else {
@@ -281,7 +177,6 @@ fn read(arguments: &mut [Argument]) -> usize {
     }
 }
 
-#[cfg(feature = "sheet_tensor")]
 #[rustfmt::skip]
 fn sheet_tensor(arguments: &mut [Argument]) -> usize {
     let [bytes, knots, samples, tensor, scratch, length] = arguments else {

@@ -1,6 +1,8 @@
 //! Holds the archive against the reading of the rules, bit for bit.
 
 mod archive;
+#[cfg(test)]
+mod tests;
 
 use archive::Archive;
 use cases::{compare_all, Kind, Plan, KINDS};
@@ -18,7 +20,8 @@ const USAGE: &str = "differential [--seed N] [--cases N] [--KIND N]...
   --cases N  about how many calls of each kind
   --KIND N   how many cases of one kind: moments, curve, slopes, build, change,
              change_list, query, read, sheet_tensor, short_sheet; or how
-             often the examples of document 01 are run: example";
+             often the examples of document 01 are run: example
+Fails where there is a difference, or nothing was compared of a kind whose number is not 0.";
 
 fn main() -> ExitCode {
     let plan = match plan(env::args().skip(1)) {
@@ -31,7 +34,11 @@ fn main() -> ExitCode {
     println!("seed {}", plan.seed);
     let report = compare_all(&Archive, &plan);
     print!("{report}");
-    if report.total().differences == 0 {
+    let not_compared = report.not_compared(&plan);
+    for kind in &not_compared {
+        println!("NOTHING COMPARED of {}", kind.name());
+    }
+    if report.total().differences == 0 && not_compared.is_empty() {
         ExitCode::SUCCESS
     } else {
         ExitCode::FAILURE

@@ -19,4 +19,7 @@ pub use query::query;
 pub use refusals::CURVE_SCRATCH;
 pub use shape::{Shape, LONGEST_TENSOR};
 pub use sheet::{read, sheet_tensor, BUFFER};
-pub use tensor::{build, change, lanes_of_build, lanes_of_change, solve_lane, solve_lanes, Lane};
+pub use tensor::{
+    build, change, closed_sum_of_lanes, lanes_of_build, lanes_of_change, solve_lane, solve_lanes,
+    Lane,
+};

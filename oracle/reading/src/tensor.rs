@@ -120,6 +120,7 @@ fn changed_tensor(
     let mut changed = tensor.to_vec();
     changed[shape.position(place, 0)] = sample;
     let lanes = lanes_of_change(shape, place);
+    assert_eq!(lanes.len(), closed_sum_of_lanes(shape));
     solve_lanes(shape, conditions, knots, &mut changed, &lanes);
     require(all_finite(&changed), 10)?;
     Ok((changed, lanes.len()))
@@ -169,6 +170,15 @@ pub fn lanes_of_change(shape: &Shape, place: &[usize]) -> Vec<Lane> {
     let mut lanes = lanes_of_build(shape);
     lanes.retain(|lane| meets(lane, place));
     lanes
+}
+
+/// How many lanes a change solves, without listing them: for every axis the product,
+/// over the axes below it, of one more than their points.
+pub fn closed_sum_of_lanes(shape: &Shape) -> usize {
+    let points = shape.points();
+    let below = |axis: usize| points[..axis].iter().map(|count| 1 + count);
+    let products = (0..points.len()).map(|axis| below(axis).product::<usize>());
+    products.sum()
 }
 
 /// Whether a lane has the place's index on every fixed axis outside its mask.

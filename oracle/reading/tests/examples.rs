@@ -159,6 +159,26 @@ fn a_build_on_two_axes_has_six_lanes() {
     let shape = Shape::checked(2, &SQUARE).unwrap_or_else(|refusal| panic!("{refusal}"));
     assert_eq!(lanes_of_build(&shape).len(), 6);
     assert_eq!(lanes_of_change(&shape, &[0, 1]).len(), 4);
+    assert_eq!(closed_sum_of_lanes(&shape), 4);
+}
+
+/// On one to four axes of two to four points, at every place.
+#[test]
+fn a_change_solves_as_many_lanes_as_the_closed_sum_says() {
+    let mut places = 0;
+    for axes in 1..=4 {
+        for number in 0..3usize.pow(axes) {
+            let points = [0, 1, 2, 3].map(|axis| 2 + number / 3usize.pow(axis) % 3);
+            let shape = Shape::checked(axes as usize, &points)
+                .unwrap_or_else(|refusal| panic!("{refusal}"));
+            for number in 0..shape.samples_length() {
+                let lanes = lanes_of_change(&shape, &shape.place(number));
+                assert_eq!(lanes.len(), closed_sum_of_lanes(&shape), "{points:?}");
+                places += 1;
+            }
+        }
+    }
+    assert_eq!(places, 9 + 9 * 9 + 9 * 9 * 9 + 9 * 9 * 9 * 9);
 }
 
 #[test]

@@ -1,0 +1,68 @@
+//! The exported calls are declared alike in our code, for C and for Rust.
+
+const OURS: &str = include_str!("../../../crates/host/src/lib.rt");
+const FOR_C: &str = include_str!("../../../include/hullashlar.h");
+const FOR_RUST: &str = include_str!("../../../include/hullashlar.rs");
+
+/// A call's name, and its arguments with their types as Rust declares them.
+type Declared = (String, Vec<String>);
+
+/// The calls of a text, whose arguments are put into Rust's words one by one.
+fn declared(text: &str, in_rust: fn(&str) -> Vec<String>) -> Vec<Declared> {
+    let calls = text.split(" hullashlar_").skip(1);
+    let call = |call: &str| {
+        let (name, rest) = call.split_once('(').expect("a call has arguments");
+        let (arguments, _) = rest.split_once(')').expect("arguments have an end");
+        let arguments = arguments.split(',').map(str::trim);
+        let given = arguments.filter(|argument| !argument.is_empty());
+        (name.to_string(), given.flat_map(in_rust).collect())
+    };
+    calls.map(call).collect()
+}
+
+/// A slice of ours is a pointer and a length.
+fn of_ours(argument: &str) -> Vec<String> {
+    let (name, own_type) = argument.split_once(": ").expect("an argument has a type");
+    let pointer = |access: &str, items: &str| {
+        let item = items.trim_end_matches(']');
+        vec![
+            format!("{name}: *{access} {item}"),
+            format!("{name}_length: usize"),
+        ]
+    };
+    match own_type.split_once('[') {
+        Some(("&", items)) => pointer("const", items),
+        Some(("&mut ", items)) => pointer("mut", items),
+        _ => vec![argument.to_string()],
+    }
+}
+
+fn of_c(argument: &str) -> Vec<String> {
+    let end = argument
+        .rfind([' ', '*'])
+        .expect("an argument has a type and a name");
+    let (c_type, name) = argument.split_at(end + 1);
+    let rust_type = match c_type.trim() {
+        "size_t" => "usize",
+        "double" => "f64",
+        "const double *" => "*const f64",
+        "const size_t *" => "*const usize",
+        "const uint8_t *" => "*const u8",
+        "double *" => "*mut f64",
+        "size_t *" => "*mut usize",
+        "uint8_t *" => "*mut u8",
+        other => panic!("no type is known for {other}"),
+    };
+    vec![format!("{name}: {rust_type}")]
+}
+
+#[test]
+fn the_calls_are_declared_alike() {
+    let ours = declared(OURS, of_ours);
+    assert!(!ours.is_empty());
+    assert_eq!(declared(FOR_C, of_c), ours);
+    assert_eq!(
+        declared(FOR_RUST, |argument| vec![argument.to_string()]),
+        ours
+    );
+}

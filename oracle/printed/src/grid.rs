@@ -1,0 +1,112 @@
+//! Ends and axes as the calls of the reading take them.
+
+/// The kinds of an axis's two ends, and their values.
+#[derive(Clone, Copy)]
+pub struct Ends {
+    pub kinds: [u8; 2],
+    pub values: [f64; 2],
+}
+
+impl Ends {
+    pub const NOT_A_KNOT: Self = Self::of([0, 0], [0.0, 0.0]);
+    pub const NATURAL: Self = Self::second(0.0, 0.0);
+    pub const PERIODIC: Self = Self::of([3, 3], [0.0, 0.0]);
+
+    pub const fn of(kinds: [u8; 2], values: [f64; 2]) -> Self {
+        Self { kinds, values }
+    }
+
+    /// First derivatives.
+    pub const fn first(lower: f64, upper: f64) -> Self {
+        Self::of([1, 1], [lower, upper])
+    }
+
+    /// Second derivatives.
+    pub const fn second(lower: f64, upper: f64) -> Self {
+        Self::of([2, 2], [lower, upper])
+    }
+}
+
+/// Axes with their knots.
+#[derive(Clone)]
+pub struct Grid {
+    pub axes: usize,
+    pub points: [usize; 4],
+    pub kinds: [u8; 8],
+    pub values: [f64; 8],
+    pub knots: Vec<f64>,
+}
+
+impl Grid {
+    /// The grid of axes, each with its ends and its knots.
+    pub fn new(axes: &[(Ends, &[f64])]) -> Self {
+        let mut grid = Self {
+            axes: axes.len(),
+            points: [0; 4],
+            kinds: [0; 8],
+            values: [0.0; 8],
+            knots: Vec::new(),
+        };
+        for (axis, (ends, knots)) in axes.iter().enumerate() {
+            let own = 2 * axis..2 * axis + 2;
+            grid.points[axis] = knots.len();
+            grid.kinds[own.clone()].copy_from_slice(&ends.kinds);
+            grid.values[own].copy_from_slice(&ends.values);
+            grid.knots.extend_from_slice(knots);
+        }
+        grid
+    }
+
+    /// The refusal of a build.
+    pub fn build(&self, samples: &[f64], tensor: &mut [f64], scratch: &mut [f64]) -> usize {
+        reading::build(
+            self.axes,
+            &self.points,
+            &self.kinds,
+            &self.values,
+            &self.knots,
+            samples,
+            tensor,
+            scratch,
+        )
+    }
+
+    /// The refusal of a change, and how many lanes it solved.
+    pub fn change(
+        &self,
+        tensor: &mut [f64],
+        scratch: &mut [f64],
+        place: [usize; 4],
+        sample: f64,
+    ) -> (usize, usize) {
+        let mut lanes = [0];
+        let refusal = reading::change(
+            self.axes,
+            &self.points,
+            &self.kinds,
+            &self.values,
+            &self.knots,
+            tensor,
+            scratch,
+            &place,
+            sample,
+            &mut lanes,
+        );
+        (refusal, lanes[0])
+    }
+
+    /// The refusal of a query, its value and its labels.
+    pub fn query(&self, tensor: &[f64], coordinates: &[f64]) -> (usize, f64, [usize; 4]) {
+        let (mut value, mut labels) = ([0.0], [0; 4]);
+        let refusal = reading::query(
+            self.axes,
+            &self.points,
+            &self.knots,
+            tensor,
+            coordinates,
+            &mut value,
+            &mut labels,
+        );
+        (refusal, value[0], labels)
+    }
+}

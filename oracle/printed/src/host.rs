@@ -1,0 +1,71 @@
+//! What the example hosts print of the sheet of a gain surface.
+
+use crate::grid::Grid;
+use reading::{BUFFER, CURVE_SCRATCH};
+
+/// The gain at a frequency and a level, the changed sample, and the gain after it.
+pub fn host(sheet: &[u8]) -> String {
+    let (grid, samples) = read(sheet);
+    let mut scratch = vec![0.0; (samples.len() << 2) + CURVE_SCRATCH];
+    let mut tensor = vec![0.0; samples.len() << 2];
+    accepted(grid.build(&samples, &mut tensor, &mut scratch));
+    let (rows, columns) = (grid.points[0], grid.points[1]);
+    let before = gain(&grid, &tensor);
+
+    let mut changed = samples.clone();
+    changed[2 * columns + 2] = 15.0;
+    let mut fresh = tensor.clone();
+    let (refusal, lanes) = grid.change(&mut tensor, &mut scratch, [2, 2, 0, 0], 15.0);
+    accepted(refusal);
+    accepted(grid.build(&changed, &mut fresh, &mut scratch));
+    let mut pairs = tensor.iter().zip(&fresh);
+    let same = pairs.all(|(number, fresh)| number.to_bits() == fresh.to_bits());
+    let same = if same { "yes" } else { "no" };
+
+    let (length, old) = (tensor.len(), samples[2 * columns + 2]);
+    let after = gain(&grid, &tensor);
+    let (refusal, _, _) = grid.query(&tensor, &[1.5, f64::NAN]);
+    format!(
+        "sheet of {} axes, {rows} and {columns} points; tensor of {length} numbers\n\
+         {before}\
+         sample at 2, 2: 15.0 in place of {old:.1}, {lanes} lanes solved again\n\
+         a fresh build of the new samples has the same bits: {same}\n\
+         {after}\
+         gain at a level that is no number: refused {refusal}\n",
+        grid.axes
+    )
+}
+
+fn accepted(refusal: usize) {
+    assert_eq!(refusal, 0, "the example's calls are accepted");
+}
+
+/// The grid and the samples of a sheet.
+fn read(sheet: &[u8]) -> (Grid, Vec<f64>) {
+    let mut grid = Grid::new(&[]);
+    let (mut knots, mut samples, mut axes) = (vec![0.0; BUFFER], vec![0.0; BUFFER], [0]);
+    accepted(reading::read(
+        sheet,
+        &mut knots,
+        &mut samples,
+        &mut axes,
+        &mut grid.points,
+        &mut grid.kinds,
+        &mut grid.values,
+    ));
+    grid.axes = axes[0];
+    let points = &grid.points[..grid.axes];
+    knots.truncate(points.iter().sum());
+    samples.truncate(points.iter().product());
+    grid.knots = knots;
+    (grid, samples)
+}
+
+fn gain(grid: &Grid, tensor: &[f64]) -> String {
+    let (refusal, gain, cell) = grid.query(tensor, &[1.5, 60.0]);
+    accepted(refusal);
+    format!(
+        "gain at 1.5 kHz and 60.0 dB: {gain:.6} dB, in cell {}, {}\n",
+        cell[0], cell[1]
+    )
+}
