@@ -21,7 +21,7 @@ differential: archive
 deliberate-errors:
 	python3 tests/deliberate_errors/run.py
 
-# The Rust side's own tests: the unchanged files, the examples of document 01, the generator, what is kept beside the programs.
+# The Rust side's own tests: the unchanged files, the worked examples, the generator, what is kept beside the programs.
 oracle-test:
 	cd oracle && cargo test --offline
 
