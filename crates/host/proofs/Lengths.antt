@@ -7,7 +7,7 @@ use native.Mathlib.Omega.{arith}
 use lib.ListN.{length}
 use lib.Ieee.{Float}
 use Rattle.checks.proofs.Rows.{exact, exact-2, exact-3, exact-4}
-use Rattle.kinds.specs.Ends.{kinds-refused}
+use Rattle.kinds.specs.Kinds.{kinds-refused}
 use Rattle.plain_axes.specs.Axes.{lower-kind, upper-kind, some-kinds-refused}
 use Rattle.host.specs.Exports.{axes-slices-refused, moments-own-refusal, curve-own-refusal, build-own-refusal, change-own-refusal, query-own-refusal, read-own-refusal, sheet-tensor-own-refusal}
 

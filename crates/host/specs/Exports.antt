@@ -15,7 +15,7 @@ use Rattle.sheet.specs.Fields.{axes as axes-said, entries, knots-below, sheet-g
 use Rattle.sheet.specs.Read.{over, read-refusal, answer-of as read-answer-of}
 use Rattle.sheet.specs.declared.ReadAnswer.{ReadAnswer}
 use Rattle.sheet_build.specs.SheetTensor.{answer-of, reading-refusal, sheet-tensor-refusal}
-use Rattle.kinds.specs.Ends.{kinds-refused}
+use Rattle.kinds.specs.Kinds.{kinds-refused}
 use Rattle.plain_axes.specs.Axes.{two-ends, eight-ends, lower-kind, upper-kind, condition-given, some-kinds-refused, grid-given, grid-without-ends, points-found, kinds-found, values-found}
 
 -- 4 of a call with axes: the points of four axes, and their ends

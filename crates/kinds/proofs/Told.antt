@@ -4,7 +4,7 @@ use Rattle.rules.specs.declared.End.{End}
 use Rattle.rules.specs.declared.End.the-variants.{NotAKnot, FirstDerivative, SecondDerivative}
 use Rattle.rules.specs.declared.Condition.{Condition}
 use Rattle.rules.specs.declared.Condition.the-variants.{Endpoints, Periodic}
-use Rattle.kinds.specs.Ends.{end-of-kind, condition-of-kind, kind-of-end, value-of-end, lower-kind-of, upper-kind-of, lower-value-of, upper-value-of}
+use Rattle.kinds.specs.Kinds.{end-of-kind, condition-of-kind, kind-of-end, value-of-end, lower-kind-of, upper-kind-of, lower-value-of, upper-value-of}
 
 end-again : (end : End) → end-of-kind (kind-of-end end) (value-of-end end) ≡ end
 unfolding end-of-kind

@@ -1,3 +1,3 @@
 pub mod Ranges
-pub mod Ends
+pub mod Kinds
 pub mod Classes

@@ -1,6 +1,6 @@
 // The kinds of the ends of an axis: from their numbers to a condition, and back.
 ghost use mathlib.Core.Path.{_≡_};
-ghost use Rattle.kinds.specs.Ends.{unknown-kind, values-of-kind, end-of-kind, condition-of-kind, periodic-at-one-end, kinds-refused, kind-of-end, value-of-end, lower-kind-of, upper-kind-of, lower-value-of, upper-value-of};
+ghost use Rattle.kinds.specs.Kinds.{unknown-kind, values-of-kind, end-of-kind, condition-of-kind, periodic-at-one-end, kinds-refused, kind-of-end, value-of-end, lower-kind-of, upper-kind-of, lower-value-of, upper-value-of};
 use rules::Condition;
 use rules::End;
 

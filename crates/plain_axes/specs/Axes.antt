@@ -11,7 +11,7 @@ use Rattle.rules.specs.Ends.{not-a-knot}
 use Rattle.rules.specs.Sizes.{most-axes, unused-axis, Grid}
 use Rattle.rules.specs.declared.Axis.{Axis}
 use Rattle.rules.specs.declared.Condition.{Condition}
-use Rattle.kinds.specs.Ends.{end-of-kind, condition-of-kind, kinds-refused, lower-kind-of, upper-kind-of, lower-value-of, upper-value-of}
+use Rattle.kinds.specs.Kinds.{end-of-kind, condition-of-kind, kinds-refused, lower-kind-of, upper-kind-of, lower-value-of, upper-value-of}
 
 -- how many ends the slices of a call on one axis hold, and those of a call with axes
 abbrev pub two-ends : ℕ

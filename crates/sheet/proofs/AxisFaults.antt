@@ -8,7 +8,7 @@ use borrow.Author.Tests.{lt-ltb, le-ltb}
 use lib.ListN.{length}
 use Rattle.rules.specs.Refusals.{points-refused}
 use Rattle.bits.specs.Bits.{short, numbers-short}
-use Rattle.kinds.specs.Ends.{periodic-at-one-end}
+use Rattle.kinds.specs.Kinds.{periodic-at-one-end}
 use Rattle.sheet.specs.Fields.{points-at, lower-kind, upper-kind, values-at}
 use Rattle.sheet.specs.Faults.{axis-fault}
 use Rattle.sheet.proofs.Extents.{extent}

@@ -8,7 +8,7 @@ use Rattle.rules.specs.Numbers.{plus-zero, one, any}
 use Rattle.rules.specs.Ends.{natural}
 use Rattle.rules.specs.Sizes.{unused-axis, product-below}
 use Rattle.bits.specs.Bits.{bit, field}
-use Rattle.kinds.specs.Ends.{values-of-kind, end-of-kind, condition-of-kind, periodic-at-one-end}
+use Rattle.kinds.specs.Kinds.{values-of-kind, end-of-kind, condition-of-kind, periodic-at-one-end}
 use Rattle.sheet.specs.Fields.{points-at, values-at, axis-at, knots-begin, knots-at, axis-end, axis-begin, entries, knots-below, sheet-grid, sheet-samples}
 use Rattle.sheet.specs.Faults.{axis-fault, axes-fault, tail-refused, samples-fault, sheet-refusal}
 

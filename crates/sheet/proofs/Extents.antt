@@ -5,7 +5,7 @@ use mathlib.Core.List.{List}
 use Prim.Native.Nat.{ℕ, zero, suc, _+_, _*_, _≤_}
 use native.Mathlib.Omega.{arith}
 use Rattle.kinds.specs.Ranges.{among}
-use Rattle.kinds.specs.Ends.{values-of-kind}
+use Rattle.kinds.specs.Kinds.{values-of-kind}
 use Rattle.sheet.specs.Fields.{points-at, lower-kind, upper-kind, values-at, knots-begin, axis-end, axis-begin}
 use Rattle.bits.proofs.Runs.{field-below}
 

@@ -15,7 +15,7 @@ use Rattle.rules.specs.Calls.{or-else}
 use Rattle.rules.specs.declared.Axis.{Axis}
 use Rattle.rules.proofs.Refused.{or-else-met, or-else-passed}
 use Rattle.bits.specs.Bits.{short, numbers-short}
-use Rattle.kinds.specs.Ends.{periodic-at-one-end}
+use Rattle.kinds.specs.Kinds.{periodic-at-one-end}
 use Rattle.sheet.specs.Fields.{points-at, lower-kind, upper-kind, values-at, axis-at, axis-end, axis-begin, entries}
 use Rattle.sheet.specs.Faults.{axis-fault, axes-fault}
 use Rattle.sheet.specs.Within.{Whole, Walked}

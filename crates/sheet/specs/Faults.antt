@@ -9,7 +9,7 @@ use Rattle.rules.specs.Sizes.{samples-length}
 use Rattle.rules.specs.Refusals.{axes-refused, points-refused, tensor-refused}
 use Rattle.rules.specs.Calls.{or-else}
 use Rattle.bits.specs.Bits.{bit, short, numbers-short}
-use Rattle.kinds.specs.Ends.{periodic-at-one-end}
+use Rattle.kinds.specs.Kinds.{periodic-at-one-end}
 use Rattle.sheet.specs.Fields.{edition, axes, points-at, lower-kind, upper-kind, values-at, axis-begin, sheet-grid, samples-begin, samples-end}
 
 -- the fault of the axis that begins at bit `at`: "2 [is] met at [its] field", 13 once the upper kind has been read; then come the patterns of

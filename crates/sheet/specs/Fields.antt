@@ -8,7 +8,7 @@ use Rattle.rules.specs.Numbers.{table}
 use Rattle.rules.specs.Sizes.{most-axes, unused-axis, Grid, samples-length}
 use Rattle.rules.specs.declared.Axis.{Axis}
 use Rattle.bits.specs.Bits.{field, number, numbers}
-use Rattle.kinds.specs.Ends.{values-of-kind, end-of-kind, condition-of-kind}
+use Rattle.kinds.specs.Kinds.{values-of-kind, end-of-kind, condition-of-kind}
 
 -- "edition (4 bits, is 1)"
 abbrev pub edition : List ℕ → ℕ

@@ -10,7 +10,7 @@ use Rattle.rules.specs.Sizes.{samples-length}
 use Rattle.rules.specs.Refusals.{axes-refused, points-refused, tensor-refused, length-refused}
 use Rattle.rules.specs.Calls.{or-else}
 use Rattle.bits.specs.Bits.{short, numbers-short}
-use Rattle.kinds.specs.Ends.{periodic-at-one-end}
+use Rattle.kinds.specs.Kinds.{periodic-at-one-end}
 use Rattle.kinds.specs.Classes.{class}
 use Rattle.kinds.specs.declared.classes.Class.{Class}
 use Rattle.kinds.specs.declared.classes.Class.the-variants.{Reading}

@@ -4,7 +4,7 @@ use mathlib.Core.Bool.{true, false}
 use native.Mathlib.Omega.{arith}
 use Rattle.rules.specs.Numbers.{any}
 use Rattle.base.proofs.Scan.{any-none, any-more, any-found, any-end}
-use Rattle.kinds.specs.Ends.{kinds-refused}
+use Rattle.kinds.specs.Kinds.{kinds-refused}
 use Rattle.plain_axes.specs.Axes.{lower-kind, upper-kind, some-kinds-refused}
 use borrow.Author.Needs.{needs}
 use Rattle.plain_axes.proofs.some_kinds_refused.Statement.{statement}

@@ -2,7 +2,7 @@ use mathlib.Core.Path.{_≡_}
 use mathlib.Core.Bool.{true, false}
 use borrow.Author.Tests.{eq-eqb, ne-eqb}
 use lib.ListN.{getD}
-use Rattle.kinds.specs.Ends.{kinds-refused}
+use Rattle.kinds.specs.Kinds.{kinds-refused}
 use Rattle.host.specs.Exports.{moments-own-refusal}
 use borrow.Author.Needs.{needs}
 use Rattle.host.proofs.own.moments_own_refusal.Statement.{statement}

@@ -1,5 +1,5 @@
 use borrow.Author.Tests.{ne-eqb}
-use Rattle.kinds.specs.Ends.{condition-of-kind}
+use Rattle.kinds.specs.Kinds.{condition-of-kind}
 use Rattle.kinds.proofs.ends.condition_of_kind.Statement.{statement}
 use Rattle.kinds.proofs.ends.condition_of_kind.Tie as tie
 

@@ -1,5 +1,5 @@
 use borrow.Author.Tests.{ne-eqb}
-use Rattle.kinds.specs.Ends.{end-of-kind}
+use Rattle.kinds.specs.Kinds.{end-of-kind}
 use Rattle.kinds.proofs.ends.end_of_kind.Statement.{statement}
 use Rattle.kinds.proofs.ends.end_of_kind.Tie as tie
 

@@ -1,5 +1,5 @@
 use borrow.Author.Tests.{ne-eqb}
-use Rattle.kinds.specs.Ends.{periodic-at-one-end}
+use Rattle.kinds.specs.Kinds.{periodic-at-one-end}
 use Rattle.kinds.proofs.ends.is_periodic_at_one_end.Statement.{statement}
 use Rattle.kinds.proofs.ends.is_periodic_at_one_end.Tie as tie
 

@@ -1,5 +1,5 @@
 use mathlib.Core.Path.{sym, _∙_}
-use Rattle.kinds.specs.Ends.{kinds-refused}
+use Rattle.kinds.specs.Kinds.{kinds-refused}
 use borrow.Author.Needs.{needs}
 use Rattle.kinds.proofs.ends.kinds_refused.Statement.{statement}
 use Rattle.kinds.proofs.ends.kinds_refused.Tie as tie

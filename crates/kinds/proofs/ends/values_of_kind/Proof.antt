@@ -1,5 +1,5 @@
 use native.Mathlib.Omega.{arith}
-use Rattle.kinds.specs.Ends.{values-of-kind}
+use Rattle.kinds.specs.Kinds.{values-of-kind}
 use Rattle.kinds.proofs.Among.{within, below, above}
 use Rattle.kinds.proofs.ends.values_of_kind.Statement.{statement}
 use Rattle.kinds.proofs.ends.values_of_kind.Tie as tie

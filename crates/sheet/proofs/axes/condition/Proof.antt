@@ -1,6 +1,6 @@
 use mathlib.Core.Path.{_≡_, ap}
 use native.Mathlib.Omega.{arith}
-use Rattle.kinds.specs.Ends.{values-of-kind}
+use Rattle.kinds.specs.Kinds.{values-of-kind}
 use Rattle.sheet.specs.Fields.{lower-kind, axis-at}
 use Rattle.sheet.proofs.Extents.{Extent, extent}
 use borrow.Author.Needs.{needs}

@@ -5,7 +5,7 @@ use Prim.Native.Nat.{ℕ, _+_, _*_, _≤_}
 use native.Mathlib.Omega.{arith}
 use borrow.Author.Tests.{ltb-true, ltb-false}
 use lib.ListN.{length}
-use Rattle.kinds.specs.Ends.{periodic-at-one-end}
+use Rattle.kinds.specs.Kinds.{periodic-at-one-end}
 use Rattle.sheet.specs.Fields.{points-at, lower-kind, upper-kind}
 use Rattle.sheet.proofs.Extents.{Extent, extent}
 use Rattle.sheet.proofs.AxisFaults.{no-points, few-points, no-lower-kind, no-upper-kind, one-periodic, patterns}
