@@ -1,32 +1,37 @@
 #!/usr/bin/env python3
-"""Holds docs/RULES.md against the definitions: every chapter has its file, in the files' order; every definition is named
-in its chapter; every definition that the page names is there. Prints each definition with its line on the page."""
+"""Holds docs/RULES.md against the definitions: every chapter has its file, in the files' order, and the file's first line
+names the chapter; every definition is named in its chapter; every definition that the page names is there. Prints each
+definition with its line on the page."""
 
 import re
 import sys
 from pathlib import Path
 
 ROOT = Path(__file__).resolve().parent.parent
-CRATES = ["rules", "bits", "sheet", "sheet_build", "text", "plain_axes", "host"]
+CRATES = ["rules", "grid", "bits", "kinds", "sheet", "sheet_build", "text", "plain_axes", "host"]
 
-# Files that say what functions that are not public need, and chapters about no file.
+# Files that say what functions need from each other and no promise of a public call, and chapters about no file.
 NOT_RULES = {"Within", "Answers"}
 PROSE = {"Surface", "Program"}
 
 MODULE = re.compile(r"pub mod (\w+)")
-DEFINITION = re.compile(r"\s*(?:abbrev pub|unfoldable pub|pub record) (\S+)")
+DEFINITION = re.compile(r"\s*(?:(?:abbrev|unfoldable)(?: pub)?|pub record) (\S+)")
 CODE = re.compile(r"`([^` ]+)`")
 
+# What stands in code style and is no name of a definition: paths, and functions of the code.
+OF_CODE = re.compile(r"\w+[_/:.]")
 
-def definitions():
-    """The definitions of each chapter's file, chapters in order."""
+
+def files():
+    """The lines of each chapter's file, chapters in order."""
     found = {}
     for crate in CRATES:
         specs = ROOT / "crates" / crate / "specs"
         for name in MODULE.findall((specs / "Lib.antt").read_text()):
             if name not in NOT_RULES:
-                lines = (specs / f"{name}.antt").read_text().splitlines()
-                found[name] = [match[1] for match in map(DEFINITION.match, lines) if match]
+                if name in found:
+                    sys.exit(f"{name}: two files have the name of this chapter")
+                found[name] = (specs / f"{name}.antt").read_text().splitlines()
     return found
 
 
@@ -42,18 +47,22 @@ def page():
 
 
 def main():
-    defined, named = definitions(), page()
+    lines, named = files(), page()
+    defined = {chapter: [match[1] for match in map(DEFINITION.match, text) if match] for chapter, text in lines.items()}
+    known = {name for names in defined.values() for name in names}
     faults = []
     if list(defined) != [chapter for chapter in named if chapter not in PROSE]:
         faults.append(f"the chapters are not {', '.join(defined)}")
-    known = {name for names in defined.values() for name in names}
+    for chapter, text in lines.items():
+        if not text[0].startswith(f"-- The chapter {chapter} of docs/RULES.md: "):
+            faults.append(f"{chapter}: the file's first line does not name the chapter")
     for chapter, words in named.items():
         for name in defined.get(chapter, []):
             if name in words:
                 print(f"{chapter}: {name} -> line {words[name]}")
             else:
                 faults.append(f"{chapter}: no line says {name}")
-        faults += [f"{chapter}: {word} is no definition" for word in words if "-" in word and word not in known]
+        faults += [f"{chapter}: {word} is no definition" for word in words if word not in known and not OF_CODE.match(word)]
     print(f"{sum(map(len, defined.values()))} definitions, {len(named)} chapters, {len(faults)} faults")
     sys.exit("\n".join(faults) or 0)
 
