@@ -1,4 +1,4 @@
--- The grid that a call was given, and what is known of its sizes and places once the refusals have looked at them.
+-- The chapter Given of docs/RULES.md: the grid that a call was given, and what is known of its sizes and places once the refusals have looked at them.
 use Prim.Native.Nat.{ℕ, _+_, _<_, _≤_}
 use mathlib.Core.List.{List, []}
 use lib.ListN.{getD}
@@ -15,10 +15,11 @@ grid axes entries flat-knots = record { axes = axes; entries = entries; flat-kno
 abbrev pub sizes-of : ℕ → List Axis → Grid
 sizes-of axes entries = grid axes entries []
 
--- the points and the condition of each of the entries
+-- the points of axis i of the four
 abbrev pub points-of : List Axis → ℕ → ℕ
 points-of entries i = getD entries i unused-axis .points
 
+-- the condition of axis i of the four
 abbrev pub condition-of : List Axis → ℕ → Condition
 condition-of entries i = getD entries i unused-axis .condition
 

@@ -1,4 +1,4 @@
--- The exported calls: the host's own refusals, 4 and then 13, stand first, with nothing written. Where there is none, each call answers as `rules` promises for the axes given, and what it answers stands in the slices lent for it.
+-- The chapter Exports of docs/RULES.md: the exported calls. The host's own refusals, 4 and then 13, stand first, with nothing written. Where there is none, each call answers as `rules` promises for the axes given, and what it answers stands in the slices lent for it.
 use mathlib.Core.Path.{_≡_}
 use mathlib.Core.Bool.{Bool, cond, _||_}
 use mathlib.Core.List.{List, [], _∷_}
@@ -33,9 +33,11 @@ moments-own-refusal kinds values =
     (cond (kinds-refused (lower-kind kinds 0) (upper-kind kinds 0)) 13 0)
 
 module _ (n : ℕ) (knots samples : List Float) (kinds : List ℕ) (values moments-lent scratch-lent : List Float) where
+  -- what the call refuses of what was given
   abbrev given-moments-refusal : ℕ
   given-moments-refusal = moments-refusal n knots samples (condition-given kinds values 0) moments-lent scratch-lent
 
+  -- what is promised: the refusal, the moments, the scratch
   pub record MomentsExport (refusal : ℕ) (moments-later scratch-later : List Float) : Type 0 where
     pub answer : refusal ≡ or-else (moments-own-refusal kinds values) given-moments-refusal
     pub output :
@@ -52,6 +54,7 @@ unfoldable pub curve-own-refusal : List Float → ℕ
 curve-own-refusal value = cond (length-refused (length value) 1) 4 0
 
 module _ (n : ℕ) (knots samples moments-in : List Float) (point : Float) (value-lent : List Float) where
+  -- what is promised: the refusal, and the value in its slot
   pub record CurveExport (refusal : ℕ) (value-later : List Float) : Type 0 where
     pub answer :
         refusal ≡ or-else (curve-own-refusal value-lent) (curve-answer n knots samples moments-in point .refusal)
@@ -69,9 +72,11 @@ build-own-refusal axes points kinds values =
     cond (axes-slices-refused points kinds values) 4 (cond (some-kinds-refused axes kinds) 13 0)
 
 module _ (axes : ℕ) (points kinds : List ℕ) (values knots samples tensor-lent scratch-lent : List Float) where
+  -- what the call refuses of what was given
   abbrev given-build-refusal : ℕ
   given-build-refusal = build-refusal (grid-given axes points kinds values knots) samples tensor-lent scratch-lent
 
+  -- what is promised: the refusal, the tensor, the scratch
   pub record BuildExport (refusal : ℕ) (tensor-later scratch-later : List Float) : Type 0 where
     pub answer : refusal ≡ or-else (build-own-refusal axes points kinds values) given-build-refusal
     pub output :
@@ -92,13 +97,16 @@ change-own-refusal axes points kinds values place lanes =
     (build-own-refusal axes points kinds values)
 
 module _ (axes : ℕ) (points kinds : List ℕ) (values knots tensor-lent scratch-lent : List Float) (place : List ℕ) (sample : Float) (lanes-lent : List ℕ) where
+  -- what the call refuses of what was given
   abbrev given-change-refusal : ℕ
   given-change-refusal =
       change-refusal (grid-given axes points kinds values knots) tensor-lent scratch-lent (place-of place) sample
 
+  -- the host's own refusal of what was given
   abbrev change-own : ℕ
   change-own = change-own-refusal axes points kinds values place lanes-lent
 
+  -- what is promised: the refusal, the tensor, the scratch, and the count in its slot
   pub record ChangeExport (refusal : ℕ) (tensor-later scratch-later : List Float) (lanes-later : List ℕ) : Type 0 where
     pub answer : refusal ≡ or-else change-own given-change-refusal
     pub output :
@@ -120,6 +128,7 @@ query-own-refusal points value labels =
     cond (length-refused (length points) most-axes || length-refused (length value) 1 || length-refused (length labels) most-axes) 4 0
 
 module _ (axes : ℕ) (points : List ℕ) (knots tensor-lent coordinates value-lent : List Float) (labels-lent : List ℕ) where
+  -- what is promised: the refusal, the value in its slot, the labels
   pub record QueryExport (refusal : ℕ) (value-later : List Float) (labels-later : List ℕ) : Type 0 where
     pub answer :
         refusal
@@ -143,15 +152,19 @@ read-own-refusal axes points kinds values =
     cond (axes-slices-refused points kinds values || length-refused (length axes) 1) 4 0
 
 module _ (bytes : List ℕ) (knots-lent samples-lent : List Float) (axes-lent points-lent kinds-lent : List ℕ) (values-lent : List Float) where
+  -- what the call refuses of what was given
   abbrev given-read-refusal : ℕ
   given-read-refusal = read-refusal bytes knots-lent samples-lent
 
+  -- what the call answers
   abbrev given-read-answer : ReadAnswer
   given-read-answer = read-answer-of given-read-refusal (axes-said bytes) (entries bytes (axes-said bytes))
 
+  -- the host's own refusal of what was given
   abbrev read-own : ℕ
   read-own = read-own-refusal axes-lent points-lent kinds-lent values-lent
 
+  -- what is promised: the refusal, both buffers, and the axes in their slices
   pub record ReadExport (refusal : ℕ) (knots-later samples-later : List Float) (axes-later points-later kinds-later : List ℕ) (values-later : List Float) : Type 0 where
     pub answer : refusal ≡ or-else read-own given-read-refusal
     pub knots :
@@ -171,12 +184,15 @@ unfoldable pub sheet-tensor-own-refusal : List ℕ → ℕ
 sheet-tensor-own-refusal length-lent = cond (length-refused (length length-lent) 1) 4 0
 
 module _ (bytes : List ℕ) (knots-lent samples-lent tensor-lent scratch-lent : List Float) (length-lent : List ℕ) where
+  -- what is met before the build
   abbrev given-reading-refusal : ℕ
   given-reading-refusal = reading-refusal bytes knots-lent samples-lent tensor-lent scratch-lent
 
+  -- what the call refuses of what was given
   abbrev given-sheet-refusal : ℕ
   given-sheet-refusal = sheet-tensor-refusal bytes knots-lent samples-lent tensor-lent scratch-lent
 
+  -- what is promised: the refusal, the three buffers, the scratch, and the length in its slot
   pub record SheetTensorExport (refusal : ℕ) (knots-later samples-later tensor-later scratch-later : List Float) (length-later : List ℕ) : Type 0 where
     pub answer : refusal ≡ or-else (sheet-tensor-own-refusal length-lent) given-sheet-refusal
     pub knots :

@@ -1,4 +1,4 @@
--- The classes of refusals, decided by their numbers: what a refusal of the reader or of the build means for the sheet at hand.
+-- The chapter Classes of docs/RULES.md: what the number of a refusal tells of a sheet that was to be read and built.
 use mathlib.Core.Bool.{Bool, cond, _||_}
 use Prim.Native.Nat.{ℕ}
 use lib.Dec.{eqb}

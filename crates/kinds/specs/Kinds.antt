@@ -1,4 +1,4 @@
--- "Kinds: 0 NotAKnot, 1 first derivative, 2 second derivative, 3 Periodic, which must stand at both ends": from numbers to ends, and back.
+-- The chapter Kinds of docs/RULES.md: from the numbers of kinds to ends, and back.
 use mathlib.Core.Bool.{Bool, not, cond, _||_}
 use Prim.Native.Nat.{ℕ}
 use lib.Dec.{ltb, eqb}
@@ -14,7 +14,7 @@ use Rattle.kinds.specs.Ranges.{among}
 abbrev pub unknown-kind : ℕ → Bool
 unknown-kind kind = ltb 3 kind
 
--- "a 64-bit f64 pattern for each end of kind 1 or 2": how many patterns a kind has
+-- how many floats an end of a kind has in a sheet
 unfoldable pub values-of-kind : ℕ → ℕ
 values-of-kind kind = cond (among 1 2 kind) 1 0
 
@@ -27,41 +27,45 @@ end-of-kind kind value =
 unfoldable pub condition-of-kind : ℕ → End → End → Condition
 condition-of-kind kind lower upper = cond (eqb kind 3) Periodic (Endpoints lower upper)
 
--- 13: "kind 3 at one end only"
+-- 13 of an axis in a sheet: Periodic at one end and another kind at the other
 unfoldable pub periodic-at-one-end : ℕ → ℕ → Bool
 periodic-at-one-end lower upper = cond (eqb lower 3) (not (eqb upper 3)) (eqb upper 3)
 
--- 13 of one axis whose kinds may be any numbers: a kind that there is not, or Periodic at one end only
+-- 13 of an axis whose kinds may be any numbers: that, or a number that is no kind
 unfoldable pub kinds-refused : ℕ → ℕ → Bool
 unfolding periodic-at-one-end
 kinds-refused lower upper = unknown-kind lower || unknown-kind upper || periodic-at-one-end lower upper
 
 -- ---- the other way
 
--- the kind of an end, and its value, +0.0 where the kind has none
+-- the kind of an end
 abbrev pub kind-of-end : End → ℕ
 kind-of-end NotAKnot = 0
 kind-of-end (FirstDerivative value) = 1
 kind-of-end (SecondDerivative value) = 2
 
+-- the value of an end, +0.0 where its kind has none
 abbrev pub value-of-end : End → Float
 value-of-end NotAKnot = plus-zero
 value-of-end (FirstDerivative value) = value
 value-of-end (SecondDerivative value) = value
 
--- those of the two ends of a condition
+-- the kind of a condition's lower end
 abbrev pub lower-kind-of : Condition → ℕ
 lower-kind-of (Endpoints lower upper) = kind-of-end lower
 lower-kind-of Periodic = 3
 
+-- the kind of a condition's upper end
 abbrev pub upper-kind-of : Condition → ℕ
 upper-kind-of (Endpoints lower upper) = kind-of-end upper
 upper-kind-of Periodic = 3
 
+-- the value of a condition's lower end
 abbrev pub lower-value-of : Condition → Float
 lower-value-of (Endpoints lower upper) = value-of-end lower
 lower-value-of Periodic = plus-zero
 
+-- the value of a condition's upper end
 abbrev pub upper-value-of : Condition → Float
 upper-value-of (Endpoints lower upper) = value-of-end upper
 upper-value-of Periodic = plus-zero

@@ -1,4 +1,4 @@
--- How numbers and plain slices make conditions and the four axes, what 13 is of them, and how the axes of a sheet are numbers again. Ends stand in one slice, kinds[2i] and values[2i] at the lower end of axis i, kinds[2i + 1] and values[2i + 1] at the upper.
+-- The chapter Axes of docs/RULES.md: how numbers and plain slices make conditions and the four axes, what 13 is of them, and how the axes of a sheet are numbers again. Ends stand in one slice, kinds[2i] and values[2i] at the lower end of axis i, kinds[2i + 1] and values[2i + 1] at the upper.
 use mathlib.Core.Path.{_≡_}
 use mathlib.Core.Bool.{Bool, cond}
 use mathlib.Core.List.{List, [], _∷_}
@@ -13,10 +13,11 @@ use Rattle.rules.specs.declared.Axis.{Axis}
 use Rattle.rules.specs.declared.Condition.{Condition}
 use Rattle.kinds.specs.Kinds.{end-of-kind, condition-of-kind, kinds-refused, lower-kind-of, upper-kind-of, lower-value-of, upper-value-of}
 
--- how many ends the slices of a call on one axis hold, and those of a call with axes
+-- how many ends a call on one axis has
 abbrev pub two-ends : ℕ
 two-ends = 2
 
+-- how many ends a call with axes has
 abbrev pub eight-ends : ℕ
 eight-ends = 8
 
@@ -40,29 +41,32 @@ unfoldable pub some-kinds-refused : ℕ → List ℕ → Bool
 unfolding kinds-refused
 some-kinds-refused axes kinds = any (λ i. kinds-refused (lower-kind kinds i) (upper-kind kinds i)) (min axes most-axes)
 
--- entry i of the four: "entries past the axes in use aren't read", and stand for the unused axis
+-- entry i of the four: the axis so given, and the unused one where it is not in use
 unfoldable pub axis-given : ℕ → List ℕ → List ℕ → List Float → ℕ → Axis
 unfolding condition-given
 axis-given axes points kinds values i =
     cond (ltb i axes) (record { points = getD points i 0; condition = condition-given kinds values i }) unused-axis
 
+-- the four axes so given
 unfoldable pub axes-given : ℕ → List ℕ → List ℕ → List Float → List Axis
 unfolding axis-given
 axes-given axes points kinds values = table most-axes (axis-given axes points kinds values)
 
--- the same of a query, which takes no ends
+-- entry i of the four of a query, which takes no ends
 unfoldable pub axis-without-ends : ℕ → List ℕ → ℕ → Axis
 axis-without-ends axes points i = cond (ltb i axes) (record { points = getD points i 0; condition = not-a-knot }) unused-axis
 
+-- the four axes of a query
 unfoldable pub axes-without-ends : ℕ → List ℕ → List Axis
 unfolding axis-without-ends
 axes-without-ends axes points = table most-axes (axis-without-ends axes points)
 
--- the grid of both
+-- the grid of the axes so given
 abbrev pub grid-given : ℕ → List ℕ → List ℕ → List Float → List Float → Grid
 grid-given axes points kinds values knots =
     record { axes = axes; entries = axes-given axes points kinds values; flat-knots = knots }
 
+-- the grid of a query
 abbrev pub grid-without-ends : ℕ → List ℕ → List Float → Grid
 grid-without-ends axes points knots =
     record { axes = axes; entries = axes-without-ends axes points; flat-knots = knots }

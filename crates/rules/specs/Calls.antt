@@ -1,4 +1,4 @@
--- The public calls: for each the refusal that it gives, its answer, and the later contents of all it was lent.
+-- The chapter Calls of docs/RULES.md: for each public call its refusal, its answer, and what stands afterwards in all that it was lent.
 use mathlib.Core.Path.{_≡_}
 use mathlib.Core.Bool.{cond, _||_}
 use mathlib.Core.List.{List}
@@ -20,29 +20,31 @@ use Rattle.rules.specs.declared.CurveAnswer.{CurveAnswer}
 use Rattle.rules.specs.declared.ChangeAnswer.{ChangeAnswer}
 use Rattle.rules.specs.declared.QueryAnswer.{QueryAnswer}
 
--- a refusal that is met, 0 for none, stands before what comes after it
+-- a refusal, or what comes later where it is 0
 abbrev pub or-else : ℕ → ℕ → ℕ
 or-else zero later = later
 or-else (suc refusal) later = suc refusal
 
--- "Outputs are untouched": what stands in an output after the refusal, 0 for none
+-- an output afterwards: the new numbers, or after a refusal the old
 abbrev pub stored : {A : Type 0} → ℕ → List A → List A → List A
 stored zero old new = new
 stored (suc refusal) old new = old
 
--- "Scratch is untouched for 1 to 9; once work has begun (success or 10) all of it is +0.0"
+-- scratch afterwards: all +0.0 where work was done in it, so after 0 and 10, and else as it was
 abbrev pub scratch-after : ℕ → List Float → List Float
 scratch-after refusal scratch = cond (eqb refusal 0 || eqb refusal 10) (zeros (length scratch)) scratch
 
--- "A refusal carries its number, answer +0.0, labels 0, count 0"
+-- a value in an answer: +0.0 after a refusal
 abbrev pub answered : ℕ → Float → Float
 answered zero value = value
 answered (suc refusal) value = plus-zero
 
+-- a count in an answer: 0 after a refusal
 abbrev pub counted : ℕ → ℕ → ℕ
 counted zero count = count
 counted (suc refusal) count = 0
 
+-- labels in an answer: each 0 after a refusal
 abbrev pub labelled : ℕ → List ℕ → List ℕ
 labelled zero labels = labels
 labelled (suc refusal) labels = table most-axes (λ i. 0)
@@ -50,7 +52,7 @@ labelled (suc refusal) labels = table most-axes (λ i. 0)
 -- ---- the curve's moments
 
 module _ (n : ℕ) (knots samples : List Float) (condition : Condition) (moments-out scratch-lent : List Float) where
-  -- 2 4 5 7 8 9 10
+  -- its refusal, the first of 2 4 5 7 8 9 10 that applies
   unfoldable pub moments-refusal : ℕ
   unfolding moments
   moments-refusal =
@@ -62,6 +64,7 @@ module _ (n : ℕ) (knots samples : List Float) (condition : Condition) (moments
       (cond (fewness-refused condition n) 9
       (cond (outcome-refused (moments knots (n - 1) condition samples)) 10 0))))))
 
+  -- what it promises: the refusal, the moments, the scratch
   pub record MomentsPromise (refusal : ℕ) (moments-later scratch-later : List Float) : Type 0 where
     pub answer : refusal ≡ moments-refusal
     pub output : moments-later ≡ stored moments-refusal moments-out (moments knots (n - 1) condition samples)
@@ -70,7 +73,7 @@ module _ (n : ℕ) (knots samples : List Float) (condition : Condition) (moments
 -- ---- the curve's value
 
 module _ (n : ℕ) (knots samples moments-in : List Float) (point : Float) where
-  -- 2 4 7 8 10
+  -- its refusal, the first of 2 4 7 8 10 that applies
   unfoldable pub curve-refusal : ℕ
   unfolding curve
   curve-refusal =
@@ -80,6 +83,7 @@ module _ (n : ℕ) (knots samples moments-in : List Float) (point : Float) where
       (cond (knots-refused knots n) 8
       (cond (answer-refused (curve knots (n - 1) samples moments-in point)) 10 0))))
 
+  -- its answer: the refusal, and the value at the point
   unfoldable pub curve-answer : CurveAnswer
   unfolding curve-refusal
   curve-answer = record {
@@ -87,13 +91,14 @@ module _ (n : ℕ) (knots samples moments-in : List Float) (point : Float) where
     value = answered curve-refusal (curve knots (n - 1) samples moments-in point);
   }
 
+  -- what it promises: the answer
   pub record CurvePromise (given : CurveAnswer) : Type 0 where
     pub answer : given ≡ curve-answer
 
 -- ---- the knot slopes
 
 module _ (n : ℕ) (knots samples moments-in slopes-out : List Float) where
-  -- 2 4 7 8 10
+  -- its refusal, the first of 2 4 7 8 10 that applies
   unfoldable pub slopes-refusal : ℕ
   unfolding knot-slopes
   slopes-refusal =
@@ -103,6 +108,7 @@ module _ (n : ℕ) (knots samples moments-in slopes-out : List Float) where
       (cond (knots-refused knots n) 8
       (cond (outcome-refused (knot-slopes knots (n - 1) samples moments-in)) 10 0))))
 
+  -- what it promises: the refusal, the slopes
   pub record SlopesPromise (refusal : ℕ) (slopes-later : List Float) : Type 0 where
     pub answer : refusal ≡ slopes-refusal
     pub output : slopes-later ≡ stored slopes-refusal slopes-out (knot-slopes knots (n - 1) samples moments-in)
@@ -110,7 +116,7 @@ module _ (n : ℕ) (knots samples moments-in slopes-out : List Float) where
 -- ---- the build
 
 module _ (g : Grid) (samples tensor-out scratch-lent : List Float) where
-  -- 1 2 3 4 5 7 8 9 10
+  -- its refusal, the first of 1 2 3 4 5 7 8 9 10 that applies
   unfoldable pub build-refusal : ℕ
   unfolding tensor
   build-refusal =
@@ -124,6 +130,7 @@ module _ (g : Grid) (samples tensor-out scratch-lent : List Float) where
       (cond (some-fewness-refused g) 9
       (cond (outcome-refused (tensor g samples)) 10 0))))))))
 
+  -- what it promises: the refusal, the tensor, the scratch
   pub record BuildPromise (refusal : ℕ) (tensor-later scratch-later : List Float) : Type 0 where
     pub answer : refusal ≡ build-refusal
     pub output : tensor-later ≡ stored build-refusal tensor-out (tensor g samples)
@@ -132,7 +139,7 @@ module _ (g : Grid) (samples tensor-out scratch-lent : List Float) where
 -- ---- the change
 
 module _ (g : Grid) (tensor-lent scratch-lent : List Float) (changed : Place) (v : Float) where
-  -- 1 2 3 4 5 6 7 8 9 10
+  -- its refusal, the first of 1 2 3 4 5 6 7 8 9 10 that applies
   unfoldable pub change-refusal : ℕ
   unfolding changed-tensor
   change-refusal =
@@ -147,11 +154,12 @@ module _ (g : Grid) (tensor-lent scratch-lent : List Float) (changed : Place) (v
       (cond (some-fewness-refused g) 9
       (cond (outcome-refused (changed-tensor g changed v tensor-lent)) 10 0)))))))))
 
-  -- the count is that of the lanes of the change
+  -- its answer: the refusal, and how many lanes were solved
   unfoldable pub change-answer : ChangeAnswer
   unfolding change-refusal change-lanes
   change-answer = record { refusal = change-refusal; lanes = counted change-refusal (length (change-lanes g changed)) }
 
+  -- what it promises: the answer, the tensor, the scratch
   pub record ChangePromise (given : ChangeAnswer) (tensor-later scratch-later : List Float) : Type 0 where
     pub answer : given ≡ change-answer
     pub output : tensor-later ≡ stored change-refusal tensor-lent (changed-tensor g changed v tensor-lent)
@@ -160,7 +168,7 @@ module _ (g : Grid) (tensor-lent scratch-lent : List Float) (changed : Place) (v
 -- ---- the query
 
 module _ (g : Grid) (tensor-lent coordinates : List Float) where
-  -- 1 2 3 4 7 8 10
+  -- its refusal, the first of 1 2 3 4 7 8 10 that applies
   unfoldable pub query-refusal : ℕ
   unfolding query
   query-refusal =
@@ -172,11 +180,12 @@ module _ (g : Grid) (tensor-lent coordinates : List Float) where
       (cond (some-knots-refused g) 8
       (cond (answer-refused (query g tensor-lent (at coordinates))) 10 0))))))
 
-  -- labels of the four axes: "entries past the axes in use aren't read, and labels there are 0"
+  -- the labels of the four axes, 0 for those not in use
   unfoldable pub labels : List ℕ
   unfolding label
   labels = table most-axes (λ i. cond (ltb i (g .axes)) (label (knots g i) (points g i - 1) (at coordinates i)) 0)
 
+  -- its answer: the refusal, the value at the coordinates, and the labels
   unfoldable pub query-answer : QueryAnswer
   unfolding query-refusal labels
   query-answer = record {
@@ -185,5 +194,6 @@ module _ (g : Grid) (tensor-lent coordinates : List Float) where
     labels = labelled query-refusal labels;
   }
 
+  -- what it promises: the answer
   pub record QueryPromise (given : QueryAnswer) : Type 0 where
     pub answer : given ≡ query-answer

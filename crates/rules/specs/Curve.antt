@@ -1,4 +1,4 @@
--- "Curve" and "Knot slope": from knots x, samples y and moments m, n + 1 of each.
+-- The chapter Curve of docs/RULES.md: the value and the slopes of the curve with knots x, samples y and moments m, n + 1 of each.
 use mathlib.Core.Bool.{cond}
 use mathlib.Core.List.{List}
 use Prim.Native.Nat.{ℕ, _+_, _-_}
@@ -10,7 +10,7 @@ use Rattle.rules.specs.Locate.{locate}
 use Rattle.rules.specs.Moments.{moments}
 use Rattle.rules.specs.declared.Condition.{Condition}
 
--- "M-form of `evaluate_spline_from_m`", in cell i
+-- the cubic of cell i at a point, with the names that the Rust has in `evaluate_spline_from_m`
 unfoldable pub curve-in-cell : List Float → List Float → List Float → ℕ → Float → Float
 unfolding h
 curve-in-cell x y m i point =
@@ -23,12 +23,12 @@ curve-in-cell x y m i point =
     ⊕ (at y i ⊖ at m i ⊗ h2-over-six) ⊗ dx-r ⊘ h x i
     ⊕ (at y (i + 1) ⊖ at m (i + 1) ⊗ h2-over-six) ⊗ dx ⊘ h x i
 
--- the curve's value at a point
+-- the curve's value at a point: the cubic of the point's cell
 unfoldable pub curve : List Float → ℕ → List Float → List Float → Float → Float
 unfolding curve-in-cell locate
 curve x n y m point = curve-in-cell x y m (locate x n point) point
 
--- "i < n: s[i] − h[i](2M[i] + M[i+1])/6. Last: s[n−1] + h[n−1](M[n−1] + 2M[n])/6."
+-- the slope at knot i, from the interval after it; at the last knot from the one before it
 unfoldable pub knot-slope : List Float → ℕ → List Float → List Float → ℕ → Float
 unfolding h s
 knot-slope x n y m i =

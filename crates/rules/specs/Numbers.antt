@@ -1,4 +1,4 @@
--- The numbers of document 01: binary64, each operation rounded once as IEEE 754 says, the Rust's constants, and lists.
+-- The chapter Numbers of docs/RULES.md: binary64 and its four operations, the constants of the formulas, and lists.
 use mathlib.Core.Bool.{Bool, false, cond, _||_}
 use mathlib.Core.List.{List, [], _∷_}
 use Prim.Native.Nat.{ℕ, zero, suc}
@@ -10,19 +10,19 @@ infixl 60 _⊕_
 infixl 60 _⊖_
 infixl 70 _⊗_
 infixl 70 _⊘_
--- the sum
+-- the sum, rounded once
 abbrev pub _⊕_ : Float → Float → Float
 _⊕_ a b = Ieee.add binary64 a b
 
--- the difference
+-- the difference, rounded once
 abbrev pub _⊖_ : Float → Float → Float
 _⊖_ a b = Ieee.sub binary64 a b
 
--- the product
+-- the product, rounded once
 abbrev pub _⊗_ : Float → Float → Float
 _⊗_ a b = Ieee.mul binary64 a b
 
--- the quotient
+-- the quotient, rounded once
 abbrev pub _⊘_ : Float → Float → Float
 _⊘_ a b = Ieee.div binary64 a b
 
@@ -30,6 +30,7 @@ _⊘_ a b = Ieee.div binary64 a b
 abbrev pub plus-zero : Float
 plus-zero = Ieee.ofBits binary64 0x0000_0000_0000_0000
 
+-- the other constants by their patterns: 1, 2, 3 and 6
 abbrev pub one : Float
 one = Ieee.ofBits binary64 0x3FF0_0000_0000_0000
 
@@ -42,7 +43,7 @@ three = Ieee.ofBits binary64 0x4008_0000_0000_0000
 abbrev pub six : Float
 six = Ieee.ofBits binary64 0x4018_0000_0000_0000
 
--- number k of a list
+-- number k of a list, and NaN past its end
 abbrev pub at : List Float → ℕ → Float
 at xs k = getD xs k nan
 

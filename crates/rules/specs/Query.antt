@@ -1,4 +1,4 @@
--- "Query": the cell of the tensor around a point, and the Hermite blend that removes one axis after the other.
+-- The chapter Query of docs/RULES.md: the cell of the tensor around a point, and the Hermite blend that removes one axis after the other.
 use mathlib.Core.List.{List}
 use Prim.Native.Nat.{ℕ, zero, suc, _+_, _-_, _*_, _/_, _%_, _^_}
 use lib.Ieee.{Float, neg}
@@ -7,7 +7,7 @@ use Rattle.rules.specs.Sizes.{Grid, points, knots, masks, Place, flat, s
 use Rattle.rules.specs.Steps.{h}
 use Rattle.rules.specs.Locate.{locate}
 
--- `evaluate_hermite_1d`
+-- the blend of two knots with values p0, p1 and slopes m0, m1, at the fraction t of their width; with the names of the Rust in `evaluate_hermite_1d`
 unfoldable pub hermite : Float → Float → Float → Float → Float → Float → Float
 hermite p0 m0 p1 m1 width t =
     let t2 : Float = t ⊗ t in
@@ -18,13 +18,13 @@ hermite p0 m0 p1 m1 width t =
     let h11 : Float = t3 ⊖ t2 in
     h00 ⊗ p0 ⊕ h10 ⊗ width ⊗ m0 ⊕ h01 ⊗ p1 ⊕ h11 ⊗ width ⊗ m1
 
--- One axis removed, the lowest: a cell of 4 × size numbers, that axis slowest and its bit of the mask fastest, becomes one of size numbers.
+-- a cell without its lowest axis: of 4 × size numbers, that axis slowest and its bit of the mask fastest, size numbers are left
 unfoldable pub without-lowest : ℕ → Float → Float → (ℕ → Float) → ℕ → Float
 unfolding hermite
 without-lowest size width t cell e =
     hermite (cell (2 * e)) (cell (2 * e + 1)) (cell (2 * size + 2 * e)) (cell (2 * size + 2 * e + 1)) width t
 
--- "The blend removes the lowest remaining axis first, until no axis is left and one number remains": of the axes from `lowest` on, so many
+-- what is left of a cell when its axes, so many from `lowest` on, are removed one after the other, the lowest first
 unfoldable pub blend : ℕ → ℕ → (ℕ → Float) → (ℕ → Float) → (ℕ → Float) → Float
 unfolding without-lowest
 blend zero lowest widths ts cell = cell 0
@@ -45,7 +45,7 @@ unfoldable pub cell-of : Grid → (ℕ → Float) → Place
 unfolding locate
 cell-of g point i = locate (knots g i) (points g i - 1) (point i)
 
--- "t = (point − lower knot)/h", on axis i in the cell l
+-- where the point lies in cell l, counted from its lower knot in widths
 unfoldable pub fraction : List Float → ℕ → Float → Float
 unfolding h
 fraction x l point = (point ⊖ at x l) ⊘ h x l

@@ -1,4 +1,4 @@
--- The solves of the Rust, each row a function of its index. Row k has sub (k - 1), diag k, sup k and rhs k; the last row is row l.
+-- The chapter Solve of docs/RULES.md: the two solves of linear rows, each row a function of its index. Row k has sub (k - 1), diag k, sup k and rhs k; the last row is row l.
 use mathlib.Core.Bool.{cond}
 use Prim.Native.Nat.{ℕ, zero, suc, _-_}
 use lib.Dec.{eqb}
@@ -36,6 +36,7 @@ module _ (sub diag sup rhs : ℕ → Float) where
 
 -- `cyclic_thomas`: the corner stands in the first row's last place and in the last row's first
 module _ (sub diag sup rhs : ℕ → Float) (corner : Float) where
+  -- the first number of the diagonal, its sign turned
   abbrev pub gamma : Float
   gamma = neg (diag 0)
 
@@ -50,15 +51,17 @@ module _ (sub diag sup rhs : ℕ → Float) (corner : Float) where
   unfoldable pub u-vec : ℕ → ℕ → Float
   u-vec l k = cond (eqb k 0) gamma (cond (eqb k l) corner plus-zero)
 
-  -- the two solves
+  -- number k of the first solve, which has the right side as it is
   unfoldable pub y : ℕ → ℕ → Float
   unfolding diag-mod thomas
   y l k = thomas sub (diag-mod l) sup rhs l k
 
+  -- number k of the second solve
   unfoldable pub z : ℕ → ℕ → Float
   unfolding diag-mod u-vec thomas
   z l k = thomas sub (diag-mod l) sup (u-vec l) l k
 
+  -- how many times the second result is taken from the first
   unfoldable pub factor : ℕ → Float
   unfolding y z
   factor l = (y l 0 ⊕ corner ⊘ gamma ⊗ y l l) ⊘ (one ⊕ (z l 0 ⊕ corner ⊘ gamma ⊗ z l l))

@@ -1,4 +1,4 @@
--- "Faults in reading order, before any of the build's": for every list of bytes the number that it is refused by, 0 for none.
+-- The chapter Faults of docs/RULES.md: for every list of bytes the first fault that is met on the way through its fields, 0 for none.
 use mathlib.Core.Bool.{Bool, not, cond, _||_}
 use mathlib.Core.List.{List}
 use Prim.Native.Nat.{ℕ, zero, suc, _+_, _-_, _*_}
@@ -12,8 +12,8 @@ use Rattle.bits.specs.Bits.{bit, short, numbers-short}
 use Rattle.kinds.specs.Kinds.{periodic-at-one-end}
 use Rattle.sheet.specs.Fields.{edition, axes, points-at, lower-kind, upper-kind, values-at, axis-begin, sheet-grid, samples-begin, samples-end}
 
--- the fault of the axis that begins at bit `at`: "2 [is] met at [its] field", 13 once the upper kind has been read; then come the patterns of
--- the ends and the knots, of which the first that needs more bits than remain is the fault
+-- the fault of the axis that begins at bit `at`: its points are judged at their field and its kinds once both are read; of the numbers
+-- of its ends and its knots one may be short
 unfoldable pub axis-fault : List ℕ → ℕ → ℕ
 axis-fault bytes at =
     cond (short bytes at 8) 11
@@ -28,19 +28,19 @@ unfoldable pub axes-fault : List ℕ → ℕ → ℕ
 axes-fault bytes zero = 0
 axes-fault bytes (suc i) = or-else (axes-fault bytes i) (axis-fault bytes (axis-begin bytes i))
 
--- 14: "after the last sample 8 or more bits, or a bit that isn't zero", of what follows bit `at`
+-- 14: bit `at` and what follows it are 8 bits or more, or one of them is set
 unfoldable pub tail-refused : List ℕ → ℕ → Bool
 tail-refused bytes at =
     leb 8 (8 * length bytes - at) || any (λ k. not (eqb (bit bytes (at + k)) 0)) (8 * length bytes - at)
 
--- what is met after the last axis: "3 after the last axis", the samples, the tail
+-- what is met after the last axis: the tensor's length, the samples, and what follows them
 unfoldable pub samples-fault : List ℕ → ℕ
 samples-fault bytes =
     cond (tensor-refused (sheet-grid bytes)) 3
     (cond (numbers-short bytes (samples-begin bytes) (samples-length (sheet-grid bytes))) 11
     (cond (tail-refused bytes (samples-end bytes)) 14 0))
 
--- all of it: the edition, the number of axes ("1 [is] met at [its] field"), each axis, and what follows them
+-- the fault of a sheet: at the edition, at the number of axes, at an axis, or after the last
 unfoldable pub sheet-refusal : List ℕ → ℕ
 sheet-refusal bytes =
     cond (short bytes 0 4) 11

@@ -1,4 +1,4 @@
--- The public call `read`: the refusal that it gives, its answer, and the later contents of both buffers.
+-- The chapter Read of docs/RULES.md: the public call `read`, its refusal, its answer, and what stands afterwards in both buffers.
 use mathlib.Core.Path.{_≡_}
 use mathlib.Core.Bool.{cond, _||_}
 use mathlib.Core.List.{List, _++_}
@@ -14,11 +14,11 @@ use Rattle.sheet.specs.Fields.{axes, entries, knots-below, sheet-samples
 use Rattle.sheet.specs.Faults.{sheet-refusal}
 use Rattle.sheet.specs.declared.ReadAnswer.{ReadAnswer}
 
--- "two lent buffers of 1,024 numbers each"
+-- how long each of the two buffers is
 abbrev pub buffer-length : ℕ
 buffer-length = 1024
 
--- "on a refusal all four [axes] come back with 0 points and NotAKnot at both ends; on a refusal the number of axes is 0 too"
+-- the answer of a refusal: no axes, and all four as not in use
 abbrev pub refused-answer : ℕ → ReadAnswer
 refused-answer refusal = record { refusal = refusal; axes = 0; all = table most-axes (λ i. unused-axis) }
 
@@ -27,18 +27,18 @@ abbrev pub answer-of : ℕ → ℕ → List Axis → ReadAnswer
 answer-of zero axes all = record { refusal = 0; axes = axes; all = all }
 answer-of (suc refusal) axes all = refused-answer (suc refusal)
 
--- "only in the places needed": the first places have the new numbers, the others what they had
+-- a buffer with new numbers in its first places; behind them it is as it was
 abbrev pub over : List Float → List Float → List Float
 over new old = new ++ drop (length new) old
 
 module _ (bytes : List ℕ) (knots-lent samples-lent : List Float) where
-  -- "another length is 4, before any field"
+  -- its refusal: 4 for a buffer of another length, before a bit is looked at, and then the sheet's fault
   unfoldable pub read-refusal : ℕ
   read-refusal =
       cond (length-refused (length knots-lent) buffer-length || length-refused (length samples-lent) buffer-length) 4
       (sheet-refusal bytes)
 
-  -- "Only success changes them"
+  -- what it promises: the answer, and both buffers, which a refusal leaves as they were
   pub record ReadPromise (given : ReadAnswer) (knots-later samples-later : List Float) : Type 0 where
     pub answer : given ≡ answer-of read-refusal (axes bytes) (entries bytes (axes bytes))
     pub knots : knots-later ≡ stored read-refusal knots-lent (over (knots-below bytes (axes bytes)) knots-lent)

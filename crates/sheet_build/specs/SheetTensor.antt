@@ -1,4 +1,4 @@
--- The public call `tensor_of_sheet`: the refusal that it gives, its answer, and the later contents of all it was lent.
+-- The chapter SheetTensor of docs/RULES.md: the public call `tensor_of_sheet`, its refusal, its answer, and what stands afterwards in all that it was lent.
 use mathlib.Core.Path.{_≡_}
 use mathlib.Core.Bool.{cond}
 use mathlib.Core.List.{List}
@@ -16,7 +16,7 @@ use Rattle.sheet.specs.Fields.{sheet-grid, sheet-samples}
 use Rattle.sheet.specs.Read.{over, read-refusal}
 use Rattle.sheet_build.specs.declared.SheetAnswer.{SheetAnswer}
 
--- "on a refusal all four [axes] come back with 0 points and NotAKnot at both ends; on a refusal the number of axes is 0 too", and so is the length
+-- the answer of a refusal: no axes, all four as not in use, and no numbers
 abbrev pub refused-answer : ℕ → SheetAnswer
 refused-answer refusal = record { refusal = refusal; axes = 0; all = table most-axes (λ i. unused-axis); length = 0 }
 
@@ -34,10 +34,11 @@ pub record PartsGiven (axes : ℕ) (all : List Axis) (knots samples tensor-lent 
   pub samples-room : samples-length (sizes-of axes all) ≤ length samples
   pub tensor-room : tensor-length (sizes-of axes all) ≤ length tensor-lent
 
--- the parts of a grid that such buffers hold
+-- the grid that such buffers hold
 abbrev pub grid-in : ℕ → List Axis → List Float → Grid
 grid-in axes all knots = grid axes all (take (knots-length (sizes-of axes all)) knots)
 
+-- the samples that such buffers hold
 abbrev pub samples-in : ℕ → List Axis → List Float → List Float
 samples-in axes all samples = take (samples-length (sizes-of axes all)) samples
 
@@ -46,6 +47,7 @@ module _ (g : Grid) (samples tensor-lent scratch-lent : List Float) where
   abbrev pub parts-refusal : ℕ
   parts-refusal = build-refusal g samples (take (tensor-length g) tensor-lent) scratch-lent
 
+  -- what that build promises: the answer, the tensor in the first places, the scratch
   pub record PartsPromise (given : SheetAnswer) (tensor-later scratch-later : List Float) : Type 0 where
     pub answer : given ≡ answer-of parts-refusal g
     pub output : tensor-later ≡ stored parts-refusal tensor-lent (over (tensor g samples) tensor-lent)
@@ -58,7 +60,7 @@ module _ (bytes : List ℕ) (knots-lent samples-lent tensor-lent scratch-lent : 
   unfoldable pub reading-refusal : ℕ
   reading-refusal = cond (length-refused (length tensor-lent) most-in-a-tensor) 4 (read-refusal bytes knots-lent samples-lent)
 
-  -- "Faults in reading order, before any of the build's"
+  -- its refusal: what is met before the build, and then the build's
   unfoldable pub sheet-tensor-refusal : ℕ
   sheet-tensor-refusal = or-else reading-refusal (parts-refusal (sheet-grid bytes) (sheet-samples bytes) tensor-lent scratch-lent)
 

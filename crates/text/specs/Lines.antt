@@ -1,4 +1,4 @@
--- The lines that the programs print, as lists of bytes.
+-- The chapter Lines of docs/RULES.md: the lines that the programs print, as lists of bytes.
 use mathlib.Core.Bool.{cond}
 use mathlib.Core.List.{List, [], _∷_, _++_}
 use Prim.Native.Nat.{ℕ, zero, suc, _+_, _/_, _%_}
