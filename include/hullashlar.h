@@ -18,9 +18,9 @@
  * docs/BENCH.md has the stack of each call (below 6,000 bytes), the size of the code (below 28,000 bytes) and what the
  * archive's proofs rest on.
  *
- * Axes. Points, kinds, values, places and labels are lent for four axes. What stands past the axes in use is not read,
- * and labels there are 0. kinds[2 i] and values[2 i] are the lower end of axis i, kinds[2 i + 1] and values[2 i + 1]
- * the upper one. A value is read where its kind is a first or a second derivative.
+ * Axes. Points, kinds, values, places and labels are lent for four axes. No call looks at what stands past the axes in
+ * use, and labels are 0 there. kinds[2 i] and values[2 i] are the lower end of axis i, kinds[2 i + 1] and
+ * values[2 i + 1] the upper one. A value is read where its kind is a first or a second derivative.
  *
  * Grids. The knots of an axis follow those of the axis before it. Of samples and tensors, neighbours along the last
  * axis stand side by side; a tensor has 2^axes numbers for each sample, one for each mask, and these stand side by side

@@ -29,7 +29,7 @@ pub fn any_not_finite(s: &[f64]) -> bool
     false
 }
 
-// All of it is +0.0 afterwards.
+// Every number becomes +0.0.
 pub fn clear(s: &mut [f64])
     ensures { λ _. ⌜ now (s .exit) ≡ zeros (length (now (s .entry))) ⌝ }
 {

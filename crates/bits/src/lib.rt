@@ -46,7 +46,7 @@ pub fn field_at(bytes: &[u8], at: usize, width: usize) -> u64
     n
 }
 
-// Whether the field of `width` bits from bit `at` on needs more bits than remain.
+// Whether the field of `width` bits from bit `at` on would end behind the last bit.
 pub fn is_short(bytes: &[u8], at: usize, width: usize) -> bool
     requires { ⌜ at + width ≤ 1048576 ⌝ }
     ensures { λ r. ⌜ r ≡ short (now (bytes .entry)) at width ⌝ }
@@ -54,7 +54,7 @@ pub fn is_short(bytes: &[u8], at: usize, width: usize) -> bool
     bytes.len() < (at + width + 7) / 8
 }
 
-// Whether one of the patterns from bit `at` on needs more bits than remain.
+// Whether one of the patterns from bit `at` on would end behind the last bit.
 pub fn are_short(bytes: &[u8], at: usize, count: usize) -> bool
     requires { ⌜ (0 < count) × (at + 64 * count ≤ 1048576) ⌝ }
     ensures { λ r. ⌜ r ≡ numbers-short (now (bytes .entry)) at count ⌝ }

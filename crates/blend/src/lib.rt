@@ -57,7 +57,7 @@ fn remove_lowest(cell: &mut [f64], size: usize, width: f64, t: f64)
     }
 }
 
-// The blend of a cell in which the last `left` of the axes are left: each call removes the lowest, until no axis is left and one number remains.
+// The blend of a cell in which the last `left` of the axes are left: each call removes the lowest of them, and with none left the cell is one number.
 // Not public: the cell's length is required, and few axes.
 pub fn blend(cell: &mut [f64], left: usize, axes: usize, widths: [f64; 4], ts: [f64; 4]) -> f64
     requires { ⌜ (length (now cell) ≡ 4 ^ left) × (left ≤ axes) × (axes ≤ 4) ⌝ }

@@ -1,4 +1,4 @@
-// Refusal 7: an infinity or NaN among the numbers that a call was given. What looks at knots is told whether refusal 8 applies to them: where it does not, the steps between them are finite, and so are they.
+// Refusal 7: whether all that a call was given is finite. What looks at knots is told whether refusal 8 applies to them: where it does not, the steps between them are finite, and so are they.
 ghost use mathlib.Core.Path.{_≡_};
 ghost use mathlib.Core.Bool.{_||_};
 ghost use Prim.Native.Nat.{_≤_};

@@ -9,21 +9,21 @@ ghost use Rattle.grid.specs.Given.{sizes-of};
 ghost use Rattle.checks.specs.Check.{sizes-check};
 use rules::Axis;
 
-// Whether there are not 1 to 4 axes.
+// Whether there is no axis, or more than four.
 pub fn axes_refused(axes: usize) -> bool
     ensures { λ r. ⌜ r ≡ (ltb axes 1 || ltb most-axes axes) ⌝ }
 {
     if axes < 1 { true } else { 4 < axes }
 }
 
-// Whether an axis has fewer than 2 or more than 256 points.
+// Whether the points of an axis lie outside 2 to 256.
 pub fn points_refused(points: usize) -> bool
     ensures { λ r. ⌜ r ≡ points-refused points ⌝ }
 {
     if points < 2 { true } else { 256 < points }
 }
 
-// Whether an axis in use has fewer than 2 or more than 256 points. Not public: few axes are required.
+// Whether so for an axis in use. Not public: few axes are required.
 pub fn some_points_refused(axes: usize, all: [Axis; 4]) -> bool
     requires { ⌜ axes ≤ 4 ⌝ }
     ensures { λ r. ⌜ r ≡ some-points-refused (sizes-of axes all) ⌝ }

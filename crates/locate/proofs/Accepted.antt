@@ -1,4 +1,4 @@
--- Knots that pass document 01's tests 7 and 8 are rising.
+-- Knots that refusals 7 and 8 let pass are rising.
 use mathlib.Core.Path.{_≡_, refl}
 use mathlib.Core.List.{List}
 use mathlib.Core.Bool.{Bool, true, false, not, _||_}

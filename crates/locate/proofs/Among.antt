@@ -170,11 +170,11 @@ module _ (knots : List Float) (point : Float) (n : ℕ) (R : Rising knots n) (F 
   counted : length knots ≡ suc (n - 1)
   counted = let c = R .count in omega arith
 
-  -- the search finds document 01's cell
+  -- the search finds the cell of the rules
   pub lower-index-is-locate : n ≤ 256 → lower-index knots point ≡ locate knots (n - 1) point
   lower-index-is-locate few = lower-index-is knots point (n - 1) placed counted (omega arith) ∙ sym (locate-is knots point (n - 1) placed)
 
-  -- the label of document 01's cell is document 01's label
+  -- the label of that cell is the label of the rules
   pub label-of-is-label : (cell : ℕ) → cell ≡ locate knots (n - 1) point → label-of knots point cell ≡ label knots (n - 1) point
   label-of-is-label cell e =
       label-of-is knots point (n - 1) placed counted (omega arith) cell (e ∙ locate-is knots point (n - 1) placed)

@@ -1,4 +1,4 @@
--- What the cell and its label are, of any knots and of those that document 01 accepts.
+-- What the cell and its label are, of any knots, and of those that no call refuses.
 use mathlib.Core.Path.{_≡_}
 use mathlib.Core.Bool.{true}
 use mathlib.Core.List.{List}
@@ -16,13 +16,13 @@ pub record Rising (knots : List Float) (n : ℕ) : Type 0 where
   pub finite : (k : ℕ) → k < n → finite (at knots k) ≡ true
   pub rise : (k : ℕ) → k + 1 < n → lt (at knots k) (at knots (k + 1)) ≡ true
 
--- the cell of a point: on rising knots document 01's
+-- the cell of a point: on rising knots that of the rules
 pub record Located (knots : List Float) (point : Float) (cell : ℕ) : Type 0 where
   pub found : cell ≡ lower-index knots point
   pub inside : cell + 1 < length knots
   pub rising : {n : ℕ} → Rising knots n → finite point ≡ true → cell ≡ locate knots (n - 1) point
 
--- the label of that cell: on rising knots document 01's
+-- the label of that cell: on rising knots that of the rules
 pub record Labelled (knots : List Float) (point : Float) (cell r : ℕ) : Type 0 where
   pub found : r ≡ label-of knots point cell
   pub inside : r + 1 < length knots

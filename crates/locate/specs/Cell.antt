@@ -1,4 +1,4 @@
--- The search of the Rust's `locate_lower_index`, and the label of its cell, for any knots at all. In quotes stand the words of the Rust and of request W1.
+-- The search of the Rust's `locate_lower_index`, and the label of its cell, for any knots at all.
 use mathlib.Core.Bool.{cond, _&&_}
 use mathlib.Core.List.{List}
 use Prim.Native.Nat.{ℕ, zero, suc, _+_, _-_, _/_, min}
@@ -7,7 +7,7 @@ use lib.ListN.{length}
 use lib.Ieee.{Float, lt, le, eq}
 use Rattle.rules.specs.Numbers.{at}
 
--- "low + (high - low) / 2"
+-- halfway between low and high, rounded down
 abbrev pub middle : ℕ → ℕ → ℕ
 middle low high = low + (high - low) / 2
 
@@ -21,7 +21,7 @@ halving knots point (suc halvings) low high =
     (halving knots point halvings (middle low high + 1) high))
     low
 
--- "The search takes at most 8 halvings an axis"
+-- as many halvings as 256 knots can take
 abbrev pub most-halvings : ℕ
 most-halvings = 8
 
@@ -37,15 +37,15 @@ rust-index knots point =
     (cond (le (at knots (length knots - 1)) point) (length knots - 2)
     (one-back knots point (halving knots point most-halvings 0 (length knots - 1))))
 
--- "held to points minus 2"
+-- an index, and that of the last cell where it would be greater
 abbrev pub held : ℕ → ℕ → ℕ
 held index points = min index (points - 2)
 
--- the cell: "the search runs as in the Rust, its index held to points minus 2"
+-- the cell: the Rust's index, so held
 unfoldable pub lower-index : List Float → Float → ℕ
 unfolding rust-index
 lower-index knots point = held (rust-index knots point) (length knots)
 
--- the label: "the cell, or one more when the point equals the cell's upper knot, held likewise"
+-- the label of a cell: the next one's where the point equals the upper knot, so held, and else its own
 unfoldable pub label-of : List Float → Float → ℕ → ℕ
 label-of knots point cell = held (cond (eq point (at knots (cell + 1))) (cell + 1) cell) (length knots)

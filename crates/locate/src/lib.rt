@@ -1,4 +1,4 @@
-// The cell of a point on one axis and its label, as `locate_lower_index` finds them. No call here is public: callers see to the number of knots.
+// Where a point lies among the knots of an axis, as the Rust's `locate_lower_index` finds it, and its label. No call here is public: callers see to the number of knots.
 ghost use mathlib.Core.Path.{_≡_};
 ghost use Prim.Native.Nat.{_+_, _≤_, _<_};
 ghost use lib.ListN.{length};

@@ -1,4 +1,4 @@
-// Document 01's examples on one axis.
+// The worked examples on one axis.
 ghost use Prim.Native.Nat.{_≤_};
 ghost use lib.ListN.{length};
 use example_lines::BEFORE;

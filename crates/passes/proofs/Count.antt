@@ -41,7 +41,7 @@ of-change n d i mask in-use low =
         ∙ in-mask-above (suc i) (mask + 2 ^ i) j (omega (arith, two-pow-succ i)) lt)
         (eq-or-lt-of-le above)
 
--- "the sum over axes i of the product, over axes j below i, of (1 + points on j)"
+-- along the axes below i: the closed sum of the rules
 pub change-count : (n : ℕ → ℕ) (d i : ℕ) → i ≤ d → lanes-solved-below n d false i ≡ lane-sum n i
 unfolding lanes-solved-below lanes-on-axis sum-below lane-sum
 change-count n d zero le = refl

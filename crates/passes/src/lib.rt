@@ -16,7 +16,7 @@ use rules::Axis;
 use rules::Condition;
 use scratch::TENSOR;
 
-// Mask 0 uses the axis's own ends, any other mask the same kinds with value zero.
+// The condition of an axis for the numbers at a mask: its own for samples, which stand at mask 0, and for derivatives the crossed one.
 fn condition_at(mask: usize, condition: Condition) -> Condition
     ensures { λ r. ⌜ r ≡ condition-at mask condition ⌝ }
 {

@@ -1,4 +1,4 @@
--- What the query answers: an accepted point is located, the blend of its cell is document 01's value, and so are the labels.
+-- What the query answers: an accepted point is located, the blend of its cell is the value of the rules, and the labels are theirs.
 use native.Mathlib.Omega.{arith}
 use mathlib.Core.Path.{_≡_, refl, sym, ap, _∙_}
 use mathlib.Core.Logic.{_≢_}

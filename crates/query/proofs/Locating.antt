@@ -1,4 +1,4 @@
--- Where an accepted point lies: on one axis what `locate` answers is document 01's, and the turns of `locate_on_axes` go from axis to axis.
+-- Where an accepted point lies: on one axis what `locate` answers is the rules' own, and the turns of `locate_on_axes` go from axis to axis.
 use native.Mathlib.Omega.{arith}
 use mathlib.Core.Path.{_≡_, refl, ap, _∙_}
 use mathlib.Core.List.{List}

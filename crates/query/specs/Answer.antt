@@ -5,6 +5,6 @@ use Rattle.rules.specs.Numbers.{plus-zero}
 use Rattle.rules.specs.Sizes.{most-axes}
 use Rattle.rules.specs.declared.QueryAnswer.{QueryAnswer}
 
--- "A refusal carries its number, answer +0.0, labels 0"
+-- the answer of a refusal: its number, and nothing but zeros beside it
 abbrev pub refused-with : ℕ → QueryAnswer
 refused-with refusal = record { refusal = refusal; value = plus-zero; labels = replicate most-axes 0 }

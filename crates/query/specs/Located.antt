@@ -35,7 +35,7 @@ pub record AxisAccepted (knots : List Float) (point : Float) : Type 0 where
   pub rising : Rising knots (length knots)
   pub point-finite : finite point ≡ true
 
--- document 01's cell, width, fraction and label of a point among n + 1 knots
+-- the cell, width, fraction and label that the rules give a point among n + 1 knots
 abbrev pub on-axis : List Float → ℕ → Float → AxisCell
 on-axis knots n point = record {
   lower = locate knots n point;

@@ -1,4 +1,4 @@
--- "Everything is a word of 64 bits, most significant byte first".
+-- The words of the fixed list, each of 64 bits, from its bytes, the most significant first.
 use mathlib.Core.Bool.{cond}
 use mathlib.Core.List.{List}
 use Prim.Native.Nat.{ℕ, zero, suc, _+_, _*_, _/_}

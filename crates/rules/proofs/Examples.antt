@@ -1,4 +1,4 @@
--- The examples marked (P) in document 01, and examples that its errors that look right would not pass: the rows of one theorem about the definitions. Every float is a bit pattern.
+-- The worked examples, and examples that an error which looks right would not pass: the rows of one theorem about the definitions. Every float is a bit pattern.
 use mathlib.Core.Path.{_≡_, refl}
 use mathlib.Core.List.{List, [], _∷_}
 use Prim.Native.Nat.{ℕ}
@@ -95,44 +95,44 @@ abbrev refusal-of : ℕ → List Float → Condition → ℕ
 refusal-of n x c = moments-refusal n x (zeros n) c (zeros n) (zeros 2048)
 
 pub record Examples : Type 0 where
-  -- (P) Natural, x 0 1 2, y 0 1 0: moments 0 −3 0; slopes 1.5, 0, −1.5; curve at 0.5 is 0.6875
+  -- natural, three knots, up by 1 and down again: in the middle the moment is −3; the slopes are 1.5, 0 and −1.5; at 0.5 stands 0.6875
   pub natural-moments : moments knots-3 2 natural (0′ ∷ 1′ ∷ 0′ ∷ []) ≡ 0′ ∷ pattern 0xC008_0000_0000_0000 ∷ 0′ ∷ []
   pub natural-slopes : slopes knots-3 2 natural (0′ ∷ 1′ ∷ 0′ ∷ []) ≡ pattern 0x3FF8_0000_0000_0000 ∷ 0′ ∷ pattern 0xBFF8_0000_0000_0000 ∷ []
   pub natural-curve : spline knots-3 2 natural (0′ ∷ 1′ ∷ 0′ ∷ []) ½ ≡ pattern 0x3FE6_0000_0000_0000
-  -- (P) First derivatives 0 and 0, x 0 1, y 0 1: moments 6 −6; curve at 0.5 is 0.5
+  -- clamped level at both ends, from 0 up to 1: moments 6 and −6, and halfway 0.5
   pub clamped-moments : moments knots-2 1 (clamped 0′ 0′) (0′ ∷ 1′ ∷ []) ≡ pattern 0x4018_0000_0000_0000 ∷ pattern 0xC018_0000_0000_0000 ∷ []
   pub clamped-curve : spline knots-2 1 (clamped 0′ 0′) (0′ ∷ 1′ ∷ []) ½ ≡ ½
-  -- (P) NotAKnot twice, x 0 1 2 3, y 1 3 5 7: at 1.5 is 4, at 4 is 9
+  -- four points of a straight line, NotAKnot: it is met between the knots, at 1.5, and beyond them, at 4
   pub not-a-knot-inside : spline knots-4 3 not-a-knot (1′ ∷ 3′ ∷ 5′ ∷ 7′ ∷ []) (pattern 0x3FF8_0000_0000_0000) ≡ pattern 0x4010_0000_0000_0000
   pub not-a-knot-beyond : spline knots-4 3 not-a-knot (1′ ∷ 3′ ∷ 5′ ∷ 7′ ∷ []) (pattern 0x4010_0000_0000_0000) ≡ pattern 0x4022_0000_0000_0000
-  -- (P) Periodic, x 0 1, y 0 5: moments 0 0, slopes 5 5
+  -- periodic with one interval: moments of zero, and at both knots the slope of the straight line, 5
   pub periodic-moments : moments knots-2 1 periodic (0′ ∷ 5′ ∷ []) ≡ 0′ ∷ 0′ ∷ []
   pub periodic-slopes : slopes knots-2 1 periodic (0′ ∷ 5′ ∷ []) ≡ 5′ ∷ 5′ ∷ []
-  -- (P) Natural on both axes, knots 0 1 and 0 1, samples 0 0 0 1: tensor 0 0 0 1, 0 1 0 1, 0 0 1 1, 1 1 1 1; query (0.5, 0.5) is 0.25
+  -- a natural square whose one corner is up: its tensor, and a quarter in the middle
   pub built : tensor (square natural) corner-up ≡ tensor-before
   pub queried : query (square natural) tensor-before (at (½ ∷ ½ ∷ [])) ≡ pattern 0x3FD0_0000_0000_0000
   -- away from the middle the two axes differ: samples 0 2 0 1 at (0.25, 0.5) is 0.875
   pub queried-off-the-middle : query (square natural) tensor-after (at (pattern 0x3FD0_0000_0000_0000 ∷ ½ ∷ [])) ≡ pattern 0x3FEC_0000_0000_0000
-  -- (P) There, sample (0,1) changed to 2: tensor 0 0 2 −1, 2 −1 2 −1, 0 0 1 −1, 1 −1 1 −1; 4 lanes, where a build solves 6
+  -- the square's sample at (0, 1) becomes 2: the tensor then, which a fresh build has too; 4 lanes of the build's 6
   pub changed : changed-tensor (square natural) place-01 2′ tensor-before ≡ tensor-after
   pub changed-as-built : tensor (square natural) (0′ ∷ 2′ ∷ 0′ ∷ 1′ ∷ []) ≡ tensor-after
   pub lanes-of-the-change : length (change-lanes (square natural) place-01) ≡ 4
   pub sum-of-the-lanes : lane-sum (points (square natural)) 2 ≡ 4
   pub lanes-of-the-build : length (build-lanes (square natural)) ≡ 6
-  -- (P) Knots 0 1 2: point 1 lies in cell 0 with label 1; point 2 in cell 1, label 1; point −1 in cell 0
+  -- cells and labels on three knots: on the middle one, on the last, and below the first
   pub cell-at-interior-knot : locate knots-3 2 1′ ≡ 0
   pub label-at-interior-knot : label knots-3 2 1′ ≡ 1
   pub cell-at-last-knot : locate knots-3 2 2′ ≡ 1
   pub label-at-last-knot : label knots-3 2 2′ ≡ 1
   pub cell-below : locate knots-3 2 -1′ ≡ 0
-  -- (P) NotAKnot twice: 3 points refused 9, 4 accepted. One end: 2 refused, 3 accepted
+  -- one point too few for NotAKnot, and just enough: at both ends, at the lower, at the upper
   pub both-ends-3 : refusal-of 3 knots-3 not-a-knot ≡ 9
   pub both-ends-4 : refusal-of 4 knots-4 not-a-knot ≡ 0
   pub lower-end-2 : refusal-of 2 knots-2 (Endpoints NotAKnot (SecondDerivative 0′)) ≡ 9
   pub lower-end-3 : refusal-of 3 knots-3 (Endpoints NotAKnot (SecondDerivative 0′)) ≡ 0
   pub upper-end-2 : refusal-of 2 knots-2 (Endpoints (FirstDerivative 0′) NotAKnot) ≡ 9
   pub upper-end-3 : refusal-of 3 knots-3 (Endpoints (FirstDerivative 0′) NotAKnot) ≡ 0
-  -- a clamped end's own number stays out of the cross pass: with slopes 1 at every end the mixed derivatives are 0
+  -- the number of a clamped end does not go into splines through derivatives: with slopes 1 at every end the mixed derivatives are 0
   pub clamped-cross-pass :
       tensor (square (clamped 1′ 1′)) corner-up
       ≡ 0′ ∷ 1′ ∷ 1′ ∷ 0′ ∷ 0′ ∷ 1′ ∷ 1′ ∷ 0′ ∷ 0′ ∷ 1′ ∷ 1′ ∷ 0′ ∷ 1′ ∷ 1′ ∷ 1′ ∷ 0′ ∷ []
@@ -140,13 +140,13 @@ pub record Examples : Type 0 where
   pub periodic-corner :
       moments (0′ ∷ 1′ ∷ 3′ ∷ []) 2 periodic (0′ ∷ 1′ ∷ 0′ ∷ [])
       ≡ pattern 0x4007_FFFF_FFFF_FFFE ∷ pattern 0xC007_FFFF_FFFF_FFFF ∷ pattern 0x4007_FFFF_FFFF_FFFE ∷ []
-  -- the M-form rounds: periodic, x 0 1 2, y 2 5 1 is just above 2 at 0
+  -- a curve is rounded at its knots too: this periodic one through 2 5 1 is just above 2 at 0
   pub curve-at-a-knot : spline knots-3 2 periodic (2′ ∷ 5′ ∷ 1′ ∷ []) 0′ ≡ pattern 0x4000_0000_0000_0001
   -- a division is no product with a reciprocal: natural, x 0 1 3, y 0 0 5
   pub divided-by-six :
       slopes (0′ ∷ 1′ ∷ 3′ ∷ []) 2 natural (0′ ∷ 0′ ∷ 5′ ∷ [])
       ≡ pattern 0xBFDA_AAAA_AAAA_AAAB ∷ pattern 0x3FEA_AAAA_AAAA_AAAA ∷ pattern 0x400A_AAAA_AAAA_AAAB ∷ []
-  -- no product is fused with a sum: natural, x 0 1 2, y 0 1 5, at 0.25
+  -- no product is fused with a sum: natural through 0 1 5, at 0.25
   pub rounded-twice : spline knots-3 2 natural (0′ ∷ 1′ ∷ 5′ ∷ []) (pattern 0x3FD0_0000_0000_0000) ≡ pattern 0x3FB3_0000_0000_0000
 
 pub examples : Examples

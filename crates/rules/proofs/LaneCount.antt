@@ -1,4 +1,4 @@
--- "Change": the lanes of a change are as many as the closed sum over the axes says, on every grid and for every changed place on it.
+-- The lanes of a change are as many as the closed sum over the axes says, on every grid and for every changed place on it.
 use mathlib.Core.Path.{_≡_, refl, sym, ap, ap₂, _∙_}
 use mathlib.Core.Logic.{_≢_, ⊎-elim}
 use mathlib.Core.Bool.{Bool, true, false, cond, _&&_, _||_, and-false}
@@ -182,7 +182,7 @@ module _ (g : Grid) (changed : Place) (on-grid : (i : ℕ) → i < g .axes → c
       passing-append (differs g changed) (lanes-below g i) (lanes-along g i (2 ^ i))
       ∙ ap₂ _+_ (count-below i (omega arith)) (count-along i (2 ^ i) h (omega arith) ∙ sum-of-points-products (points g) i)
 
--- "the number of lanes in that list, the sum over axes i of the product, over axes j below i, of (1 + points on j)"
+-- of all axes: the lanes of a change are as many as the closed sum
 pub lane-count : (g : Grid) (changed : Place) → ((i : ℕ) → i < g .axes → changed i < points g i)
     → length (change-lanes g changed) ≡ lane-sum (points g) (g .axes)
 unfolding change-lanes

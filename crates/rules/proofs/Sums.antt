@@ -1,4 +1,4 @@
--- Sums and products over the numbers below a bound, and the sum behind the closed one of "Change".
+-- Sums and products over the numbers below a bound, and the sum behind the closed one of a change's lanes.
 use mathlib.Core.Path.{_≡_, refl, ap, _∙_}
 use mathlib.Core.Bool.{cond}
 use Prim.Native.Nat.{ℕ, zero, suc, _+_, _*_, _/_, _%_, _^_, _<_, _≤_}

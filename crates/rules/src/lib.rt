@@ -1,4 +1,4 @@
-// The types of document 01: ends, conditions, axes, and what the public calls answer.
+// The types that the rules speak of: ends, conditions, axes, and what the public calls answer.
 ghost use mathlib.Core.Path.{_≡_};
 ghost use Rattle.rules.specs.Ends.{zero-valued, crossed, not-a-knot, natural, clamped, periodic, first-derivative, second-derivative};
 ghost use Rattle.rules.specs.Sizes.{unused-axis};
@@ -48,7 +48,7 @@ pub struct QueryAnswer {
 }
 
 impl End {
-    // The same kind with value zero: the end that a cross pass uses.
+    // The end that a spline through derivatives takes: of the same kind, with +0.0 for its number.
     pub fn zero_valued(self) -> End
         ensures { λ r. ⌜ r ≡ zero-valued self ⌝ }
     {
@@ -112,7 +112,7 @@ impl Condition {
         Condition::Endpoints(End::SecondDerivative(lower), End::SecondDerivative(upper))
     }
 
-    // The condition that a cross pass uses: every end with value zero, NotAKnot and Periodic as they are.
+    // The condition that a spline through derivatives takes: both ends so, and Periodic as it is.
     pub fn crossed(self) -> Condition
         ensures { λ r. ⌜ r ≡ crossed self ⌝ }
     {

@@ -1,4 +1,4 @@
--- The sheet of document 01's example, the empty one, and for each fault a sheet that has it: the rows of one theorem about the definitions.
+-- The example sheet, which docs/RULES.md takes apart, the empty one, and for each fault a sheet that has it: the rows of one theorem about the definitions.
 use mathlib.Core.Path.{_≡_, refl}
 use mathlib.Core.List.{List, [], _∷_, _++_}
 use Prim.Native.Nat.{ℕ}
@@ -15,7 +15,7 @@ use Rattle.sheet.specs.Faults.{axis-fault, axes-fault, tail-refused, sam
 abbrev zero-bytes : ℕ → List ℕ
 zero-bytes n = replicate n 0
 
--- "edition 1, one axis, 2 points, natural with +0 values, knots 0 and 1, samples 0 and 1": 403 bits, of which these are the first 400, and the last byte
+-- the example sheet: of its 403 bits the first 400, and then with the byte of the last 3
 abbrev first-bytes : List ℕ
 first-bytes = 0x12 ∷ 0x03 ∷ 0x40 ∷ zero-bytes 23 ++ (0x07 ∷ 0xFE ∷ zero-bytes 14) ++ (0x07 ∷ 0xFE ∷ zero-bytes 6)
 
@@ -34,7 +34,7 @@ pub record Examples : Type 0 where
     flat-knots = plus-zero ∷ one ∷ [];
   }
   pub samples : sheet-samples example ≡ plus-zero ∷ one ∷ []
-  -- "refused 11, which is the output for empty input"
+  -- where there is no bit, the first field is short
   pub empty : sheet-refusal [] ≡ 11
   pub edition-two : sheet-refusal (0x20 ∷ []) ≡ 12
   pub no-axes : sheet-refusal (0x10 ∷ []) ≡ 1

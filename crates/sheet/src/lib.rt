@@ -18,9 +18,9 @@ pub struct ReadAnswer {
 }
 
 // PUBLIC. Reads a sheet: its axes with their ends are the answer, its knots, axis after axis, and its samples go to the first places of
-// the two buffers. Refuses a buffer of another length than 1,024 by 4, and then by the first fault in reading order: 11 a field that
-// needs more bits than remain, 12 an edition that is not 1, 1 axes not 1 to 4, 2 fewer than 2 points, 13 Periodic at one end only, 3 a
-// tensor of more than 4,096 numbers, 14 more than zero bits to the byte. A refusal changes neither buffer.
+// the two buffers. Refuses a buffer of another length than 1,024 by 4, and then by the first fault in reading order: 11 a field behind
+// the last bit, 12 another edition than 1, 1 no axis or too many, 2 an axis of one point, 13 Periodic at one of its ends alone, 3 a
+// tensor of more than 4,096 numbers, 14 more than zeros up to a whole byte. A refusal changes neither buffer.
 pub fn read(bytes: &[u8], knots: &mut [f64], samples: &mut [f64]) -> ReadAnswer
     ensures { λ r. ⌜ ReadPromise (now (bytes .entry)) (now (knots .entry)) (now (samples .entry)) r (now (knots .exit)) (now (samples .exit)) ⌝ }
 {

@@ -58,7 +58,7 @@ pub fn print_tensor(sheet: &[u8]) {
     }
 }
 
-// PUBLIC. Prints the tensor of the sheet on standard input, of which at most 65,536 bytes are read.
+// PUBLIC. Prints the tensor of the sheet on standard input, of which the first 65,536 bytes are looked at and no more.
 pub fn run() {
     let mut buffer = [0u8; 65536];
     let length = io::read_full(STDIN_FILENO, &mut buffer);

@@ -1,4 +1,4 @@
-// Reads one sheet on standard input and prints its tensor.
+// The sheet program: the tensor of a sheet, printed.
 fn main() {
     sheet_print::run();
 }

@@ -1,4 +1,4 @@
-// Document 01's examples of tensor, query and change, and their limits.
+// The worked examples of tensor, query and change, and their limits.
 ghost use Prim.Native.Nat.{_≤_};
 ghost use lib.ListN.{length};
 use example_lines::BEFORE;
@@ -136,7 +136,7 @@ fn too_large() {
     );
 }
 
-// Axes not 1 to 4.
+// No axis, and five.
 fn axes() {
     let natural = grids::axis(2, Condition::natural());
     let all = [natural, natural, natural, natural];

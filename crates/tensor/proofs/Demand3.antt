@@ -1,4 +1,4 @@
--- Demand 3, from the promises of `build` and `change` and the theorems of rules alone: first the four statements, then their proofs.
+-- Demand 3, README's third promise, from the promises of `build` and `change` and the theorems of rules alone: first the four statements, then their proofs.
 use native.Mathlib.Omega.{arith}
 use mathlib.Core.Path.{_≡_, refl, sym, ap, ap₂, _∙_, subst}
 use mathlib.Core.Logic.{_≢_}
@@ -64,7 +64,7 @@ Fitting g t scratch = (length t ≡ tensor-length g) × (scratch-length g ≤ le
 
 -- ---- the statements, each of an accepted build and any list of changes, refused ones among them
 
--- 1: "each tensor number has the bits of a fresh build from the samples now standing", which is not refused
+-- 1: a fresh build from the samples that then stand is not refused, and gives the bits that the tensor has
 abbrev pub HasBitsOfFreshBuild : Type 0
 HasBitsOfFreshBuild =
     (g : Grid) (samples out scratch t cleared : List Float) → BuildPromise g samples out scratch 0 t cleared
@@ -73,7 +73,7 @@ HasBitsOfFreshBuild =
     → BuildPromise g (samples-after g samples steps) out′ scratch′ refusal fresh cleared′
     → (refusal ≡ 0) × (fresh ≡ tensor-after t steps)
 
--- 2: a change with the stated room "is refused exactly when its place is off the grid or a fresh build with its new sample in place would be refused": by 6, or by that build's number
+-- 2: one more change, with the stated room, is refused by 6 where its place is off the grid, and else just as a fresh build from the samples with the new one is
 abbrev pub RefusedAsFreshBuild : Type 0
 RefusedAsFreshBuild =
     (g : Grid) (samples out scratch t cleared : List Float) → BuildPromise g samples out scratch 0 t cleared
@@ -83,7 +83,7 @@ RefusedAsFreshBuild =
     → BuildPromise g (set (samples-after g samples steps) (flat (points g) (g .axes) (step .place)) (step .sample)) out′ scratch′ refusal fresh cleared′
     → step .answer .refusal ≡ cond (place-refused g (step .place)) 6 refusal
 
--- 3: "a derivative over axes S keeps its bits at every point that differs from the changed one on an axis outside S"
+-- 3: one more change leaves the number at a place and a mask where, on some axis outside the mask, the place has another index than the changed one
 abbrev pub KeepsBitsElsewhere : Type 0
 KeepsBitsElsewhere =
     (g : Grid) (samples out scratch t cleared : List Float) → BuildPromise g samples out scratch 0 t cleared
@@ -93,7 +93,7 @@ KeepsBitsElsewhere =
     → j < g .axes → in-mask mask j ≡ false → p j ≢ step .place j
     → at (step .tensor-later) (spot g p mask) ≡ at (tensor-after t steps) (spot g p mask)
 
--- 4: "this equals the number of lanes in that list, the sum over axes i of the product, over axes j below i, of (1 + points on j)", on any tensor
+-- 4: on any tensor the count that an accepted change answers is the length of its list of lanes, and the closed sum
 abbrev pub CountsItsLanes : Type 0
 CountsItsLanes =
     (g : Grid) (t : List Float) (step : Step) → Kept g t (step ∷ []) → step .answer .refusal ≡ 0

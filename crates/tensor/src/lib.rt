@@ -1,4 +1,4 @@
-// The tensor of document 01: every lane of a build, or those of a change that can differ, solved in the scratch behind its rows.
+// The tensor: every lane of a build, or those of a change that can differ, solved in the scratch behind its rows.
 ghost use Rattle.rules.specs.Sizes.{place-of};
 ghost use Rattle.rules.specs.Calls.{BuildPromise, ChangePromise};
 ghost use Rattle.grid.specs.Given.{grid};

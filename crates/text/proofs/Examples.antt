@@ -1,4 +1,4 @@
--- The lines that document 01 shows, byte by byte.
+-- Three lines that docs/RULES.md shows, byte by byte.
 use mathlib.Core.Path.{_≡_, refl}
 use mathlib.Core.List.{[], _∷_}
 use Rattle.text.specs.Lines.{hex-line, tensor-line, refused-line}

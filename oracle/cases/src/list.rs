@@ -49,7 +49,7 @@ const LONGEST_CASE: usize = 200;
 /// How many generated cases of a kind are looked at.
 const LOOKED_AT: u64 = 3_000;
 
-/// The words of the list: the examples of document 01, and generated cases of every call.
+/// The words of the list: the worked examples, and generated cases of every call.
 pub fn list() -> Vec<u64> {
     let mut cases: Vec<Vec<u64>> = examples().iter().map(|case| answered(case).1).collect();
     cases.retain(|words| words.len() <= LONGEST_CASE);

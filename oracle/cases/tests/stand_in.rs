@@ -36,8 +36,8 @@ struct Blend<'a> {
     cells: Vec<Cell>,
 }
 
-/// The cell of a point on one axis: its lower knot's index, its width, and how
-/// far into it the point is.
+/// Where a point lies on an axis: the index of its cell's lower knot, the cell's
+/// width, and how far into the cell it is.
 struct Cell {
     lower: usize,
     width: f64,

@@ -129,7 +129,7 @@ fn goes_through(lane: &Lane, place: &[usize]) -> bool {
     fixed.all(|axis| lane.start[axis] == place[axis])
 }
 
-/// A change that solves only the lanes through the changed place.
+/// A change that solves no lanes but those through the changed place.
 fn solve_lanes_through_the_place(given: &Case, answered: &mut Case) {
     store_the_sample_only(given, answered);
     let shape = shape(given);

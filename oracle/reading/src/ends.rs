@@ -56,7 +56,7 @@ pub fn conditions(kinds: &[u8], values: &[f64]) -> Vec<Condition> {
         .collect()
 }
 
-/// The same kinds with value zero, for a mask other than 0.
+/// The condition with +0.0 for its numbers, which a spline through derivatives takes.
 pub fn homogeneous(condition: &Condition) -> Condition {
     let without_value = |end: &Endpoint| match end {
         Endpoint::FirstDerivative(_) => Endpoint::FirstDerivative(0.0),

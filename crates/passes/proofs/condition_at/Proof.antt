@@ -7,7 +7,7 @@ use Rattle.rules.specs.declared.Condition.{Condition}
 use Rattle.passes.proofs.condition_at.Statement.{statement}
 use Rattle.passes.proofs.condition_at.Tie as tie
 
--- any mask but 0 uses the ends of a cross pass
+-- a mask that is not 0 takes the crossed condition
 crossed-at : (mask : ℕ) (ends : Condition) → mask ≢ 0 → crossed ends ≡ condition-at mask ends
 crossed-at zero ends some = absurd (some refl)
 crossed-at (suc mask) ends some = refl
