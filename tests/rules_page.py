@@ -1,7 +1,8 @@
 #!/usr/bin/env python3
 """Holds docs/RULES.md against the definitions: every chapter has its file, in the files' order, and the file's first line
-names the chapter; every definition is named in its chapter; every definition that the page names is there. Prints each
-definition with its line on the page."""
+names the chapter; every definition is named in its chapter; every definition that the page names is there; and a chapter's
+file uses those of chapters alone, so that all that the promises are made of is on the page. Prints each definition with its
+line on the page."""
 
 import re
 import sys
@@ -16,7 +17,11 @@ PROSE = {"Surface", "Program"}
 
 MODULE = re.compile(r"pub mod (\w+)")
 DEFINITION = re.compile(r"\s*(?:(?:abbrev|unfoldable)(?: pub)?|pub record) (\S+)")
+USE = re.compile(r"use Rattle·(\w+)(?:·specs)?\.specs\.(\w+)")
 CODE = re.compile(r"`([^` ]+)`")
+
+# Where a crate's types stand, which its code declares.
+TYPES = "declared"
 
 # What stands in code style and is no name of a definition: paths, and functions of the code.
 OF_CODE = re.compile(r"\w+[_/:.]")
@@ -56,6 +61,10 @@ def main():
     for chapter, text in lines.items():
         if not text[0].startswith(f"-- The chapter {chapter} of docs/RULES.md: "):
             faults.append(f"{chapter}: the file's first line does not name the chapter")
+        used = [match.groups() for match in map(USE.match, text) if match]
+        for crate, name in used:
+            if crate not in CRATES or name not in lines and name != TYPES:
+                faults.append(f"{chapter}: uses {name} of {crate}, which has no chapter")
     for chapter, words in named.items():
         for name in defined.get(chapter, []):
             if name in words:
