@@ -161,13 +161,15 @@ either-order g samples out scratch t cleared built a b b′ a′ promised promis
     (one-more (b′ ∷ []) [] same-a (one-more [] [] same-b none)) ((different, tt), (tt, tt)) accepted accepted′
 
 pub later-alone : LaterAlone
-later-alone g samples out scratch t cleared built earlier later alone promised promised′ one-place same accepted accepted′ = (
-  same-samples-same-tensor g samples out scratch t cleared built (earlier ∷ later ∷ []) (alone ∷ []) promised promised′
-      (accepted-are-stored g samples (earlier ∷ later ∷ []) accepted
-      ∙ ap (λ (k : ℕ). set (set samples k (earlier .sample)) (number g later) (later .sample)) (same-number g earlier later one-place)
-      ∙ set-set samples (number g later) (earlier .sample) (later .sample)
-      ∙ ap₂ (set samples) (same-number g later alone (same .place)) (same .sample)
-      ∙ sym (accepted-are-stored g samples (alone ∷ []) accepted′)),
-  answer-is g (earlier .tensor-later) later (promised .1 .0, tt) (accepted .1 .0)
-      ∙ sym (answer-is g t alone (promised′ .0, tt) (accepted′ .0)),
-)
+later-alone g samples out scratch t cleared built earlier later alone promised promised′ one-place same accepted accepted′ =
+    let sample-is : later .sample ≡ alone .sample = same .sample in
+    let number-is : number g later ≡ number g alone = same-number g later alone (same .place) in (
+      same-samples-same-tensor g samples out scratch t cleared built (earlier ∷ later ∷ []) (alone ∷ []) promised promised′
+          (accepted-are-stored g samples (earlier ∷ later ∷ []) accepted
+          ∙ ap (λ (k : ℕ). set (set samples k (earlier .sample)) (number g later) (later .sample)) (same-number g earlier later one-place)
+          ∙ set-set samples (number g later) (earlier .sample) (later .sample)
+          ∙ ap₂ (set samples) number-is sample-is
+          ∙ sym (accepted-are-stored g samples (alone ∷ []) accepted′)),
+      answer-is g (earlier .tensor-later) later (promised .1 .0, tt) (accepted .1 .0)
+          ∙ sym (answer-is g t alone (promised′ .0, tt) (accepted′ .0)),
+    )
