@@ -11,7 +11,7 @@ test:
 # The exported calls, and how many cases of each kind are compared with the Rust.
 CALLS = moments curve slopes build change query read sheet_tensor
 CASES = --moments 60000 --curve 60000 --slopes 60000 --build 50000 --change 50000 \
-    --change_list 20000 --query 500000 --read 60000 --sheet_tensor 60000 --short_sheet 65793
+    --change_list 20000 --either_order 60000 --query 500000 --read 60000 --sheet_tensor 60000 --short_sheet 65793
 SEED = 20240917
 
 # Holds the exported calls against the Rust, bit for bit; fails where there is a difference.
