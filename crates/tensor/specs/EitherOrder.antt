@@ -1,13 +1,13 @@
--- Changes in another order: the four statements, each of an accepted build.
+-- Changes in another order: four statements, each about an accepted build and what changes make of its tensor.
 --
--- 1. Two lists of changes, refused ones among them, that leave the same samples standing leave the same tensor.
--- 2. Two changes at different places leave the same tensor in either order, where all four steps are accepted.
--- 3. Two changes at one place leave what the later alone would, where all three steps are accepted.
--- 4. Accepted changes at places that differ from each other leave the same tensor in every order in which all of them are accepted.
+-- 1. The samples that stand in the end decide every bit of the tensor, whatever changes led to them, refused ones among them.
+-- 2. Which of two changes at different places comes first is no matter, if both are accepted in both orders.
+-- 3. Of two changes at one place the earlier leaves no trace, if both are accepted and so is the later without it.
+-- 4. The order of any number of changes, no two at one place, is no matter, if all are accepted in both orders.
 --
--- The same tensor: every bit of every number. Each step has a scratch of its own, and which does not matter.
--- In 2, 3 and 4 the answers are the same too, since an accepted change answers no refusal and a count of lanes that the grid alone decides.
--- A tensor after any list of changes is that of an accepted build (demand 3), so the four hold from there on as well.
+-- Each step has a scratch of its own, and it may be any.
+-- In 2, 3 and 4 the answers are the same too: an accepted change answers no refusal, and a count of lanes that the grid alone decides.
+-- A tensor after any list of changes is that of an accepted build (demand 3), so all four hold from there on as well.
 use mathlib.Core.Path.{_≡_}
 use mathlib.Core.Logic.{_≢_}
 use mathlib.Core.List.{List, [], _∷_, _++_, map}
