@@ -42,10 +42,15 @@ Past rows k = (answer : ℕ) → answer ≡ lowest (drop k rows) 0 → answer �
 
 -- ---- all rows
 
--- whether each row has one of the numbers 1 to 9
+-- whether each row has a number other than 0
 abbrev pub numbered : List Refusal → Bool
 numbered [] = true
-numbered (refusal ∷ rows) = ltb 0 (refusal .number) && (ltb (refusal .number) 10 && numbered rows)
+numbered (refusal ∷ rows) = ltb 0 (refusal .number) && numbered rows
+
+-- whether none has the number of an outcome, or one above it
+abbrev pub below-outcome : List Refusal → Bool
+below-outcome [] = true
+below-outcome (refusal ∷ rows) = ltb (refusal .number) 10 && below-outcome rows
 
 both : (a b : Bool) → T (a && b) → T a × T b
 both true b t = (tt, t)
@@ -53,16 +58,10 @@ both false b t = absurd t
 
 module _ (refusal : Refusal) (rows : List Refusal) (n : T (numbered (refusal ∷ rows))) where
   above-0 : 0 < refusal .number
-  above-0 = ltb→lt 0 (refusal .number) (both (ltb 0 (refusal .number)) _ n .0)
-
-  others : T (ltb (refusal .number) 10 && numbered rows)
-  others = both (ltb 0 (refusal .number)) _ n .1
-
-  below-10 : refusal .number < 10
-  below-10 = ltb→lt (refusal .number) 10 (both (ltb (refusal .number) 10) (numbered rows) others .0)
+  above-0 = ltb→lt 0 (refusal .number) (both (ltb 0 (refusal .number)) (numbered rows) n .0)
 
   rest : T (numbered rows)
-  rest = both (ltb (refusal .number) 10) (numbered rows) others .1
+  rest = both (ltb 0 (refusal .number)) (numbered rows) n .1
 
 -- what comes after the rows counts where they give no number
 pub rows-then : (rows : List Refusal) (later : ℕ) → T (numbered rows) → lowest rows later ≡ or-else (lowest rows 0) later
@@ -75,10 +74,11 @@ rows-then (refusal ∷ rows) later n =
     in-front false h e = e
 
 -- no row has the number of an outcome
-pub rows-below-10 : (rows : List Refusal) → T (numbered rows) → lowest rows 0 < 10
-rows-below-10 [] n = omega arith
-rows-below-10 (refusal ∷ rows) n =
-    in-front (refusal .applies) (below-10 refusal rows n) (rows-below-10 rows (rest refusal rows n))
+pub rows-below-10 : (rows : List Refusal) → T (below-outcome rows) → lowest rows 0 < 10
+rows-below-10 [] b = omega arith
+rows-below-10 (refusal ∷ rows) b =
+    let low = both (ltb (refusal .number) 10) (below-outcome rows) b in
+    in-front (refusal .applies) (ltb→lt (refusal .number) 10 (low .0)) (rows-below-10 rows (low .1))
   where
     in-front : (b : Bool) → refusal .number < 10 → lowest rows 0 < 10 → cond b (refusal .number) (lowest rows 0) < 10
     in-front true h e = h

@@ -20,7 +20,7 @@ use Rattle.rules.specs.Calls.{or-else, stored, scratch-after, answered, counted
 use Rattle.rules.specs.declared.Condition.{Condition}
 use Rattle.rules.proofs.Refused.{or-else-met}
 use Rattle.checks.specs.Check.{Refusal, lowest, moments-rows, curve-rows, slopes-rows, build-rows, change-rows, query-rows, moments-check, curve-check, slopes-check, build-check, change-check, query-check}
-use Rattle.checks.proofs.Rows.{numbered, rows-then, rows-below-10}
+use Rattle.checks.proofs.Rows.{numbered, below-outcome, rows-then, rows-below-10}
 
 -- the refusal is the check's number, and where that is 0, 10 for an outcome that is refused
 pub record ThenOutcome (check : ℕ) (bad : Bool) (refusal : ℕ) : Type 0 where
@@ -60,8 +60,8 @@ module _ {check refusal : ℕ} {bad : Bool} (t : ThenOutcome check bad refusal) 
   pub outcome-good : check ≡ 0 → bad ≡ false → refusal ≡ 0
   outcome-good e b = rw (outcome e, b)
 
-then-outcome : (rows : List Refusal) (bad : Bool) → T (numbered rows) → ThenOutcome (lowest rows 0) bad (lowest rows (cond bad 10 0))
-then-outcome rows bad n = record { is = rows-then rows (cond bad 10 0) n; low = rows-below-10 rows n }
+then-outcome : (rows : List Refusal) (bad : Bool) → T (numbered rows) → T (below-outcome rows) → ThenOutcome (lowest rows 0) bad (lowest rows (cond bad 10 0))
+then-outcome rows bad n b = record { is = rows-then rows (cond bad 10 0) n; low = rows-below-10 rows b }
 
 -- ---- each call
 
@@ -69,29 +69,29 @@ module _ (n : ℕ) (x y : List Float) where
   pub moments-outcome : (condition : Condition) (moments-out scratch-lent : List Float) → ThenOutcome (moments-check n x y condition (length moments-out) (length scratch-lent)) (outcome-refused (moments x (n - 1) condition y)) (moments-refusal n x y condition moments-out scratch-lent)
   unfolding moments-check moments-refusal
   moments-outcome condition moments-out scratch-lent =
-      then-outcome (moments-rows n x y condition (length moments-out) (length scratch-lent)) (outcome-refused (moments x (n - 1) condition y)) tt
+      then-outcome (moments-rows n x y condition (length moments-out) (length scratch-lent)) (outcome-refused (moments x (n - 1) condition y)) tt tt
 
   pub curve-outcome : (m : List Float) (point : Float) → ThenOutcome (curve-check n x y (length m) point) (answer-refused (curve x (n - 1) y m point)) (curve-refusal n x y m point)
   unfolding curve-check curve-refusal
-  curve-outcome m point = then-outcome (curve-rows n x y (length m) point) (answer-refused (curve x (n - 1) y m point)) tt
+  curve-outcome m point = then-outcome (curve-rows n x y (length m) point) (answer-refused (curve x (n - 1) y m point)) tt tt
 
   pub slopes-outcome : (m slopes-out : List Float) → ThenOutcome (slopes-check n x y (length m) (length slopes-out)) (outcome-refused (knot-slopes x (n - 1) y m)) (slopes-refusal n x y m slopes-out)
   unfolding slopes-check slopes-refusal
   slopes-outcome m slopes-out =
-      then-outcome (slopes-rows n x y (length m) (length slopes-out)) (outcome-refused (knot-slopes x (n - 1) y m)) tt
+      then-outcome (slopes-rows n x y (length m) (length slopes-out)) (outcome-refused (knot-slopes x (n - 1) y m)) tt tt
 
 module _ (g : Grid) where
   pub build-outcome : (samples tensor-out scratch-lent : List Float) → ThenOutcome (build-check g samples (length tensor-out) (length scratch-lent)) (outcome-refused (tensor g samples)) (build-refusal g samples tensor-out scratch-lent)
   unfolding build-check build-refusal
   build-outcome samples tensor-out scratch-lent =
-      then-outcome (build-rows g samples (length tensor-out) (length scratch-lent)) (outcome-refused (tensor g samples)) tt
+      then-outcome (build-rows g samples (length tensor-out) (length scratch-lent)) (outcome-refused (tensor g samples)) tt tt
 
   pub change-outcome : (tensor-lent scratch-lent : List Float) (changed : Place) (v : Float) → ThenOutcome (change-check g tensor-lent (length scratch-lent) changed v) (outcome-refused (changed-tensor g changed v tensor-lent)) (change-refusal g tensor-lent scratch-lent changed v)
   unfolding change-check change-refusal
   change-outcome tensor-lent scratch-lent changed v =
-      then-outcome (change-rows g tensor-lent (length scratch-lent) changed v) (outcome-refused (changed-tensor g changed v tensor-lent)) tt
+      then-outcome (change-rows g tensor-lent (length scratch-lent) changed v) (outcome-refused (changed-tensor g changed v tensor-lent)) tt tt
 
   pub query-outcome : (tensor-lent coordinates : List Float) → ThenOutcome (query-check g (length tensor-lent) coordinates) (answer-refused (query g tensor-lent (at coordinates))) (query-refusal g tensor-lent coordinates)
   unfolding query-check query-refusal
   query-outcome tensor-lent coordinates =
-      then-outcome (query-rows g (length tensor-lent) coordinates) (answer-refused (query g tensor-lent (at coordinates))) tt
+      then-outcome (query-rows g (length tensor-lent) coordinates) (answer-refused (query g tensor-lent (at coordinates))) tt tt

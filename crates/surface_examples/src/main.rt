@@ -2,8 +2,6 @@
 ghost use Prim.Native.Nat.{_≤_};
 ghost use lib.ListN.{length};
 use example_lines::BEFORE;
-use example_lines::print;
-use example_lines::print_count;
 use example_lines::print_numbers;
 use example_lines::print_output;
 use example_lines::print_refusal;
@@ -12,6 +10,7 @@ use rules::Axis;
 use rules::Condition;
 use surface_lines::grids;
 use surface_lines::print_build;
+use surface_lines::print_change;
 use surface_lines::print_query;
 
 // A build on a grid near the limit, with its first numbers.
@@ -33,25 +32,6 @@ fn print_large_build(
     } else {
         print_output(refusal, tensor);
     }
-    print_scratch(&scratch);
-}
-
-// A change, with every number of the tensor.
-fn print_change(
-    name: &[u8],
-    axes: usize,
-    all: [Axis; 4],
-    knots: &[f64],
-    tensor: &mut [f64],
-    place: [usize; 4],
-    sample: f64,
-) {
-    let mut scratch = [BEFORE; 2500];
-    let answer = tensor::change(axes, all, knots, tensor, &mut scratch, place, sample);
-    print_refusal(name, b"change", answer.refusal);
-    print(b" lanes");
-    print_count(answer.lanes);
-    print_numbers(tensor);
     print_scratch(&scratch);
 }
 

@@ -3,6 +3,7 @@ use example_lines::BEFORE;
 use example_lines::print;
 use example_lines::print_count;
 use example_lines::print_number;
+use example_lines::print_numbers;
 use example_lines::print_output;
 use example_lines::print_refusal;
 use example_lines::print_scratch;
@@ -23,6 +24,25 @@ pub fn print_build(
     let refusal = tensor::build(axes, all, knots, samples, tensor, &mut scratch);
     print_refusal(name, b"build", refusal);
     print_output(refusal, tensor);
+    print_scratch(&scratch);
+}
+
+// A change, with every number of the tensor.
+pub fn print_change(
+    name: &[u8],
+    axes: usize,
+    all: [Axis; 4],
+    knots: &[f64],
+    tensor: &mut [f64],
+    place: [usize; 4],
+    sample: f64,
+) {
+    let mut scratch = [BEFORE; 2500];
+    let answer = tensor::change(axes, all, knots, tensor, &mut scratch, place, sample);
+    print_refusal(name, b"change", answer.refusal);
+    print(b" lanes");
+    print_count(answer.lanes);
+    print_numbers(tensor);
     print_scratch(&scratch);
 }
 

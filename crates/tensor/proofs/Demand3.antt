@@ -16,7 +16,7 @@ use Rattle.rules.specs.Sizes.{Grid, points, knots-length, samples-length, masks
 use Rattle.rules.specs.Refusals.{axes-refused, some-points-refused, tensor-refused, length-refused, place-refused, number-refused, some-number-refused, some-ends-refused, some-knots-refused, some-fewness-refused, outcome-refused}
 use Rattle.rules.specs.Tensor.{sample, tensor}
 use Rattle.rules.specs.Change.{agree, changed-tensor, change-lanes, lane-sum}
-use Rattle.rules.specs.Calls.{stored, counted, build-refusal, BuildPromise, change-refusal, change-answer, ChangePromise}
+use Rattle.rules.specs.Calls.{stored, counted, build-refusal, BuildPromise, change-refusal, change-answer}
 use Rattle.rules.specs.declared.ChangeAnswer.{ChangeAnswer}
 use Rattle.rules.proofs.Cases.{not-both}
 use Rattle.rules.proofs.Places.{OnGrid, flat-below}
@@ -25,38 +25,9 @@ use Rattle.rules.proofs.ChangeIsBuild.{kept, built-entry, set-is-with-sample, c
 use Rattle.rules.proofs.LaneCount.{lane-count}
 use Rattle.base.proofs.Scan.{neither, any-found, any-at, any-ext}
 use Rattle.lane_starts.proofs.Agreement.{agree-at}
+use Rattle.tensor.specs.Changes.{Step, Kept, tensor-after, standing, samples-after}
 
 -- ---- what the statements speak of
-
--- one change of a list: what was asked, the scratch that was lent, the answer, and what stood afterwards in the tensor and the scratch
-pub record Step : Type 0 where
-  pub place : Place
-  pub sample : Float
-  pub scratch : List Float
-  pub answer : ChangeAnswer
-  pub tensor-later : List Float
-  pub scratch-later : List Float
-
--- each change kept its promise, on the tensor that the one before it left
-abbrev pub Kept : Grid → List Float → List Step → Type 0
-Kept g t [] = Unit {0}
-Kept g t (step ∷ steps) =
-    ChangePromise g t (step .scratch) (step .place) (step .sample) (step .answer) (step .tensor-later) (step .scratch-later)
-    × Kept g (step .tensor-later) steps
-
--- the tensor after them
-abbrev pub tensor-after : List Float → List Step → List Float
-tensor-after t [] = t
-tensor-after t (step ∷ steps) = tensor-after (step .tensor-later) steps
-
--- the samples now standing: a change that was not refused put its own in place
-abbrev pub standing : Grid → ℕ → List Float → Place → Float → List Float
-standing g zero samples place v = set samples (flat (points g) (g .axes) place) v
-standing g (suc refusal) samples place v = samples
-
-abbrev pub samples-after : Grid → List Float → List Step → List Float
-samples-after g samples [] = samples
-samples-after g samples (step ∷ steps) = samples-after g (standing g (step .answer .refusal) samples (step .place) (step .sample)) steps
 
 -- the right length, and the stated room
 abbrev pub Fitting : Grid → List Float → List Float → Type 0
@@ -273,7 +244,7 @@ module _ (g : Grid) (samples : List Float) (sound : Sound g samples) where
       outcome-finite = fine;
     }
 
--- ---- an accepted change
+-- ---- the answer of a change, and what an accepted one had to be
 
 pub record Accepted (g : Grid) (t : List Float) (place : Place) (v : Float) : Type 0 where
   pub on-the-grid : OnGrid (points g) (g .axes) place
@@ -283,7 +254,7 @@ pub record Accepted (g : Grid) (t : List Float) (place : Place) (v : Float) : Ty
 on-grid : (g : Grid) (place : Place) → place-refused g place ≡ false → OnGrid (points g) (g .axes) place
 on-grid g place fine i below = leb-false (points g i) (place i) (any-at (λ j. leb (points g j) (place j)) (g .axes) fine i below)
 
-change-accepted : (g : Grid) (t scratch : List Float) (place : Place) (v : Float) → change-refusal g t scratch place v ≡ 0 → Accepted g t place v
+pub change-accepted : (g : Grid) (t scratch : List Float) (place : Place) (v : Float) → change-refusal g t scratch place v ≡ 0 → Accepted g t place v
 unfolding change-refusal
 change-accepted g t scratch place v e =
     let r1 = peel (axes-refused g) 0 _ e in
@@ -303,6 +274,12 @@ change-accepted g t scratch place v e =
       outcome-finite = r10 .0;
     }
 
+pub refusal-is :
+    (g : Grid) (t : List Float) (step : Step) → Kept g t (step ∷ [])
+    → step .answer .refusal ≡ change-refusal g t (step .scratch) (step .place) (step .sample)
+unfolding change-answer
+refusal-is g t step promised = ap (λ (a : ChangeAnswer). a .refusal) (promised .0 .answer)
+
 -- ---- a tensor that stands as built
 
 pub record Stands (g : Grid) (samples t : List Float) : Type 0 where
@@ -310,7 +287,7 @@ pub record Stands (g : Grid) (samples t : List Float) : Type 0 where
   pub is : t ≡ tensor g samples
 
 -- after the build
-built-stands : (g : Grid) (samples out scratch t cleared : List Float) → BuildPromise g samples out scratch 0 t cleared → Stands g samples t
+pub built-stands : (g : Grid) (samples out scratch t cleared : List Float) → BuildPromise g samples out scratch 0 t cleared → Stands g samples t
 built-stands g samples out scratch t cleared p = record {
   sound = accepted-is-sound g samples out scratch (sym (p .answer));
   is = p .output ∙ ap (λ (r : ℕ). stored r out (tensor g samples)) (sym (p .answer));
@@ -326,14 +303,10 @@ module _ (g : Grid) (samples t : List Float) (step : Step) (stands : Stands g sa
   abbrev refusal : ℕ
   refusal = change-refusal g t (step .scratch) place v
 
-  refusal-is : step .answer .refusal ≡ refusal
-  unfolding change-answer
-  refusal-is = ap (λ (a : ChangeAnswer). a .refusal) (promised .0 .answer)
-
   -- after one more change
   step-stands : Stands g (standing g (step .answer .refusal) samples place v) (step .tensor-later)
   step-stands =
-      subst (λ (r : ℕ). Stands g (standing g r samples place v) (step .tensor-later)) (sym refusal-is)
+      subst (λ (r : ℕ). Stands g (standing g r samples place v) (step .tensor-later)) (sym (refusal-is g t step promised))
       (subst (λ (l : List Float). Stands g (standing g refusal samples place v) l) (sym (promised .0 .output)) (go refusal refl))
     where
       go : (r : ℕ) → refusal ≡ r → Stands g (standing g r samples place v) (stored r t (changed-tensor g place v t))
@@ -350,7 +323,7 @@ module _ (g : Grid) (samples t : List Float) (step : Step) (stands : Stands g sa
       go (suc r) e = stands
 
 -- after a list of changes
-steps-stand : (g : Grid) (samples t : List Float) → Stands g samples t → (steps : List Step) → Kept g t steps → Stands g (samples-after g samples steps) (tensor-after t steps)
+pub steps-stand : (g : Grid) (samples t : List Float) → Stands g samples t → (steps : List Step) → Kept g t steps → Stands g (samples-after g samples steps) (tensor-after t steps)
 steps-stand g samples t stands [] promised = stands
 steps-stand g samples t stands (step ∷ steps) promised =
     steps-stand g (standing g (step .answer .refusal) samples (step .place) (step .sample)) (step .tensor-later)
@@ -370,7 +343,7 @@ has-bits-of-fresh-build g samples out scratch t cleared built steps promised out
 
 pub refused-as-fresh-build : RefusedAsFreshBuild
 refused-as-fresh-build g samples out scratch t cleared built steps promised step room next out′ scratch′ fresh cleared′ refusal fitting again =
-    refusal-is g now (tensor-after t steps) step stands next
+    refusal-is g (tensor-after t steps) step next
     ∙ ap (λ (l : List Float). change-refusal g l (step .scratch) p v) (stands .is)
     ∙ change-number g now sound (step .scratch) p v (tensor-long g now sound) room
     ∙ go (place-refused g p) refl
@@ -442,7 +415,7 @@ pub counts-its-lanes : CountsItsLanes
 unfolding change-answer
 counts-its-lanes g t step promised none =
     let p : Place = step .place in
-    let refused : change-refusal g t (step .scratch) p (step .sample) ≡ 0 = sym (ap (λ (a : ChangeAnswer). a .refusal) (promised .0 .answer)) ∙ none in
+    let refused : change-refusal g t (step .scratch) p (step .sample) ≡ 0 = sym (refusal-is g t step promised) ∙ none in
     let listed : step .answer .lanes ≡ length (change-lanes g p) =
     ap (λ (a : ChangeAnswer). a .lanes) (promised .0 .answer) ∙ ap (λ (r : ℕ). counted r (length (change-lanes g p))) refused in
     (listed, listed ∙ lane-count g p (change-accepted g t (step .scratch) p (step .sample) refused .on-the-grid))

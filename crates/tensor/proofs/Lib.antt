@@ -5,3 +5,4 @@ pub mod Promises
 pub mod Building
 pub mod Changing
 pub mod Demand3
+pub mod EitherOrder

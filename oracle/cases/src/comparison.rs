@@ -1,5 +1,7 @@
 //! Runs cases against the reading and against a subject, and compares.
 
+mod either_order;
+
 use crate::case::{Argument, Calls, Case};
 use crate::examples::examples;
 use crate::faults::spoil;
@@ -24,6 +26,9 @@ pub struct Plan {
 /// A list of changes is some 25 calls, so there are fewer lists.
 const CHANGES_IN_A_LIST: u64 = 25;
 
+/// The same changes in two orders are some 8 calls.
+const CALLS_IN_TWO_ORDERS: u64 = 8;
+
 impl Plan {
     /// About so many calls of each kind, the examples once, and no sheet of up to
     /// two bytes twice.
@@ -32,6 +37,7 @@ impl Plan {
             Kind::Example => 1,
             Kind::ShortSheet => calls.min(SHORT_SHEETS),
             Kind::ChangeList => calls.div_ceil(CHANGES_IN_A_LIST),
+            Kind::EitherOrder => calls.div_ceil(CALLS_IN_TWO_ORDERS),
             _ => calls,
         });
         Self { seed, cases }
@@ -68,6 +74,9 @@ fn compare_kind(subject: &dyn Calls, plan: &Plan, kind: Kind, report: &mut Repor
             Kind::Example => run.compare_examples(),
             Kind::ChangeList => run.change_list(random),
             Kind::ShortSheet => run.compare_sheet(random, &short_sheet(number)),
+            Kind::EitherOrder => {
+                run.either_order(random);
+            }
             _ => {
                 run.compare(&generator::single(kind, number as usize, random));
             }

@@ -11,7 +11,7 @@ use crate::sheet::{damaged_sheet, good_sheet, swept_sheet};
 use reading::CURVE_SCRATCH;
 
 /// The kinds of cases: the worked examples, one kind for each call, lists
-/// of changes, and the sheets of up to two bytes.
+/// of changes, the sheets of up to two bytes, and changes in two orders.
 #[derive(Debug, Clone, Copy, PartialEq, Eq)]
 pub enum Kind {
     Example,
@@ -25,10 +25,11 @@ pub enum Kind {
     Read,
     SheetTensor,
     ShortSheet,
+    EitherOrder,
 }
 
 /// Every kind, in the order of the report.
-pub const KINDS: [Kind; 11] = [
+pub const KINDS: [Kind; 12] = [
     Kind::Example,
     Kind::Moments,
     Kind::Curve,
@@ -40,6 +41,7 @@ pub const KINDS: [Kind; 11] = [
     Kind::Read,
     Kind::SheetTensor,
     Kind::ShortSheet,
+    Kind::EitherOrder,
 ];
 
 impl Kind {
@@ -57,12 +59,16 @@ impl Kind {
             Kind::Read => "read",
             Kind::SheetTensor => "sheet_tensor",
             Kind::ShortSheet => "short_sheet",
+            Kind::EitherOrder => "either_order",
         }
     }
 
     /// Whether a case of the kind is one call that is generated.
     pub fn is_single_call(self) -> bool {
-        !matches!(self, Kind::Example | Kind::ChangeList | Kind::ShortSheet)
+        !matches!(
+            self,
+            Kind::Example | Kind::ChangeList | Kind::ShortSheet | Kind::EitherOrder
+        )
     }
 }
 
@@ -88,7 +94,7 @@ pub fn single(kind: Kind, number: usize, random: &mut Random) -> Case {
         Kind::Query => query(random),
         Kind::Read => read(random, number),
         Kind::SheetTensor => sheet_tensor(random, number),
-        Kind::Example | Kind::ChangeList | Kind::ShortSheet => {
+        Kind::Example | Kind::ChangeList | Kind::ShortSheet | Kind::EitherOrder => {
             panic!("more than one call: {}", kind.name())
         }
     }

@@ -18,7 +18,7 @@ fn refusals(kind: Kind) -> &'static [usize] {
         Kind::Moments => &[2, 4, 5, 7, 8, 9, 10, 13],
         Kind::Curve | Kind::Slopes => &[2, 4, 7, 8, 10],
         Kind::Build => &[1, 2, 3, 4, 5, 7, 8, 9, 10, 13],
-        Kind::Change | Kind::ChangeList => &[1, 2, 3, 4, 5, 6, 7, 8, 9, 10, 13],
+        Kind::Change | Kind::ChangeList | Kind::EitherOrder => &[1, 2, 3, 4, 5, 6, 7, 8, 9, 10, 13],
         Kind::Query => &[1, 2, 3, 4, 7, 8, 10],
         Kind::Read => &[1, 2, 3, 4, 11, 12, 13, 14],
         Kind::SheetTensor => &[1, 2, 3, 4, 5, 7, 8, 9, 10, 11, 12, 13, 14],

@@ -149,6 +149,7 @@ fn a_change_of_the_lanes_through_the_place_only_is_found() {
     };
     assert!(differences(&wrong, Kind::Change) > 0);
     assert!(differences(&wrong, Kind::ChangeList) > 0);
+    assert!(differences(&wrong, Kind::EitherOrder) > 0);
 }
 
 #[test]
