@@ -1,4 +1,4 @@
--- What the class of the call's refusal says of the buffers: after Reading nothing of the sheet shows, after Building its parts stand there.
+-- What the class of the call's refusal says of the answer and the buffers: after Reading nothing of the sheet shows, after Building the answer has its axes and its parts stand in the buffers.
 use mathlib.Core.Path.{_≡_, refl, sym, ap, _∙_}
 use mathlib.Core.Bool.{_||_}
 use mathlib.Core.List.{List}
@@ -15,17 +15,17 @@ use Rattle.rules.proofs.Refused.{unchanged}
 use Rattle.checks.proofs.Rows.{exact}
 use Rattle.kinds.specs.Classes.{class}
 use Rattle.kinds.specs.declared.classes.Class.the-variants.{Reading, Building}
-use Rattle.kinds.proofs.Apart.{none-not-reading, reading-not-building}
+use Rattle.kinds.proofs.Apart.{none-not-reading, reading-not-building, none-not-building}
 use Rattle.sheet.specs.Fields.{sheet-grid, sheet-samples}
 use Rattle.sheet.specs.Faults.{sheet-refusal}
 use Rattle.sheet.specs.Read.{over, read-refusal}
 use Rattle.sheet.proofs.Walks.{passed}
 use Rattle.sheet.proofs.Parts.{parts}
 use Rattle.sheet.proofs.Promises.{lengths-passed}
-use Rattle.sheet_build.specs.SheetTensor.{parts-refusal, reading-refusal, sheet-tensor-refusal, SheetPromise}
+use Rattle.sheet_build.specs.SheetTensor.{unread-answer, read-answer, parts-refusal, reading-refusal, sheet-tensor-refusal, SheetPromise}
 use Rattle.sheet_build.specs.declared.SheetAnswer.{SheetAnswer}
 use Rattle.sheet_build.proofs.Faults.{Of, no-fault, tested, reading-of-reading}
-use Rattle.sheet_build.proofs.Builds.{answered-refusal}
+use Rattle.sheet_build.proofs.Builds.{unread-is, answered-refusal}
 use Rattle.sheet_build.proofs.Promises.{refusal-met, refusal-passed}
 
 module _ (bytes : List ℕ) (knots samples lent scratch : List Float) where
@@ -89,14 +89,26 @@ module _ (bytes : List ℕ) (knots samples lent scratch : List Float) where
 
   module _ (given : SheetAnswer) (k s t w : List Float) (p : SheetPromise bytes knots samples lent scratch given k s t w) where
     class-is : class (given .refusal) ≡ class refusal
-    class-is = ap (λ (a : SheetAnswer). class (a .refusal)) (p .answer) ∙ ap class (answered-refusal refusal g)
+    class-is = ap (λ (a : SheetAnswer). class (a .refusal)) (p .answer) ∙ ap class (answered-refusal reading refusal g)
 
-    pub shows-nothing : class (given .refusal) ≡ Reading → (k ≡ knots) × (s ≡ samples)
+    pub shows-nothing : class (given .refusal) ≡ Reading → (given ≡ unread-answer refusal) × (k ≡ knots) × (s ≡ samples)
     shows-nothing c =
-        let met = not-read (sym class-is ∙ c) in
-        (p .knots ∙ sym (unchanged reading knots _ met), p .samples ∙ sym (unchanged reading samples _ met))
+        let met = not-read (sym class-is ∙ c) in (
+          p .answer ∙ sym (unread-is reading refusal g met),
+          p .knots ∙ sym (unchanged reading knots _ met),
+          p .samples ∙ sym (unchanged reading samples _ met),
+        )
 
-    pub parts-stand : class (given .refusal) ≡ Building → (k ≡ over (g .flat-knots) knots) × (s ≡ over y samples)
+    pub parts-stand : class (given .refusal) ≡ Building → (given ≡ read-answer refusal g) × (k ≡ over (g .flat-knots) knots) × (s ≡ over y samples)
     parts-stand c =
         let none = was-read (sym class-is ∙ c) in
-        (rw none at (p .knots), rw none at (p .samples))
+        (rw none at (p .answer), rw none at (p .knots), rw none at (p .samples))
+
+    -- and there is no tensor
+    pub nothing-built : class (given .refusal) ≡ Building → (given .length ≡ 0) × (t ≡ lent)
+    unfolding class
+    nothing-built c = go refusal refl
+      where
+        go : (number : ℕ) → refusal ≡ number → (given .length ≡ 0) × (t ≡ lent)
+        go zero e = absurd (none-not-building (sym (ap class e) ∙ sym class-is ∙ c))
+        go (suc number) e = (ap (λ (a : SheetAnswer). a .length) (parts-stand c .0) ∙ rw e, rw e at (p .output))
