@@ -138,33 +138,21 @@ pub fn read(list: &[u8], begin: usize) -> Replayed {
     )
 }
 
-// Whether the slices of a sheet's tensor are left as the list says: the first is given at a place, and what it is left with stands at another.
-fn sheet_tensor_left(
+// Whether the slices that the tensor of a sheet goes to are left as the list says: those after the ones that a read writes, the first given at a place, and what it is left with at another.
+fn tensor_left(
     list: &[u8],
     given: usize,
     left: usize,
-    knots: &[f64],
-    samples: &[f64],
     tensor: &[f64],
     scratch: &[f64],
     length: &[usize],
 ) -> Replayed {
-    let given_samples = after_given(list, given);
-    let given_tensor = after_given(list, given_samples);
-    let given_scratch = after_given(list, given_tensor);
+    let given_scratch = after_given(list, given);
     let given_length = after_given(list, given_scratch);
-    let left_samples = after_left(list, left);
-    let left_tensor = after_left(list, left_samples);
-    let left_scratch = after_left(list, left_tensor);
+    let left_scratch = after_left(list, left);
     let left_length = after_left(list, left_scratch);
     let next = after_left(list, left_length);
-    if !floats_left(list, given, left, knots) {
-        return Replayed { same: false, next };
-    }
-    if !floats_left(list, given_samples, left_samples, samples) {
-        return Replayed { same: false, next };
-    }
-    if !floats_left(list, given_tensor, left_tensor, tensor) {
+    if !floats_left(list, given, left, tensor) {
         return Replayed { same: false, next };
     }
     if !floats_left(list, given_scratch, left_scratch, scratch) {
@@ -176,14 +164,19 @@ fn sheet_tensor_left(
     }
 }
 
-// The call on the sheet that the list gives at a place and on the slices that it writes, of which the first is given at another; the arguments end at `answer`.
+// The call on the sheet that the list gives at a place and on the slices that it writes, of which the first is given at another and the tensor at a third; the arguments end at `answer`.
 fn sheet_tensor_answered(
     list: &[u8],
     begin: usize,
     given: usize,
+    given_tensor: usize,
     answer: usize,
     knots: &mut [f64],
     samples: &mut [f64],
+    axes: &mut [usize],
+    points: &mut [usize],
+    kinds: &mut [u8],
+    values: &mut [f64],
     tensor: &mut [f64],
     scratch: &mut [f64],
     length: &mut [usize],
@@ -194,36 +187,69 @@ fn sheet_tensor_answered(
         &bytes[0..bytes_end],
         knots,
         samples,
+        axes,
+        points,
+        kinds,
+        values,
         tensor,
         scratch,
         length,
     );
     let left = after(answer, 1);
-    let replayed = sheet_tensor_left(list, given, left, knots, samples, tensor, scratch, length);
+    let read = read_left(
+        list,
+        given,
+        left,
+        knots,
+        samples,
+        axes,
+        points,
+        kinds,
+        values,
+    );
+    let built = tensor_left(list, given_tensor, read.next, tensor, scratch, length);
     if refusal as u64 != word(list, answer) {
         return Replayed {
             same: false,
-            next: replayed.next,
+            next: built.next,
         };
     }
-    replayed
+    if !read.same {
+        return Replayed {
+            same: false,
+            next: built.next,
+        };
+    }
+    built
 }
 
 // A case of a sheet's tensor, whose arguments begin at a place.
 pub fn sheet_tensor(list: &[u8], begin: usize) -> Replayed {
     let at_knots = after_given(list, begin);
     let at_samples = after_given(list, at_knots);
-    let at_tensor = after_given(list, at_samples);
+    let at_axes = after_given(list, at_samples);
+    let at_points = after_given(list, at_axes);
+    let at_kinds = after_given(list, at_points);
+    let at_values = after_given(list, at_kinds);
+    let at_tensor = after_given(list, at_values);
     let at_scratch = after_given(list, at_tensor);
     let at_length = after_given(list, at_scratch);
     let answer = after_given(list, at_length);
     let mut knots = floats_given(list, at_knots);
     let mut samples = floats_given(list, at_samples);
+    let mut axes = numbers_given(list, at_axes);
+    let mut points = numbers_given(list, at_points);
+    let mut kinds = bytes_given(list, at_kinds);
+    let mut values = floats_given(list, at_values);
     let mut tensor = floats_given(list, at_tensor);
     let mut scratch = floats_given(list, at_scratch);
     let mut length = numbers_given(list, at_length);
     let knots_end = floats_at(list, at_knots);
     let samples_end = floats_at(list, at_samples);
+    let axes_end = numbers_at(list, at_axes);
+    let points_end = numbers_at(list, at_points);
+    let kinds_end = bytes_at(list, at_kinds);
+    let values_end = floats_at(list, at_values);
     let tensor_end = floats_at(list, at_tensor);
     let scratch_end = floats_at(list, at_scratch);
     let length_end = numbers_at(list, at_length);
@@ -231,9 +257,14 @@ pub fn sheet_tensor(list: &[u8], begin: usize) -> Replayed {
         list,
         begin,
         at_knots,
+        at_tensor,
         answer,
         &mut knots[0..knots_end],
         &mut samples[0..samples_end],
+        &mut axes[0..axes_end],
+        &mut points[0..points_end],
+        &mut kinds[0..kinds_end],
+        &mut values[0..values_end],
         &mut tensor[0..tensor_end],
         &mut scratch[0..scratch_end],
         &mut length[0..length_end],

@@ -1,4 +1,4 @@
-use mathlib.Core.Path.{refl, sym, _∙_}
+use mathlib.Core.Path.{sym, _∙_}
 use native.Mathlib.Omega.{arith}
 use Rattle.host.proofs.Lengths.{slot-lengths}
 use Rattle.plain_axes.proofs.Slots.{one-stored}
