@@ -164,6 +164,76 @@ fn tensor_left(
     }
 }
 
+// The refusal of the call on the sheet that the list gives at a place.
+fn sheet_tensor_refusal(
+    list: &[u8],
+    begin: usize,
+    knots: &mut [f64],
+    samples: &mut [f64],
+    axes: &mut [usize],
+    points: &mut [usize],
+    kinds: &mut [u8],
+    values: &mut [f64],
+    tensor: &mut [f64],
+    scratch: &mut [f64],
+    length: &mut [usize],
+) -> usize {
+    let bytes = bytes_given(list, begin);
+    let bytes_end = bytes_at(list, begin);
+    host::hullashlar_sheet_tensor(
+        &bytes[0..bytes_end],
+        knots,
+        samples,
+        axes,
+        points,
+        kinds,
+        values,
+        tensor,
+        scratch,
+        length,
+    )
+}
+
+// Whether the call refused and left its slices as the list says, of which the first is given at a place and the tensor at another; the arguments end at `answer`.
+fn sheet_tensor_left(
+    list: &[u8],
+    given: usize,
+    given_tensor: usize,
+    answer: usize,
+    refusal: usize,
+    knots: &[f64],
+    samples: &[f64],
+    axes: &[usize],
+    points: &[usize],
+    kinds: &[u8],
+    values: &[f64],
+    tensor: &[f64],
+    scratch: &[f64],
+    length: &[usize],
+) -> Replayed {
+    let left = after(answer, 1);
+    let read = read_left(
+        list,
+        given,
+        left,
+        knots,
+        samples,
+        axes,
+        points,
+        kinds,
+        values,
+    );
+    let built = tensor_left(list, given_tensor, read.next, tensor, scratch, length);
+    let next = built.next;
+    if refusal as u64 != word(list, answer) {
+        return Replayed { same: false, next };
+    }
+    if !read.same {
+        return Replayed { same: false, next };
+    }
+    built
+}
+
 // The call on the sheet that the list gives at a place and on the slices that it writes, of which the first is given at another and the tensor at a third; the arguments end at `answer`.
 fn sheet_tensor_answered(
     list: &[u8],
@@ -181,10 +251,9 @@ fn sheet_tensor_answered(
     scratch: &mut [f64],
     length: &mut [usize],
 ) -> Replayed {
-    let bytes = bytes_given(list, begin);
-    let bytes_end = bytes_at(list, begin);
-    let refusal = host::hullashlar_sheet_tensor(
-        &bytes[0..bytes_end],
+    let refusal = sheet_tensor_refusal(
+        list,
+        begin,
         knots,
         samples,
         axes,
@@ -195,64 +264,52 @@ fn sheet_tensor_answered(
         scratch,
         length,
     );
-    let left = after(answer, 1);
-    let read = read_left(
+    sheet_tensor_left(
         list,
         given,
-        left,
+        given_tensor,
+        answer,
+        refusal,
         knots,
         samples,
         axes,
         points,
         kinds,
         values,
-    );
-    let built = tensor_left(list, given_tensor, read.next, tensor, scratch, length);
-    if refusal as u64 != word(list, answer) {
-        return Replayed {
-            same: false,
-            next: built.next,
-        };
-    }
-    if !read.same {
-        return Replayed {
-            same: false,
-            next: built.next,
-        };
-    }
-    built
+        tensor,
+        scratch,
+        length,
+    )
 }
 
-// A case of a sheet's tensor, whose arguments begin at a place.
-pub fn sheet_tensor(list: &[u8], begin: usize) -> Replayed {
+// The same on the slices of the tensor alone: those that a read writes too are as the list gives them.
+fn sheet_tensor_read(
+    list: &[u8],
+    begin: usize,
+    at_tensor: usize,
+    answer: usize,
+    tensor: &mut [f64],
+    scratch: &mut [f64],
+    length: &mut [usize],
+) -> Replayed {
     let at_knots = after_given(list, begin);
     let at_samples = after_given(list, at_knots);
     let at_axes = after_given(list, at_samples);
     let at_points = after_given(list, at_axes);
     let at_kinds = after_given(list, at_points);
     let at_values = after_given(list, at_kinds);
-    let at_tensor = after_given(list, at_values);
-    let at_scratch = after_given(list, at_tensor);
-    let at_length = after_given(list, at_scratch);
-    let answer = after_given(list, at_length);
     let mut knots = floats_given(list, at_knots);
     let mut samples = floats_given(list, at_samples);
     let mut axes = numbers_given(list, at_axes);
     let mut points = numbers_given(list, at_points);
     let mut kinds = bytes_given(list, at_kinds);
     let mut values = floats_given(list, at_values);
-    let mut tensor = floats_given(list, at_tensor);
-    let mut scratch = floats_given(list, at_scratch);
-    let mut length = numbers_given(list, at_length);
     let knots_end = floats_at(list, at_knots);
     let samples_end = floats_at(list, at_samples);
     let axes_end = numbers_at(list, at_axes);
     let points_end = numbers_at(list, at_points);
     let kinds_end = bytes_at(list, at_kinds);
     let values_end = floats_at(list, at_values);
-    let tensor_end = floats_at(list, at_tensor);
-    let scratch_end = floats_at(list, at_scratch);
-    let length_end = numbers_at(list, at_length);
     sheet_tensor_answered(
         list,
         begin,
@@ -265,6 +322,40 @@ pub fn sheet_tensor(list: &[u8], begin: usize) -> Replayed {
         &mut points[0..points_end],
         &mut kinds[0..kinds_end],
         &mut values[0..values_end],
+        tensor,
+        scratch,
+        length,
+    )
+}
+
+// The place after a sheet, and after the slices that a read writes.
+fn after_read(list: &[u8], begin: usize) -> usize {
+    let at_knots = after_given(list, begin);
+    let at_samples = after_given(list, at_knots);
+    let at_axes = after_given(list, at_samples);
+    let at_points = after_given(list, at_axes);
+    let at_kinds = after_given(list, at_points);
+    let at_values = after_given(list, at_kinds);
+    after_given(list, at_values)
+}
+
+// A case of a sheet's tensor, whose arguments begin at a place.
+pub fn sheet_tensor(list: &[u8], begin: usize) -> Replayed {
+    let at_tensor = after_read(list, begin);
+    let at_scratch = after_given(list, at_tensor);
+    let at_length = after_given(list, at_scratch);
+    let answer = after_given(list, at_length);
+    let mut tensor = floats_given(list, at_tensor);
+    let mut scratch = floats_given(list, at_scratch);
+    let mut length = numbers_given(list, at_length);
+    let tensor_end = floats_at(list, at_tensor);
+    let scratch_end = floats_at(list, at_scratch);
+    let length_end = numbers_at(list, at_length);
+    sheet_tensor_read(
+        list,
+        begin,
+        at_tensor,
+        answer,
         &mut tensor[0..tensor_end],
         &mut scratch[0..scratch_end],
         &mut length[0..length_end],
