@@ -29,7 +29,7 @@ none-counted : (refusal count : ℕ) → (refusal ≡ 0 → ⊥) → 0 ≡ count
 none-counted zero count met = absurd (met refl)
 none-counted (suc refusal) count met = refl
 
-length-tensor : (g : Grid) (samples : List Float) → length (tensor g samples) ≡ tensor-length g
+pub length-tensor : (g : Grid) (samples : List Float) → length (tensor g samples) ≡ tensor-length g
 unfolding tensor
 length-tensor g samples = length-table (tensor-length g) _
 

@@ -10,7 +10,7 @@ use Rattle.rules.specs.Sizes.{Grid, knots-length, samples-length, tensor-length
 use Rattle.rules.specs.Refusals.{length-refused}
 use Rattle.rules.specs.Calls.{stored, scratch-after}
 use Rattle.rules.proofs.Refused.{or-else-met, unchanged}
-use Rattle.checks.proofs.Rows.{axes-few, in-range}
+use Rattle.checks.proofs.Rows.{axes-few, in-range, exact}
 use Rattle.sheet.specs.Fields.{axes, entries, sheet-grid, sheet-samples}
 use Rattle.sheet.specs.Faults.{sheet-refusal}
 use Rattle.sheet.specs.Read.{over, read-refusal, ReadPromise}
@@ -48,6 +48,13 @@ module _ (bytes : List ℕ) (knots samples lent scratch : List Float) where
   pub refusal-passed : reading ≡ 0 → refusal ≡ parts-refusal g y lent scratch
   unfolding sheet-tensor-refusal
   refusal-passed none = rw none
+
+  -- no refusal before the build: the tensor's buffer is long enough, and the sheet has no fault
+  pub read-passed : reading ≡ 0 → (length lent ≡ 4096) × (sheet-refusal bytes ≡ 0)
+  unfolding reading-refusal
+  read-passed none =
+      let both = no-test (length-refused (length lent) 4096) 3 (read-refusal bytes knots samples) none in
+      (exact (length lent) 4096 (both .0), lengths-passed bytes knots samples (both .1))
 
   -- a refusal before the build: the answer says so, and tensor and scratch are as they were
   reading-refused :
@@ -161,14 +168,9 @@ short-answer zero (suc refusal) g most small = omega arith
 short-answer (suc reading) refusal g most small = omega arith
 
 module _ (bytes : List ℕ) (knots samples lent scratch : List Float) (given : SheetAnswer) (k s t w : List Float) where
-  none-met : reading-refusal bytes knots samples lent scratch ≡ 0 → sheet-refusal bytes ≡ 0
-  unfolding reading-refusal
-  none-met e =
-      lengths-passed bytes knots samples (no-test (length-refused (length lent) 4096) 3 (read-refusal bytes knots samples) e .1)
-
   -- the tensor has no more numbers than its buffer has places
   pub length-most : SheetPromise bytes knots samples lent scratch given k s t w → given .length ≤ 4096
   length-most p =
       rw (p .answer)
       (short-answer (reading-refusal bytes knots samples lent scratch) (sheet-tensor-refusal bytes knots samples lent scratch) (sheet-grid bytes) 4096
-      (λ e. ltb-false 4096 (tensor-length (sheet-grid bytes)) (parts bytes (none-met e) .tensor)))
+      (λ e. ltb-false 4096 (tensor-length (sheet-grid bytes)) (parts bytes (read-passed bytes knots samples lent scratch e .1) .tensor)))
