@@ -48,7 +48,7 @@ module _ (axes : ℕ) (points kinds : List ℕ) (values knots samples tensor : L
 module _ (axes : ℕ) (points kinds : List ℕ) (values knots tensor : List Float) (place lanes : List ℕ) where
   pub change-lengths :
       change-own-refusal axes points kinds values knots tensor place lanes ≡ 0
-      → (length place ≡ 4) × (length points ≡ 4) × (length kinds ≡ 8) × (length values ≡ 8)
+      → (length place ≡ 4) × (length points ≡ 4) × (length kinds ≡ 8) × (length values ≡ 8) × (length lanes ≡ 1)
   unfolding change-own-refusal
   change-lengths none =
       let rows = none-applies (change-own-rows axes points kinds values knots tensor place lanes) tt none in
@@ -57,7 +57,8 @@ module _ (axes : ℕ) (points kinds : List ℕ) (values knots tensor : List Floa
       neither (eight-ends-refused kinds values || place-or-lanes-refused place lanes) (length-refused (length knots) (knots-length g) || length-refused (length tensor) (tensor-length g)) (rows .1 .1 .1 .1 .0) .0 in
       let two = neither (eight-ends-refused kinds values) (place-or-lanes-refused place lanes) given in
       let ends = eight-lengths kinds values (two .0) in
-      (exact-2 (length place) 4 (length lanes) 1 (two .1) .0, exact (length points) 4 (rows .1 .0), ends .0, ends .1)
+      let slots = exact-2 (length place) 4 (length lanes) 1 (two .1) in
+      (slots .0, exact (length points) 4 (rows .1 .0), ends .0, ends .1, slots .1)
 
 pub query-lengths : (axes : ℕ) (points : List ℕ) (value : List Float) (labels : List ℕ) → query-own-refusal axes points value labels ≡ 0 → length points ≡ 4
 unfolding query-own-refusal

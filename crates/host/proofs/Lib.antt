@@ -1,5 +1,7 @@
 pub mod Rows
 pub mod Lengths
 pub mod Exported
+pub mod Accepted
+pub mod Demand3
 pub mod Unique
 pub mod SheetAxes
