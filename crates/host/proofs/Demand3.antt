@@ -4,11 +4,11 @@ use mathlib.Core.Logic.{_≢_}
 use mathlib.Core.Bool.{false, cond}
 use mathlib.Core.List.{List, [], _∷_}
 use Prim.Native.Nat.{ℕ, zero, suc, _<_, _≤_}
-use lib.ListN.{length, set, length-set}
+use lib.ListN.{length, take, getD, set, length-set}
 use lib.Ieee.{Float}
 use borrow.Author.Tests.{eq-eqb}
 use Rattle.rules.specs.Numbers.{at}
-use Rattle.rules.specs.Sizes.{Grid, points, masks, tensor-length, scratch-length, Place, place-of, flat, spot, in-mask}
+use Rattle.rules.specs.Sizes.{Grid, points, masks, knots-length, samples-length, tensor-length, scratch-length, Place, place-of, flat, spot, in-mask}
 use Rattle.rules.specs.Refusals.{place-refused}
 use Rattle.rules.specs.Tensor.{tensor}
 use Rattle.rules.specs.Change.{change-lanes, lane-sum}
@@ -16,11 +16,18 @@ use Rattle.rules.specs.Calls.{change-refusal, change-answer, BuildPromise, Chan
 use Rattle.rules.proofs.Places.{OnGrid}
 use Rattle.rules.proofs.Tables.{length-table}
 use Rattle.rules.proofs.Refused.{or-else-passed}
+use Rattle.checks.proofs.Rows.{axes-few}
 use Rattle.tensor.specs.Changes.{Step, standing}
 use Rattle.tensor.proofs.Demand3.{Fitting, Stands, built-stands, steps-stand, bits-of-fresh-build, refusal-of-fresh-build, bits-kept-elsewhere, counts-its-lanes}
-use Rattle.plain_axes.specs.Axes.{grid-given}
-use Rattle.host.specs.Exports.{build-own-refusal, change-own-refusal, BuildExport, ChangeExport}
+use Rattle.sheet.specs.Fields.{axes as axes-said, entries, sheet-grid}
+use Rattle.sheet_build.specs.SheetTensor.{answer-of, reading-refusal, sheet-tensor-refusal, SheetPromise}
+use Rattle.sheet_build.specs.declared.SheetAnswer.{SheetAnswer}
+use Rattle.sheet_build.proofs.Builds.{answered-refusal}
+use Rattle.sheet_build.proofs.Demand3.{grid-made, samples-made, tensor-made, sheet-is-built}
+use Rattle.plain_axes.specs.Axes.{axes-given, grid-given, points-found, kinds-found, values-found}
+use Rattle.host.specs.Exports.{build-own-refusal, change-own-refusal, sheet-tensor-own-refusal, BuildExport, ChangeExport, SheetTensorExport}
 use Rattle.host.proofs.Lengths.{change-lengths}
+use Rattle.host.proofs.SheetAxes.{sheet-axes-again, sheet-axes-fine}
 use Rattle.host.proofs.Accepted.{Fine, build-fine, build-accepted, change-accepted}
 
 -- ---- what the statements speak of
@@ -212,3 +219,68 @@ module _ (axes : ℕ) (points-in kinds : List ℕ) (values knots : List Float) w
         fine = build-fine axes points-in kinds values knots samples out own;
         stands = built-stands g samples out scratch t cleared (as-build samples out scratch t cleared 0 own built);
       }
+
+-- ---- a tensor of `hullashlar_sheet_tensor`, on the axes that it hands over
+
+module _
+    (bytes : List ℕ) (knots-lent samples-lent : List Float) (axes-lent points-lent kinds-lent : List ℕ) (values-lent tensor-lent scratch-lent : List Float) (length-lent : List ℕ)
+    (k s : List Float) (a p n : List ℕ) (v t w : List Float) (l : List ℕ)
+    (called : SheetTensorExport bytes knots-lent samples-lent axes-lent points-lent kinds-lent values-lent tensor-lent scratch-lent length-lent 0 k s a p n v t w l)
+  where
+    abbrev reading : ℕ
+    reading = reading-refusal bytes knots-lent samples-lent tensor-lent scratch-lent
+
+    abbrev refusal : ℕ
+    refusal = sheet-tensor-refusal bytes knots-lent samples-lent tensor-lent scratch-lent
+
+    abbrev answer : SheetAnswer
+    answer = answer-of reading refusal (sheet-grid bytes)
+
+    -- the grid without its knots, and the parts in the first places of their buffers
+    abbrev sizes-handed : Grid
+    sizes-handed = grid-given (getD a 0 0) p n v []
+
+    both : (sheet-tensor-own-refusal axes-lent points-lent kinds-lent values-lent length-lent ≡ 0) × (refusal ≡ 0)
+    both = or-else-passed (sheet-tensor-own-refusal axes-lent points-lent kinds-lent values-lent length-lent) refusal (sym (called .answer))
+
+    as-sheet : SheetPromise bytes knots-lent samples-lent tensor-lent scratch-lent answer k s t w
+    as-sheet = record {
+      answer = refl;
+      knots = rw (both .0) at (called .knots);
+      samples = rw (both .0) at (called .samples);
+      output = rw (both .0) at (called .output);
+      scratch = rw (both .0) at (called .scratch);
+    }
+
+    none : answer .refusal ≡ 0
+    none = answered-refusal reading refusal (sheet-grid bytes) ∙ both .1
+
+    stands-made : Stands (grid-made answer k) (samples-made answer s) (tensor-made answer t)
+    stands-made =
+        built-stands _ _ _ _ _ _ (sheet-is-built bytes knots-lent samples-lent tensor-lent scratch-lent answer k s t w as-sheet none)
+
+    reading-none : reading ≡ 0
+    unfolding sheet-tensor-refusal
+    reading-none = or-else-passed reading _ (both .1) .0
+
+    -- the axes handed over are those that were read
+    again : axes-given (answer .axes) (points-found (answer .all)) (kinds-found (answer .all)) (values-found (answer .all)) ≡ answer .all
+    unfolding sheet-grid
+    again = rw reading-none (sheet-axes-again bytes (axes-said bytes))
+
+    handed-fine : Fine (answer .axes) (points-found (answer .all)) (kinds-found (answer .all)) (values-found (answer .all))
+    unfolding sheet-grid
+    handed-fine =
+        let few : answer .axes ≤ 4 = axes-few {axes = answer .axes} (stands-made .sound .axes-fine) .1 in
+        let said : axes-said bytes ≤ 4 = rw reading-none at few in
+        rw reading-none (sheet-axes-fine bytes (axes-said bytes) said)
+
+    pub sheet-tensor-made :
+        Made (getD a 0 0) p n v (take (knots-length sizes-handed) k) (take (samples-length sizes-handed) s) (take (getD l 0 0) t)
+    sheet-tensor-made =
+        let axes-are : a ≡ answer .axes ∷ [] = rw (both .0) at (called .found .slot) in
+        let points-are : p ≡ points-found (answer .all) = rw (both .0) at (called .found .points) in
+        let kinds-are : n ≡ kinds-found (answer .all) = rw (both .0) at (called .found .kinds) in
+        let values-are : v ≡ values-found (answer .all) = rw (both .0) at (called .found .values) in
+        let length-is : l ≡ answer .length ∷ [] = rw (both .0) at (called .slot) in
+        rw (axes-are, points-are, kinds-are, values-are, length-is) (record { fine = handed-fine; stands = rw again stands-made })

@@ -2,6 +2,6 @@ pub mod Rows
 pub mod Lengths
 pub mod Exported
 pub mod Accepted
+pub mod SheetAxes
 pub mod Demand3
 pub mod Unique
-pub mod SheetAxes
