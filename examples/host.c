@@ -51,8 +51,9 @@ static size_t tensor_length(const struct sheet *sheet)
     return samples_length(sheet) << sheet->axes;
 }
 
-/* Of a file that is too long one byte more than the longest sheet is enough to have it refused. */
-static void load(const char *path, struct sheet *sheet)
+/* The sheet's parts, its tensor, and how many numbers that has. Of a file that is too long one byte more than the longest sheet is enough to have
+ * it refused. */
+static void load(const char *path, struct sheet *sheet, size_t *numbers)
 {
     static uint8_t bytes[HULLASHLAR_SHEET + 1];
     FILE *file = fopen(path, "rb");
@@ -62,16 +63,18 @@ static void load(const char *path, struct sheet *sheet)
     }
     size_t length = fread(bytes, 1, sizeof bytes, file);
     fclose(file);
-    accept("read", hullashlar_read(bytes, length, sheet->knots, HULLASHLAR_BUFFER, sheet->samples, HULLASHLAR_BUFFER,
-                                   &sheet->axes, 1, sheet->points, HULLASHLAR_AXES, sheet->kinds, HULLASHLAR_ENDS,
-                                   sheet->values, HULLASHLAR_ENDS));
+    accept("sheet_tensor", hullashlar_sheet_tensor(bytes, length, sheet->knots, HULLASHLAR_BUFFER, sheet->samples,
+                                                   HULLASHLAR_BUFFER, &sheet->axes, 1, sheet->points, HULLASHLAR_AXES,
+                                                   sheet->kinds, HULLASHLAR_ENDS, sheet->values, HULLASHLAR_ENDS,
+                                                   tensor, HULLASHLAR_TENSOR, scratch, HULLASHLAR_MOST_SCRATCH,
+                                                   numbers, 1));
 }
 
-static void build(const struct sheet *sheet, double *numbers)
+static void build_fresh(const struct sheet *sheet)
 {
     accept("build", hullashlar_build(sheet->axes, sheet->points, HULLASHLAR_AXES, sheet->kinds, HULLASHLAR_ENDS,
                                      sheet->values, HULLASHLAR_ENDS, sheet->knots, knots_length(sheet), sheet->samples,
-                                     samples_length(sheet), numbers, tensor_length(sheet), scratch,
+                                     samples_length(sheet), fresh, tensor_length(sheet), scratch,
                                      HULLASHLAR_MOST_SCRATCH));
 }
 
@@ -108,7 +111,7 @@ static void change_and_compare(struct sheet *sheet, const size_t place[HULLASHLA
     printf("sample at %zu, %zu: %.1f in place of %.1f, %zu lanes solved again\n", place[0], place[1], sample, *changed,
            lanes);
     *changed = sample;
-    build(sheet, fresh);
+    build_fresh(sheet);
     int same = memcmp(tensor, fresh, tensor_length(sheet) * sizeof *tensor) == 0;
     printf("a fresh build of the new samples has the same bits: %s\n", same ? "yes" : "no");
 }
@@ -121,15 +124,15 @@ int main(int count, char **arguments)
     const size_t place[HULLASHLAR_AXES] = {2, 2};
     double gain;
     size_t cell[HULLASHLAR_AXES];
+    size_t numbers;
 
     if (count != 2) {
         fprintf(stderr, "%s SHEET\n", arguments[0]);
         return 2;
     }
-    load(arguments[1], &sheet);
-    build(&sheet, tensor);
+    load(arguments[1], &sheet, &numbers);
     printf("sheet of %zu axes, %zu and %zu points; tensor of %zu numbers\n", sheet.axes, sheet.points[0],
-           sheet.points[1], tensor_length(&sheet));
+           sheet.points[1], numbers);
     print_gain(&sheet, point);
     change_and_compare(&sheet, place, 15.0);
     print_gain(&sheet, point);

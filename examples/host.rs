@@ -20,15 +20,22 @@ impl Surface {
     /// The surface of a sheet, with its tensor built.
     fn load(sheet: &[u8]) -> Result<Self, Refusal> {
         let (mut knots, mut samples) = ([0.0; BUFFER], [0.0; BUFFER]);
-        let mut surface = Self {
-            axes: hullashlar::read(sheet, &mut knots, &mut samples)?,
+        let mut tensor = [0.0; LONGEST_TENSOR];
+        let mut scratch = [0.0; LONGEST_TENSOR + SCRATCH];
+        let (axes, _) = hullashlar::sheet_tensor(
+            sheet,
+            &mut knots,
+            &mut samples,
+            &mut tensor,
+            &mut scratch,
+        )?;
+        Ok(Self {
+            axes,
             knots,
             samples,
-            tensor: [0.0; LONGEST_TENSOR],
-            scratch: [0.0; LONGEST_TENSOR + SCRATCH],
-        };
-        surface.build()?;
-        Ok(surface)
+            tensor,
+            scratch,
+        })
     }
 
     fn build(&mut self) -> Result<(), Refusal> {

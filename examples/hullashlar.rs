@@ -234,7 +234,8 @@ pub fn read(
     outcome(refusal, axes)
 }
 
-/// The length of a sheet's tensor, once it stands in the lent one, which is 4,096 long.
+/// The axes of a packed sheet and the length of its tensor, once its knots, its samples and the
+/// tensor stand in the lent buffers, of which the tensor's is 4,096 long.
 #[rustfmt::skip]
 pub fn sheet_tensor(
     bytes: &[u8],
@@ -242,18 +243,24 @@ pub fn sheet_tensor(
     samples: &mut [f64],
     tensor: &mut [f64],
     scratch: &mut [f64],
-) -> Result<usize, Refusal> {
-    let mut length = [0];
+) -> Result<(Axes, usize), Refusal> {
+    let mut axes = Axes::default();
+    let (mut count, mut length) = ([0], [0]);
     // SAFETY: each pointer goes with the length of a live slice, and no two slices overlap.
     let refusal = unsafe {
         hullashlar_sheet_tensor(
             bytes.as_ptr(), bytes.len(),
             knots.as_mut_ptr(), knots.len(),
             samples.as_mut_ptr(), samples.len(),
+            count.as_mut_ptr(), count.len(),
+            axes.points.as_mut_ptr(), axes.points.len(),
+            axes.kinds.as_mut_ptr(), axes.kinds.len(),
+            axes.values.as_mut_ptr(), axes.values.len(),
             tensor.as_mut_ptr(), tensor.len(),
             scratch.as_mut_ptr(), scratch.len(),
             length.as_mut_ptr(), length.len(),
         )
     };
-    outcome(refusal, length[0])
+    axes.count = count[0];
+    outcome(refusal, (axes, length[0]))
 }

@@ -15,7 +15,7 @@
  * another uses.
  *
  * Memory for the largest grid: tensor 32,768 bytes, scratch 49,152, the two buffers of a sheet 16,384, together 98,304.
- * docs/BENCH.md has the stack of each call (below 6,000 bytes), the size of the code (below 28,000 bytes) and what the
+ * docs/BENCH.md has the stack of each call (below 6,300 bytes), the size of the code (below 30,000 bytes) and what the
  * archive's proofs rest on.
  *
  * Axes. Points, kinds, values, places and labels are lent for four axes. No call looks at what stands past the axes in
@@ -26,13 +26,18 @@
  * axis stand side by side; a tensor has 2^axes numbers for each sample, one for each mask, and these stand side by side
  * too. Bit i of a mask says that the number is a derivative along axis i. docs/RULES.md draws it, in Sizes.
  *
- * Refusals. Every call returns its refusal. It looks for one in this order:
- *   - points, kinds, values, place, or a slot for the answer (value, labels, lanes, axes, length) of another length
- *     than below: 4, and nothing is written;
- *   - kinds of an axis in use that are none, or Periodic at one end only: 13, and nothing is written;
- *   - the refusals of its own list, in the list's order. After these the answer slots are 0 or +0.0, by a read also
- *     points, kinds and values, and every other output is as it was; but where only the build of a sheet is refused,
- *     its knots and samples stand in their buffers.
+ * Refusals. Every call returns its refusal, and all calls look for one in the same order.
+ *   - With axes: 1 by their number alone; 4 for points that are not four; 2; 3; 4 for every other slice and slot; 13
+ *     for kinds of an axis in use that are none, or Periodic at one end only; then the rest of the call's list, 5 and
+ *     on, in the list's order.
+ *   - On one axis: 2; 4; 13; then the rest of the list.
+ *   - Of a sheet: 4; then the faults of the sheet, the first that is met on the way through it; then, where its tensor
+ *     is built, 5, 7, 8, 9, 10.
+ *
+ * Outputs. After a refusal every output is as it was but the slots of the answer: value, labels and lanes, and of a
+ * sheet axes, points, kinds, values and length. These are then 0 or +0.0, where all slots of the call have their
+ * lengths; where one has another length, none of them is written. Where a sheet is read and only its build is refused,
+ * its knots, samples, axes, points, kinds and values are handed over, as after a read, and the length alone is 0.
  * All of scratch is +0.0 after success and after 10, and else as it was.
  */
 #ifndef HULLASHLAR_H
@@ -90,7 +95,7 @@ enum hullashlar_size {
 
 /* The moments of a curve on one axis: one for each point.
  * Lengths: knots, samples and moments as many as points; kinds and values 2; scratch at least 2,048.
- * Written: moments, scratch. Refuses by 2, 4, 5, 7, 8, 9, 10. */
+ * Written: moments, scratch. Refuses by 2, 4, 13, 5, 7, 8, 9, 10. */
 size_t hullashlar_moments(size_t points,
                           const double *knots, size_t knots_length,
                           const double *samples, size_t samples_length,
@@ -121,7 +126,7 @@ size_t hullashlar_slopes(size_t points,
 /* The tensor of samples on a grid.
  * Lengths: points 4; kinds and values 8; knots as many as the points of all axes together; samples one for each place
  * of the grid; tensor 2^axes for each place; scratch at least 2,048 longer than the tensor.
- * Written: tensor, scratch. Refuses by 1, 2, 3, 4, 5, 7, 8, 9, 10. */
+ * Written: tensor, scratch. Refuses by 1, 2, 3, 4, 13, 5, 7, 8, 9, 10. */
 size_t hullashlar_build(size_t axes,
                         const size_t *points, size_t points_length,
                         const uint8_t *kinds, size_t kinds_length,
@@ -132,11 +137,11 @@ size_t hullashlar_build(size_t axes,
                         double *scratch, size_t scratch_length);
 
 /* One sample changed in a tensor, every lane that can differ solved again, and how many these were. Where the tensor
- * comes from an accepted build, whatever changes followed, each of its numbers then has the bits of a fresh build from
- * the samples that stand now. Of any other tensor the lanes' numbers are renewed and the rest are kept.
+ * comes from an accepted build or sheet, whatever changes followed, each of its numbers then has the bits of a fresh
+ * build from the samples that stand now. Of any other tensor the lanes' numbers are renewed and the rest are kept.
  * Lengths: points and place 4; kinds and values 8; knots as many as the points of all axes together; tensor 2^axes for
  * each place of the grid; scratch at least 2,048 longer than the tensor; lanes 1.
- * Written: tensor, scratch, lanes. Refuses by 1, 2, 3, 4, 5, 6, 7, 8, 9, 10. */
+ * Written: tensor, scratch, lanes. Refuses by 1, 2, 3, 4, 13, 5, 6, 7, 8, 9, 10. */
 size_t hullashlar_change(size_t axes,
                          const size_t *points, size_t points_length,
                          const uint8_t *kinds, size_t kinds_length,
@@ -176,14 +181,20 @@ size_t hullashlar_read(const uint8_t *bytes, size_t bytes_length,
                        uint8_t *kinds, size_t kinds_length,
                        double *values, size_t values_length);
 
-/* The tensor of a packed sheet, read and built in one call: knots, samples and tensor in the first places of their
- * buffers, whose other places are as they were, and how many numbers the tensor has.
- * Lengths: bytes any; knots and samples 1,024 each; tensor 4,096; scratch at least 2,048 and a number for each number
- * of the sheet's tensor, so that 6,144 is enough for every sheet; length 1.
- * Written: knots, samples, tensor, scratch, length. Refuses as a read does, then as a build by 5, 7, 8, 9, 10. */
+/* The tensor of a packed sheet, read and built in one call: all that a read hands over, the tensor in the first places
+ * of its buffer, whose other places are as they were, and how many numbers it has. With what it hands over the tensor
+ * can be queried and changed.
+ * Lengths: bytes any; knots and samples 1,024 each; axes 1; points 4; kinds and values 8; tensor 4,096; scratch at
+ * least 2,048 longer than the sheet's tensor, so that 6,144 is enough for every sheet; length 1.
+ * Written: knots, samples, axes, points, kinds, values, tensor, scratch, length. Refuses as a read does, then as a
+ * build by 5, 7, 8, 9, 10. */
 size_t hullashlar_sheet_tensor(const uint8_t *bytes, size_t bytes_length,
                                double *knots, size_t knots_length,
                                double *samples, size_t samples_length,
+                               size_t *axes, size_t axes_length,
+                               size_t *points, size_t points_length,
+                               uint8_t *kinds, size_t kinds_length,
+                               double *values, size_t values_length,
                                double *tensor, size_t tensor_length,
                                double *scratch, size_t scratch_length,
                                size_t *length, size_t length_length);

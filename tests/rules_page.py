@@ -9,10 +9,10 @@ import sys
 from pathlib import Path
 
 ROOT = Path(__file__).resolve().parent.parent
-CRATES = ["rules", "grid", "bits", "kinds", "sheet", "sheet_build", "text", "plain_axes", "host"]
+CRATES = ["rules", "grid", "checks", "bits", "kinds", "sheet", "sheet_build", "text", "plain_axes", "host"]
 
 # Files that say what functions need from each other and no promise of a public call, and chapters about no file.
-NOT_RULES = {"Within", "Answers"}
+NOT_RULES = {"checks/Given", "checks/Check", "bits/Within", "sheet/Within", "text/Answers"}
 PROSE = {"Surface", "Program"}
 
 MODULE = re.compile(r"pub mod (\w+)")
@@ -33,7 +33,7 @@ def files():
     for crate in CRATES:
         specs = ROOT / "crates" / crate / "specs"
         for name in MODULE.findall((specs / "Lib.antt").read_text()):
-            if name not in NOT_RULES:
+            if f"{crate}/{name}" not in NOT_RULES:
                 if name in found:
                     sys.exit(f"{name}: two files have the name of this chapter")
                 found[name] = (specs / f"{name}.antt").read_text().splitlines()

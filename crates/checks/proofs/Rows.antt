@@ -16,7 +16,8 @@ use Rattle.rules.proofs.Refused.{or-else-met}
 use Rattle.rules.specs.declared.Axis.{Axis}
 use Rattle.base.proofs.Scan.{neither, any-at}
 use Rattle.grid.specs.Given.{sizes-of, points-of, InRange}
-use Rattle.checks.specs.Check.{Refusal, lowest, sizes-rows, sizes-check}
+use Rattle.checks.specs.Check.{sizes-rows, sizes-check}
+use Rattle.checks.specs.Tables.{Refusal, lowest}
 
 -- ---- a row of two tests, asked one after the other
 
@@ -73,6 +74,16 @@ rows-then (refusal ∷ rows) later n =
     in-front true h e = sym (or-else-met (refusal .number) later (λ z. omega arith))
     in-front false h e = e
 
+-- rows that a function of its own asks
+module _ (rows : List Refusal) (n : T (numbered rows)) {number : ℕ} (e : number ≡ lowest rows 0) where
+  -- a number that they give is the answer
+  pub rows-stop : (later : ℕ) → (number ≡ 0 → ⊥) → number ≡ lowest rows later
+  rows-stop later h = sym (or-else-met number later h) ∙ rw e (sym (rows-then rows later n))
+
+  -- where they give none, the rows below answer
+  pub rows-pass : {answer : ℕ} (later : ℕ) → number ≡ 0 → answer ≡ later → answer ≡ lowest rows later
+  rows-pass later z below = below ∙ sym (rows-then rows later n ∙ rw (sym e ∙ z))
+
 -- no row has the number of an outcome
 pub rows-below-10 : (rows : List Refusal) → T (below-outcome rows) → lowest rows 0 < 10
 rows-below-10 [] b = omega arith
@@ -120,16 +131,13 @@ module _ (axes : ℕ) (entries : List Axis) {number : ℕ} (e : number ≡ sizes
       let few = axes-few {axes = axes} (none .0) in
       in-range (few .0) (few .1) (none .1 .0)
 
-  -- a number that they give is the answer
   pub sizes-stop : (later : ℕ) → (number ≡ 0 → ⊥) → number ≡ lowest (sizes-rows (sizes-of axes entries)) later
   unfolding sizes-check
-  sizes-stop later h = sym (or-else-met number later h) ∙ rw e (sym (rows-then (sizes-rows (sizes-of axes entries)) later tt))
+  sizes-stop = rows-stop (sizes-rows (sizes-of axes entries)) tt e
 
-  -- where they give none, the rows below answer
   pub sizes-pass : {answer : ℕ} (later : ℕ) → number ≡ 0 → answer ≡ later → answer ≡ lowest (sizes-rows (sizes-of axes entries)) later
   unfolding sizes-check
-  sizes-pass later z below =
-      below ∙ sym (rows-then (sizes-rows (sizes-of axes entries)) later tt ∙ rw (sym e ∙ z))
+  sizes-pass = rows-pass (sizes-rows (sizes-of axes entries)) tt e
 
 -- ---- row 4
 

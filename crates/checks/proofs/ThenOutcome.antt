@@ -19,7 +19,8 @@ use Rattle.rules.specs.Query.{query}
 use Rattle.rules.specs.Calls.{or-else, stored, scratch-after, answered, counted, moments-refusal, curve-refusal, slopes-refusal, build-refusal, change-refusal, query-refusal}
 use Rattle.rules.specs.declared.Condition.{Condition}
 use Rattle.rules.proofs.Refused.{or-else-met}
-use Rattle.checks.specs.Check.{Refusal, lowest, moments-rows, curve-rows, slopes-rows, build-rows, change-rows, query-rows, moments-check, curve-check, slopes-check, build-check, change-check, query-check}
+use Rattle.checks.specs.Check.{moments-rows, curve-rows, slopes-rows, build-rows, change-rows, query-rows, moments-check, curve-check, slopes-check, build-check, change-check, query-check}
+use Rattle.checks.specs.Tables.{Refusal, lowest}
 use Rattle.checks.proofs.Rows.{numbered, below-outcome, rows-then, rows-below-10}
 
 -- the refusal is the check's number, and where that is 0, 10 for an outcome that is refused

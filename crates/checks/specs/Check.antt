@@ -1,5 +1,5 @@
 -- What each public call looks at before it works: the rows of rules' Calls without the last, which looks at an outcome. Of a slice that the call will write, only the length is given.
-use mathlib.Core.Bool.{Bool, cond, _||_}
+use mathlib.Core.Bool.{_||_}
 use mathlib.Core.List.{List, [], _∷_, _++_}
 use Prim.Native.Nat.{ℕ}
 use lib.ListN.{length}
@@ -9,19 +9,7 @@ use Rattle.rules.specs.Refusals.{axes-refused, points-refused, some-points-refu
 use Rattle.rules.specs.declared.Axis.{Axis}
 use Rattle.rules.specs.declared.Condition.{Condition}
 use Rattle.grid.specs.Given.{sizes-of}
-
--- a row of the table of refusals: its number, and whether it applies
-pub record Refusal : Type 0 where
-  pub number : ℕ
-  pub applies : Bool
-
-abbrev pub row : ℕ → Bool → Refusal
-row number applies = record { number = number; applies = applies }
-
--- the number of the first row that applies, and what comes later where none does
-abbrev pub lowest : List Refusal → ℕ → ℕ
-lowest [] later = later
-lowest (refusal ∷ rows) later = cond (refusal .applies) (refusal .number) (lowest rows later)
+use Rattle.checks.specs.Tables.{Refusal, row, lowest}
 
 -- ---- the calls on one axis of n points
 

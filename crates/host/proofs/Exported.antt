@@ -1,35 +1,49 @@
 -- Each export refuses as the host's own refusal says, or answers as `rules` promises for what was given.
-use mathlib.Core.Path.{_≡_, sym, ap, _∙_}
+use mathlib.Core.Path.{_≡_, refl, sym, ap, _∙_}
 use mathlib.Core.List.{List, [], _∷_}
-use Prim.Native.Nat.{ℕ}
+use Prim.Native.Nat.{ℕ, zero, suc}
 use lib.ListN.{set}
 use lib.Ieee.{Float}
-use Rattle.rules.specs.Sizes.{place-of}
-use Rattle.rules.specs.Calls.{or-else, stored, MomentsPromise, CurvePromise, BuildPromise, change-answer, ChangePromise, QueryPromise}
+use Rattle.rules.specs.Numbers.{plus-zero, table}
+use Rattle.rules.specs.Sizes.{most-axes, place-of}
+use Rattle.rules.specs.Calls.{or-else, stored, answered, counted, labelled, MomentsPromise, CurvePromise, BuildPromise, change-answer, ChangePromise, query-answer, QueryPromise}
 use Rattle.rules.specs.declared.Condition.{Condition}
 use Rattle.rules.specs.declared.CurveAnswer.{CurveAnswer}
 use Rattle.rules.specs.declared.ChangeAnswer.{ChangeAnswer}
 use Rattle.rules.specs.declared.QueryAnswer.{QueryAnswer}
 use Rattle.rules.specs.declared.Axis.{Axis}
 use Rattle.rules.proofs.Refused.{or-else-met, unchanged}
+use Rattle.sheet.specs.Fields.{sheet-grid}
 use Rattle.sheet.specs.Read.{ReadPromise}
 use Rattle.sheet.specs.declared.ReadAnswer.{ReadAnswer}
 use Rattle.sheet.proofs.Promises.{answer-refusal}
-use Rattle.sheet_build.specs.SheetTensor.{SheetPromise}
+use Rattle.sheet_build.specs.SheetTensor.{reading-refusal, sheet-tensor-refusal, SheetPromise}
 use Rattle.sheet_build.specs.declared.SheetAnswer.{SheetAnswer}
 use Rattle.sheet_build.proofs.Builds.{answered-refusal}
-use Rattle.plain_axes.specs.Axes.{condition-given, axes-given, axes-without-ends, points-found, kinds-found, values-found, AxesStored}
-use Rattle.host.specs.Exports.{moments-own-refusal, curve-own-refusal, build-own-refusal, change-own-refusal, query-own-refusal, read-own-refusal, sheet-tensor-own-refusal, MomentsExport, CurveExport, BuildExport, ChangeExport, QueryExport, ReadExport, SheetTensorExport}
-use Rattle.host.proofs.Lengths.{curve-lengths, change-lengths, query-lengths, read-lengths, sheet-tensor-lengths}
+use Rattle.plain_axes.specs.Axes.{condition-given, axes-given, axes-without-ends, AxesStored}
+use Rattle.host.specs.Exports.{moments-own-refusal, curve-own-refusal, build-own-refusal, change-own-refusal, query-own-refusal, read-own-refusal, sheet-tensor-own-refusal, in-slot, QueryStored, FoundStored, MomentsExport, CurveExport, BuildExport, ChangeExport, QueryExport, ReadExport, SheetTensorExport}
+use Rattle.host.proofs.Lengths.{read-lengths, sheet-tensor-lengths}
 use Rattle.plain_axes.proofs.Slots.{one-stored}
 
--- ---- the host refuses: its number is the answer, and each slice is as it was
+-- ---- the host refuses: its number is the answer, each slice is as it was, and slots say that nothing was answered
 
 own-answer : (own later : ℕ) {r : ℕ} → r ≡ own → (r ≡ 0 → ⊥) → r ≡ or-else own later
 own-answer own later e some = e ∙ sym (or-else-met own later (λ z. some (e ∙ z)))
 
 untouched : {A : Type 0} (own : ℕ) (lent later : List A) {r : ℕ} → r ≡ own → (r ≡ 0 → ⊥) → lent ≡ stored own lent later
 untouched own lent later e some = unchanged own lent later (λ z. some (e ∙ z))
+
+no-value : (own : ℕ) (value : Float) {r : ℕ} → r ≡ own → (r ≡ 0 → ⊥) → plus-zero ≡ answered own value
+no-value zero value e some = absurd (some e)
+no-value (suc own) value e some = refl
+
+no-count : (own count : ℕ) {r : ℕ} → r ≡ own → (r ≡ 0 → ⊥) → 0 ≡ counted own count
+no-count zero count e some = absurd (some e)
+no-count (suc own) count e some = refl
+
+no-labels : (own : ℕ) (labels : List ℕ) {r : ℕ} → r ≡ own → (r ≡ 0 → ⊥) → table most-axes (λ i. 0) ≡ labelled own labels
+no-labels zero labels e some = absurd (some e)
+no-labels (suc own) labels e some = refl
 
 -- ---- it does not: the call's number, and what the call leaves
 
@@ -41,7 +55,7 @@ left own lent e none leaves = rw (sym e ∙ none) leaves
 
 -- ---- the curve's moments
 
-module _ (n : ℕ) (knots samples : List Float) (kinds : List ℕ) (values moments-lent scratch-lent : List Float) {r : ℕ} (e : r ≡ moments-own-refusal kinds values) where
+module _ (n : ℕ) (knots samples : List Float) (kinds : List ℕ) (values moments-lent scratch-lent : List Float) {r : ℕ} (e : r ≡ moments-own-refusal n knots samples kinds values moments-lent) where
   pub moments-refused : (r ≡ 0 → ⊥) → MomentsExport n knots samples kinds values moments-lent scratch-lent r moments-lent scratch-lent
   moments-refused some = record {
     answer = own-answer _ _ e some;
@@ -63,24 +77,25 @@ module _ (n : ℕ) (knots samples : List Float) (kinds : List ℕ) (values momen
 
 -- ---- the curve's value
 
-module _ (n : ℕ) (knots samples moments-in : List Float) (point : Float) (value-lent : List Float) {r : ℕ} (e : r ≡ curve-own-refusal value-lent) where
-  pub curve-refused : (r ≡ 0 → ⊥) → CurveExport n knots samples moments-in point value-lent r value-lent
-  curve-refused some = record { answer = own-answer _ _ e some; slot = untouched _ _ _ e some }
+module _ (n : ℕ) (knots samples moments-in : List Float) (point : Float) (value-lent : List Float) {r : ℕ} (e : r ≡ curve-own-refusal n value-lent) where
+  pub curve-refused :
+      (r ≡ 0 → ⊥) → {v : List Float} → v ≡ in-slot value-lent plus-zero → CurveExport n knots samples moments-in point value-lent r v
+  curve-refused some in-place =
+      record { answer = own-answer _ _ e some; slot = in-place ∙ ap (in-slot value-lent) (no-value _ _ e some) }
 
   pub curve-called :
-      r ≡ 0 → (a : CurveAnswer)
+      r ≡ 0 → (a : CurveAnswer) {v : List Float}
       → CurvePromise n knots samples moments-in point a
-      → CurveExport n knots samples moments-in point value-lent (a .refusal) (set value-lent 0 (a .value))
-  curve-called none a p = record {
+      → v ≡ in-slot value-lent (a .value)
+      → CurveExport n knots samples moments-in point value-lent (a .refusal) v
+  curve-called none a p in-place = record {
     answer = call-answer _ e none (ap (λ (b : CurveAnswer). b .refusal) (p .answer));
-    slot =
-        left _ _ e none
-        (one-stored value-lent (a .value) (curve-lengths value-lent (sym e ∙ none)) ∙ ap (λ (b : CurveAnswer). b .value ∷ []) (p .answer));
+    slot = rw (sym e ∙ none) (in-place ∙ ap (λ (b : CurveAnswer). in-slot value-lent (b .value)) (p .answer));
   }
 
 -- ---- the build
 
-module _ (axes : ℕ) (points kinds : List ℕ) (values knots samples tensor-lent scratch-lent : List Float) {r : ℕ} (e : r ≡ build-own-refusal axes points kinds values) where
+module _ (axes : ℕ) (points kinds : List ℕ) (values knots samples tensor-lent scratch-lent : List Float) {r : ℕ} (e : r ≡ build-own-refusal axes points kinds values knots samples tensor-lent) where
   pub build-refused : (r ≡ 0 → ⊥) → BuildExport axes points kinds values knots samples tensor-lent scratch-lent r tensor-lent scratch-lent
   build-refused some = record {
     answer = own-answer _ _ e some;
@@ -102,58 +117,77 @@ module _ (axes : ℕ) (points kinds : List ℕ) (values knots samples tensor-len
 
 -- ---- the change
 
-module _ (axes : ℕ) (points kinds : List ℕ) (values knots tensor-lent scratch-lent : List Float) (place : List ℕ) (sample : Float) (lanes-lent : List ℕ) {r : ℕ} (e : r ≡ change-own-refusal axes points kinds values place lanes-lent) where
-  pub change-refused : (r ≡ 0 → ⊥) → ChangeExport axes points kinds values knots tensor-lent scratch-lent place sample lanes-lent r tensor-lent scratch-lent lanes-lent
-  change-refused some = record {
+module _ (axes : ℕ) (points kinds : List ℕ) (values knots tensor-lent scratch-lent : List Float) (place : List ℕ) (sample : Float) (lanes-lent : List ℕ) {r : ℕ} (e : r ≡ change-own-refusal axes points kinds values knots tensor-lent place lanes-lent) where
+  pub change-refused :
+      (r ≡ 0 → ⊥) → {l : List ℕ} → l ≡ in-slot lanes-lent 0
+      → ChangeExport axes points kinds values knots tensor-lent scratch-lent place sample lanes-lent r tensor-lent scratch-lent l
+  change-refused some in-place = record {
     answer = own-answer _ _ e some;
     output = untouched _ _ _ e some;
     scratch = untouched _ _ _ e some;
-    slot = untouched _ _ _ e some;
+    slot = in-place ∙ ap (in-slot lanes-lent) (no-count _ _ e some);
   }
 
   pub change-called :
-      r ≡ 0 → (all : List Axis) → all ≡ axes-given axes points kinds values → (changed : List ℕ) → changed ≡ place → (a : ChangeAnswer) {t s : List Float}
+      r ≡ 0 → (all : List Axis) → all ≡ axes-given axes points kinds values → (changed : List ℕ) → changed ≡ place → (a : ChangeAnswer) {t s : List Float} {l : List ℕ}
       → ChangePromise (record { axes = axes; entries = all; flat-knots = knots }) tensor-lent scratch-lent (place-of changed) sample a t s
-      → ChangeExport axes points kinds values knots tensor-lent scratch-lent place sample lanes-lent (a .refusal) t s (set lanes-lent 0 (a .lanes))
+      → l ≡ in-slot lanes-lent (a .lanes)
+      → ChangeExport axes points kinds values knots tensor-lent scratch-lent place sample lanes-lent (a .refusal) t s l
   unfolding change-answer
-  change-called none all given changed here a p =
+  change-called none all given changed here a p in-place =
       let q = rw (given, here) at p in
       record {
         answer = call-answer _ e none (ap (λ (b : ChangeAnswer). b .refusal) (q .answer));
         output = left _ _ e none (q .output);
         scratch = left _ _ e none (q .scratch);
-        slot =
-            left _ _ e none
-            (one-stored lanes-lent (a .lanes) (change-lengths axes points kinds values place lanes-lent (sym e ∙ none) .1)
-            ∙ ap (λ (b : ChangeAnswer). b .lanes ∷ []) (q .answer));
+        slot = rw (sym e ∙ none) (in-place ∙ ap (λ (b : ChangeAnswer). in-slot lanes-lent (b .lanes)) (q .answer));
       }
 
 -- ---- the query
 
-module _ (axes : ℕ) (points : List ℕ) (knots tensor-lent coordinates value-lent : List Float) (labels-lent : List ℕ) {r : ℕ} (e : r ≡ query-own-refusal points value-lent labels-lent) where
-  pub query-refused : (r ≡ 0 → ⊥) → QueryExport axes points knots tensor-lent coordinates value-lent labels-lent r value-lent labels-lent
-  query-refused some = record {
+module _ (axes : ℕ) (points : List ℕ) (knots tensor-lent coordinates value-lent : List Float) (labels-lent : List ℕ) {r : ℕ} (e : r ≡ query-own-refusal axes points value-lent labels-lent) where
+  pub query-refused :
+      (r ≡ 0 → ⊥) → {v : List Float} {l : List ℕ} → QueryStored value-lent labels-lent plus-zero (table most-axes (λ i. 0)) v l
+      → QueryExport axes points knots tensor-lent coordinates value-lent labels-lent r v l
+  query-refused some in-place = record {
     answer = own-answer _ _ e some;
-    slot = untouched _ _ _ e some;
-    labels = untouched _ _ _ e some;
+    answer-stored =
+        let q = query-answer (record { axes = axes; entries = axes-without-ends axes points; flat-knots = knots }) tensor-lent coordinates in
+        rw (← no-value _ (q .value) e some, ← no-labels _ (q .labels) e some) in-place;
   }
 
   pub query-called :
-      r ≡ 0 → (all : List Axis) → all ≡ axes-without-ends axes points → (a : QueryAnswer) (labels-later : List ℕ) → labels-later ≡ a .labels
+      r ≡ 0 → (all : List Axis) → all ≡ axes-without-ends axes points → (a : QueryAnswer) {v : List Float} {l : List ℕ}
       → QueryPromise (record { axes = axes; entries = all; flat-knots = knots }) tensor-lent coordinates a
-      → QueryExport axes points knots tensor-lent coordinates value-lent labels-lent (a .refusal) (set value-lent 0 (a .value)) labels-later
-  query-called none all given a labels-later labels-stored p =
+      → QueryStored value-lent labels-lent (a .value) (a .labels) v l
+      → QueryExport axes points knots tensor-lent coordinates value-lent labels-lent (a .refusal) v l
+  query-called none all given a p in-place =
       let q = (rw given at p) .answer in
       record {
         answer = call-answer _ e none (ap (λ (b : QueryAnswer). b .refusal) q);
-        slot =
-            left _ _ e none
-            (one-stored value-lent (a .value) (query-lengths points value-lent labels-lent (sym e ∙ none) .1)
-            ∙ ap (λ (b : QueryAnswer). b .value ∷ []) q);
-        labels = left _ _ e none (labels-stored ∙ ap (λ (b : QueryAnswer). b .labels) q);
+        answer-stored = rw (sym e ∙ none) (rw q at in-place);
       }
 
 -- ---- the sheet
+
+module _ (own axes : ℕ) (all : List Axis) (axes-lent points-lent kinds-lent : List ℕ) (values-lent : List Float) {r : ℕ} (e : r ≡ own) where
+  found-refused : (r ≡ 0 → ⊥) → FoundStored own axes all axes-lent points-lent kinds-lent values-lent axes-lent points-lent kinds-lent values-lent
+  found-refused some = record {
+    slot = untouched _ _ _ e some;
+    points = untouched _ _ _ e some;
+    kinds = untouched _ _ _ e some;
+    values = untouched _ _ _ e some;
+  }
+
+  found-stored :
+      r ≡ 0 → {axes-later points-later kinds-later : List ℕ} {values-later : List Float} → axes-later ≡ axes ∷ [] → AxesStored all points-later kinds-later values-later
+      → FoundStored own axes all axes-lent points-lent kinds-lent values-lent axes-later points-later kinds-later values-later
+  found-stored none slot-stored axes-stored = record {
+    slot = left _ _ e none slot-stored;
+    points = left _ _ e none (axes-stored .points);
+    kinds = left _ _ e none (axes-stored .kinds);
+    values = left _ _ e none (axes-stored .values);
+  }
 
 module _ (bytes : List ℕ) (knots-lent samples-lent : List Float) (axes-lent points-lent kinds-lent : List ℕ) (values-lent : List Float) {r : ℕ} (e : r ≡ read-own-refusal axes-lent points-lent kinds-lent values-lent) where
   pub read-refused :
@@ -163,10 +197,7 @@ module _ (bytes : List ℕ) (knots-lent samples-lent : List Float) (axes-lent po
     answer = own-answer _ _ e some;
     knots = untouched _ _ _ e some;
     samples = untouched _ _ _ e some;
-    slot = untouched _ _ _ e some;
-    points = untouched _ _ _ e some;
-    kinds = untouched _ _ _ e some;
-    values = untouched _ _ _ e some;
+    found = found-refused _ _ _ _ _ _ _ e some;
   }
 
   pub read-called :
@@ -178,42 +209,44 @@ module _ (bytes : List ℕ) (knots-lent samples-lent : List Float) (axes-lent po
     answer = call-answer _ e none (ap (λ (b : ReadAnswer). b .refusal) (p .answer) ∙ answer-refusal _ _ _);
     knots = left _ _ e none (p .knots);
     samples = left _ _ e none (p .samples);
-    slot =
-        left _ _ e none
-        (one-stored axes-lent (a .axes) (read-lengths axes-lent points-lent kinds-lent values-lent (sym e ∙ none) .3)
-        ∙ ap (λ (b : ReadAnswer). b .axes ∷ []) (p .answer));
-    points = left _ _ e none (axes-stored .points ∙ ap (λ (b : ReadAnswer). points-found (b .all)) (p .answer));
-    kinds = left _ _ e none (axes-stored .kinds ∙ ap (λ (b : ReadAnswer). kinds-found (b .all)) (p .answer));
-    values = left _ _ e none (axes-stored .values ∙ ap (λ (b : ReadAnswer). values-found (b .all)) (p .answer));
+    found =
+        rw (sym (p .answer))
+        (found-stored _ (a .axes) (a .all) _ _ _ _ e none
+        (one-stored axes-lent (a .axes) (read-lengths axes-lent points-lent kinds-lent values-lent (sym e ∙ none) .0)) axes-stored);
   }
 
 -- ---- the sheet's tensor
 
-module _ (bytes : List ℕ) (knots-lent samples-lent tensor-lent scratch-lent : List Float) (length-lent : List ℕ) {r : ℕ} (e : r ≡ sheet-tensor-own-refusal length-lent) where
+module _ (bytes : List ℕ) (knots-lent samples-lent : List Float) (axes-lent points-lent kinds-lent : List ℕ) (values-lent tensor-lent scratch-lent : List Float) (length-lent : List ℕ) {r : ℕ} (e : r ≡ sheet-tensor-own-refusal axes-lent points-lent kinds-lent values-lent length-lent) where
   pub sheet-tensor-refused :
       (r ≡ 0 → ⊥)
-      → SheetTensorExport bytes knots-lent samples-lent tensor-lent scratch-lent length-lent r knots-lent samples-lent tensor-lent scratch-lent length-lent
+      → SheetTensorExport bytes knots-lent samples-lent axes-lent points-lent kinds-lent values-lent tensor-lent scratch-lent length-lent r knots-lent samples-lent axes-lent points-lent kinds-lent values-lent tensor-lent scratch-lent length-lent
   sheet-tensor-refused some = record {
     answer = own-answer _ _ e some;
     knots = untouched _ _ _ e some;
     samples = untouched _ _ _ e some;
+    found = found-refused _ _ _ _ _ _ _ e some;
     output = untouched _ _ _ e some;
     scratch = untouched _ _ _ e some;
     slot = untouched _ _ _ e some;
   }
 
   pub sheet-tensor-called :
-      r ≡ 0 → (a : SheetAnswer) {k s t w : List Float}
+      r ≡ 0 → (a : SheetAnswer) {k s t w : List Float} {points-later kinds-later : List ℕ} {values-later : List Float}
       → SheetPromise bytes knots-lent samples-lent tensor-lent scratch-lent a k s t w
-      → SheetTensorExport bytes knots-lent samples-lent tensor-lent scratch-lent length-lent (a .refusal) k s t w (set length-lent 0 (a .length))
-  sheet-tensor-called none a p = record {
-    answer = call-answer _ e none (ap (λ (b : SheetAnswer). b .refusal) (p .answer) ∙ answered-refusal _ _);
-    knots = left _ _ e none (p .knots);
-    samples = left _ _ e none (p .samples);
-    output = left _ _ e none (p .output);
-    scratch = left _ _ e none (p .scratch);
-    slot =
-        left _ _ e none
-        (one-stored length-lent (a .length) (sheet-tensor-lengths length-lent (sym e ∙ none))
-        ∙ ap (λ (b : SheetAnswer). b .length ∷ []) (p .answer));
-  }
+      → AxesStored (a .all) points-later kinds-later values-later
+      → SheetTensorExport bytes knots-lent samples-lent axes-lent points-lent kinds-lent values-lent tensor-lent scratch-lent length-lent (a .refusal) k s (set axes-lent 0 (a .axes)) points-later kinds-later values-later t w (set length-lent 0 (a .length))
+  sheet-tensor-called none a p axes-stored =
+      let lengths = sheet-tensor-lengths axes-lent points-lent kinds-lent values-lent length-lent (sym e ∙ none) in
+      record {
+        answer = call-answer _ e none (ap (λ (b : SheetAnswer). b .refusal) (p .answer)
+            ∙ answered-refusal (reading-refusal bytes knots-lent samples-lent tensor-lent scratch-lent) (sheet-tensor-refusal bytes knots-lent samples-lent tensor-lent scratch-lent) (sheet-grid bytes));
+        knots = left _ _ e none (p .knots);
+        samples = left _ _ e none (p .samples);
+        found = rw (sym (p .answer)) (found-stored _ (a .axes) (a .all) _ _ _ _ e none (one-stored axes-lent (a .axes) (lengths .0)) axes-stored);
+        output = left _ _ e none (p .output);
+        scratch = left _ _ e none (p .scratch);
+        slot =
+            left _ _ e none
+            (one-stored length-lent (a .length) (lengths .4) ∙ ap (λ (b : SheetAnswer). b .length ∷ []) (p .answer));
+      }

@@ -1,4 +1,7 @@
+pub mod Rows
 pub mod Lengths
 pub mod Exported
-pub mod Unique
+pub mod Accepted
 pub mod SheetAxes
+pub mod Demand3
+pub mod Unique

@@ -3,7 +3,8 @@ use mathlib.Core.Path.{_≡_, sym, _∙_}
 use mathlib.Core.List.{List}
 use Prim.Native.Nat.{ℕ}
 use lib.Ieee.{Float}
-use Rattle.host.specs.Exports.{MomentsExport, CurveExport, BuildExport, ChangeExport, QueryExport, ReadExport, SheetTensorExport}
+use Rattle.rules.specs.declared.Axis.{Axis}
+use Rattle.host.specs.Exports.{FoundStored, MomentsExport, CurveExport, BuildExport, ChangeExport, QueryExport, ReadExport, SheetTensorExport}
 
 -- two things that equal a third
 same : {A : Type 0} {a b c : A} → a ≡ c → b ≡ c → a ≡ b
@@ -51,35 +52,45 @@ pub query-unique :
     → QueryExport axes points knots tensor-lent coordinates value-lent labels-lent r′ v′ l′
     → (r ≡ r′) × (v ≡ v′) × (l ≡ l′)
 query-unique axes points knots tensor-lent coordinates value-lent labels-lent r r′ v v′ l l′ p q =
-    (same (p .answer) (q .answer), same (p .slot) (q .slot), same (p .labels) (q .labels))
+    (same (p .answer) (q .answer), same (p .answer-stored .slot) (q .answer-stored .slot), same (p .answer-stored .slots) (q .answer-stored .slots))
 
-pub read-unique :
-    (bytes : List ℕ) (knots-lent samples-lent : List Float) (axes-lent points-lent kinds-lent : List ℕ) (values-lent : List Float)
-    (r r′ : ℕ) (k k′ s s′ : List Float) (a a′ p p′ n n′ : List ℕ) (v v′ : List Float)
-    → ReadExport bytes knots-lent samples-lent axes-lent points-lent kinds-lent values-lent r k s a p n v
-    → ReadExport bytes knots-lent samples-lent axes-lent points-lent kinds-lent values-lent r′ k′ s′ a′ p′ n′ v′
-    → (r ≡ r′) × (k ≡ k′) × (s ≡ s′) × (a ≡ a′) × (p ≡ p′) × (n ≡ n′) × (v ≡ v′)
-read-unique bytes knots-lent samples-lent axes-lent points-lent kinds-lent values-lent r r′ k k′ s s′ a a′ p p′ n n′ v v′ one other = (
-  same (one .answer) (other .answer),
-  same (one .knots) (other .knots),
-  same (one .samples) (other .samples),
+same-found :
+    (own axes : ℕ) (all : List Axis) (axes-lent points-lent kinds-lent : List ℕ) (values-lent : List Float) (a a′ p p′ n n′ : List ℕ) (v v′ : List Float)
+    → FoundStored own axes all axes-lent points-lent kinds-lent values-lent a p n v
+    → FoundStored own axes all axes-lent points-lent kinds-lent values-lent a′ p′ n′ v′
+    → (a ≡ a′) × (p ≡ p′) × (n ≡ n′) × (v ≡ v′)
+same-found own axes all axes-lent points-lent kinds-lent values-lent a a′ p p′ n n′ v v′ one other = (
   same (one .slot) (other .slot),
   same (one .points) (other .points),
   same (one .kinds) (other .kinds),
   same (one .values) (other .values),
 )
 
+pub read-unique :
+    (bytes : List ℕ) (knots-lent samples-lent : List Float) (axes-lent points-lent kinds-lent : List ℕ) (values-lent : List Float)
+    (r r′ : ℕ) (k k′ s s′ : List Float) (a a′ p p′ n n′ : List ℕ) (v v′ : List Float)
+    → ReadExport bytes knots-lent samples-lent axes-lent points-lent kinds-lent values-lent r k s a p n v
+    → ReadExport bytes knots-lent samples-lent axes-lent points-lent kinds-lent values-lent r′ k′ s′ a′ p′ n′ v′
+    → (r ≡ r′) × (k ≡ k′) × (s ≡ s′) × ((a ≡ a′) × (p ≡ p′) × (n ≡ n′) × (v ≡ v′))
+read-unique bytes knots-lent samples-lent axes-lent points-lent kinds-lent values-lent r r′ k k′ s s′ a a′ p p′ n n′ v v′ one other = (
+  same (one .answer) (other .answer),
+  same (one .knots) (other .knots),
+  same (one .samples) (other .samples),
+  same-found _ _ _ _ _ _ _ _ _ _ _ _ _ _ _ (one .found) (other .found),
+)
+
 pub sheet-tensor-unique :
-    (bytes : List ℕ) (knots-lent samples-lent tensor-lent scratch-lent : List Float) (length-lent : List ℕ)
-    (r r′ : ℕ) (k k′ s s′ t t′ w w′ : List Float) (l l′ : List ℕ)
-    → SheetTensorExport bytes knots-lent samples-lent tensor-lent scratch-lent length-lent r k s t w l
-    → SheetTensorExport bytes knots-lent samples-lent tensor-lent scratch-lent length-lent r′ k′ s′ t′ w′ l′
-    → (r ≡ r′) × (k ≡ k′) × (s ≡ s′) × (t ≡ t′) × (w ≡ w′) × (l ≡ l′)
-sheet-tensor-unique bytes knots-lent samples-lent tensor-lent scratch-lent length-lent r r′ k k′ s s′ t t′ w w′ l l′ p q = (
-  same (p .answer) (q .answer),
-  same (p .knots) (q .knots),
-  same (p .samples) (q .samples),
-  same (p .output) (q .output),
-  same (p .scratch) (q .scratch),
-  same (p .slot) (q .slot),
+    (bytes : List ℕ) (knots-lent samples-lent : List Float) (axes-lent points-lent kinds-lent : List ℕ) (values-lent tensor-lent scratch-lent : List Float) (length-lent : List ℕ)
+    (r r′ : ℕ) (k k′ s s′ : List Float) (a a′ p p′ n n′ : List ℕ) (v v′ t t′ w w′ : List Float) (l l′ : List ℕ)
+    → SheetTensorExport bytes knots-lent samples-lent axes-lent points-lent kinds-lent values-lent tensor-lent scratch-lent length-lent r k s a p n v t w l
+    → SheetTensorExport bytes knots-lent samples-lent axes-lent points-lent kinds-lent values-lent tensor-lent scratch-lent length-lent r′ k′ s′ a′ p′ n′ v′ t′ w′ l′
+    → (r ≡ r′) × (k ≡ k′) × (s ≡ s′) × ((a ≡ a′) × (p ≡ p′) × (n ≡ n′) × (v ≡ v′)) × (t ≡ t′) × (w ≡ w′) × (l ≡ l′)
+sheet-tensor-unique bytes knots-lent samples-lent axes-lent points-lent kinds-lent values-lent tensor-lent scratch-lent length-lent r r′ k k′ s s′ a a′ p p′ n n′ v v′ t t′ w w′ l l′ one other = (
+  same (one .answer) (other .answer),
+  same (one .knots) (other .knots),
+  same (one .samples) (other .samples),
+  same-found _ _ _ _ _ _ _ _ _ _ _ _ _ _ _ (one .found) (other .found),
+  same (one .output) (other .output),
+  same (one .scratch) (other .scratch),
+  same (one .slot) (other .slot),
 )

@@ -1,21 +1,9 @@
-// Every public call exported for C, over numbers and plain slices. Each returns its refusal's number, 0 for none. The host's own refusals, 4 and then 13, come before all others, and with them nothing is written.
-ghost use mathlib.Core.Path.{_≡_};
-ghost use lib.ListN.{length};
+// Every public call exported for C, over numbers and plain slices. Each returns its refusal's number, 0 for none, in the one order that own.rt says.
 ghost use Rattle.rules.specs.Calls.{SlopesPromise};
 ghost use Rattle.host.specs.Exports.{MomentsExport, CurveExport, BuildExport, ChangeExport, QueryExport, ReadExport, SheetTensorExport};
 
-pub mod own;
-
-// The labels of an answer go to a slice. Not public: its length is required.
-fn store_labels(labels: &mut [usize], found: [usize; 4])
-    requires { ⌜ length (now labels) ≡ 4 ⌝ }
-    ensures { λ _. ⌜ now (labels .exit) ≡ found ⌝ }
-{
-    labels[0] = found[0];
-    labels[1] = found[1];
-    labels[2] = found[2];
-    labels[3] = found[3];
-}
+pub mod own; // own.rt: the host's own refusals, before the call's
+pub mod slots; // slots.rt: the slots that answers go to
 
 // The moments of the curve through the samples, one for each point, under the two ends given. Refuses 2 4 5 7 8 9 10, and 4 and 13 of its own.
 #[no_mangle]
@@ -30,7 +18,7 @@ pub extern "C" fn hullashlar_moments(
 ) -> usize
     ensures { λ r. ⌜ MomentsExport points (now (knots .entry)) (now (samples .entry)) (now (kinds .entry)) (now (values .entry)) (now (moments .entry)) (now (scratch .entry)) r (now (moments .exit)) (now (scratch .exit)) ⌝ }
 {
-    let refusal = own::moments_own_refusal(kinds, values);
+    let refusal = own::moments_own_refusal(points, knots, samples, kinds, values, moments);
     if refusal != 0 {
         return refusal;
     }
@@ -50,12 +38,13 @@ pub extern "C" fn hullashlar_curve(
 ) -> usize
     ensures { λ r. ⌜ CurveExport points (now (knots .entry)) (now (samples .entry)) (now (moments .entry)) point (now (value .entry)) r (now (value .exit)) ⌝ }
 {
-    let refusal = own::curve_own_refusal(value);
+    let refusal = own::curve_own_refusal(points, value);
     if refusal != 0 {
+        slots::store_value(value, 0.0);
         return refusal;
     }
     let answer = spline::curve(points, knots, samples, moments, point);
-    value[0] = answer.value;
+    slots::store_value(value, answer.value);
     answer.refusal
 }
 
@@ -87,7 +76,7 @@ pub extern "C" fn hullashlar_build(
 ) -> usize
     ensures { λ r. ⌜ BuildExport axes (now (points .entry)) (now (kinds .entry)) (now (values .entry)) (now (knots .entry)) (now (samples .entry)) (now (tensor .entry)) (now (scratch .entry)) r (now (tensor .exit)) (now (scratch .exit)) ⌝ }
 {
-    let refusal = own::build_own_refusal(axes, points, kinds, values);
+    let refusal = own::build_own_refusal(axes, points, kinds, values, knots, samples, tensor);
     if refusal != 0 {
         return refusal;
     }
@@ -111,14 +100,15 @@ pub extern "C" fn hullashlar_change(
 ) -> usize
     ensures { λ r. ⌜ ChangeExport axes (now (points .entry)) (now (kinds .entry)) (now (values .entry)) (now (knots .entry)) (now (tensor .entry)) (now (scratch .entry)) (now (place .entry)) sample (now (lanes .entry)) r (now (tensor .exit)) (now (scratch .exit)) (now (lanes .exit)) ⌝ }
 {
-    let refusal = own::change_own_refusal(axes, points, kinds, values, place, lanes);
+    let refusal = own::change_own_refusal(axes, points, kinds, values, knots, tensor, place, lanes);
     if refusal != 0 {
+        slots::store_count(lanes, 0);
         return refusal;
     }
     let all = plain_axes::axes_given(axes, points, kinds, values);
     let changed = plain_axes::place_given(place);
     let answer = tensor::change(axes, all, knots, tensor, scratch, changed, sample);
-    lanes[0] = answer.lanes;
+    slots::store_count(lanes, answer.lanes);
     answer.refusal
 }
 
@@ -135,15 +125,15 @@ pub extern "C" fn hullashlar_query(
 ) -> usize
     ensures { λ r. ⌜ QueryExport axes (now (points .entry)) (now (knots .entry)) (now (tensor .entry)) (now (coordinates .entry)) (now (value .entry)) (now (labels .entry)) r (now (value .exit)) (now (labels .exit)) ⌝ }
 {
-    let refusal = own::query_own_refusal(points, value, labels);
+    let refusal = own::query_own_refusal(axes, points, value, labels);
     if refusal != 0 {
+        slots::store_query(value, labels, 0.0, [0; 4]);
         return refusal;
     }
     let all = plain_axes::axes_without_ends(axes, points);
     let answer = query::query(axes, all, knots, tensor, coordinates);
-    value[0] = answer.value;
     let found = answer.labels;
-    store_labels(labels, found);
+    slots::store_query(value, labels, answer.value, found);
     answer.refusal
 }
 
@@ -171,23 +161,30 @@ pub extern "C" fn hullashlar_read(
     answer.refusal
 }
 
-// The tensor of a packed sheet, read and built in one call: knots, samples and tensor go to the first places of their buffers, and how many numbers the tensor has to a slot of one. Refuses 4, then what the reader refuses, then what the build refuses, and then the length is 0; and 4 of its own.
+// The tensor of a packed sheet, read and built in one call: what a read gives goes where a read puts it, the tensor to the first places of a buffer of 4,096, and how many numbers it has to a slot of one. Refuses 4, then what the reader refuses, then what the build refuses, and then the length is 0; where the build refuses, the parts of the sheet stand as after a read. And 4 of its own.
 #[no_mangle]
 pub extern "C" fn hullashlar_sheet_tensor(
     bytes: &[u8],
     knots: &mut [f64],
     samples: &mut [f64],
+    axes: &mut [usize],
+    points: &mut [usize],
+    kinds: &mut [u8],
+    values: &mut [f64],
     tensor: &mut [f64],
     scratch: &mut [f64],
     length: &mut [usize],
 ) -> usize
-    ensures { λ r. ⌜ SheetTensorExport (now (bytes .entry)) (now (knots .entry)) (now (samples .entry)) (now (tensor .entry)) (now (scratch .entry)) (now (length .entry)) r (now (knots .exit)) (now (samples .exit)) (now (tensor .exit)) (now (scratch .exit)) (now (length .exit)) ⌝ }
+    ensures { λ r. ⌜ SheetTensorExport (now (bytes .entry)) (now (knots .entry)) (now (samples .entry)) (now (axes .entry)) (now (points .entry)) (now (kinds .entry)) (now (values .entry)) (now (tensor .entry)) (now (scratch .entry)) (now (length .entry)) r (now (knots .exit)) (now (samples .exit)) (now (axes .exit)) (now (points .exit)) (now (kinds .exit)) (now (values .exit)) (now (tensor .exit)) (now (scratch .exit)) (now (length .exit)) ⌝ }
 {
-    let refusal = own::sheet_tensor_own_refusal(length);
+    let refusal = own::sheet_tensor_own_refusal(axes, points, kinds, values, length);
     if refusal != 0 {
         return refusal;
     }
     let answer = sheet_build::tensor_of_sheet(bytes, knots, samples, tensor, scratch);
     length[0] = answer.length;
+    axes[0] = answer.axes;
+    let found = answer.all;
+    plain_axes::store_axes(found, points, kinds, values);
     answer.refusal
 }

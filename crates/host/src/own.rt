@@ -1,18 +1,41 @@
-// The host's own refusals, before anything else: 4 for a slice that is not as long as the ends, the axes or the answer want it, then 13 for the kinds of an axis in use, and 0 for none.
+// The host's own refusals, in the one order of every export: with axes 1, 4 for the points, 2, 3, 4 for every other slice and slot, and 13 for the kinds; on one axis 2, 4 and 13. Each is 0 where none applies, and then the call's own follow.
 ghost use mathlib.Core.Path.{_≡_};
-ghost use Rattle.host.specs.Exports.{axes-slices-refused, moments-own-refusal, curve-own-refusal, build-own-refusal, change-own-refusal, query-own-refusal, read-own-refusal, sheet-tensor-own-refusal};
+ghost use Rattle.host.specs.Exports.{two-ends-refused, eight-ends-refused, place-or-lanes-refused, query-slots-refused, found-slots-refused, moments-own-refusal, curve-own-refusal, axes-own-refusal, build-own-refusal, change-own-refusal, query-own-refusal, read-own-refusal, sheet-tensor-own-refusal};
+use checks::lengths;
+use checks::sizes;
 use kinds::ends::kinds_refused;
 use kinds::ends::wide;
+use plain_axes::axes_without_ends;
 use plain_axes::some_kinds_refused;
 
-// Of the curve's moments: two ends.
-pub fn moments_own_refusal(kinds: &[u8], values: &[f64]) -> usize
-    ensures { λ r. ⌜ r ≡ moments-own-refusal (now (kinds .entry)) (now (values .entry)) ⌝ }
+// Whether kinds or values are not those of one axis's two ends.
+fn two_ends_refused(kinds: &[u8], values: &[f64]) -> bool
+    ensures { λ r. ⌜ r ≡ two-ends-refused (now (kinds .entry)) (now (values .entry)) ⌝ }
 {
-    if kinds.len() != 2 {
+    if lengths::length_refused(kinds.len(), 2) {
+        return true;
+    }
+    lengths::length_refused(values.len(), 2)
+}
+
+// Of the curve's moments: two ends, and the call's own slices, which 13 comes after.
+pub fn moments_own_refusal(
+    points: usize,
+    knots: &[f64],
+    samples: &[f64],
+    kinds: &[u8],
+    values: &[f64],
+    moments: &[f64],
+) -> usize
+    ensures { λ r. ⌜ r ≡ moments-own-refusal points (now (knots .entry)) (now (samples .entry)) (now (kinds .entry)) (now (values .entry)) (now (moments .entry)) ⌝ }
+{
+    if sizes::points_refused(points) {
+        return 2;
+    }
+    if two_ends_refused(kinds, values) {
         return 4;
     }
-    if values.len() != 2 {
+    if lengths::axis_refused(points, knots.len(), samples.len(), moments.len()) {
         return 4;
     }
     if kinds_refused(wide(kinds[0]), wide(kinds[1])) {
@@ -22,33 +45,62 @@ pub fn moments_own_refusal(kinds: &[u8], values: &[f64]) -> usize
 }
 
 // Of the curve's value: its slot.
-pub fn curve_own_refusal(value: &[f64]) -> usize
-    ensures { λ r. ⌜ r ≡ curve-own-refusal (now (value .entry)) ⌝ }
+pub fn curve_own_refusal(points: usize, value: &[f64]) -> usize
+    ensures { λ r. ⌜ r ≡ curve-own-refusal points (now (value .entry)) ⌝ }
 {
-    if value.len() != 1 {
+    if sizes::points_refused(points) {
+        return 2;
+    }
+    if lengths::length_refused(value.len(), 1) {
         return 4;
     }
     0
 }
 
-// Whether one of the slices of four axes with eight ends is of another length.
-fn axes_slices_refused(points: &[usize], kinds: &[u8], values: &[f64]) -> bool
-    ensures { λ r. ⌜ r ≡ axes-slices-refused (now (points .entry)) (now (kinds .entry)) (now (values .entry)) ⌝ }
+// What every call with axes meets first: 1 for their number alone, 4 for points that are not four, 2, 3, or 0.
+fn axes_own_refusal(axes: usize, points: &[usize]) -> usize
+    ensures { λ r. ⌜ r ≡ axes-own-refusal axes (now (points .entry)) ⌝ }
 {
-    if points.len() != 4 {
-        return true;
+    if sizes::axes_refused(axes) {
+        return 1;
     }
-    if kinds.len() != 8 {
-        return true;
+    if lengths::length_refused(points.len(), 4) {
+        return 4;
     }
-    values.len() != 8
+    sizes::sizes_refusal(axes, axes_without_ends(axes, points))
 }
 
-// Of a build: four axes with eight ends.
-pub fn build_own_refusal(axes: usize, points: &[usize], kinds: &[u8], values: &[f64]) -> usize
-    ensures { λ r. ⌜ r ≡ build-own-refusal axes (now (points .entry)) (now (kinds .entry)) (now (values .entry)) ⌝ }
+// Whether kinds or values are not those of the eight ends of four axes.
+fn eight_ends_refused(kinds: &[u8], values: &[f64]) -> bool
+    ensures { λ r. ⌜ r ≡ eight-ends-refused (now (kinds .entry)) (now (values .entry)) ⌝ }
 {
-    if axes_slices_refused(points, kinds, values) {
+    if lengths::length_refused(kinds.len(), 8) {
+        return true;
+    }
+    lengths::length_refused(values.len(), 8)
+}
+
+// Of a build: eight ends, and the call's own slices, which 13 comes after.
+pub fn build_own_refusal(
+    axes: usize,
+    points: &[usize],
+    kinds: &[u8],
+    values: &[f64],
+    knots: &[f64],
+    samples: &[f64],
+    tensor: &[f64],
+) -> usize
+    ensures { λ r. ⌜ r ≡ build-own-refusal axes (now (points .entry)) (now (kinds .entry)) (now (values .entry)) (now (knots .entry)) (now (samples .entry)) (now (tensor .entry)) ⌝ }
+{
+    let refusal = axes_own_refusal(axes, points);
+    if refusal != 0 {
+        return refusal;
+    }
+    if eight_ends_refused(kinds, values) {
+        return 4;
+    }
+    let all = axes_without_ends(axes, points);
+    if lengths::build_refused(axes, all, knots.len(), samples.len(), tensor.len()) {
         return 4;
     }
     if some_kinds_refused(axes, kinds) {
@@ -57,60 +109,110 @@ pub fn build_own_refusal(axes: usize, points: &[usize], kinds: &[u8], values: &[
     0
 }
 
-// Of a change: the place and the slot of the count too.
+// Whether the place or the slot of the count of a change is of another length.
+fn place_or_lanes_refused(place: &[usize], lanes: &[usize]) -> bool
+    ensures { λ r. ⌜ r ≡ place-or-lanes-refused (now (place .entry)) (now (lanes .entry)) ⌝ }
+{
+    if lengths::length_refused(place.len(), 4) {
+        return true;
+    }
+    lengths::length_refused(lanes.len(), 1)
+}
+
+// Of a change: eight ends, the place, the slot of the count, and the call's own slices.
 pub fn change_own_refusal(
     axes: usize,
     points: &[usize],
     kinds: &[u8],
     values: &[f64],
+    knots: &[f64],
+    tensor: &[f64],
     place: &[usize],
     lanes: &[usize],
 ) -> usize
-    ensures { λ r. ⌜ r ≡ change-own-refusal axes (now (points .entry)) (now (kinds .entry)) (now (values .entry)) (now (place .entry)) (now (lanes .entry)) ⌝ }
+    ensures { λ r. ⌜ r ≡ change-own-refusal axes (now (points .entry)) (now (kinds .entry)) (now (values .entry)) (now (knots .entry)) (now (tensor .entry)) (now (place .entry)) (now (lanes .entry)) ⌝ }
 {
-    if place.len() != 4 {
+    let refusal = axes_own_refusal(axes, points);
+    if refusal != 0 {
+        return refusal;
+    }
+    if eight_ends_refused(kinds, values) {
         return 4;
     }
-    if lanes.len() != 1 {
+    if place_or_lanes_refused(place, lanes) {
         return 4;
     }
-    build_own_refusal(axes, points, kinds, values)
+    let all = axes_without_ends(axes, points);
+    if lengths::change_refused(axes, all, knots.len(), tensor.len()) {
+        return 4;
+    }
+    if some_kinds_refused(axes, kinds) {
+        return 13;
+    }
+    0
 }
 
-// Of a query: the points and the slots of value and labels.
-pub fn query_own_refusal(points: &[usize], value: &[f64], labels: &[usize]) -> usize
-    ensures { λ r. ⌜ r ≡ query-own-refusal (now (points .entry)) (now (value .entry)) (now (labels .entry)) ⌝ }
+// Whether a slot of a query's answer is of another length.
+pub fn query_slots_refused(value: &[f64], labels: &[usize]) -> bool
+    ensures { λ r. ⌜ r ≡ query-slots-refused (now (value .entry)) (now (labels .entry)) ⌝ }
 {
-    if points.len() != 4 {
-        return 4;
+    if lengths::length_refused(value.len(), 1) {
+        return true;
     }
-    if value.len() != 1 {
-        return 4;
+    lengths::length_refused(labels.len(), 4)
+}
+
+// Of a query: the slots of its answer.
+pub fn query_own_refusal(axes: usize, points: &[usize], value: &[f64], labels: &[usize]) -> usize
+    ensures { λ r. ⌜ r ≡ query-own-refusal axes (now (points .entry)) (now (value .entry)) (now (labels .entry)) ⌝ }
+{
+    let refusal = axes_own_refusal(axes, points);
+    if refusal != 0 {
+        return refusal;
     }
-    if labels.len() != 4 {
+    if query_slots_refused(value, labels) {
         return 4;
     }
     0
 }
 
-// Of a sheet: the slices of the axes that are found, and the slot of their number.
+// Whether the slot of the number of a sheet's axes, or a slice of what is found of them, is of another length.
+fn found_slots_refused(axes: &[usize], points: &[usize], kinds: &[u8], values: &[f64]) -> bool
+    ensures { λ r. ⌜ r ≡ found-slots-refused (now (axes .entry)) (now (points .entry)) (now (kinds .entry)) (now (values .entry)) ⌝ }
+{
+    if lengths::length_refused(axes.len(), 1) {
+        return true;
+    }
+    if lengths::length_refused(points.len(), 4) {
+        return true;
+    }
+    eight_ends_refused(kinds, values)
+}
+
+// Of a sheet: what is found of its axes.
 pub fn read_own_refusal(axes: &[usize], points: &[usize], kinds: &[u8], values: &[f64]) -> usize
     ensures { λ r. ⌜ r ≡ read-own-refusal (now (axes .entry)) (now (points .entry)) (now (kinds .entry)) (now (values .entry)) ⌝ }
 {
-    if axes_slices_refused(points, kinds, values) {
-        return 4;
-    }
-    if axes.len() != 1 {
+    if found_slots_refused(axes, points, kinds, values) {
         return 4;
     }
     0
 }
 
-// Of the sheet's tensor: the slot of its length.
-pub fn sheet_tensor_own_refusal(length: &[usize]) -> usize
-    ensures { λ r. ⌜ r ≡ sheet-tensor-own-refusal (now (length .entry)) ⌝ }
+// Of the sheet's tensor: what is found of its axes, and the slot of its length.
+pub fn sheet_tensor_own_refusal(
+    axes: &[usize],
+    points: &[usize],
+    kinds: &[u8],
+    values: &[f64],
+    length: &[usize],
+) -> usize
+    ensures { λ r. ⌜ r ≡ sheet-tensor-own-refusal (now (axes .entry)) (now (points .entry)) (now (kinds .entry)) (now (values .entry)) (now (length .entry)) ⌝ }
 {
-    if length.len() != 1 {
+    if found_slots_refused(axes, points, kinds, values) {
+        return 4;
+    }
+    if lengths::length_refused(length.len(), 1) {
         return 4;
     }
     0

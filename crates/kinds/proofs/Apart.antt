@@ -16,3 +16,6 @@ none-not-reading e = let places = ap place e in omega arith
 
 pub reading-not-building : Reading ≡ Building → ⊥
 reading-not-building e = let places = ap place e in omega arith
+
+pub none-not-building : None ≡ Building → ⊥
+none-not-building e = let places = ap place e in omega arith

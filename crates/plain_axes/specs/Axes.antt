@@ -2,7 +2,7 @@
 use mathlib.Core.Path.{_≡_}
 use mathlib.Core.Bool.{Bool, cond}
 use mathlib.Core.List.{List, [], _∷_}
-use Prim.Native.Nat.{ℕ, _+_, _*_, min}
+use Prim.Native.Nat.{ℕ, _+_, _*_}
 use lib.Dec.{ltb}
 use lib.ListN.{getD, set}
 use lib.Ieee.{Float}
@@ -36,10 +36,10 @@ condition-given kinds values i =
     (end-of-kind (lower-kind kinds i) (at values (2 * i)))
     (end-of-kind (upper-kind kinds i) (at values (2 * i + 1)))
 
--- 13 of the axes in use, of which there are four entries at most
+-- 13 of the axes in use
 unfoldable pub some-kinds-refused : ℕ → List ℕ → Bool
 unfolding kinds-refused
-some-kinds-refused axes kinds = any (λ i. kinds-refused (lower-kind kinds i) (upper-kind kinds i)) (min axes most-axes)
+some-kinds-refused axes kinds = any (λ i. kinds-refused (lower-kind kinds i) (upper-kind kinds i)) axes
 
 -- entry i of the four: the axis so given, and the unused one where it is not in use
 unfoldable pub axis-given : ℕ → List ℕ → List ℕ → List Float → ℕ → Axis

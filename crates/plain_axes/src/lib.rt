@@ -1,8 +1,7 @@
-// From numbers and plain slices to conditions and the four axes, and back. Not public: each requires the lengths that the host's own refusal 4 leaves.
+// From numbers and plain slices to conditions and the four axes, and back. Not public: each requires what the host's own refusals leave, the lengths of its slices and few axes.
 ghost use mathlib.Core.Path.{_≡_};
-ghost use Prim.Native.Nat.{_+_, _*_, _<_, _≤_, min};
+ghost use Prim.Native.Nat.{_+_, _*_, _<_, _≤_};
 ghost use lib.ListN.{length};
-ghost use Rattle.rules.specs.Sizes.{most-axes};
 ghost use Rattle.plain_axes.specs.Axes.{condition-given, some-kinds-refused, axis-given, axes-given, axis-without-ends, axes-without-ends, AxisStored, AxesStored};
 use kinds::ends::condition_of_kind;
 use kinds::ends::end_of_kind;
@@ -85,21 +84,13 @@ pub fn axes_without_ends(axes: usize, points: &[usize]) -> [Axis; 4]
     ]
 }
 
-// How many of the four entries are in use.
-fn entries_in_use(axes: usize) -> usize
-    ensures { λ r. ⌜ (r ≡ min axes most-axes) × (r ≤ 4) ⌝ }
-{
-    if axes < 4 { axes } else { 4 }
-}
-
 // Whether the kinds of an axis in use are refused by 13.
 pub fn some_kinds_refused(axes: usize, kinds: &[u8]) -> bool
-    requires { ⌜ length (now kinds) ≡ 8 ⌝ }
+    requires { ⌜ (axes ≤ 4) × (length (now kinds) ≡ 8) ⌝ }
     ensures { λ r. ⌜ r ≡ some-kinds-refused axes (now (kinds .entry)) ⌝ }
 {
-    let n = entries_in_use(axes);
     let mut i = 0;
-    while i < n {
+    while i < axes {
         if kinds_refused(wide(kinds[2 * i]), wide(kinds[2 * i + 1])) {
             return true;
         }

@@ -138,33 +138,21 @@ pub fn read(list: &[u8], begin: usize) -> Replayed {
     )
 }
 
-// Whether the slices of a sheet's tensor are left as the list says: the first is given at a place, and what it is left with stands at another.
-fn sheet_tensor_left(
+// Whether the slices that the tensor of a sheet goes to are left as the list says: those after the ones that a read writes, the first given at a place, and what it is left with at another.
+fn tensor_left(
     list: &[u8],
     given: usize,
     left: usize,
-    knots: &[f64],
-    samples: &[f64],
     tensor: &[f64],
     scratch: &[f64],
     length: &[usize],
 ) -> Replayed {
-    let given_samples = after_given(list, given);
-    let given_tensor = after_given(list, given_samples);
-    let given_scratch = after_given(list, given_tensor);
+    let given_scratch = after_given(list, given);
     let given_length = after_given(list, given_scratch);
-    let left_samples = after_left(list, left);
-    let left_tensor = after_left(list, left_samples);
-    let left_scratch = after_left(list, left_tensor);
+    let left_scratch = after_left(list, left);
     let left_length = after_left(list, left_scratch);
     let next = after_left(list, left_length);
-    if !floats_left(list, given, left, knots) {
-        return Replayed { same: false, next };
-    }
-    if !floats_left(list, given_samples, left_samples, samples) {
-        return Replayed { same: false, next };
-    }
-    if !floats_left(list, given_tensor, left_tensor, tensor) {
+    if !floats_left(list, given, left, tensor) {
         return Replayed { same: false, next };
     }
     if !floats_left(list, given_scratch, left_scratch, scratch) {
@@ -176,64 +164,198 @@ fn sheet_tensor_left(
     }
 }
 
-// The call on the sheet that the list gives at a place and on the slices that it writes, of which the first is given at another; the arguments end at `answer`.
+// The refusal of the call on the sheet that the list gives at a place.
+fn sheet_tensor_refusal(
+    list: &[u8],
+    begin: usize,
+    knots: &mut [f64],
+    samples: &mut [f64],
+    axes: &mut [usize],
+    points: &mut [usize],
+    kinds: &mut [u8],
+    values: &mut [f64],
+    tensor: &mut [f64],
+    scratch: &mut [f64],
+    length: &mut [usize],
+) -> usize {
+    let bytes = bytes_given(list, begin);
+    let bytes_end = bytes_at(list, begin);
+    host::hullashlar_sheet_tensor(
+        &bytes[0..bytes_end],
+        knots,
+        samples,
+        axes,
+        points,
+        kinds,
+        values,
+        tensor,
+        scratch,
+        length,
+    )
+}
+
+// Whether the call refused and left its slices as the list says, of which the first is given at a place and the tensor at another; the arguments end at `answer`.
+fn sheet_tensor_left(
+    list: &[u8],
+    given: usize,
+    given_tensor: usize,
+    answer: usize,
+    refusal: usize,
+    knots: &[f64],
+    samples: &[f64],
+    axes: &[usize],
+    points: &[usize],
+    kinds: &[u8],
+    values: &[f64],
+    tensor: &[f64],
+    scratch: &[f64],
+    length: &[usize],
+) -> Replayed {
+    let left = after(answer, 1);
+    let read = read_left(
+        list,
+        given,
+        left,
+        knots,
+        samples,
+        axes,
+        points,
+        kinds,
+        values,
+    );
+    let built = tensor_left(list, given_tensor, read.next, tensor, scratch, length);
+    let next = built.next;
+    if refusal as u64 != word(list, answer) {
+        return Replayed { same: false, next };
+    }
+    if !read.same {
+        return Replayed { same: false, next };
+    }
+    built
+}
+
+// The call on the sheet that the list gives at a place and on the slices that it writes, of which the first is given at another and the tensor at a third; the arguments end at `answer`.
 fn sheet_tensor_answered(
     list: &[u8],
     begin: usize,
     given: usize,
+    given_tensor: usize,
     answer: usize,
     knots: &mut [f64],
     samples: &mut [f64],
+    axes: &mut [usize],
+    points: &mut [usize],
+    kinds: &mut [u8],
+    values: &mut [f64],
     tensor: &mut [f64],
     scratch: &mut [f64],
     length: &mut [usize],
 ) -> Replayed {
-    let bytes = bytes_given(list, begin);
-    let bytes_end = bytes_at(list, begin);
-    let refusal = host::hullashlar_sheet_tensor(
-        &bytes[0..bytes_end],
+    let refusal = sheet_tensor_refusal(
+        list,
+        begin,
         knots,
         samples,
+        axes,
+        points,
+        kinds,
+        values,
         tensor,
         scratch,
         length,
     );
-    let left = after(answer, 1);
-    let replayed = sheet_tensor_left(list, given, left, knots, samples, tensor, scratch, length);
-    if refusal as u64 != word(list, answer) {
-        return Replayed {
-            same: false,
-            next: replayed.next,
-        };
-    }
-    replayed
+    sheet_tensor_left(
+        list,
+        given,
+        given_tensor,
+        answer,
+        refusal,
+        knots,
+        samples,
+        axes,
+        points,
+        kinds,
+        values,
+        tensor,
+        scratch,
+        length,
+    )
 }
 
-// A case of a sheet's tensor, whose arguments begin at a place.
-pub fn sheet_tensor(list: &[u8], begin: usize) -> Replayed {
+// The same on the slices of the tensor alone: those that a read writes too are as the list gives them.
+fn sheet_tensor_read(
+    list: &[u8],
+    begin: usize,
+    at_tensor: usize,
+    answer: usize,
+    tensor: &mut [f64],
+    scratch: &mut [f64],
+    length: &mut [usize],
+) -> Replayed {
     let at_knots = after_given(list, begin);
     let at_samples = after_given(list, at_knots);
-    let at_tensor = after_given(list, at_samples);
-    let at_scratch = after_given(list, at_tensor);
-    let at_length = after_given(list, at_scratch);
-    let answer = after_given(list, at_length);
+    let at_axes = after_given(list, at_samples);
+    let at_points = after_given(list, at_axes);
+    let at_kinds = after_given(list, at_points);
+    let at_values = after_given(list, at_kinds);
     let mut knots = floats_given(list, at_knots);
     let mut samples = floats_given(list, at_samples);
-    let mut tensor = floats_given(list, at_tensor);
-    let mut scratch = floats_given(list, at_scratch);
-    let mut length = numbers_given(list, at_length);
+    let mut axes = numbers_given(list, at_axes);
+    let mut points = numbers_given(list, at_points);
+    let mut kinds = bytes_given(list, at_kinds);
+    let mut values = floats_given(list, at_values);
     let knots_end = floats_at(list, at_knots);
     let samples_end = floats_at(list, at_samples);
-    let tensor_end = floats_at(list, at_tensor);
-    let scratch_end = floats_at(list, at_scratch);
-    let length_end = numbers_at(list, at_length);
+    let axes_end = numbers_at(list, at_axes);
+    let points_end = numbers_at(list, at_points);
+    let kinds_end = bytes_at(list, at_kinds);
+    let values_end = floats_at(list, at_values);
     sheet_tensor_answered(
         list,
         begin,
         at_knots,
+        at_tensor,
         answer,
         &mut knots[0..knots_end],
         &mut samples[0..samples_end],
+        &mut axes[0..axes_end],
+        &mut points[0..points_end],
+        &mut kinds[0..kinds_end],
+        &mut values[0..values_end],
+        tensor,
+        scratch,
+        length,
+    )
+}
+
+// The place after a sheet, and after the slices that a read writes.
+fn after_read(list: &[u8], begin: usize) -> usize {
+    let at_knots = after_given(list, begin);
+    let at_samples = after_given(list, at_knots);
+    let at_axes = after_given(list, at_samples);
+    let at_points = after_given(list, at_axes);
+    let at_kinds = after_given(list, at_points);
+    let at_values = after_given(list, at_kinds);
+    after_given(list, at_values)
+}
+
+// A case of a sheet's tensor, whose arguments begin at a place.
+pub fn sheet_tensor(list: &[u8], begin: usize) -> Replayed {
+    let at_tensor = after_read(list, begin);
+    let at_scratch = after_given(list, at_tensor);
+    let at_length = after_given(list, at_scratch);
+    let answer = after_given(list, at_length);
+    let mut tensor = floats_given(list, at_tensor);
+    let mut scratch = floats_given(list, at_scratch);
+    let mut length = numbers_given(list, at_length);
+    let tensor_end = floats_at(list, at_tensor);
+    let scratch_end = floats_at(list, at_scratch);
+    let length_end = numbers_at(list, at_length);
+    sheet_tensor_read(
+        list,
+        begin,
+        at_tensor,
+        answer,
         &mut tensor[0..tensor_end],
         &mut scratch[0..scratch_end],
         &mut length[0..length_end],

@@ -1,5 +1,5 @@
 -- A build that is lent the first places of a buffer: what stands in the whole buffer after it, and its promise.
-use mathlib.Core.Path.{_≡_, refl, _∙_}
+use mathlib.Core.Path.{_≡_, refl}
 use mathlib.Core.List.{List, _++_}
 use Prim.Native.Nat.{ℕ, zero, suc, _-_}
 use native.Mathlib.Omega.{arith}
@@ -8,24 +8,28 @@ use lib.Ieee.{Float}
 use Rattle.rules.proofs.Tables.{length-table}
 use Rattle.rules.specs.Sizes.{Grid, knots-length, samples-length, tensor-length}
 use Rattle.rules.specs.Tensor.{tensor}
-use Rattle.rules.specs.Calls.{stored, BuildPromise}
+use Rattle.rules.specs.Calls.{stored, counted, BuildPromise}
 use Rattle.rules.specs.declared.Axis.{Axis}
 use Rattle.grid.specs.Given.{grid, sizes-of}
 use Rattle.sheet.specs.Read.{over}
-use Rattle.sheet_build.specs.SheetTensor.{refused-answer, answer-of, grid-in, samples-in, parts-refusal, PartsPromise}
+use Rattle.sheet_build.specs.SheetTensor.{unread-answer, read-answer, answer-of, grid-in, samples-in, parts-refusal, PartsPromise}
 use Rattle.sheet_build.specs.declared.SheetAnswer.{SheetAnswer}
 
--- a refusal is answered as such
-pub refused-is : (refusal : ℕ) (g : Grid) → (refusal ≡ 0 → ⊥) → refused-answer refusal ≡ answer-of refusal g
-refused-is zero g met = absurd (met refl)
-refused-is (suc refusal) g met = refl
+-- a refusal before the build is answered as such
+pub unread-is : (reading refusal : ℕ) (g : Grid) → (reading ≡ 0 → ⊥) → unread-answer refusal ≡ answer-of reading refusal g
+unread-is zero refusal g met = absurd (met refl)
+unread-is (suc reading) refusal g met = refl
 
 -- and the answer has its number
-pub answered-refusal : (refusal : ℕ) (g : Grid) → answer-of refusal g .refusal ≡ refusal
-answered-refusal zero g = refl
-answered-refusal (suc refusal) g = refl
+pub answered-refusal : (reading refusal : ℕ) (g : Grid) → answer-of reading refusal g .refusal ≡ refusal
+answered-refusal zero refusal g = refl
+answered-refusal (suc reading) refusal g = refl
 
-length-tensor : (g : Grid) (samples : List Float) → length (tensor g samples) ≡ tensor-length g
+none-counted : (refusal count : ℕ) → (refusal ≡ 0 → ⊥) → 0 ≡ counted refusal count
+none-counted zero count met = absurd (met refl)
+none-counted (suc refusal) count met = refl
+
+pub length-tensor : (g : Grid) (samples : List Float) → length (tensor g samples) ≡ tensor-length g
 unfolding tensor
 length-tensor g samples = length-table (tensor-length g) _
 
@@ -53,7 +57,7 @@ module _
         let c : n - 0 ≡ tensor-length (sizes-of axes all) = omega arith in
         rw (a, b, c) at built
 
-    parts-answered : (given : SheetAnswer) → given ≡ answer-of r g → PartsPromise g y lent scratch given (new ++ drop (n - 0) lent) scratch-later
+    parts-answered : (given : SheetAnswer) → given ≡ read-answer r g → PartsPromise g y lent scratch given (new ++ drop (n - 0) lent) scratch-later
     parts-answered given e = record {
       answer = rw (of-parts .answer) at e;
       output =
@@ -62,8 +66,8 @@ module _
       scratch = of-parts .scratch;
     }
 
-    pub parts-refused : (given : SheetAnswer) → (r ≡ 0 → ⊥) → given ≡ refused-answer r → PartsPromise g y lent scratch given (new ++ drop (n - 0) lent) scratch-later
-    parts-refused given met e = parts-answered given (e ∙ refused-is r g met)
+    pub parts-refused : (r ≡ 0 → ⊥) → PartsPromise g y lent scratch (record { refusal = r; axes = axes; all = all; length = 0 }) (new ++ drop (n - 0) lent) scratch-later
+    parts-refused met = parts-answered _ (rw (none-counted r (tensor-length g) met))
 
-    pub parts-built : r ≡ 0 → PartsPromise g y lent scratch (record { refusal = 0; axes = axes; all = all; length = n }) (new ++ drop (n - 0) lent) scratch-later
+    pub parts-built : r ≡ 0 → PartsPromise g y lent scratch (record { refusal = r; axes = axes; all = all; length = n }) (new ++ drop (n - 0) lent) scratch-later
     parts-built none = parts-answered _ (rw (none, t))

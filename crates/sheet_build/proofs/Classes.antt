@@ -1,4 +1,4 @@
--- What the class of the call's refusal says of the buffers: after Reading nothing of the sheet shows, after Building its parts stand there.
+-- What the class of the call's refusal says of the answer and the buffers: after Reading nothing of the sheet shows, after Building the answer has its axes and its parts stand in the buffers.
 use mathlib.Core.Path.{_≡_, refl, sym, ap, _∙_}
 use mathlib.Core.Bool.{_||_}
 use mathlib.Core.List.{List}
@@ -8,25 +8,21 @@ use borrow.Author.Tests.{eq-eqb, ltb-false}
 use lib.ListN.{length, take, length-take}
 use lib.Ieee.{Float}
 use Rattle.rules.specs.Sizes.{Grid, tensor-length, scratch-length}
-use Rattle.rules.specs.Refusals.{length-refused, scratch-refused, some-number-refused, some-ends-refused, some-knots-refused, some-fewness-refused, outcome-refused}
+use Rattle.rules.specs.Refusals.{scratch-refused, some-number-refused, some-ends-refused, some-knots-refused, some-fewness-refused, outcome-refused}
 use Rattle.rules.specs.Tensor.{tensor}
 use Rattle.rules.specs.Calls.{build-refusal}
 use Rattle.rules.proofs.Refused.{unchanged}
-use Rattle.checks.proofs.Rows.{exact}
 use Rattle.kinds.specs.Classes.{class}
 use Rattle.kinds.specs.declared.classes.Class.the-variants.{Reading, Building}
-use Rattle.kinds.proofs.Apart.{none-not-reading, reading-not-building}
+use Rattle.kinds.proofs.Apart.{none-not-reading, reading-not-building, none-not-building}
 use Rattle.sheet.specs.Fields.{sheet-grid, sheet-samples}
-use Rattle.sheet.specs.Faults.{sheet-refusal}
-use Rattle.sheet.specs.Read.{over, read-refusal}
-use Rattle.sheet.proofs.Walks.{passed}
+use Rattle.sheet.specs.Read.{over}
 use Rattle.sheet.proofs.Parts.{parts}
-use Rattle.sheet.proofs.Promises.{lengths-passed}
-use Rattle.sheet_build.specs.SheetTensor.{parts-refusal, reading-refusal, sheet-tensor-refusal, SheetPromise}
+use Rattle.sheet_build.specs.SheetTensor.{unread-answer, read-answer, parts-refusal, reading-refusal, sheet-tensor-refusal, SheetPromise}
 use Rattle.sheet_build.specs.declared.SheetAnswer.{SheetAnswer}
 use Rattle.sheet_build.proofs.Faults.{Of, no-fault, tested, reading-of-reading}
-use Rattle.sheet_build.proofs.Builds.{answered-refusal}
-use Rattle.sheet_build.proofs.Promises.{refusal-met, refusal-passed}
+use Rattle.sheet_build.proofs.Builds.{unread-is, answered-refusal}
+use Rattle.sheet_build.proofs.Promises.{refusal-met, refusal-passed, read-passed}
 
 module _ (bytes : List ℕ) (knots samples lent scratch : List Float) where
   abbrev g : Grid
@@ -46,17 +42,11 @@ module _ (bytes : List ℕ) (knots samples lent scratch : List Float) where
   reading-class met = ap class (refusal-met bytes knots samples lent scratch met) ∙ reading-of-reading bytes knots samples lent scratch met
 
   -- it does not: the build has nothing to refuse in the sizes and lengths of what was read
-  read-passed : reading ≡ 0 → (length lent ≡ 4096) × (sheet-refusal bytes ≡ 0)
-  unfolding reading-refusal
-  read-passed none =
-      let both = passed (length-refused (length lent) 4096) 3 (read-refusal bytes knots samples) none in
-      (exact (length lent) 4096 (both .0), lengths-passed bytes knots samples (both .1))
-
   build-of-building : reading ≡ 0 → Of Building (parts-refusal g y lent scratch)
   unfolding build-refusal class
   build-of-building none =
-      let long = read-passed none .0 in
-      let known = parts bytes (read-passed none .1) in
+      let long = read-passed bytes knots samples lent scratch none .0 in
+      let known = parts bytes (read-passed bytes knots samples lent scratch none .1) in
       let small = ltb-false 4096 (tensor-length g) (known .tensor) in
       let part : length (take (tensor-length g) lent) ≡ tensor-length g = rw length-take (omega arith) in
       rw (known .axes, known .points, known .tensor, eq-eqb _ _ (known .knots), eq-eqb _ _ (known .samples), eq-eqb _ _ part)
@@ -89,14 +79,26 @@ module _ (bytes : List ℕ) (knots samples lent scratch : List Float) where
 
   module _ (given : SheetAnswer) (k s t w : List Float) (p : SheetPromise bytes knots samples lent scratch given k s t w) where
     class-is : class (given .refusal) ≡ class refusal
-    class-is = ap (λ (a : SheetAnswer). class (a .refusal)) (p .answer) ∙ ap class (answered-refusal refusal g)
+    class-is = ap (λ (a : SheetAnswer). class (a .refusal)) (p .answer) ∙ ap class (answered-refusal reading refusal g)
 
-    pub shows-nothing : class (given .refusal) ≡ Reading → (k ≡ knots) × (s ≡ samples)
+    pub shows-nothing : class (given .refusal) ≡ Reading → (given ≡ unread-answer refusal) × (k ≡ knots) × (s ≡ samples)
     shows-nothing c =
-        let met = not-read (sym class-is ∙ c) in
-        (p .knots ∙ sym (unchanged reading knots _ met), p .samples ∙ sym (unchanged reading samples _ met))
+        let met = not-read (sym class-is ∙ c) in (
+          p .answer ∙ sym (unread-is reading refusal g met),
+          p .knots ∙ sym (unchanged reading knots _ met),
+          p .samples ∙ sym (unchanged reading samples _ met),
+        )
 
-    pub parts-stand : class (given .refusal) ≡ Building → (k ≡ over (g .flat-knots) knots) × (s ≡ over y samples)
+    pub parts-stand : class (given .refusal) ≡ Building → (given ≡ read-answer refusal g) × (k ≡ over (g .flat-knots) knots) × (s ≡ over y samples)
     parts-stand c =
         let none = was-read (sym class-is ∙ c) in
-        (rw none at (p .knots), rw none at (p .samples))
+        (rw none at (p .answer), rw none at (p .knots), rw none at (p .samples))
+
+    -- and there is no tensor
+    pub nothing-built : class (given .refusal) ≡ Building → (given .length ≡ 0) × (t ≡ lent)
+    unfolding class
+    nothing-built c = go refusal refl
+      where
+        go : (number : ℕ) → refusal ≡ number → (given .length ≡ 0) × (t ≡ lent)
+        go zero e = absurd (none-not-building (sym (ap class e) ∙ sym class-is ∙ c))
+        go (suc number) e = (ap (λ (a : SheetAnswer). a .length) (parts-stand c .0) ∙ rw e, rw e at (p .output))

@@ -2,4 +2,5 @@ pub mod Faults
 pub mod Builds
 pub mod Promises
 pub mod Classes
+pub mod Demand3
 pub mod Unique

@@ -9,8 +9,8 @@ use lib.Ieee.{Float}
 use Rattle.rules.specs.Sizes.{Grid, knots-length, samples-length, tensor-length}
 use Rattle.rules.specs.Refusals.{length-refused}
 use Rattle.rules.specs.Calls.{stored, scratch-after}
-use Rattle.rules.proofs.Refused.{or-else-met, or-else-passed, unchanged}
-use Rattle.checks.proofs.Rows.{axes-few, in-range}
+use Rattle.rules.proofs.Refused.{or-else-met, unchanged}
+use Rattle.checks.proofs.Rows.{axes-few, in-range, exact}
 use Rattle.sheet.specs.Fields.{axes, entries, sheet-grid, sheet-samples}
 use Rattle.sheet.specs.Faults.{sheet-refusal}
 use Rattle.sheet.specs.Read.{over, read-refusal, ReadPromise}
@@ -18,10 +18,10 @@ use Rattle.sheet.specs.declared.ReadAnswer.{ReadAnswer}
 use Rattle.sheet.proofs.Walks.{passed as no-test}
 use Rattle.sheet.proofs.Parts.{Parts, parts, take-over}
 use Rattle.sheet.proofs.Promises.{answer-refusal, lengths-passed}
-use Rattle.sheet_build.specs.SheetTensor.{refused-answer, answer-of, PartsGiven, grid-in, samples-in, parts-refusal, PartsPromise, reading-refusal, sheet-tensor-refusal, SheetPromise}
+use Rattle.sheet_build.specs.SheetTensor.{unread-answer, answer-of, PartsGiven, grid-in, samples-in, parts-refusal, PartsPromise, reading-refusal, sheet-tensor-refusal, SheetPromise}
 use Rattle.sheet_build.specs.declared.SheetAnswer.{SheetAnswer}
 use Rattle.sheet_build.proofs.Faults.{reading-of-reading, not-ten}
-use Rattle.sheet_build.proofs.Builds.{refused-is}
+use Rattle.sheet_build.proofs.Builds.{unread-is}
 
 -- ---- what comes before the build
 
@@ -49,14 +49,21 @@ module _ (bytes : List ℕ) (knots samples lent scratch : List Float) where
   unfolding sheet-tensor-refusal
   refusal-passed none = rw none
 
+  -- no refusal before the build: the tensor's buffer is long enough, and the sheet has no fault
+  pub read-passed : reading ≡ 0 → (length lent ≡ 4096) × (sheet-refusal bytes ≡ 0)
+  unfolding reading-refusal
+  read-passed none =
+      let both = no-test (length-refused (length lent) 4096) 3 (read-refusal bytes knots samples) none in
+      (exact (length lent) 4096 (both .0), lengths-passed bytes knots samples (both .1))
+
   -- a refusal before the build: the answer says so, and tensor and scratch are as they were
   reading-refused :
-      (given : SheetAnswer) (knots-later samples-later : List Float) → (reading ≡ 0 → ⊥) → given ≡ refused-answer reading
+      (given : SheetAnswer) (knots-later samples-later : List Float) → (reading ≡ 0 → ⊥) → given ≡ unread-answer reading
       → knots-later ≡ stored reading knots (over (g .flat-knots) knots)
       → samples-later ≡ stored reading samples (over y samples)
       → SheetPromise bytes knots samples lent scratch given knots-later samples-later lent scratch
   reading-refused given knots-later samples-later met e k s = record {
-    answer = rw (refusal-met met) (e ∙ refused-is reading g met);
+    answer = rw (refusal-met met) (e ∙ unread-is reading reading g met);
     knots = k;
     samples = s;
     output = rw (refusal-met met) (unchanged reading lent _ met);
@@ -68,7 +75,7 @@ module _ (bytes : List ℕ) (knots samples lent scratch : List Float) where
   unfolding reading-refusal
   tensor-length-met other = rw (ne-eqb (length lent) 4096 other)
 
-  pub buffer-refused : (given : SheetAnswer) → (length lent ≡ 4096 → ⊥) → given ≡ refused-answer 4
+  pub buffer-refused : (given : SheetAnswer) → (length lent ≡ 4096 → ⊥) → given ≡ unread-answer 4
       → SheetPromise bytes knots samples lent scratch given knots samples lent scratch
   buffer-refused given other e =
       let is = tensor-length-met other in
@@ -91,7 +98,7 @@ module _ (bytes : List ℕ) (knots samples lent scratch : List Float) where
     samples-are : s ≡ stored reading samples (over y samples)
     samples-are = rw reading-is (read .samples)
 
-    pub sheet-refused : (given : SheetAnswer) → (a .refusal ≡ 0 → ⊥) → given ≡ refused-answer (a .refusal)
+    pub sheet-refused : (given : SheetAnswer) → (a .refusal ≡ 0 → ⊥) → given ≡ unread-answer (a .refusal)
         → SheetPromise bytes knots samples lent scratch given k s lent scratch
     sheet-refused given met e =
         reading-refused given k s (λ z. met (answered ∙ z)) (rw answered at e) knots-are samples-are
@@ -146,7 +153,7 @@ module _ (bytes : List ℕ) (knots samples lent scratch : List Float) where
       sheet-built given tensor-later scratch-later built =
           let p : PartsPromise g y lent scratch given tensor-later scratch-later = rw (grid-is, samples-is) at built in
           record {
-            answer = rw (refusal-passed passed) (p .answer);
+            answer = rw (passed, refusal-passed passed) (p .answer);
             knots = knots-are;
             samples = samples-are;
             output = rw (refusal-passed passed) (p .output);
@@ -155,20 +162,15 @@ module _ (bytes : List ℕ) (knots samples lent scratch : List Float) where
 
 -- ---- what a caller knows of the answer
 
-short-answer : (refusal : ℕ) (g : Grid) (most : ℕ) → (refusal ≡ 0 → tensor-length g ≤ most) → answer-of refusal g .length ≤ most
-short-answer zero g most small = small refl
-short-answer (suc refusal) g most small = omega arith
+short-answer : (reading refusal : ℕ) (g : Grid) (most : ℕ) → (reading ≡ 0 → tensor-length g ≤ most) → answer-of reading refusal g .length ≤ most
+short-answer zero zero g most small = small refl
+short-answer zero (suc refusal) g most small = omega arith
+short-answer (suc reading) refusal g most small = omega arith
 
 module _ (bytes : List ℕ) (knots samples lent scratch : List Float) (given : SheetAnswer) (k s t w : List Float) where
-  no-refusal : sheet-tensor-refusal bytes knots samples lent scratch ≡ 0 → sheet-refusal bytes ≡ 0
-  unfolding sheet-tensor-refusal reading-refusal
-  no-refusal e =
-      let before = or-else-passed (reading-refusal bytes knots samples lent scratch) _ e .0 in
-      lengths-passed bytes knots samples (no-test (length-refused (length lent) 4096) 3 (read-refusal bytes knots samples) before .1)
-
   -- the tensor has no more numbers than its buffer has places
   pub length-most : SheetPromise bytes knots samples lent scratch given k s t w → given .length ≤ 4096
   length-most p =
       rw (p .answer)
-      (short-answer (sheet-tensor-refusal bytes knots samples lent scratch) (sheet-grid bytes) 4096
-      (λ e. ltb-false 4096 (tensor-length (sheet-grid bytes)) (parts bytes (no-refusal e) .tensor)))
+      (short-answer (reading-refusal bytes knots samples lent scratch) (sheet-tensor-refusal bytes knots samples lent scratch) (sheet-grid bytes) 4096
+      (λ e. ltb-false 4096 (tensor-length (sheet-grid bytes)) (parts bytes (read-passed bytes knots samples lent scratch e .1) .tensor)))

@@ -1,6 +1,6 @@
 // From the bytes of a packed sheet to its tensor: the reader, then the build.
 ghost use mathlib.Core.Path.{_≡_};
-ghost use Rattle.sheet_build.specs.SheetTensor.{refused-answer, grid-in, samples-in, PartsGiven, PartsPromise, SheetPromise};
+ghost use Rattle.sheet_build.specs.SheetTensor.{unread-answer, grid-in, samples-in, PartsGiven, PartsPromise, SheetPromise};
 use rules::Axis;
 
 // A refusal's number, 0 for none, how many axes there are, the four axes, and how many numbers the tensor has.
@@ -11,9 +11,9 @@ pub struct SheetAnswer {
     pub length: usize,
 }
 
-// The answer of a refusal: no axes, none of the four in use, and no numbers.
-fn refused(refusal: usize) -> SheetAnswer
-    ensures { λ r. ⌜ r ≡ refused-answer refusal ⌝ }
+// The answer of a sheet that was not read: no axes, none of the four in use, and no numbers.
+fn not_read(refusal: usize) -> SheetAnswer
+    ensures { λ r. ⌜ r ≡ unread-answer refusal ⌝ }
 {
     SheetAnswer {
         refusal,
@@ -47,10 +47,15 @@ fn build_parts(
         scratch,
     );
     if refusal != 0 {
-        return refused(refusal);
+        return SheetAnswer {
+            refusal,
+            axes,
+            all,
+            length: 0,
+        };
     }
     SheetAnswer {
-        refusal: 0,
+        refusal,
         axes,
         all,
         length,
@@ -59,8 +64,9 @@ fn build_parts(
 
 // PUBLIC. Reads a sheet and builds its tensor: the axes and the tensor's length are the answer, the sheet's knots, its samples and the
 // tensor's numbers go to the first places of their buffers. Refuses a tensor buffer of another length than 4,096 by 4, then what the
-// reader refuses, each by the reader's number, and then what the build refuses: 5 a scratch shorter than the tensor and 2,048, 7, 8, 9
-// and 10. A refusal leaves the tensor as it was, and one that comes before the build or from the reader the knots and the samples too.
+// reader refuses, each by the reader's number, and then what the build refuses: 5 a scratch shorter than the tensor plus 2,048, 7, 8, 9
+// and 10. After a refusal of the build the sheet has been read: the answer has its axes and a length of 0, knots and samples stand in
+// their buffers, and the tensor is as it was. After any refusal before the build the answer has no axes and all three are as they were.
 // The scratch is +0.0 after 0 and 10, and else as it was.
 pub fn tensor_of_sheet(
     bytes: &[u8],
@@ -72,12 +78,12 @@ pub fn tensor_of_sheet(
     ensures { λ r. ⌜ SheetPromise (now (bytes .entry)) (now (knots .entry)) (now (samples .entry)) (now (tensor .entry)) (now (scratch .entry)) r (now (knots .exit)) (now (samples .exit)) (now (tensor .exit)) (now (scratch .exit)) ⌝ }
 {
     if tensor.len() != 4096 {
-        return refused(4);
+        return not_read(4);
     }
     let sheet = sheet::read(bytes, knots, samples);
     let fault = sheet.refusal;
     if fault != 0 {
-        return refused(fault);
+        return not_read(fault);
     }
     let axes = sheet.axes;
     let all = sheet.all;

@@ -33,32 +33,29 @@ use Rattle.tensor.specs.Changes.{Step, Kept, tensor-after, standing, sam
 abbrev pub Fitting : Grid → List Float → List Float → Type 0
 Fitting g t scratch = (length t ≡ tensor-length g) × (scratch-length g ≤ length scratch)
 
--- ---- the statements, each of an accepted build and any list of changes, refused ones among them
+-- ---- the statements, each of a tensor t that was made of samples, and any list of changes, refused ones among them
 
 -- 1: a fresh build from the samples that then stand is not refused, and gives the bits that the tensor has
-abbrev pub HasBitsOfFreshBuild : Type 0
-HasBitsOfFreshBuild =
-    (g : Grid) (samples out scratch t cleared : List Float) → BuildPromise g samples out scratch 0 t cleared
-    → (steps : List Step) → Kept g t steps
+abbrev pub BitsOfFreshBuild : Grid → List Float → List Float → Type 0
+BitsOfFreshBuild g samples t =
+    (steps : List Step) → Kept g t steps
     → (out′ scratch′ fresh cleared′ : List Float) (refusal : ℕ) → Fitting g out′ scratch′
     → BuildPromise g (samples-after g samples steps) out′ scratch′ refusal fresh cleared′
     → (refusal ≡ 0) × (fresh ≡ tensor-after t steps)
 
 -- 2: one more change, with the stated room, is refused by 6 where its place is off the grid, and else just as a fresh build from the samples with the new one is
-abbrev pub RefusedAsFreshBuild : Type 0
-RefusedAsFreshBuild =
-    (g : Grid) (samples out scratch t cleared : List Float) → BuildPromise g samples out scratch 0 t cleared
-    → (steps : List Step) → Kept g t steps
+abbrev pub RefusalOfFreshBuild : Grid → List Float → List Float → Type 0
+RefusalOfFreshBuild g samples t =
+    (steps : List Step) → Kept g t steps
     → (step : Step) → scratch-length g ≤ length (step .scratch) → Kept g (tensor-after t steps) (step ∷ [])
     → (out′ scratch′ fresh cleared′ : List Float) (refusal : ℕ) → Fitting g out′ scratch′
     → BuildPromise g (set (samples-after g samples steps) (flat (points g) (g .axes) (step .place)) (step .sample)) out′ scratch′ refusal fresh cleared′
     → step .answer .refusal ≡ cond (place-refused g (step .place)) 6 refusal
 
 -- 3: one more change leaves the number at a place and a mask where, on some axis outside the mask, the place has another index than the changed one
-abbrev pub KeepsBitsElsewhere : Type 0
-KeepsBitsElsewhere =
-    (g : Grid) (samples out scratch t cleared : List Float) → BuildPromise g samples out scratch 0 t cleared
-    → (steps : List Step) → Kept g t steps
+abbrev pub BitsKeptElsewhere : Grid → List Float → Type 0
+BitsKeptElsewhere g t =
+    (steps : List Step) → Kept g t steps
     → (step : Step) → Kept g (tensor-after t steps) (step ∷ [])
     → (p : Place) (mask j : ℕ) → OnGrid (points g) (g .axes) p → mask < masks g
     → j < g .axes → in-mask mask j ≡ false → p j ≢ step .place j
@@ -69,6 +66,16 @@ abbrev pub CountsItsLanes : Type 0
 CountsItsLanes =
     (g : Grid) (t : List Float) (step : Step) → Kept g t (step ∷ []) → step .answer .refusal ≡ 0
     → (step .answer .lanes ≡ length (change-lanes g (step .place))) × (step .answer .lanes ≡ lane-sum (points g) (g .axes))
+
+-- each of a tensor that an accepted build made
+abbrev pub HasBitsOfFreshBuild : Type 0
+HasBitsOfFreshBuild = (g : Grid) (samples out scratch t cleared : List Float) → BuildPromise g samples out scratch 0 t cleared → BitsOfFreshBuild g samples t
+
+abbrev pub RefusedAsFreshBuild : Type 0
+RefusedAsFreshBuild = (g : Grid) (samples out scratch t cleared : List Float) → BuildPromise g samples out scratch 0 t cleared → RefusalOfFreshBuild g samples t
+
+abbrev pub KeepsBitsElsewhere : Type 0
+KeepsBitsElsewhere = (g : Grid) (samples out scratch t cleared : List Float) → BuildPromise g samples out scratch 0 t cleared → BitsKeptElsewhere g t
 
 -- ---- rows of refusals
 
@@ -329,20 +336,20 @@ steps-stand g samples t stands (step ∷ steps) promised =
     steps-stand g (standing g (step .answer .refusal) samples (step .place) (step .sample)) (step .tensor-later)
     (step-stands g samples t step stands (promised .0, tt)) steps (promised .1)
 
--- ---- the proofs
+-- ---- the proofs, of any tensor that stands as built
 
-pub has-bits-of-fresh-build : HasBitsOfFreshBuild
-has-bits-of-fresh-build g samples out scratch t cleared built steps promised out′ scratch′ fresh cleared′ refusal fitting again =
+pub bits-of-fresh-build : (g : Grid) (samples t : List Float) → Stands g samples t → BitsOfFreshBuild g samples t
+bits-of-fresh-build g samples t first steps promised out′ scratch′ fresh cleared′ refusal fitting again =
     let now = samples-after g samples steps in
-    let stands = steps-stand g samples t (built-stands g samples out scratch t cleared built) steps promised in
+    let stands = steps-stand g samples t first steps promised in
     let sound = stands .sound in
     let none : build-refusal g now out′ scratch′ ≡ 0 =
     build-number g now sound now out′ scratch′ (sound .samples-exact) fitting
     ∙ past (some-number-refused now) 7 (sound .samples-finite) (past (outcome-refused (tensor g now)) 10 (sound .outcome-finite) refl) in
     (again .answer ∙ none, again .output ∙ ap (λ (r : ℕ). stored r out′ (tensor g now)) none ∙ sym (stands .is))
 
-pub refused-as-fresh-build : RefusedAsFreshBuild
-refused-as-fresh-build g samples out scratch t cleared built steps promised step room next out′ scratch′ fresh cleared′ refusal fitting again =
+pub refusal-of-fresh-build : (g : Grid) (samples t : List Float) → Stands g samples t → RefusalOfFreshBuild g samples t
+refusal-of-fresh-build g samples t first steps promised step room next out′ scratch′ fresh cleared′ refusal fitting again =
     refusal-is g (tensor-after t steps) step next
     ∙ ap (λ (l : List Float). change-refusal g l (step .scratch) p v) (stands .is)
     ∙ change-number g now sound (step .scratch) p v (tensor-long g now sound) room
@@ -352,7 +359,7 @@ refused-as-fresh-build g samples out scratch t cleared built steps promised step
     now = samples-after g samples steps
 
     stands : Stands g now (tensor-after t steps)
-    stands = steps-stand g samples t (built-stands g samples out scratch t cleared built) steps promised
+    stands = steps-stand g samples t first steps promised
 
     sound : Sound g now
     sound = stands .sound
@@ -372,8 +379,8 @@ refused-as-fresh-build g samples out scratch t cleared built steps promised step
         ap₂ (λ (a b : Bool). cond a 7 (cond b 10 0)) (sym (new-finite g now sound p v on)) (ap outcome-refused (changed-is-built g now sound p v on))
         ∙ sym (build-number g now sound after out′ scratch′ (changed-long g now sound p v on) fitting) ∙ sym (again .answer)
 
-pub keeps-bits-elsewhere : KeepsBitsElsewhere
-keeps-bits-elsewhere g samples out scratch t cleared built steps promised step next q mask j on small below off other =
+pub bits-kept-elsewhere : (g : Grid) (samples t : List Float) → Stands g samples t → BitsKeptElsewhere g t
+bits-kept-elsewhere g samples t first steps promised step next q mask j on small below off other =
     ap (λ (l : List Float). at l (spot g q mask)) (next .0 .output) ∙ go refused refl
   where
     now : List Float
@@ -383,7 +390,7 @@ keeps-bits-elsewhere g samples out scratch t cleared built steps promised step n
     before = tensor-after t steps
 
     stands : Stands g now before
-    stands = steps-stand g samples t (built-stands g samples out scratch t cleared built) steps promised
+    stands = steps-stand g samples t first steps promised
 
     p : Place
     p = step .place
@@ -419,3 +426,17 @@ counts-its-lanes g t step promised none =
     let listed : step .answer .lanes ≡ length (change-lanes g p) =
     ap (λ (a : ChangeAnswer). a .lanes) (promised .0 .answer) ∙ ap (λ (r : ℕ). counted r (length (change-lanes g p))) refused in
     (listed, listed ∙ lane-count g p (change-accepted g t (step .scratch) p (step .sample) refused .on-the-grid))
+
+-- ---- and of one that an accepted build made
+
+pub has-bits-of-fresh-build : HasBitsOfFreshBuild
+has-bits-of-fresh-build g samples out scratch t cleared built =
+    bits-of-fresh-build g samples t (built-stands g samples out scratch t cleared built)
+
+pub refused-as-fresh-build : RefusedAsFreshBuild
+refused-as-fresh-build g samples out scratch t cleared built =
+    refusal-of-fresh-build g samples t (built-stands g samples out scratch t cleared built)
+
+pub keeps-bits-elsewhere : KeepsBitsElsewhere
+keeps-bits-elsewhere g samples out scratch t cleared built =
+    bits-kept-elsewhere g samples t (built-stands g samples out scratch t cleared built)

@@ -43,7 +43,10 @@ impl Call {
             Call::Read => &[
                 "bytes", "knots", "samples", "axes", "points", "kinds", "values",
             ],
-            Call::SheetTensor => &["bytes", "knots", "samples", "tensor", "scratch", "length"],
+            Call::SheetTensor => &[
+                "bytes", "knots", "samples", "axes", "points", "kinds", "values", "tensor",
+                "scratch", "length",
+            ],
         }
     }
 
@@ -57,7 +60,10 @@ impl Call {
             Call::Change => &["tensor", "scratch", "lanes"],
             Call::Query => &["value", "labels"],
             Call::Read => &["knots", "samples", "axes", "points", "kinds", "values"],
-            Call::SheetTensor => &["knots", "samples", "tensor", "scratch", "length"],
+            Call::SheetTensor => &[
+                "knots", "samples", "axes", "points", "kinds", "values", "tensor", "scratch",
+                "length",
+            ],
         }
     }
 

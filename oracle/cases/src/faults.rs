@@ -95,7 +95,7 @@ pub fn spoil(random: &mut Random, case: &mut Case) {
     for _ in 0..random.pick(&[1, 1, 1, 1, 2, 2, 3]) {
         random.pick(faults)(random, case);
     }
-    if random.percent(6) {
+    if random.percent(12) {
         fixed_length_off(random, case);
     }
 }

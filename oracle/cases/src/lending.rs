@@ -119,26 +119,23 @@ pub fn query(random: &mut Random, grid: &Grid, tensor: &[f64], coordinates: &[f6
     Case::new(Call::Query, arguments)
 }
 
-/// A sheet and the two buffers. What is no number keeps no payload in them, so
-/// they are filled with numbers.
+/// A sheet, the two buffers, and room for its axes. What is no number keeps no payload
+/// in them, so they are filled with numbers.
 fn sheet_arguments(random: &mut Random, bytes: &[u8]) -> Vec<Argument> {
     vec![
         Argument::of_bytes(bytes),
         Argument::of_floats(&fill(random, BUFFER, false)),
         Argument::of_floats(&fill(random, BUFFER, false)),
+        Argument::of_numbers(&[79]),
+        room_of_axes(),
+        Argument::of_bytes(&[91, 92, 93, 94, 95, 96, 97, 98]),
+        Argument::of_floats(&[0.0; 8].map(|_| ordinary(random))),
     ]
 }
 
 /// A sheet to be read.
 pub fn read(random: &mut Random, bytes: &[u8]) -> Case {
-    let mut arguments = sheet_arguments(random, bytes);
-    arguments.extend([
-        Argument::of_numbers(&[79]),
-        room_of_axes(),
-        Argument::of_bytes(&[91, 92, 93, 94, 95, 96, 97, 98]),
-        Argument::of_floats(&[0.0; 8].map(|_| ordinary(random))),
-    ]);
-    Case::new(Call::Read, arguments)
+    Case::new(Call::Read, sheet_arguments(random, bytes))
 }
 
 /// A sheet to be read and built, with scratch for a tensor of a length.

@@ -10,7 +10,7 @@ struct Edge {
 }
 
 /// How many edges there are.
-const COUNT: usize = 10;
+const COUNT: usize = 12;
 
 const EDGES: [Edge; COUNT] = [
     Edge {
@@ -53,6 +53,14 @@ const EDGES: [Edge; COUNT] = [
         name: "a tensor of more than 3,900 numbers",
         is_reached: |case, refusal| refusal == 0 && a_long_tensor(case),
     },
+    Edge {
+        name: "a wrong number of axes beside a slice of a fixed length that is off",
+        is_reached: |case, refusal| refusal == 1 && a_fixed_length_off(case),
+    },
+    Edge {
+        name: "kinds that are refused beside knots of another length",
+        is_reached: |case, refusal| refusal == 4 && no_kinds_beside_a_length_off(case),
+    },
 ];
 
 /// How many cases have reached each edge.
@@ -77,6 +85,36 @@ impl Reached {
         let names = EDGES.iter().map(|edge| edge.name);
         names.zip(self.cases.iter().copied())
     }
+}
+
+/// The slices of a fixed length in a call with axes.
+const FIXED: [(&str, usize); 7] = [
+    ("points", 4),
+    ("kinds", 8),
+    ("values", 8),
+    ("place", 4),
+    ("value", 1),
+    ("labels", 4),
+    ("lanes", 1),
+];
+
+fn a_fixed_length_off(case: &Case) -> bool {
+    let present = FIXED.iter().filter(|(name, _)| case.has(name));
+    let mut lengths = present.map(|(name, length)| (case.argument(name).length(), length));
+    lengths.any(|(given, length)| given != *length)
+}
+
+/// Whether the first axis of a build or a change has Periodic at one end only, and the only
+/// length that is off is that of the knots.
+fn no_kinds_beside_a_length_off(case: &Case) -> bool {
+    if !matches!(case.call, Call::Build | Call::Change) || a_fixed_length_off(case) {
+        return false;
+    }
+    let kinds = case.argument("kinds").bytes();
+    let axes = case.argument("axes").number();
+    let points = &case.argument("points").numbers()[..axes];
+    let knots = case.argument("knots").length();
+    (kinds[0] == 3) != (kinds[1] == 3) && knots != points.iter().sum::<usize>()
 }
 
 /// Whether a call with a refusal has looked at all that it was given.

@@ -72,12 +72,14 @@ fn on_a_sheet(call: Call, arguments: &mut [Argument]) -> usize {
             bytes.bytes(), knots.floats_mut(), samples.floats_mut(), axes.numbers_mut(),
             points.numbers_mut(), kinds.bytes_mut(), values.floats_mut(),
         ),
-        (Call::SheetTensor, [bytes, knots, samples, tensor, scratch, length]) => {
-            reading::sheet_tensor(
-                bytes.bytes(), knots.floats_mut(), samples.floats_mut(), tensor.floats_mut(),
-                scratch.floats_mut(), length.numbers_mut(),
-            )
-        }
+        (
+            Call::SheetTensor,
+            [bytes, knots, samples, axes, points, kinds, values, tensor, scratch, length],
+        ) => reading::sheet_tensor(
+            bytes.bytes(), knots.floats_mut(), samples.floats_mut(), axes.numbers_mut(),
+            points.numbers_mut(), kinds.bytes_mut(), values.floats_mut(), tensor.floats_mut(),
+            scratch.floats_mut(), length.numbers_mut(),
+        ),
         _ => panic!("a case has the arguments of its call"),
     }
 }

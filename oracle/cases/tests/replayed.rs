@@ -53,7 +53,7 @@ impl Words {
         let one_axis = matches!(call, Call::Moments | Call::Curve | Call::Slopes);
         match name {
             "points" if one_axis => Argument::Number(self.next() as usize),
-            "axes" if call != Call::Read => Argument::Number(self.next() as usize),
+            "axes" if !call.reads_patterns() => Argument::Number(self.next() as usize),
             "point" | "sample" => Argument::Float(f64::from_bits(self.next())),
             "kinds" | "bytes" => {
                 let bytes: Vec<u8> = self.slice().into_iter().map(|word| word as u8).collect();

@@ -179,19 +179,25 @@ fn read(arguments: &mut [Argument]) -> usize {
 
 #[rustfmt::skip]
 fn sheet_tensor(arguments: &mut [Argument]) -> usize {
-    let [bytes, knots, samples, tensor, scratch, length] = arguments else {
+    let [bytes, knots, samples, axes, points, kinds, values, tensor, scratch, length] = arguments
+    else {
         panic!("a case has the arguments of its call")
     };
     let bytes = lent(bytes.bytes());
     let knots = lent_mut(knots.floats_mut());
     let samples = lent_mut(samples.floats_mut());
+    let axes = lent_mut(axes.numbers_mut());
+    let points = lent_mut(points.numbers_mut());
+    let kinds = lent_mut(kinds.bytes_mut());
+    let values = lent_mut(values.floats_mut());
     let tensor = lent_mut(tensor.floats_mut());
     let scratch = lent_mut(scratch.floats_mut());
     let length = lent_mut(length.numbers_mut());
     // SAFETY: each pair is a live slice; no two of them overlap.
     unsafe {
         hullashlar_sheet_tensor(
-            bytes.0, bytes.1, knots.0, knots.1, samples.0, samples.1, tensor.0, tensor.1,
+            bytes.0, bytes.1, knots.0, knots.1, samples.0, samples.1, axes.0, axes.1,
+            points.0, points.1, kinds.0, kinds.1, values.0, values.1, tensor.0, tensor.1,
             scratch.0, scratch.1, length.0, length.1,
         )
     }

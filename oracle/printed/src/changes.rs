@@ -3,10 +3,7 @@
 
 use crate::grid::{Ends, Grid};
 use crate::line::{counts, scratch, BEFORE};
-use crate::surface::{build, query, sawtooth, SCRATCH};
-
-/// A changed sample: its place and its new number.
-type Change = ([usize; 4], f64);
+use crate::surface::{build, query, sawtooth, Change, SCRATCH};
 
 /// A list of changes on a grid, and a query behind it.
 struct List<'a> {

@@ -2,6 +2,7 @@
 //! reading of the rules, over the unchanged files; no code of ours is asked.
 
 mod changes;
+mod either_order;
 mod grid;
 mod host;
 mod line;
@@ -24,6 +25,7 @@ pub fn printed(program: &str, input: &[u8]) -> Option<String> {
         "one_axis_refusals" => refusals::refusals(),
         "surface_examples" => surface::examples(),
         "change_examples" => changes::changes(),
+        "either_order_examples" => either_order::either_order(),
         "replay" => replay(input),
         _ => return None,
     };

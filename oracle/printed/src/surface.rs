@@ -16,6 +16,17 @@ pub fn build(name: &str, grid: &Grid, samples: &[f64], length: usize) -> (String
     (line, tensor)
 }
 
+/// A changed sample: its place and its new number.
+pub type Change = ([usize; 4], f64);
+
+/// The line of a change with every number of the tensor.
+pub fn change(name: &str, grid: &Grid, tensor: &mut [f64], (place, sample): Change) -> String {
+    let mut lent = vec![BEFORE; SCRATCH];
+    let (refusal, lanes) = grid.change(tensor, &mut lent, place, sample);
+    let (numbers, scratch) = (patterns(tensor), scratch(&lent));
+    format!("{name}: change {refusal} lanes {lanes}{numbers}{scratch}")
+}
+
 /// The line of a query.
 pub fn query(name: &str, grid: &Grid, tensor: &[f64], coordinates: &[f64]) -> String {
     let (refusal, value, labels) = grid.query(tensor, coordinates);
@@ -38,10 +49,8 @@ fn square() -> String {
     let grid = Grid::new(&[axis, axis]);
     let (built, mut tensor) = build("square", &grid, &[0.0, 0.0, 0.0, 1.0], 16);
     let asked = query("square at 0.5 0.5", &grid, &tensor, &[0.5, 0.5]);
-    let mut lent = vec![BEFORE; SCRATCH];
-    let (refusal, lanes) = grid.change(&mut tensor, &mut lent, [0, 1, 0, 0], 2.0);
-    let (numbers, scratch) = (patterns(&tensor), scratch(&lent));
-    format!("{built}{asked}square, sample 0 1 becomes 2: change {refusal} lanes {lanes}{numbers}{scratch}")
+    let name = "square, sample 0 1 becomes 2";
+    built + &asked + &change(name, &grid, &mut tensor, ([0, 1, 0, 0], 2.0))
 }
 
 fn labels() -> String {

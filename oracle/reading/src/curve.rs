@@ -16,14 +16,10 @@ pub fn moments(
     moments: &mut [f64],
     scratch: &mut [f64],
 ) -> Refusal {
-    if kinds.len() != 2 || values.len() != 2 {
-        return 4;
-    }
-    if let Err(refusal) = kinds_stand(kinds) {
-        return refusal;
-    }
     let lengths = [knots.len(), samples.len(), moments.len()];
     let solved = check_lengths(points, &lengths)
+        .and_then(|()| require(kinds.len() == 2 && values.len() == 2, 4))
+        .and_then(|()| kinds_stand(kinds))
         .and_then(|()| require(scratch.len() >= CURVE_SCRATCH, 5))
         .and_then(|()| require(values_finite(kinds, values), 7))
         .and_then(|()| check_numbers(knots, samples))
@@ -42,16 +38,16 @@ pub fn curve(
     point: f64,
     value: &mut [f64],
 ) -> Refusal {
-    if value.len() != 1 {
-        return 4;
-    }
     let lengths = [knots.len(), samples.len(), moments.len()];
     let answer = check_lengths(points, &lengths)
+        .and_then(|()| require(value.len() == 1, 4))
         .and_then(|()| require(point.is_finite(), 7))
         .and_then(|()| check_numbers(knots, samples))
         .map(|()| evaluate_spline_from_m(knots, samples, moments, point))
         .and_then(|answer| require(answer.is_finite(), 10).map(|()| answer));
-    value[0] = answer.unwrap_or(0.0);
+    if let [value] = value {
+        *value = answer.unwrap_or(0.0);
+    }
     answer.err().unwrap_or(0)
 }
 

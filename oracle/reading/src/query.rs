@@ -14,37 +14,35 @@ pub fn query(
     value: &mut [f64],
     labels: &mut [usize],
 ) -> Refusal {
-    if points.len() != 4 || value.len() != 1 || labels.len() != 4 {
-        return 4;
+    let slots_stand = value.len() == 1 && labels.len() == 4;
+    let answer = Shape::checked(axes, points).and_then(|shape| {
+        require(slots_stand, 4)?;
+        answer(&shape, knots, tensor, coordinates)
+    });
+    let refusal = answer.as_ref().err().copied().unwrap_or(0);
+    if slots_stand {
+        let (answer, cells) = answer.unwrap_or_default();
+        value[0] = answer;
+        labels.fill(0);
+        labels[..cells.len()].copy_from_slice(&cells);
     }
-    value[0] = 0.0;
-    labels.fill(0);
-    match answer(axes, points, knots, tensor, coordinates) {
-        Ok((answer, cells)) => {
-            value[0] = answer;
-            labels[..cells.len()].copy_from_slice(&cells);
-            0
-        }
-        Err(refusal) => refusal,
-    }
+    refusal
 }
 
 /// The value and the labels of the axes in use, or the refusal.
 fn answer(
-    axes: usize,
-    points: &[usize],
+    shape: &Shape,
     knots: &[f64],
     tensor: &[f64],
     coordinates: &[f64],
 ) -> Result<(f64, Vec<usize>), Refusal> {
-    let shape = Shape::checked(axes, points)?;
     require(knots.len() == shape.knots_length(), 4)?;
     require(tensor.len() == shape.tensor_length(), 4)?;
-    require(coordinates.len() == axes, 4)?;
+    require(coordinates.len() == shape.axes(), 4)?;
     require(all_finite(knots) && all_finite(coordinates), 7)?;
     let knots = shape.knots_by_axis(knots);
     require(knots.iter().all(|knots| knots_rise(knots)), 8)?;
-    let value = value_at(&shape, &knots, tensor, coordinates);
+    let value = value_at(shape, &knots, tensor, coordinates);
     require(value.is_finite(), 10)?;
     let cells = knots.iter().zip(coordinates);
     let labels = cells.map(|(knots, point)| label(knots, *point)).collect();

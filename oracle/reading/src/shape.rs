@@ -13,9 +13,11 @@ pub struct Shape<'a> {
 }
 
 impl<'a> Shape<'a> {
-    /// The shape of the first so many of four axes, or 1, 2 or 3.
+    /// The shape of the first so many of four axes: 1 for their number alone, 4 for points that
+    /// are not four, 2, or 3.
     pub fn checked(axes: usize, points: &'a [usize]) -> Result<Self, Refusal> {
         require((1..=4).contains(&axes), 1)?;
+        require(points.len() == 4, 4)?;
         let shape = Self {
             points: &points[..axes],
         };

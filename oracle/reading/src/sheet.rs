@@ -9,7 +9,8 @@ use crate::tensor::build;
 /// The length of the lent buffers for knots and for samples.
 pub const BUFFER: usize = 1024;
 
-/// What a sheet says; axes not in use stay as they are here at first.
+/// What a sheet says; axes not in use stay as they are here at first, and so do all of a
+/// sheet that is not read.
 #[derive(Default)]
 struct Sheet {
     axes: usize,
@@ -30,35 +31,59 @@ pub fn read(
     kinds: &mut [u8],
     values: &mut [f64],
 ) -> Refusal {
-    if axes.len() != 1 || points.len() != 4 || kinds.len() != 8 || values.len() != 8 {
+    if !slots_stand(axes, points, kinds, values) {
         return 4;
     }
-    let (sheet, refusal) = match read_sheet(bytes, knots, samples) {
-        Ok(sheet) => (sheet, 0),
-        Err(refusal) => (Sheet::default(), refusal),
-    };
+    let read = read_sheet(bytes, knots, samples);
+    let refusal = read.as_ref().err().copied().unwrap_or(0);
+    hand_over(&read.unwrap_or_default(), axes, points, kinds, values);
+    refusal
+}
+
+/// Whether the slots for the axes of a sheet have their lengths.
+fn slots_stand(axes: &[usize], points: &[usize], kinds: &[u8], values: &[f64]) -> bool {
+    axes.len() == 1 && points.len() == 4 && kinds.len() == 8 && values.len() == 8
+}
+
+/// Stores the axes of a sheet in their slots.
+fn hand_over(
+    sheet: &Sheet,
+    axes: &mut [usize],
+    points: &mut [usize],
+    kinds: &mut [u8],
+    values: &mut [f64],
+) {
     axes[0] = sheet.axes;
     points.copy_from_slice(&sheet.points);
     kinds.copy_from_slice(&sheet.kinds);
     values.copy_from_slice(&sheet.values);
-    refusal
 }
 
-/// Reads a sheet and builds its tensor into the first numbers of a lent one.
+/// Reads a sheet and builds its tensor into the first numbers of a lent one. A sheet that is
+/// read is handed over, built or not.
+#[allow(clippy::too_many_arguments)]
 pub fn sheet_tensor(
     bytes: &[u8],
     knots: &mut [f64],
     samples: &mut [f64],
+    axes: &mut [usize],
+    points: &mut [usize],
+    kinds: &mut [u8],
+    values: &mut [f64],
     tensor: &mut [f64],
     scratch: &mut [f64],
     length: &mut [usize],
 ) -> Refusal {
-    if length.len() != 1 {
+    if !slots_stand(axes, points, kinds, values) || length.len() != 1 {
         return 4;
     }
-    let built = require(tensor.len() == LONGEST_TENSOR, 4)
-        .and_then(|()| read_sheet(bytes, knots, samples))
-        .and_then(|sheet| build_sheet(&sheet, tensor, scratch));
+    let read =
+        require(tensor.len() == LONGEST_TENSOR, 4).and_then(|()| read_sheet(bytes, knots, samples));
+    let built = match &read {
+        Ok(sheet) => build_sheet(sheet, tensor, scratch),
+        Err(refusal) => Err(*refusal),
+    };
+    hand_over(&read.unwrap_or_default(), axes, points, kinds, values);
     length[0] = built.unwrap_or(0);
     built.err().unwrap_or(0)
 }

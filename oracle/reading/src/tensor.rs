@@ -19,13 +19,11 @@ pub fn build(
     tensor: &mut [f64],
     scratch: &mut [f64],
 ) -> Refusal {
-    if let Err(refusal) = check_host(axes, points, kinds, values) {
-        return refusal;
-    }
     let built = Shape::checked(axes, points).and_then(|shape| {
-        require(knots.len() == shape.knots_length(), 4)?;
         require(samples.len() == shape.samples_length(), 4)?;
-        check_work_lengths(&shape, tensor, scratch)?;
+        check_lengths(&shape, kinds, values, knots, tensor)?;
+        kinds_stand(&kinds[..2 * axes])?;
+        check_scratch(&shape, scratch)?;
         require(all_finite(samples), 7)?;
         let conditions = checked_conditions(&shape, kinds, values, knots)?;
         let built = tensor_of(&shape, &conditions, knots, samples);
@@ -53,42 +51,43 @@ pub fn change(
     sample: f64,
     lanes: &mut [usize],
 ) -> Refusal {
-    if place.len() != 4 || lanes.len() != 1 {
-        return 4;
-    }
-    if let Err(refusal) = check_host(axes, points, kinds, values) {
-        return refusal;
-    }
     let changed = Shape::checked(axes, points).and_then(|shape| {
-        require(knots.len() == shape.knots_length(), 4)?;
-        check_work_lengths(&shape, tensor, scratch)?;
+        require(place.len() == 4 && lanes.len() == 1, 4)?;
+        check_lengths(&shape, kinds, values, knots, tensor)?;
+        kinds_stand(&kinds[..2 * axes])?;
+        check_scratch(&shape, scratch)?;
         require(on_the_grid(&shape, &place[..axes]), 6)?;
         require(sample.is_finite() && all_finite(tensor), 7)?;
         let conditions = checked_conditions(&shape, kinds, values, knots)?;
         changed_tensor(&shape, &conditions, knots, tensor, &place[..axes], sample)
     });
     let refusal = changed.as_ref().err().copied().unwrap_or(0);
-    lanes[0] = 0;
-    if let Ok((changed, count)) = changed {
+    if let [lanes] = lanes {
+        *lanes = changed.as_ref().map_or(0, |(_, count)| *count);
+    }
+    if let Ok((changed, _)) = changed {
         tensor.copy_from_slice(&changed);
-        lanes[0] = count;
     }
     clear_after_work(scratch, refusal);
     refusal
 }
 
-/// The host's own refusals: 4 for the lists over four axes, and then 13.
-fn check_host(axes: usize, points: &[usize], kinds: &[u8], values: &[f64]) -> Result<(), Refusal> {
-    let exact = points.len() == 4 && kinds.len() == 8 && values.len() == 8;
-    require(exact, 4)?;
-    kinds_stand(&kinds[..2 * axes.min(4)])
+/// 4 for the ends of four axes, the knots and the tensor.
+fn check_lengths(
+    shape: &Shape,
+    kinds: &[u8],
+    values: &[f64],
+    knots: &[f64],
+    tensor: &[f64],
+) -> Result<(), Refusal> {
+    require(kinds.len() == 8 && values.len() == 8, 4)?;
+    require(knots.len() == shape.knots_length(), 4)?;
+    require(tensor.len() == shape.tensor_length(), 4)
 }
 
-/// 4 for the tensor and 5.
-fn check_work_lengths(shape: &Shape, tensor: &[f64], scratch: &[f64]) -> Result<(), Refusal> {
-    let length = shape.tensor_length();
-    require(tensor.len() == length, 4)?;
-    require(scratch.len() >= length + CURVE_SCRATCH, 5)
+/// 5.
+fn check_scratch(shape: &Shape, scratch: &[f64]) -> Result<(), Refusal> {
+    require(scratch.len() >= shape.tensor_length() + CURVE_SCRATCH, 5)
 }
 
 /// The conditions of the axes in use, after 7 for end values and knots, 8 and 9.

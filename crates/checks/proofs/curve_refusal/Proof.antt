@@ -4,7 +4,8 @@ use mathlib.Core.List.{List}
 use lib.ListN.{length}
 use Rattle.rules.specs.Refusals.{points-refused}
 use Rattle.checks.specs.Given.{FiniteUnless}
-use Rattle.checks.specs.Check.{Refusal, curve-rows, curve-check}
+use Rattle.checks.specs.Check.{curve-rows, curve-check}
+use Rattle.checks.specs.Tables.{Refusal}
 use Rattle.checks.proofs.Rows.{stop, pass, Past, exact-3, knots-row}
 use Rattle.checks.proofs.FiniteKnots.{axis-finite}
 use borrow.Author.Needs.{needs}

@@ -5,7 +5,8 @@ use lib.ListN.{length}
 use borrow.Author.Tests.{lt-ltb, le-ltb}
 use Rattle.rules.specs.Refusals.{points-refused}
 use Rattle.checks.specs.Given.{FiniteUnless}
-use Rattle.checks.specs.Check.{Refusal, moments-rows, moments-check}
+use Rattle.checks.specs.Check.{moments-rows, moments-check}
+use Rattle.checks.specs.Tables.{Refusal}
 use Rattle.checks.proofs.Rows.{stop, pass, Past, exact-3, knots-row}
 use Rattle.checks.proofs.FiniteKnots.{axis-finite}
 use borrow.Author.Needs.{needs}

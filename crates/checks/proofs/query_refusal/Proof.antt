@@ -4,7 +4,8 @@ use lib.ListN.{length}
 use Rattle.rules.specs.Sizes.{knots-length, tensor-length}
 use Rattle.checks.specs.Given.{FiniteUnless}
 use Rattle.grid.specs.Given.{grid, sizes-of, points-of, InRange}
-use Rattle.checks.specs.Check.{Refusal, query-rows, query-check}
+use Rattle.checks.specs.Check.{query-rows, query-check}
+use Rattle.checks.specs.Tables.{Refusal}
 use Rattle.checks.proofs.Rows.{stop, pass, Past, sizes-passed, sizes-stop, sizes-pass, exact-3}
 use Rattle.checks.proofs.FiniteKnots.{grid-finite}
 use borrow.Author.Needs.{needs}

@@ -9,19 +9,17 @@ returns : tie.Need-returns
 returns c = build-refused _ _ _ _ _ _ _ _ (c .before .build-own-refusal .ensures) (c .if1 .taken)
 
 axes-given-requires : tie.Need-axes-given-requires
-axes-given-requires c κs = build-lengths _ _ _ _ (sym (c .before .build-own-refusal .ensures) ∙ c .if1 .left)
+axes-given-requires c κs = build-lengths _ _ _ _ _ _ _ (sym (c .before .build-own-refusal .ensures) ∙ c .if1 .left)
 
 returns-2 : tie.Need-returns-2
-returns-2 c =
-    let d = c .before .before .before .before in
-    let g = d .before .before .before in
-    build-called _ _ _ _ _ _ _ _ (g .before .before .build-own-refusal .ensures) (g .before .if1 .left) _ (g .axes-given .ensures) (d .build .ensures)
+returns-2 c = build-called _ _ _ _ _ _ _ _ (c .before .before .before .before .before .before .before .before .before .build-own-refusal .ensures) (c .before .before .before .before .before .before .before .before .if1 .left) _ (c .before .before .before .before .before .before .before .axes-given .ensures) (c .before .before .before .before .build .ensures)
 
 pub hullashlar-build-spec : {M : Type 1} → statement M
 hullashlar-build-spec =
     tie.close
     (tie.spec
     (λ c κs. search needs)
+    (λ c. search needs)
     returns
     axes-given-requires
     (λ c κs. search needs)

@@ -10,19 +10,17 @@ returns : tie.Need-returns
 returns c = moments-refused _ _ _ _ _ _ _ (c .before .moments-own-refusal .ensures) (c .if1 .taken)
 
 condition-given-requires : tie.Need-condition-given-requires
-condition-given-requires c κs = let lengths = moments-lengths _ _ (sym (c .before .moments-own-refusal .ensures) ∙ c .if1 .left) in (omega arith, omega arith)
+condition-given-requires c κs = let lengths = moments-lengths _ _ _ _ _ _ (sym (c .before .moments-own-refusal .ensures) ∙ c .if1 .left) in (omega arith, omega arith)
 
 returns-2 : tie.Need-returns-2
-returns-2 c =
-    let d = c .before .before .before .before in
-    let g = d .before .before .before in
-    moments-called _ _ _ _ _ _ _ (g .before .before .moments-own-refusal .ensures) (g .before .if1 .left) _ (g .condition-given .ensures) (d .moments .ensures)
+returns-2 c = moments-called _ _ _ _ _ _ _ (c .before .before .before .before .before .before .before .before .before .moments-own-refusal .ensures) (c .before .before .before .before .before .before .before .before .if1 .left) _ (c .before .before .before .before .before .before .before .condition-given .ensures) (c .before .before .before .before .moments .ensures)
 
 pub hullashlar-moments-spec : {M : Type 1} → statement M
 hullashlar-moments-spec =
     tie.close
     (tie.spec
     (λ c κs. search needs)
+    (λ c. search needs)
     returns
     condition-given-requires
     (λ c κs. search needs)

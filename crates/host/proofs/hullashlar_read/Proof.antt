@@ -17,7 +17,7 @@ slice-write-axes c =
 store-axes-requires : tie.Need-store-axes-requires
 store-axes-requires c κs =
     let e = c .before .before .before .before .before .before .before .before .before .before .before in
-    let lengths = read-lengths _ _ _ _ (sym (e .before .read-own-refusal .ensures) ∙ e .if1 .left) in (lengths .0, lengths .1, lengths .2)
+    let lengths = read-lengths _ _ _ _ (sym (e .before .read-own-refusal .ensures) ∙ e .if1 .left) in (lengths .1, lengths .2, lengths .3)
 
 returns-2 : tie.Need-returns-2
 returns-2 c =

@@ -7,19 +7,19 @@ use Rattle.host.proofs.hullashlar_sheet_tensor.Statement.{statement}
 use Rattle.host.proofs.hullashlar_sheet_tensor.Tie as tie
 
 returns : tie.Need-returns
-returns c = sheet-tensor-refused _ _ _ _ _ _ (c .before .sheet-tensor-own-refusal .ensures) (c .if1 .taken)
+returns c = sheet-tensor-refused _ _ _ _ _ _ _ _ _ _ (c .before .sheet-tensor-own-refusal .ensures) (c .if1 .taken)
 
 slice-write-length : tie.Need-slice-write-length
-slice-write-length c =
-    let d = c .before .before .before .before .before .before .before .before in
-    let e = d .before .before .before .before .before in
-    let length = sheet-tensor-lengths _ (sym (e .before .sheet-tensor-own-refusal .ensures) ∙ e .if1 .left) in omega arith
+slice-write-length c = let lengths = sheet-tensor-lengths _ _ _ _ _ (sym (c .before .before .before .before .before .before .before .before .before .before .before .before .before .before .sheet-tensor-own-refusal .ensures) ∙ c .before .before .before .before .before .before .before .before .before .before .before .before .before .if1 .left) in omega arith
+
+slice-write-axes : tie.Need-slice-write-axes
+slice-write-axes c = let lengths = sheet-tensor-lengths _ _ _ _ _ (sym (c .before .before .before .before .before .before .before .before .before .before .before .before .before .before .sheet-tensor-own-refusal .ensures) ∙ c .before .before .before .before .before .before .before .before .before .before .before .before .before .if1 .left) in omega arith
+
+store-axes-requires : tie.Need-store-axes-requires
+store-axes-requires c κs = let lengths = sheet-tensor-lengths _ _ _ _ _ (sym (c .before .before .before .before .before .before .before .before .before .before .before .before .before .before .before .before .before .before .sheet-tensor-own-refusal .ensures) ∙ c .before .before .before .before .before .before .before .before .before .before .before .before .before .before .before .before .before .if1 .left) in (lengths .1, lengths .2, lengths .3)
 
 returns-2 : tie.Need-returns-2
-returns-2 c =
-    let d = c .before .before .before .before .before .before .before .before in
-    let e = d .before .before .before .before .before in
-    sheet-tensor-called _ _ _ _ _ _ (e .before .sheet-tensor-own-refusal .ensures) (e .if1 .left) _ (d .tensor-of-sheet .ensures)
+returns-2 c = sheet-tensor-called _ _ _ _ _ _ _ _ _ _ (c .before .before .before .before .before .before .before .before .before .before .before .before .before .before .before .before .before .before .before .before .before .before .before .before .before .sheet-tensor-own-refusal .ensures) (c .before .before .before .before .before .before .before .before .before .before .before .before .before .before .before .before .before .before .before .before .before .before .before .before .if1 .left) _ (c .before .before .before .before .before .before .before .before .before .before .before .before .before .before .before .before .before .before .before .tensor-of-sheet .ensures) (c .before .before .before .before .before .before .store-axes .ensures)
 
 pub hullashlar-sheet-tensor-spec : {M : Type 1} → statement M
 hullashlar-sheet-tensor-spec =
@@ -27,9 +27,19 @@ hullashlar-sheet-tensor-spec =
     (tie.spec
     (λ c κs. search needs)
     (λ c. search needs)
+    (λ c. search needs)
+    (λ c. search needs)
+    (λ c. search needs)
+    (λ c. search needs)
     returns
     (λ c κs. search needs)
     slice-write-length
+    slice-write-axes
+    store-axes-requires
+    (λ c. search needs)
+    (λ c. search needs)
+    (λ c. search needs)
+    (λ c. search needs)
     (λ c. search needs)
     (λ c. search needs)
     (λ c. search needs)

@@ -11,10 +11,10 @@ use Rattle.plain_axes.proofs.some_kinds_refused.Statement.{statement}
 use Rattle.plain_axes.proofs.some_kinds_refused.Tie as tie
 
 abbrev Inv-loop : tie.InvT-loop
-Inv-loop axes kinds n i₀ i = (i ≤ n) × (any (λ k. kinds-refused (lower-kind kinds k) (upper-kind kinds k)) i ≡ false)
+Inv-loop axes kinds i₀ i = (i ≤ axes) × (any (λ k. kinds-refused (lower-kind kinds k) (upper-kind kinds k)) i ≡ false)
 
 abbrev μ-loop : tie.MeasureT-loop
-μ-loop axes kinds n i₀ i = n - i
+μ-loop axes kinds i₀ i = axes - i
 
 loop-holds : tie.Need-loop-holds Inv-loop μ-loop
 loop-holds c = (search needs, any-none _)
@@ -23,7 +23,7 @@ returns : tie.Need-returns Inv-loop μ-loop
 unfolding some-kinds-refused
 returns c =
     let l = c .before .before .before .before .before .before .before .loop in
-    let found : kinds-refused (lower-kind (c .before .before .before .before .before .before .before .before .before .before .args .kinds .now) (l .i)) (upper-kind (c .before .before .before .before .before .before .before .before .before .before .args .kinds .now) (l .i)) ≡ true = cc in
+    let found : kinds-refused (lower-kind (c .before .before .before .before .before .before .before .before .before .args .kinds .now) (l .i)) (upper-kind (c .before .before .before .before .before .before .before .before .before .args .kinds .now) (l .i)) ≡ true = cc in
     sym (any-found _ (l .i) _ (omega arith) found)
 
 loop-again : tie.Need-loop-again Inv-loop μ-loop
@@ -41,7 +41,6 @@ some-kinds-refused-spec =
     (tie.spec
     Inv-loop
     μ-loop
-    (λ c κs. search needs)
     loop-holds
     (λ c. search needs)
     (λ c. search needs)

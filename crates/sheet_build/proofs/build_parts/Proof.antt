@@ -8,11 +8,11 @@ start b = b .before .before .before .before .before .before .before .before .bef
 
 returns : tie.Need-returns
 returns c =
-    let b = c .before .before .before .before .before .before in
+    let b = c .before .before .before .before .before in
     let args = start b .args in
     parts-refused _ _ (args .knots .now) (args .samples .now) _ _ _ _ _
     (b .before .before .before .before .before .before .before .knots-length .ensures .0) (b .before .before .before .before .before .before .samples-length .ensures .0) (b .before .before .before .before .before .tensor-length .ensures .0)
-    _ _ _ (b .build .ensures) _ (c .before .if1 .taken) (c .refused .ensures)
+    _ _ _ (b .build .ensures) (c .if1 .taken)
 
 returns-2 : tie.Need-returns-2
 returns-2 c =
@@ -38,7 +38,6 @@ build-parts-spec =
     (λ c. search needs)
     (λ c. search needs)
     (λ c. search needs)
-    (λ c κs. search needs)
     (λ c κs. search needs)
     (λ c. search needs)
     (λ c. search needs)

@@ -13,12 +13,12 @@ long : (r : tie.After-read) → length (start r .args .tensor .now) ≡ 4096
 long r = omega arith
 
 returns : tie.Need-returns
-returns c = buffer-refused _ _ _ _ _ _ (c .before .if1 .taken) (c .refused .ensures)
+returns c = buffer-refused _ _ _ _ _ _ (c .before .if1 .taken) (c .not-read .ensures)
 
 returns-2 : tie.Need-returns-2
 returns-2 c =
     let r = c .before .before .before .before .before .before in
-    sheet-refused _ _ _ _ (start r .args .scratch .now) (long r) _ _ _ (r .read .ensures) _ (c .before .if2 .taken) (c .refused2 .ensures)
+    sheet-refused _ _ _ _ (start r .args .scratch .now) (long r) _ _ _ (r .read .ensures) _ (c .before .if2 .taken) (c .not-read2 .ensures)
 
 build-parts-requires : tie.Need-build-parts-requires
 build-parts-requires c κs =
