@@ -6,5 +6,6 @@ pub mod Sums
 pub mod Locality
 pub mod ChangeIsBuild
 pub mod LaneCount
+pub mod BranchNeverReached
 pub mod Unique
 pub mod Examples
