@@ -1,7 +1,7 @@
 #!/usr/bin/env python3
 """Makes the sheets that the sheet programs are run on, each as the stdin of its crate:
 
-sheet_tensor         the example of document 01
+sheet_tensor         the example sheet
 sheet_largest        a sheet of as many bytes as an accepted one can have
 sheet_one_byte_more  the same, and a zero byte
 sheet_cases          a list of sheets, each after its length in two bytes, the higher first

@@ -7,17 +7,21 @@ const FOR_RUST: &str = include_str!("../../../include/hullashlar.rs");
 /// A call's name, and its arguments with their types as Rust declares them.
 type Declared = (String, Vec<String>);
 
-/// The calls of a text, whose arguments are put into Rust's words one by one.
+/// The calls of a text, whose arguments are put into Rust's words one by one. What
+/// else has a name like theirs is no call: no argument follows the name.
 fn declared(text: &str, in_rust: fn(&str) -> Vec<String>) -> Vec<Declared> {
-    let calls = text.split(" hullashlar_").skip(1);
-    let call = |call: &str| {
-        let (name, rest) = call.split_once('(').expect("a call has arguments");
-        let (arguments, _) = rest.split_once(')').expect("arguments have an end");
+    let named = text.split(" hullashlar_").skip(1);
+    let call = |named: &str| {
+        let (name, rest) = named.split_once('(')?;
+        let (arguments, _) = rest.split_once(')')?;
+        let is_call = name
+            .chars()
+            .all(|letter| letter.is_alphanumeric() || letter == '_');
         let arguments = arguments.split(',').map(str::trim);
         let given = arguments.filter(|argument| !argument.is_empty());
-        (name.to_string(), given.flat_map(in_rust).collect())
+        is_call.then(|| (name.to_string(), given.flat_map(in_rust).collect()))
     };
-    calls.map(call).collect()
+    named.filter_map(call).collect()
 }
 
 /// A slice of ours is a pointer and a length.

@@ -1,5 +1,5 @@
 //! What our programs must print. Every number and every refusal comes from the
-//! reading of document 01, over the unchanged files; no code of ours is asked.
+//! reading of the rules, over the unchanged files; no code of ours is asked.
 
 mod changes;
 mod grid;

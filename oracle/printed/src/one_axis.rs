@@ -1,4 +1,4 @@
-//! The calls on one axis as lines, and document 01's examples of them.
+//! The calls on one axis as lines, and the worked examples of them.
 
 use crate::grid::Ends;
 use crate::line::{output, patterns, scratch, BEFORE};

@@ -1,4 +1,4 @@
-//! The calls on a grid as lines, and document 01's examples of them.
+//! The calls on a grid as lines, and the worked examples of them.
 
 use crate::grid::{Ends, Grid};
 use crate::line::{counts, output, patterns, scratch, BEFORE};
