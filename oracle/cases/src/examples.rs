@@ -1,4 +1,4 @@
-//! The worked examples as cases.
+//! The worked examples as cases, and a periodic axis of one interval whose slope overflows.
 
 use crate::case::{Argument, Calls, Case};
 use crate::grid::Grid;
