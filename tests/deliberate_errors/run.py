@@ -24,6 +24,7 @@ ERRORS = [
     "passes/axes_in_falling_order",
     "solve/corner_dropped_from_u_vec",
     "solve/corner_dropped_for_two_intervals",
+    "moments/one_interval_to_the_cyclic_solve",
     "moments/reciprocal_of_six_in_a_slope",
     "moments/reciprocal_of_six_in_the_curve",
     "locate/cell_k_at_interior_knot_k",

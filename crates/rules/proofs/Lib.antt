@@ -7,5 +7,6 @@ pub mod Locality
 pub mod ChangeIsBuild
 pub mod LaneCount
 pub mod Refused
+pub mod BranchNeverReached
 pub mod Unique
 pub mod Examples

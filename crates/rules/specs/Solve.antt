@@ -66,8 +66,7 @@ module _ (sub diag sup rhs : ℕ → Float) (corner : Float) where
   unfolding y z
   factor l = (y l 0 ⊕ corner ⊘ gamma ⊗ y l l) ⊘ (one ⊕ (z l 0 ⊕ corner ⊘ gamma ⊗ z l l))
 
-  -- number k of the result; the branch for one unknown first
+  -- number k of the result, of two unknowns or more
   unfoldable pub cyclic-thomas : ℕ → ℕ → Float
   unfolding y z factor
-  cyclic-thomas zero k = rhs 0 ⊘ (diag 0 ⊕ corner ⊕ corner)
-  cyclic-thomas (suc l) k = y (suc l) k ⊖ factor (suc l) ⊗ z (suc l) k
+  cyclic-thomas l k = y l k ⊖ factor l ⊗ z l k

@@ -64,19 +64,6 @@ module _
     unfolding factor
     same-factor = cc (same-y 0, same-y l, same-z 0, same-z l, same-diag 0 (omega arith))
 
-pub same-cyclic :
-    (sub diag sup rhs sub′ diag′ sup′ rhs′ : ℕ → Float) (corner : Float) (l : ℕ)
-    → ((k : ℕ) → k < l → sub k ≡ sub′ k)
-    → ((k : ℕ) → k ≤ l → diag k ≡ diag′ k)
-    → ((k : ℕ) → k < l → sup k ≡ sup′ k)
-    → ((k : ℕ) → k ≤ l → rhs k ≡ rhs′ k)
-    → (k : ℕ) → cyclic-thomas sub diag sup rhs corner l k ≡ cyclic-thomas sub′ diag′ sup′ rhs′ corner l k
-unfolding cyclic-thomas
-same-cyclic sub diag sup rhs sub′ diag′ sup′ rhs′ corner zero same-sub same-diag same-sup same-rhs k =
-    cc (same-rhs 0 (omega arith), same-diag 0 (omega arith))
-same-cyclic sub diag sup rhs sub′ diag′ sup′ rhs′ corner (suc l) same-sub same-diag same-sup same-rhs k =
-    cc (
-      same-y sub diag sup rhs sub′ diag′ sup′ rhs′ corner (suc l) same-sub same-diag same-sup same-rhs k,
-      same-z sub diag sup rhs sub′ diag′ sup′ rhs′ corner (suc l) same-sub same-diag same-sup same-rhs k,
-      same-factor sub diag sup rhs sub′ diag′ sup′ rhs′ corner (suc l) same-sub same-diag same-sup same-rhs,
-    )
+    pub same-cyclic : (k : ℕ) → cyclic-thomas sub diag sup rhs corner l k ≡ cyclic-thomas sub′ diag′ sup′ rhs′ corner l k
+    unfolding cyclic-thomas
+    same-cyclic k = cc (same-y k, same-z k, same-factor)

@@ -1,17 +1,15 @@
 -- The steps of `cyclic_thomas` together: the result of the definition.
 use native.Mathlib.Omega.{arith}
 use mathlib.Core.Bool.{cond}
-use mathlib.Core.Path.{_≡_, refl, _∙_}
-use mathlib.Core.Logic.{_≢_, ⊎-elim}
+use mathlib.Core.Path.{_≡_, _∙_}
+use mathlib.Core.Logic.{⊎-elim}
 use mathlib.Core.List.{List}
 use Prim.Native.Nat.{ℕ, zero, suc, _+_, _<_, _≤_}
 use native.Mathlib.Nat.{eq-or-lt-of-le}
 use lib.Dec.{eqb}
-use lib.ListN.{set, length-set}
-use lib.Seq.{getD-set-same, getD-set-other}
-use lib.Ieee.{Float, nan, neg}
+use lib.Ieee.{Float, neg}
 use borrow.Author.Tests.{eq-eqb, ne-eqb}
-use Rattle.rules.specs.Numbers.{at, _⊕_, _⊖_, _⊗_, _⊘_}
+use Rattle.rules.specs.Numbers.{at}
 use Rattle.rules.specs.Solve.{diag-mod, u-vec, y, z, factor, cyclic-thomas}
 use Rattle.solve.specs.Rows.{of-rows, RowsGiven, Solved}
 use Rattle.scratch.specs.Layout.{row}
@@ -29,24 +27,8 @@ by-ends f a b c l first last between (suc k) h =
     (λ lt. rw (ne-eqb (suc k) l (omega arith)) (between (suc k) (omega arith) lt))
     (eq-or-lt-of-le h))
 
--- more than one unknown
-by-two-solves : (sub diag sup rhs : ℕ → Float) (corner : Float) (l k : ℕ) → l ≢ 0
-    → cyclic-thomas sub diag sup rhs corner l k ≡ y sub diag sup rhs corner l k ⊖ factor sub diag sup rhs corner l ⊗ z sub diag sup rhs corner l k
-unfolding cyclic-thomas
-by-two-solves sub diag sup rhs corner zero k n = absurd (n refl)
-by-two-solves sub diag sup rhs corner (suc l) k n = refl
-
--- one unknown
-pub alone : (w : List Float) (corner : Float) (l : ℕ) → RowsGiven w l → l ≡ 0 → CyclicSolved w (set w 1792 (at w 1024 ⊘ (at w 512 ⊕ corner ⊕ corner))) l corner
-unfolding cyclic-thomas
-alone w corner l g e = record {
-  same-length = simp length-set;
-  result = λ k h. let z : k ≡ 0 = omega arith in rw (e, z) (getD-set-same w 1792 _ nan (omega arith));
-  kept = λ j o p. getD-set-other w 1792 j _ nan (p 768 (omega arith));
-}
-
 module _
-    (w₀ w₁ w₂ w₃ w₄ w₅ : List Float) (l : ℕ) (corner f : Float) (given : RowsGiven w₀ l) (more : l ≢ 0)
+    (w₀ w₁ w₂ w₃ w₄ w₅ : List Float) (l : ℕ) (corner f : Float) (given : RowsGiven w₀ l)
     (modified : DiagMod w₀ w₁ l (neg (at w₀ 512)) corner)
     (first : Solved w₁ w₂ l 1792)
     (right : UVec w₂ w₃ l (neg (at w₀ 512)) corner)
@@ -96,6 +78,7 @@ module _
     factor-is = cc (f-is, y-is 0 (omega arith), y-is l (omega arith), z-is 0 (omega arith), z-is l (omega arith))
 
     pub cyclic-solved : CyclicSolved w₀ w₅ l corner
+    unfolding cyclic-thomas
     cyclic-solved = record {
       same-length =
           subtracted .same-length ∙ second .same-length ∙ right .same-length ∙ first .same-length ∙ modified .same-length;
@@ -105,7 +88,6 @@ module _
             y-is k h,
             z-is k h,
             factor-is,
-            by-two-solves (row w₀ 256) (row w₀ 512) (row w₀ 768) (row w₀ 1024) corner l k more,
           );
       kept = λ j o p.
           subtracted .kept j (λ k h. omega (arith, p (768 + k) (omega arith)))

@@ -104,20 +104,17 @@ fn subtract(w: &mut [f64], l: usize, factor: f64)
 }
 
 // The solve of a tridiagonal matrix with `corner` in the first row's last place and the last row's first, its result in the row of moments.
-// Two solves without the corners make it, y for the right side and z for the corners; diag and rhs are overwritten.
+// Two solves without the corners make it, y for the right side and z for the corners; diag and rhs are overwritten. It requires two
+// unknowns or more: a periodic axis of one interval has no system to solve.
 pub fn cyclic_thomas(w: &mut [f64], l: usize, corner: f64)
-    requires { ⌜ RowsGiven (now w) l ⌝ }
+    requires { ⌜ RowsGiven (now w) l × (0 < l) ⌝ }
     ensures { λ _. ⌜ CyclicSolved (now (w .entry)) (now (w .exit)) l corner ⌝ }
 {
-    if l == 0 {
-        w[MOMENTS] = w[RHS] / (w[DIAG] + corner + corner);
-    } else {
-        let gamma = -w[DIAG];
-        diag_mod(w, l, gamma, corner);
-        thomas(w, l, MOMENTS);
-        u_vec(w, l, gamma, corner);
-        thomas(w, l, RHS);
-        let f = factor(w, l, gamma, corner);
-        subtract(w, l, f);
-    }
+    let gamma = -w[DIAG];
+    diag_mod(w, l, gamma, corner);
+    thomas(w, l, MOMENTS);
+    u_vec(w, l, gamma, corner);
+    thomas(w, l, RHS);
+    let f = factor(w, l, gamma, corner);
+    subtract(w, l, f);
 }

@@ -234,6 +234,22 @@ impl Case {
         &self.arguments[position]
     }
 
+    /// How many axes of an accepted call are periodic and have so many points. The
+    /// axes of a sheet stand in its bytes, and are not looked at.
+    pub fn periodic_axes(&self, points: usize) -> u64 {
+        let on_axes = match self.call {
+            Call::Moments => vec![self.argument("points").number()],
+            Call::Build | Call::Change => {
+                let axes = self.argument("axes").number();
+                self.argument("points").numbers()[..axes].to_vec()
+            }
+            _ => return 0,
+        };
+        let ends = self.argument("kinds").bytes().chunks(2);
+        let axes = on_axes.into_iter().zip(ends);
+        axes.filter(|axis| *axis == (points, &[3, 3])).count() as u64
+    }
+
     /// The argument of this name, to be changed.
     pub fn argument_mut(&mut self, name: &str) -> &mut Argument {
         let position = self.position(name).expect("the call has this argument");

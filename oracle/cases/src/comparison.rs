@@ -12,7 +12,7 @@ use crate::lent::Word;
 use crate::numbers::ordinary;
 use crate::random::Random;
 use crate::reading_calls::Reading;
-use crate::report::{describe, Report};
+use crate::report::{describe, Report, PERIODIC_POINTS};
 use crate::sheet::{short_sheet, SHORT_SHEETS};
 use reading::LONGEST_TENSOR;
 
@@ -101,6 +101,11 @@ impl Run<'_> {
         let counts = self.report.of_mut(self.kind);
         counts.calls += 1;
         counts.refusals[refusal] += 1;
+        if refusal == 0 {
+            for (seen, points) in counts.periodic.iter_mut().zip(PERIODIC_POINTS) {
+                *seen += given.periodic_axes(points);
+            }
+        }
         self.report.reached.count(given, refusal);
         let mut found = given.clone();
         let Some(answer) = self.subject.run(&mut found) else {

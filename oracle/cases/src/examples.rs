@@ -1,4 +1,4 @@
-//! The worked examples as cases.
+//! The worked examples as cases, and a periodic axis of one interval whose slope overflows.
 
 use crate::case::{Argument, Calls, Case};
 use crate::grid::Grid;
@@ -92,8 +92,12 @@ fn not_a_knot(random: &mut Random) -> Vec<Case> {
 }
 
 fn periodic(random: &mut Random) -> Vec<Case> {
-    let line = line(&[0.0, 1.0], [PERIODIC; 2]);
-    curve(random, &line, &[0.0, 5.0], &[])
+    let unit = line(&[0.0, 1.0], [PERIODIC; 2]);
+    // The step is so short that the slope overflows: the moments are zero all the same.
+    let shortest = line(&[0.0, 5e-324], [PERIODIC; 2]);
+    let mut cases = curve(random, &unit, &[0.0, 5.0], &[]);
+    cases.extend(curve(random, &shortest, &[0.0, 1.0], &[]));
+    cases
 }
 
 /// The square of two natural axes: its build, a query and a change.

@@ -10,6 +10,10 @@ use std::fmt::{self, Write};
 /// How many differing cases of a kind are printed in full.
 const PRINTED: u64 = 2;
 
+/// The points of the periodic axes that are counted: those of one interval, which
+/// has no rows to solve, and of two, the fewest that have.
+pub const PERIODIC_POINTS: [usize; 2] = [2, 3];
+
 /// What was seen of one kind of case.
 #[derive(Debug, Clone, Default)]
 pub struct Counts {
@@ -19,6 +23,8 @@ pub struct Counts {
     pub compared: u64,
     /// How often each refusal was given; number 0 is acceptance.
     pub refusals: [u64; 15],
+    /// Periodic axes of accepted calls, by their points.
+    pub periodic: [u64; PERIODIC_POINTS.len()],
     /// Compared calls that were not the same.
     pub differences: u64,
 }
@@ -50,6 +56,9 @@ impl Report {
             total.compared += counts.compared;
             total.differences += counts.differences;
             for (sum, seen) in total.refusals.iter_mut().zip(counts.refusals) {
+                *sum += seen;
+            }
+            for (sum, seen) in total.periodic.iter_mut().zip(counts.periodic) {
                 *sum += seen;
             }
         }
@@ -103,6 +112,12 @@ fn write_counts(formatter: &mut fmt::Formatter<'_>, name: &str, counts: &Counts)
     for (number, seen) in counts.refusals.iter().enumerate().skip(1) {
         if *seen > 0 {
             write!(formatter, " {number}:{seen}")?;
+        }
+    }
+    if counts.periodic.iter().any(|seen| *seen > 0) {
+        write!(formatter, "; periodic axes")?;
+        for (points, seen) in PERIODIC_POINTS.iter().zip(counts.periodic) {
+            write!(formatter, " of {points} points:{seen}")?;
         }
     }
     writeln!(

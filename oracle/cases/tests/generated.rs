@@ -14,7 +14,7 @@ impl Calls for Nobody {
 /// The refusals that the calls of a kind have.
 fn refusals(kind: Kind) -> &'static [usize] {
     match kind {
-        Kind::Example => &[1, 3, 7, 8, 9, 11],
+        Kind::Example => &[1, 3, 7, 8, 9, 10, 11],
         Kind::Moments => &[2, 4, 5, 7, 8, 9, 10, 13],
         Kind::Curve | Kind::Slopes => &[2, 4, 7, 8, 10],
         Kind::Build => &[1, 2, 3, 4, 5, 7, 8, 9, 10, 13],
@@ -50,6 +50,20 @@ fn about_sixty_in_a_hundred_are_accepted() {
     }
     let share = 100 * accepted / calls;
     assert!((55..=65).contains(&share), "{share}");
+}
+
+/// One interval takes the zero moments, and two are the smallest cyclic solve.
+#[test]
+fn periodic_axes_of_one_interval_and_of_two_are_among_them() {
+    let report = compare_all(&Nobody, &Plan::of_each_kind(6, 4000));
+    for kind in [Kind::Moments, Kind::Build, Kind::Change, Kind::ChangeList] {
+        let seen = report.of(kind).periodic;
+        assert!(
+            seen.iter().all(|seen| *seen > 50),
+            "{}: {seen:?}",
+            kind.name()
+        );
+    }
 }
 
 /// Of the sheets of two bytes a sixteenth has edition 1; half of these have 1 to

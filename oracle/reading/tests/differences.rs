@@ -46,6 +46,35 @@ fn a_periodic_curve_misses_a_sample() {
     assert_eq!(floats_apart(value, -1.0), 4);
 }
 
+/// The branch for one unknown, which a periodic axis of one interval never reaches.
+#[test]
+fn one_unknown_has_a_branch_of_its_own() {
+    assert_eq!(
+        cyclic_thomas(&[], &[2.0], &[], &[4.0], 1.0),
+        [4.0 / (2.0 + 1.0 + 1.0)]
+    );
+}
+
+/// The rows of one interval whose slope overflows: the branch would give a NaN where
+/// the moments are zero.
+#[test]
+fn one_periodic_interval_takes_zero_moments_first() {
+    let (knots, samples) = ([0.0, 5e-324], [0.0, 1.0]);
+    let step: f64 = knots[1] - knots[0];
+    let slope: f64 = (samples[1] - samples[0]) / step;
+    let solved = cyclic_thomas(
+        &[],
+        &[2.0 * (step + step)],
+        &[],
+        &[6.0 * (slope - slope)],
+        step,
+    );
+    assert!(solved[0].is_nan());
+    let moments = compute_m(&knots, &samples, &Condition::Periodic);
+    let patterns: Vec<u64> = moments.into_iter().map(f64::to_bits).collect();
+    assert_eq!(patterns, [0, 0]);
+}
+
 #[test]
 fn a_clamped_curve_misses_a_sample() {
     let (knots, samples) = ([0.0, 1.0], [1.0, 0.0]);

@@ -27,7 +27,7 @@ same-length : tie.Need-same-length
 same-length c = search needs
 
 returns : tie.Need-returns
-returns c = one-interval _ _ (c .before .before .before .pre) (c .if1 .taken)
+returns c = one-interval _ _ (c .before .before .before .pre) (omega arith)
 
 same-length-2 : tie.Need-same-length-2
 same-length-2 c = search needs

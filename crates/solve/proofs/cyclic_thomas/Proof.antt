@@ -1,23 +1,19 @@
 use borrow.Author.Needs.{needs}
 use Rattle.solve.proofs.cyclic_thomas.Statement.{statement}
 use Rattle.solve.proofs.cyclic_thomas.Tie as tie
-use Rattle.solve.proofs.Cyclic.{alone, cyclic-solved}
+use Rattle.solve.proofs.Cyclic.{cyclic-solved}
 
 returns : tie.Need-returns
-returns c = let one = c .before .before in alone _ _ _ (one .before .before .pre) (one .if1 .taken)
-
-returns-2 : tie.Need-returns-2
-returns-2 c =
+returns c =
     let subtract = c .before .before in
     let factor = subtract .before .before in
     let second = factor .before .before .before .before in
     let right = second .before .before .before .before in
     let first = right .before .before .before .before in
     let modified = first .before .before .before .before in
-    let many = modified .before .before .before in
+    let start = modified .before .before .before .before in
     cyclic-solved _ _ _ _ _ _ _ _ _
-    (many .before .before .pre)
-    (many .if1 .left)
+    (start .pre .0)
     (modified .diag-mod .ensures)
     (first .thomas .ensures)
     (right .u-vec .ensures)
@@ -30,9 +26,6 @@ cyclic-thomas-spec =
     tie.close
     (tie.spec
     (λ c. search needs)
-    (λ c. search needs)
-    (λ c. search needs)
-    (λ c. search needs)
     (λ c κs. search needs)
     (λ c κs. search needs)
     (λ c κs. search needs)
@@ -40,6 +33,4 @@ cyclic-thomas-spec =
     (λ c κs. search needs)
     (λ c κs. search needs)
     (λ c. search needs)
-    returns
-    (λ c. search needs)
-    returns-2)
+    returns)
