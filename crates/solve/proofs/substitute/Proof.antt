@@ -1,8 +1,6 @@
 use Rattle.solve.proofs.substitute.Statement.{statement}
 use Rattle.solve.proofs.substitute.Tie as tie
 use borrow.Author.Needs.{needs}
-use native.Mathlib.Omega.{arith}
-use lib.ListN.{length-set}
 use Rattle.solve.proofs.Substitution.{Turn, turn-first, turn-next, turn-last}
 
 abbrev Inv-loop : tie.InvT-loop
@@ -13,12 +11,6 @@ abbrev μ-loop : tie.MeasureT-loop
 
 loop-holds : tie.Need-loop-holds Inv-loop μ-loop
 loop-holds c = turn-first _ _ _ (c .before .pre .0) (c .before .pre .1)
-
-slice-read-x-2 : tie.Need-slice-read-x-2 Inv-loop μ-loop
-slice-read-x-2 c = simp length-set (omega arith)
-
-slice-read-x-3 : tie.Need-slice-read-x-3 Inv-loop μ-loop
-slice-read-x-3 c = simp length-set (omega arith)
 
 loop-again : tie.Need-loop-again Inv-loop μ-loop
 loop-again c =
@@ -44,13 +36,11 @@ substitute-spec =
     (λ c. search needs)
     (λ c. search needs)
     (λ c. search needs)
-    slice-read-x-2
     (λ c. search needs)
     (λ c. search needs)
-    slice-read-x-3
+    (λ c. search needs)
+    (λ c. search needs)
     (λ c. search needs)
     loop-again
-    (λ c. search needs)
-    (λ c. search needs)
-    (λ c. search needs)
+    (λ c. c .before .loop .inv .done .same-length)
     returns)
