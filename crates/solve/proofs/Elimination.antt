@@ -103,16 +103,14 @@ module _ (w₀ w : List Float) (l to : ℕ) (divisor d : Float) (k : ℕ) (t : T
     kept = outside;
   }
 
--- after the loop: the second row's last number
-pub turn-last : (w₀ w : List Float) (l to : ℕ) (divisor d : Float) (k : ℕ) → Turn w₀ w l to divisor d k → l ≤ k → Eliminated w₀ (set w (to + l) d) l to
+-- after the loop
+pub turn-last : (w₀ w : List Float) (l to : ℕ) (divisor d : Float) (k : ℕ) → Turn w₀ w l to divisor d k → l ≤ k → Eliminated w₀ w l to d
 turn-last w₀ w l to divisor d k t ge =
     let e : k ≡ l = omega arith in
-    let other : (j : ℕ) → j ≢ to + l → at (set w (to + l) d) j ≡ at w j = λ j n. getD-set-other w (to + l) j d nan n in
     record {
-      same-length = simp length-set (t .same-length);
-      first = λ j h. other (1280 + j) (omega arith) ∙ t .first j (omega arith);
-      second = λ j h. below-more (λ (i : ℕ). row (set w (to + l) d) to i ≡ of-rows dp w₀ i) k
-          (λ i g. other (to + i) (omega arith) ∙ t .second i g)
-          (rw e (getD-set-same w (to + l) d nan (omega arith) ∙ rw e at (t .d-is))) j (omega arith);
-      kept = λ j o p. other j (p l (omega arith)) ∙ t .kept j o p;
+      same-length = t .same-length;
+      first = λ j h. t .first j (omega arith);
+      second = λ j h. t .second j (omega arith);
+      last-is = rw e at (t .d-is);
+      kept = t .kept;
     }

@@ -24,17 +24,18 @@ pub record ResultPlace (l to : ℕ) : Type 0 where
   pub behind : z-row ≤ to
   pub inside : to + l < tensor-begin
 
--- the way forth: the two helper rows, the second from `to` on
-pub record Eliminated (w w′ : List Float) (l to : ℕ) : Type 0 where
+-- the way forth: the two helper rows, the second from `to` on, without its last number
+pub record Eliminated (w w′ : List Float) (l to : ℕ) (last : Float) : Type 0 where
   pub same-length : length w′ ≡ length w
   pub first : (k : ℕ) → k < l → row w′ cp-row k ≡ of-rows cp w k
-  pub second : (k : ℕ) → k ≤ l → row w′ to k ≡ of-rows dp w k
+  pub second : (k : ℕ) → k < l → row w′ to k ≡ of-rows dp w k
+  pub last-is : last ≡ of-rows dp w l
   pub kept : (j : ℕ) → Outside cp-row (rows 1) j → Outside to (suc l) j → at w′ j ≡ at w j
 
--- the way back, come down to row `from`: each number over that of the second helper row, from the one after it
-pub record Substituted (w w′ : List Float) (l to from : ℕ) : Type 0 where
+-- the way back from the second helper row's last number, come down to row `from`: each number over that row's, from the one after it
+pub record Substituted (w w′ : List Float) (l to : ℕ) (last : Float) (from : ℕ) : Type 0 where
   pub same-length : length w′ ≡ length w
-  pub last : row w′ to l ≡ row w to l
+  pub at-last : row w′ to l ≡ last
   pub next : (k : ℕ) → from ≤ k → k < l → row w′ to k ≡ row w to k ⊖ row w cp-row k ⊗ row w′ to (suc k)
   pub kept : (j : ℕ) → ((k : ℕ) → from ≤ k → k ≤ l → j ≢ to + k) → at w′ j ≡ at w j
 

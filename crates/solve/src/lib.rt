@@ -12,10 +12,11 @@ use scratch::SUB;
 use scratch::SUP;
 use scratch::Z;
 
-// The helper rows of `thomas`, the first row first, the second of them from `to` on. The last cp is never read, and is left as it was.
-fn eliminate(w: &mut [f64], l: usize, to: usize)
+// The helper rows of `thomas`, the first row first, the second of them from `to` on. The last cp is never read, and is left as it was; the
+// last dp is the answer, and its place is left to the way back.
+fn eliminate(w: &mut [f64], l: usize, to: usize) -> f64
     requires { ⌜ RowsGiven (now w) l × ResultPlace l to ⌝ }
-    ensures { λ _. ⌜ Eliminated (now (w .entry)) (now (w .exit)) l to ⌝ }
+    ensures { λ r. ⌜ Eliminated (now (w .entry)) (now (w .exit)) l to r ⌝ }
 {
     let mut divisor = w[DIAG];
     let mut d = w[RHS] / divisor;
@@ -29,21 +30,22 @@ fn eliminate(w: &mut [f64], l: usize, to: usize)
         divisor = w[DIAG + k] - s * c;
         d = (w[RHS + k] - s * d) / divisor;
     }
-    w[to + l] = d;
+    d
 }
 
-// The result of `thomas` over its second helper row, the last row first: each number of that row is read just before its place is taken.
-fn substitute(w: &mut [f64], l: usize, to: usize)
+// The result of `thomas` over its second helper row, the last row first: each number of that row is read once, before its place is taken.
+fn substitute(w: &mut [f64], l: usize, to: usize, last: f64)
     requires { ⌜ RowsGiven (now w) l × ResultPlace l to ⌝ }
-    ensures { λ _. ⌜ Substituted (now (w .entry)) (now (w .exit)) l to 0 ⌝ }
+    ensures { λ _. ⌜ Substituted (now (w .entry)) (now (w .exit)) l to last 0 ⌝ }
 {
-    let mut x = w[to + l];
+    let mut x = last;
     let mut k = l;
     while 0 < k {
+        w[to + k] = x;
         k -= 1;
         x = w[to + k] - w[CP + k] * x;
-        w[to + k] = x;
     }
+    w[to] = x;
 }
 
 // The solve of a tridiagonal matrix: the second helper row, and then the result over it, stand from `to` on. It requires that they lie
@@ -52,8 +54,8 @@ pub fn thomas(w: &mut [f64], l: usize, to: usize)
     requires { ⌜ RowsGiven (now w) l × ResultPlace l to ⌝ }
     ensures { λ _. ⌜ Solved (now (w .entry)) (now (w .exit)) l to ⌝ }
 {
-    eliminate(w, l, to);
-    substitute(w, l, to);
+    let last = eliminate(w, l, to);
+    substitute(w, l, to, last);
 }
 
 // The diagonal without the corners.

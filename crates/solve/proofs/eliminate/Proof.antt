@@ -63,7 +63,4 @@ eliminate-spec =
     (λ c. search needs)
     loop-again
     (λ c. search needs)
-    (λ c. search needs)
-    (λ c. search needs)
-    (λ c. search needs)
     returns)
