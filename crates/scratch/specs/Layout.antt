@@ -33,8 +33,8 @@ rhs-row = 1024
 abbrev pub cp-row : ℕ
 cp-row = 1280
 
-abbrev pub dp-row : ℕ
-dp-row = 1536
+abbrev pub z-row : ℕ
+z-row = 1536
 
 abbrev pub moments-row : ℕ
 moments-row = 1792

@@ -6,10 +6,12 @@
 //      256   SUB       number k - 1: left of the diagonal, row k  rows                           the solve has gone forth
 //      512   DIAG      the diagonal                               rows, cyclic_thomas            the solve has gone forth
 //      768   SUP       right of the diagonal                      rows                           the solve has gone forth
-//     1024   RHS       the right side, later z of the cyclic      rows, cyclic_thomas            the solve's result is there
+//     1024   RHS       the right side                             rows, cyclic_thomas            the solve has gone forth
 //     1280   CP        the first helper row                       solve::eliminate               the way back has passed it
-//     1536   DP        the second helper row                      solve::eliminate               the way back has passed it
-//     1792   MOMENTS   y of the cyclic solve, then the moments    solve::substitute, moments     its slopes are stored
+//     1536   Z         in a cyclic solve alone: z, its second     solve::thomas                  y and z are one
+//                      helper row first. Else free
+//     1792   MOMENTS   the second helper row, then the result     solve::thomas, moments         its slopes are stored
+//                      over it: the moments; y of the cyclic
 //     2048   TENSOR    the working tensor, the mask fastest       tensor, lanes::store_slopes    the call ends
 
 // How many numbers a row has, and how many all rows have together: the scratch that is asked for beside the tensor's length.
@@ -33,7 +35,7 @@ pub const RHS: usize = 1024;
 
 pub const CP: usize = 1280;
 
-pub const DP: usize = 1536;
+pub const Z: usize = 1536;
 
 pub const MOMENTS: usize = 1792;
 

@@ -32,7 +32,7 @@ module _
     (modified : DiagMod w₀ w₁ l (neg (at w₀ 512)) corner)
     (first : Solved w₁ w₂ l 1792)
     (right : UVec w₂ w₃ l (neg (at w₀ 512)) corner)
-    (second : Solved w₃ w₄ l 1024)
+    (second : Solved w₃ w₄ l 1536)
     (f-is : f ≡ factor-of w₄ l (neg (at w₀ 512)) corner)
     (subtracted : Subtracted w₄ w₅ (l + 1) f)
   where
@@ -62,7 +62,7 @@ module _
         (λ i a. modified .kept (1024 + i) (omega arith) (omega arith))
         k
 
-    z-is : (k : ℕ) → k ≤ l → row w₄ 1024 k ≡ of-rows z w₀ corner l k
+    z-is : (k : ℕ) → k ≤ l → row w₄ 1536 k ≡ of-rows z w₀ corner l k
     unfolding z
     z-is k h =
         second .result k h
@@ -91,7 +91,7 @@ module _
           );
       kept = λ j o p.
           subtracted .kept j (λ k h. omega (arith, p (768 + k) (omega arith)))
-          ∙ second .kept j (λ k h. omega (arith, p (256 + k) (omega arith))) (λ k h. p k (omega arith))
+          ∙ second .kept j (λ k h. omega (arith, p (256 + k) (omega arith))) (λ k h. omega (arith, p (512 + k) (omega arith)))
           ∙ right .kept j (λ k h. p k (omega arith))
           ∙ first .kept j (λ k h. omega (arith, p (256 + k) (omega arith))) (λ k h. omega (arith, p (768 + k) (omega arith)))
           ∙ modified .kept j (omega (arith, o 0 (omega arith))) (o l (omega arith));

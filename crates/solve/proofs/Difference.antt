@@ -28,7 +28,7 @@ turn-first w l factor g = record {
 
 module _ (w₀ w : List Float) (l : ℕ) (factor : Float) (k : ℕ) (t : Turn w₀ w l factor k) (le : k ≤ l) where
   abbrev here : Float
-  here = at w (1792 + k) ⊖ factor ⊗ at w (1024 + k)
+  here = at w (1792 + k) ⊖ factor ⊗ at w (1536 + k)
 
   abbrev w₁ : List Float
   w₁ = set w (1792 + k) here
@@ -36,12 +36,12 @@ module _ (w₀ w : List Float) (l : ℕ) (factor : Float) (k : ℕ) (t : Turn w�
   other : (j : ℕ) → j ≢ 1792 + k → at w₁ j ≡ at w j
   other j n = getD-set-other w (1792 + k) j here nan n
 
-  here-is : row w₁ 1792 k ≡ row w₀ 1792 k ⊖ factor ⊗ row w₀ 1024 k
+  here-is : row w₁ 1792 k ≡ row w₀ 1792 k ⊖ factor ⊗ row w₀ 1536 k
   here-is =
       cc (
         getD-set-same w (1792 + k) here nan (omega arith),
         t .done .kept (1792 + k) (omega arith),
-        t .done .kept (1024 + k) (omega arith),
+        t .done .kept (1536 + k) (omega arith),
       )
 
   pub turn-next : Turn w₀ w₁ l factor (k + 1)

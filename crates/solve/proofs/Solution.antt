@@ -9,12 +9,12 @@ use Rattle.rules.specs.Solve.{before-last, thomas}
 use Rattle.solve.specs.Rows.{of-rows, Eliminated, Substituted, Solved}
 use Rattle.scratch.specs.Layout.{row}
 
-module _ (w₀ w₁ w₂ : List Float) (l to : ℕ) (forth : Eliminated w₀ w₁ l) (back : Substituted w₁ w₂ l to 0) where
+module _ (w₀ w₁ w₂ : List Float) (l to : ℕ) (last : Float) (forth : Eliminated w₀ w₁ l to last) (back : Substituted w₁ w₂ l to last 0) where
   before : (j : ℕ) → j ≤ l → row w₂ to (l - j) ≡ of-rows before-last w₀ l j
   unfolding before-last
   before zero h =
       let e : l - 0 ≡ l = omega arith in
-      rw e (back .last ∙ forth .second l (omega arith))
+      rw e (back .at-last ∙ forth .last-is)
   before (suc j) h =
       let e : suc (l - suc j) ≡ l - j = omega arith in
       cc (
@@ -29,5 +29,5 @@ module _ (w₀ w₁ w₂ : List Float) (l to : ℕ) (forth : Eliminated w₀ w�
   solved = record {
     same-length = back .same-length ∙ forth .same-length;
     result = λ k h. let e : l - (l - k) ≡ k = omega arith in rw e at (before (l - k) (omega arith));
-    kept = λ j o p. back .kept j p ∙ forth .kept j o;
+    kept = λ j o p. back .kept j (λ k a b. p k (omega arith)) ∙ forth .kept j o p;
   }

@@ -1,4 +1,4 @@
--- The turns of `substitute`, on plain lists: each number of the result comes from the one after it.
+-- The turns of `substitute`, on plain lists: each number of the result takes the place of the second helper row's, and comes from the one after it.
 use native.Mathlib.Omega.{arith}
 use mathlib.Core.Path.{_≡_, refl, sym, subst, _∙_}
 use mathlib.Core.Logic.{_≢_, ⊎-elim}
@@ -13,33 +13,33 @@ use Rattle.solve.specs.Rows.{RowsGiven, ResultPlace, Substituted}
 use Rattle.scratch.specs.Layout.{row}
 
 -- once x is stored at row k, the rows from k on are done
-pub record Turn (w₀ w : List Float) (l to : ℕ) (x : Float) (k : ℕ) : Type 0 where
+pub record Turn (w₀ w : List Float) (l to : ℕ) (last x : Float) (k : ℕ) : Type 0 where
   pub given : RowsGiven w₀ l
   pub place : ResultPlace l to
   pub most : k ≤ l
   pub same-length : length w ≡ length w₀
-  pub done : Substituted w₀ (set w (to + k) x) l to k
+  pub done : Substituted w₀ (set w (to + k) x) l to last k
 
-pub turn-first : (w : List Float) (l to : ℕ) → RowsGiven w l → ResultPlace l to → Turn w w l to (at w (1536 + l)) l
-turn-first w l to g p = record {
+pub turn-first : (w : List Float) (l to : ℕ) (last : Float) → RowsGiven w l → ResultPlace l to → Turn w w l to last last l
+turn-first w l to last g p = record {
   given = g;
   place = p;
   most = omega arith;
   same-length = refl;
   done = record {
     same-length = simp length-set;
-    last = getD-set-same w (to + l) _ nan (omega arith);
+    at-last = getD-set-same w (to + l) _ nan (omega arith);
     next = λ k a b. absurd (omega arith);
-    kept = λ j o. getD-set-other w (to + l) j _ nan (o l (omega arith));
+    kept = λ j o. getD-set-other w (to + l) j _ nan (o l (omega arith) (omega arith));
   };
 }
 
-module _ (w₀ w : List Float) (l to : ℕ) (x : Float) (k : ℕ) (t : Turn w₀ w l to x k) (lt : 0 < k) where
+module _ (w₀ w : List Float) (l to : ℕ) (last x : Float) (k : ℕ) (t : Turn w₀ w l to last x k) (lt : 0 < k) where
   abbrev w₁ : List Float
   w₁ = set w (to + k) x
 
   abbrev next-x : Float
-  next-x = at w₁ (1536 + (k - 1)) ⊖ at w₁ (1280 + (k - 1)) ⊗ x
+  next-x = at w₁ (to + (k - 1)) ⊖ at w₁ (1280 + (k - 1)) ⊗ x
 
   abbrev w₂ : List Float
   w₂ = set w₁ (to + (k - 1)) next-x
@@ -53,19 +53,23 @@ module _ (w₀ w : List Float) (l to : ℕ) (x : Float) (k : ℕ) (t : Turn w₀
   other : (j : ℕ) → j ≢ to + (k - 1) → at w₂ j ≡ at w₁ j
   other j n = getD-set-other w₁ (to + (k - 1)) j next-x nan n
 
-  -- a helper row's number is outside the result
-  helper-rows-kept : (h : ℕ) → h < 512 → at w₁ (1280 + h) ≡ at w₀ (1280 + h)
-  helper-rows-kept h b = t .done .kept (1280 + h) (λ i g e. t .place .apart i (omega arith) h b (sym e))
+  -- before row k both helper rows still have what stood in them
+  still : (j : ℕ) → j < to + k → at w₁ j ≡ at w₀ j
+  still j h = t .done .kept j (λ i a b. omega arith)
 
-  next-x-is : next-x ≡ row w₀ 1536 (k - 1) ⊖ row w₀ 1280 (k - 1) ⊗ at w₂ (to + k)
-  next-x-is =
-      let e : 1280 + (256 + (k - 1)) ≡ 1536 + (k - 1) = omega arith in
-      cc (helper-rows-kept (256 + (k - 1)) (omega arith), helper-rows-kept (k - 1) (omega arith), at-x, other (to + k) (omega arith))
+  next-here : row w₂ to (k - 1) ≡ row w₀ to (k - 1) ⊖ row w₀ 1280 (k - 1) ⊗ row w₂ to (suc (k - 1))
+  next-here =
+      let e : suc (k - 1) ≡ k = omega arith in
+      rw e
+      (at-next
+      ∙ cc (
+        still (to + (k - 1)) (omega arith),
+        still (1280 + (k - 1)) (omega (arith, t .place .behind, t .given .fit)),
+        at-x,
+        other (to + k) (omega arith),
+      ))
 
-  next-here : row w₂ to (k - 1) ≡ row w₀ 1536 (k - 1) ⊖ row w₀ 1280 (k - 1) ⊗ row w₂ to (suc (k - 1))
-  next-here = let e : suc (k - 1) ≡ k = omega arith in rw e (at-next ∙ next-x-is)
-
-  pub turn-next : Turn w₀ w₁ l to next-x (k - 1)
+  pub turn-next : Turn w₀ w₁ l to last next-x (k - 1)
   turn-next = record {
     given = t .given;
     place = t .place;
@@ -73,17 +77,17 @@ module _ (w₀ w : List Float) (l to : ℕ) (x : Float) (k : ℕ) (t : Turn w₀
     same-length = simp length-set (t .same-length);
     done = record {
       same-length = simp length-set (t .same-length);
-      last = other (to + l) (omega arith) ∙ t .done .last;
+      at-last = other (to + l) (omega arith) ∙ t .done .at-last;
       next = λ j a b. ⊎-elim
-          (λ e. subst (λ (i : ℕ). row w₂ to i ≡ row w₀ 1536 i ⊖ row w₀ 1280 i ⊗ row w₂ to (suc i)) e next-here)
+          (λ e. subst (λ (i : ℕ). row w₂ to i ≡ row w₀ to i ⊖ row w₀ 1280 i ⊗ row w₂ to (suc i)) e next-here)
           (λ above. rw (other (to + j) (omega arith), other (to + suc j) (omega arith)) (t .done .next j (omega arith) b))
           (eq-or-lt-of-le a);
-      kept = λ j o. other j (o (k - 1) (omega arith)) ∙ t .done .kept j o;
+      kept = λ j o. other j (o (k - 1) (omega arith) (omega arith)) ∙ t .done .kept j (λ i a b. o i (omega arith) b);
     };
   }
 
-pub turn-last : (w₀ w : List Float) (l to : ℕ) (x : Float) (k : ℕ) → Turn w₀ w l to x k → k ≤ 0 → Substituted w₀ (set w to x) l to 0
-turn-last w₀ w l to x k t z =
+pub turn-last : (w₀ w : List Float) (l to : ℕ) (last x : Float) (k : ℕ) → Turn w₀ w l to last x k → k ≤ 0 → Substituted w₀ (set w to x) l to last 0
+turn-last w₀ w l to last x k t z =
     let e : k ≡ 0 = omega arith in
     let none : to + 0 ≡ to = omega arith in
     rw (e, none) at (t .done)

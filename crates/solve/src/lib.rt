@@ -6,16 +6,17 @@ ghost use Rattle.solve.specs.Rows.{RowsGiven, ResultPlace, Eliminated, S
 ghost use Rattle.solve.specs.Cyclic.{DiagMod, UVec, factor-of, Subtracted, CyclicSolved};
 use scratch::CP;
 use scratch::DIAG;
-use scratch::DP;
 use scratch::MOMENTS;
 use scratch::RHS;
 use scratch::SUB;
 use scratch::SUP;
+use scratch::Z;
 
-// The helper rows of `thomas`, the first row first. The last cp is never read, and is left as it was.
-fn eliminate(w: &mut [f64], l: usize)
-    requires { ⌜ RowsGiven (now w) l ⌝ }
-    ensures { λ _. ⌜ Eliminated (now (w .entry)) (now (w .exit)) l ⌝ }
+// The helper rows of `thomas`, the first row first, the second of them from `to` on. The last cp is never read, and is left as it was; the
+// last dp is the answer, and its place is left to the way back.
+fn eliminate(w: &mut [f64], l: usize, to: usize) -> f64
+    requires { ⌜ RowsGiven (now w) l × ResultPlace l to ⌝ }
+    ensures { λ r. ⌜ Eliminated (now (w .entry)) (now (w .exit)) l to r ⌝ }
 {
     let mut divisor = w[DIAG];
     let mut d = w[RHS] / divisor;
@@ -24,37 +25,37 @@ fn eliminate(w: &mut [f64], l: usize)
         let s = w[SUB + k];
         let c = w[SUP + k] / divisor;
         w[CP + k] = c;
-        w[DP + k] = d;
+        w[to + k] = d;
         k += 1;
         divisor = w[DIAG + k] - s * c;
         d = (w[RHS + k] - s * d) / divisor;
     }
-    w[DP + l] = d;
+    d
 }
 
-// The result of `thomas` from its helper rows, the last row first.
-fn substitute(w: &mut [f64], l: usize, to: usize)
+// The result of `thomas` over its second helper row, the last row first: each number of that row is read once, before its place is taken.
+fn substitute(w: &mut [f64], l: usize, to: usize, last: f64)
     requires { ⌜ RowsGiven (now w) l × ResultPlace l to ⌝ }
-    ensures { λ _. ⌜ Substituted (now (w .entry)) (now (w .exit)) l to 0 ⌝ }
+    ensures { λ _. ⌜ Substituted (now (w .entry)) (now (w .exit)) l to last 0 ⌝ }
 {
-    let mut x = w[DP + l];
+    let mut x = last;
     let mut k = l;
     while 0 < k {
         w[to + k] = x;
         k -= 1;
-        x = w[DP + k] - w[CP + k] * x;
+        x = w[to + k] - w[CP + k] * x;
     }
     w[to] = x;
 }
 
-// The solve of a tridiagonal matrix, its result from `to` on. It requires that the result lies before the tensor and outside the helper
-// rows; it may lie over the rows that were solved.
+// The solve of a tridiagonal matrix: the second helper row, and then the result over it, stand from `to` on. It requires that they lie
+// behind the first helper row and before the tensor.
 pub fn thomas(w: &mut [f64], l: usize, to: usize)
     requires { ⌜ RowsGiven (now w) l × ResultPlace l to ⌝ }
     ensures { λ _. ⌜ Solved (now (w .entry)) (now (w .exit)) l to ⌝ }
 {
-    eliminate(w, l);
-    substitute(w, l, to);
+    let last = eliminate(w, l, to);
+    substitute(w, l, to, last);
 }
 
 // The diagonal without the corners.
@@ -87,7 +88,7 @@ fn factor(w: &[f64], l: usize, gamma: f64, corner: f64) -> f64
 {
     let c_over_g = corner / gamma;
     let vt_y = w[MOMENTS] + c_over_g * w[MOMENTS + l];
-    let vt_z = w[RHS] + c_over_g * w[RHS + l];
+    let vt_z = w[Z] + c_over_g * w[Z + l];
     vt_y / (1.0 + vt_z)
 }
 
@@ -98,14 +99,14 @@ fn subtract(w: &mut [f64], l: usize, factor: f64)
 {
     let mut k = 0;
     while k <= l {
-        w[MOMENTS + k] = w[MOMENTS + k] - factor * w[RHS + k];
+        w[MOMENTS + k] = w[MOMENTS + k] - factor * w[Z + k];
         k += 1;
     }
 }
 
 // The solve of a tridiagonal matrix with `corner` in the first row's last place and the last row's first, its result in the row of moments.
-// Two solves without the corners make it, y for the right side and z for the corners; diag and rhs are overwritten. It requires two
-// unknowns or more: a periodic axis of one interval has no system to solve.
+// Two solves without the corners make it: y for the right side, which waits in the row of moments, and z for the corners, in a row of its
+// own; diag and rhs are overwritten. It requires two unknowns or more: a periodic axis of one interval has no system to solve.
 pub fn cyclic_thomas(w: &mut [f64], l: usize, corner: f64)
     requires { ⌜ RowsGiven (now w) l × (0 < l) ⌝ }
     ensures { λ _. ⌜ CyclicSolved (now (w .entry)) (now (w .exit)) l corner ⌝ }
@@ -114,7 +115,7 @@ pub fn cyclic_thomas(w: &mut [f64], l: usize, corner: f64)
     diag_mod(w, l, gamma, corner);
     thomas(w, l, MOMENTS);
     u_vec(w, l, gamma, corner);
-    thomas(w, l, RHS);
+    thomas(w, l, Z);
     let f = factor(w, l, gamma, corner);
     subtract(w, l, f);
 }

@@ -72,7 +72,7 @@ thomas-requires c κs =
         room = omega (arith, c .before .before .before .before .before .before .before .before .before .before .before .interior-rows .ensures .same-length, c .before .before .before .before .before .before .before .first-row .ensures .same-length, c .before .before .before .last-row .ensures .same-length);
         fit = omega arith;
       },
-      record { inside = omega arith; apart = λ k most j below. omega arith },
+      record { behind = omega arith; inside = omega arith },
     )
 
 same-length : tie.Need-same-length

@@ -7,13 +7,13 @@ use lib.ListN.{length-set}
 use Rattle.solve.proofs.Elimination.{Turn, turn-first, turn-next, turn-last}
 
 abbrev Inv-loop : tie.InvT-loop
-Inv-loop w₀ l divisor₀ d₀ k₀ w divisor d k = Turn w₀ w l divisor d k
+Inv-loop w₀ l to divisor₀ d₀ k₀ w divisor d k = Turn w₀ w l to divisor d k
 
 abbrev μ-loop : tie.MeasureT-loop
-μ-loop w₀ l divisor₀ d₀ k₀ w divisor d k = l - k
+μ-loop w₀ l to divisor₀ d₀ k₀ w divisor d k = l - k
 
 loop-holds : tie.Need-loop-holds Inv-loop μ-loop
-loop-holds c = turn-first _ _ (c .before .before .pre)
+loop-holds c = turn-first _ _ _ (c .before .before .pre .0) (c .before .before .pre .1)
 
 slice-write-w-2 : tie.Need-slice-write-w-2 Inv-loop μ-loop
 slice-write-w-2 c = simp length-set (omega arith)
@@ -27,10 +27,10 @@ slice-read-d-2 c = simp length-set (omega arith)
 loop-again : tie.Need-loop-again Inv-loop μ-loop
 loop-again c =
     let turn = c .before .before .before .before in
-    turn-next _ _ _ _ _ _ (turn .before .loop .inv) (turn .loop-test .taken)
+    turn-next _ _ _ _ _ _ _ (turn .before .loop .inv) (turn .loop-test .taken)
 
 returns : tie.Need-returns Inv-loop μ-loop
-returns c = turn-last _ _ _ _ _ _ (c .before .loop .inv) (c .loop-test .left)
+returns c = turn-last _ _ _ _ _ _ _ (c .before .loop .inv) (c .loop-test .left)
 
 pub eliminate-spec : {M : Type 1} → statement M
 eliminate-spec =
@@ -62,8 +62,5 @@ eliminate-spec =
     slice-read-d-2
     (λ c. search needs)
     loop-again
-    (λ c. search needs)
-    (λ c. search needs)
-    (λ c. search needs)
     (λ c. search needs)
     returns)

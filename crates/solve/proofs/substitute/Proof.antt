@@ -6,27 +6,27 @@ use lib.ListN.{length-set}
 use Rattle.solve.proofs.Substitution.{Turn, turn-first, turn-next, turn-last}
 
 abbrev Inv-loop : tie.InvT-loop
-Inv-loop w₀ l to x₀ k₀ w x k = Turn w₀ w l to x k
+Inv-loop w₀ l to last x₀ k₀ w x k = Turn w₀ w l to last x k
 
 abbrev μ-loop : tie.MeasureT-loop
-μ-loop w₀ l to x₀ k₀ w x k = k
+μ-loop w₀ l to last x₀ k₀ w x k = k
 
 loop-holds : tie.Need-loop-holds Inv-loop μ-loop
-loop-holds c = turn-first _ _ _ (c .before .pre .0) (c .before .pre .1)
+loop-holds c = turn-first _ _ _ _ (c .pre .0) (c .pre .1)
+
+slice-read-x : tie.Need-slice-read-x Inv-loop μ-loop
+slice-read-x c = simp length-set (omega arith)
 
 slice-read-x-2 : tie.Need-slice-read-x-2 Inv-loop μ-loop
 slice-read-x-2 c = simp length-set (omega arith)
 
-slice-read-x-3 : tie.Need-slice-read-x-3 Inv-loop μ-loop
-slice-read-x-3 c = simp length-set (omega arith)
-
 loop-again : tie.Need-loop-again Inv-loop μ-loop
 loop-again c =
     let turn = c .before .before in
-    turn-next _ _ _ _ _ _ (turn .before .loop .inv) (turn .loop-test .taken)
+    turn-next _ _ _ _ _ _ _ (turn .before .loop .inv) (turn .loop-test .taken)
 
 returns : tie.Need-returns Inv-loop μ-loop
-returns c = turn-last _ _ _ _ _ _ (c .before .loop .inv) (c .loop-test .left)
+returns c = turn-last _ _ _ _ _ _ _ (c .before .loop .inv) (c .loop-test .left)
 
 pub substitute-spec : {M : Type 1} → statement M
 substitute-spec =
@@ -34,9 +34,6 @@ substitute-spec =
     (tie.spec
     Inv-loop
     μ-loop
-    (λ c. search needs)
-    (λ c. search needs)
-    (λ c. search needs)
     loop-holds
     (λ c. search needs)
     (λ c. search needs)
@@ -44,10 +41,10 @@ substitute-spec =
     (λ c. search needs)
     (λ c. search needs)
     (λ c. search needs)
+    slice-read-x
+    (λ c. search needs)
+    (λ c. search needs)
     slice-read-x-2
-    (λ c. search needs)
-    (λ c. search needs)
-    slice-read-x-3
     (λ c. search needs)
     loop-again
     (λ c. search needs)

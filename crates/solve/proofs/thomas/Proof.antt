@@ -6,7 +6,7 @@ use Rattle.solve.proofs.Solution.{solved}
 returns : tie.Need-returns
 returns c =
     let back = c .before .before in
-    solved _ _ _ _ _ (back .before .before .before .before .eliminate .ensures) (back .substitute .ensures)
+    solved _ _ _ _ _ _ (back .before .before .before .before .eliminate .ensures) (back .substitute .ensures)
 
 pub thomas-spec : {M : Type 1} → statement M
 thomas-spec = tie.close (tie.spec (λ c κs. search needs) (λ c κs. search needs) (λ c. search needs) returns)
