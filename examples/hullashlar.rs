@@ -184,7 +184,7 @@ pub fn change(
     outcome(refusal, lanes[0])
 }
 
-/// The tensor's value at a point, and the cell label of each axis.
+/// The tensor's value at a point, and for each axis the cell that was evaluated.
 #[rustfmt::skip]
 pub fn query(
     axes: &Axes,

@@ -154,7 +154,7 @@ size_t hullashlar_change(size_t axes,
                          size_t *lanes, size_t lanes_length);
 
 /* The surface's value at the coordinates, beyond the grid too, and a label for each axis: the number of the cell that
- * the coordinate lies in or beyond, on a knot between two cells that of the upper one.
+ * was evaluated, which on a knot between two cells is the lower one.
  * Lengths: points 4; knots as many as the points of all axes together; tensor 2^axes for each place of the grid;
  * coordinates as many as axes; value 1; labels 4.
  * Written: value, labels. Refuses by 1, 2, 3, 4, 7, 8, 10. */

@@ -29,7 +29,7 @@ ERRORS = [
     "moments/reciprocal_of_six_in_the_curve",
     "locate/cell_k_at_interior_knot_k",
     "query/reciprocal_of_the_width",
-    "query/label_is_the_cell",
+    "query/label_of_the_next_cell",
 ]
 
 # What `rt try` says of a compiled run that wrote the counts where nothing is expected.

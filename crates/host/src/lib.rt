@@ -112,7 +112,7 @@ pub extern "C" fn hullashlar_change(
     answer.refusal
 }
 
-// The surface's value at the coordinates, beyond the grid too, in a slot of one, and the cell label of each axis, 0 past those in use. Refuses 1 2 3 4 7 8 10, and then value and labels are 0; and 4 of its own.
+// The surface's value at the coordinates, beyond the grid too, in a slot of one, and for each axis the label, which is the cell that was evaluated, 0 past those in use. Refuses 1 2 3 4 7 8 10, and then value and labels are 0; and 4 of its own.
 #[no_mangle]
 pub extern "C" fn hullashlar_query(
     axes: usize,

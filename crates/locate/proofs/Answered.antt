@@ -2,17 +2,17 @@
 use mathlib.Core.Path.{_≡_, ap, _∙_}
 use mathlib.Core.List.{List}
 use mathlib.Core.Bool.{true, false}
-use Prim.Native.Nat.{ℕ, _+_, _-_, _<_, _≤_}
+use Prim.Native.Nat.{ℕ, _-_, _<_, _≤_}
 use native.Mathlib.Omega.{arith}
 use lib.Dec.{T}
 use lib.ListN.{length}
 use borrow.Author.Tests.{lt-ltb, le-ltb}
-use lib.Ieee.{Float, binary64, fits, lt, le, eq}
+use lib.Ieee.{Float, binary64, fits, lt, le}
 use Rattle.rules.specs.Numbers.{at}
 use Rattle.floats.specs.Place.{AllFit}
-use Rattle.locate.specs.Cell.{halving, most-halvings, one-back, rust-index, held, lower-index, label-of}
-use Rattle.locate.specs.Answers.{Located, Labelled}
-use Rattle.locate.proofs.Among.{lower-index-is-locate, label-of-is-label}
+use Rattle.locate.specs.Cell.{halving, most-halvings, one-back, rust-index, held, lower-index}
+use Rattle.locate.specs.Answers.{Located}
+use Rattle.locate.proofs.Among.{lower-index-is-locate}
 
 module _ (knots : List Float) (point : Float) where
   -- one step back, or none
@@ -52,21 +52,3 @@ module _ (knots : List Float) (point : Float) where
       inside = omega arith;
       rising = λ {n} R f. e ∙ lower-index-is-locate knots point n R all (record { fits = fit; finite = f }) (let c = R .count in omega arith) (let c = R .count in omega arith);
     }
-
-    pub labelled : (cell : ℕ) → cell + 1 < length knots → (r : ℕ) → r ≡ label-of knots point cell → Labelled knots point cell r
-    unfolding label-of
-    labelled cell some r e = record {
-      found = e;
-      inside = omega arith;
-      rising = λ {n} R f same. e ∙ label-of-is-label knots point n R all (record { fits = fit; finite = f }) (let c = R .count in omega arith) cell same;
-    }
-
-  -- the label
-  module _ (cell : ℕ) where
-    pub on-upper-knot : eq point (at knots (cell + 1)) ≡ true → held (cell + 1) (length knots) ≡ label-of knots point cell
-    unfolding label-of
-    on-upper-knot e = simp e
-
-    pub off-upper-knot : eq point (at knots (cell + 1)) ≡ false → held cell (length knots) ≡ label-of knots point cell
-    unfolding label-of
-    off-upper-knot e = simp e

@@ -1,4 +1,4 @@
--- What the cell and its label are, of any knots, and of those that no call refuses.
+-- What the cell is, of any knots, and of those that no call refuses.
 use mathlib.Core.Path.{_≡_}
 use mathlib.Core.Bool.{true}
 use mathlib.Core.List.{List}
@@ -7,8 +7,8 @@ use lib.ListN.{length}
 use lib.Ieee.{Float, lt}
 use lib.Ieee.Scale.{finite}
 use Rattle.rules.specs.Numbers.{at}
-use Rattle.rules.specs.Locate.{locate, label}
-use Rattle.locate.specs.Cell.{lower-index, label-of}
+use Rattle.rules.specs.Locate.{locate}
+use Rattle.locate.specs.Cell.{lower-index}
 
 -- n knots, all finite, each below the next
 pub record Rising (knots : List Float) (n : ℕ) : Type 0 where
@@ -21,9 +21,3 @@ pub record Located (knots : List Float) (point : Float) (cell : ℕ) : Type 0 wh
   pub found : cell ≡ lower-index knots point
   pub inside : cell + 1 < length knots
   pub rising : {n : ℕ} → Rising knots n → finite point ≡ true → cell ≡ locate knots (n - 1) point
-
--- the label of that cell: on rising knots that of the rules
-pub record Labelled (knots : List Float) (point : Float) (cell r : ℕ) : Type 0 where
-  pub found : r ≡ label-of knots point cell
-  pub inside : r + 1 < length knots
-  pub rising : {n : ℕ} → Rising knots n → finite point ≡ true → cell ≡ locate knots (n - 1) point → r ≡ label knots (n - 1) point

@@ -1,10 +1,10 @@
--- The search of the Rust's `locate_lower_index`, and the label of its cell, for any knots at all.
+-- The search of the Rust's `locate_lower_index`, for any knots at all.
 use mathlib.Core.Bool.{cond, _&&_}
 use mathlib.Core.List.{List}
 use Prim.Native.Nat.{ℕ, zero, suc, _+_, _-_, _/_, min}
 use lib.Dec.{ltb}
 use lib.ListN.{length}
-use lib.Ieee.{Float, lt, le, eq}
+use lib.Ieee.{Float, lt, le}
 use Rattle.rules.specs.Numbers.{at}
 
 -- halfway between low and high, rounded down
@@ -45,7 +45,3 @@ held index points = min index (points - 2)
 unfoldable pub lower-index : List Float → Float → ℕ
 unfolding rust-index
 lower-index knots point = held (rust-index knots point) (length knots)
-
--- the label of a cell: the next one's where the point equals the upper knot, so held, and else its own
-unfoldable pub label-of : List Float → Float → ℕ → ℕ
-label-of knots point cell = held (cond (eq point (at knots (cell + 1))) (cell + 1) cell) (length knots)

@@ -1,9 +1,9 @@
-// Where a point lies among the knots of an axis, as the Rust's `locate_lower_index` finds it, and its label. No call here is public: callers see to the number of knots.
+// Where a point lies among the knots of an axis, as the Rust's `locate_lower_index` finds it. No call here is public: callers see to the number of knots.
 ghost use mathlib.Core.Path.{_≡_};
 ghost use Prim.Native.Nat.{_+_, _≤_, _<_};
 ghost use lib.ListN.{length};
 ghost use Rattle.locate.specs.Cell.{one-back, held};
-ghost use Rattle.locate.specs.Answers.{Located, Labelled};
+ghost use Rattle.locate.specs.Answers.{Located};
 
 // The index, or points minus 2, the last cell, where that is less.
 fn held(index: usize, points: usize) -> usize
@@ -55,15 +55,4 @@ pub fn locate_lower_index(knots: &[f64], point: f64) -> usize
             low = mid + 1;
         }
     }
-}
-
-// The label of a located cell: the cell, or one more where the point equals its upper knot, held to points minus 2.
-pub fn cell_label(knots: &[f64], point: f64, cell: usize) -> usize
-    requires { ⌜ cell + 1 < length (now knots) ⌝ }
-    ensures { λ r. ⌜ Labelled (now (knots .entry)) point cell r ⌝ }
-{
-    if point == knots[cell + 1] {
-        return held(cell + 1, knots.len());
-    }
-    held(cell, knots.len())
 }

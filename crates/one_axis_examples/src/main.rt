@@ -112,16 +112,13 @@ fn periodic_rounds() {
     );
 }
 
-// The cell and the label of a point on knots 0 1 2.
+// The cell of a point on knots 0 1 2.
 fn cell(name: &[u8], point: f64) {
     let knots = [0.0, 1.0, 2.0];
     let cell = locate::locate_lower_index(&knots, point);
-    let label = locate::cell_label(&knots, point, cell);
     print(name);
     print(b": cell");
     print_count(cell);
-    print(b" label");
-    print_count(label);
     print(b"\n");
 }
 

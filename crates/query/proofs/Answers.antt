@@ -11,7 +11,7 @@ use lib.Seq.{getD-take, getD-drop}
 use lib.Ieee.{Float, nan}
 use lib.Ieee.Scale.{finite}
 use borrow.Author.Tests.{ltb-true, ltb-false, not-false}
-use Rattle.rules.specs.Numbers.{at, table}
+use Rattle.rules.specs.Numbers.{at}
 use Rattle.rules.specs.Sizes.{most-axes, Grid, points, knots, sum-below, masks, Place, place-of}
 use Rattle.rules.specs.Refusals.{number-refused, answer-refused}
 use Rattle.rules.specs.Query.{corner, cell, cell-of, query}
@@ -117,13 +117,13 @@ module _ (g : Grid) (tensor coordinates : List Float) (few : g .axes ≤ most-ax
       (λ e b. cell-ext g tensor (place-of (lowers cells)) (cell-of g (at coordinates))
       (λ i h. lower-at cells i (omega arith) ∙ ap (λ (c : AxisCell). c .lower) (on .found i h)) e)
 
-  pub labels-are : table most-axes (λ i. axis-cell cells i .label) ≡ labels g tensor coordinates
-  unfolding labels
+  pub labels-are : lowers cells ≡ labels g tensor coordinates
+  unfolding labels cell-of
   labels-are = table-ext most-axes _ _ (λ i h. go i h (ltb i (g .axes)) refl)
     where
       go : (i : ℕ) → i < most-axes → (b : Bool) → ltb i (g .axes) ≡ b
-          → axis-cell cells i .label ≡ cond b (on-axis (knots g i) (points g i - 1) (at coordinates i) .label) 0
-      go i h true e = ap (λ (c : AxisCell). c .label) (on .found i (ltb-true i (g .axes) e))
+          → axis-cell cells i .lower ≡ cond b (on-axis (knots g i) (points g i - 1) (at coordinates i) .lower) 0
+      go i h true e = ap (λ (c : AxisCell). c .lower) (on .found i (ltb-true i (g .axes) e))
       go i h false e = on .unused i (ltb-false i (g .axes) e) h
 
 -- ---- the answers
@@ -169,7 +169,7 @@ module _ (g : Grid) (tensor coordinates : List Float) (check : ℕ) (checked : c
     unfolding query-answer
     answer-is given e l = rw (e, l, blend, value-is g tensor coordinates few cells on) refl
 
-    pub value-given : is-finite ≡ true → (given : List ℕ) → given ≡ table most-axes (λ i. axis-cell cells i .label) → QueryPromise g tensor coordinates (record { refusal = 0; value = value; labels = given })
+    pub value-given : is-finite ≡ true → (given : List ℕ) → given ≡ lowers cells → QueryPromise g tensor coordinates (record { refusal = 0; value = value; labels = given })
     value-given e given l = record {
       answer = answer-is given
           (outcome-good (query-outcome g tensor coordinates) (sym checked ∙ none) (outcome-is ∙ ap not e))

@@ -19,22 +19,21 @@ use Rattle.query.specs.Located.{axis-cell, AxisAccepted, OnAxis, on-axis
 
 -- ---- one axis
 
-abbrev cell-at : List Float → Float → ℕ → ℕ → AxisCell
-cell-at knots point lower label = record {
+abbrev cell-at : List Float → Float → ℕ → AxisCell
+cell-at knots point lower = record {
   lower = lower;
   width = at knots (lower + 1) ⊖ at knots lower;
   t = (point ⊖ at knots lower) ⊘ (at knots (lower + 1) ⊖ at knots lower);
-  label = label;
 }
 
 pub on-one-axis :
-    (knots : List Float) (point : Float) (lower label : ℕ) → AxisAccepted knots point → locate.Located knots point lower → locate.Labelled knots point lower label
-    → OnAxis knots point (cell-at knots point lower label)
+    (knots : List Float) (point : Float) (lower : ℕ) → AxisAccepted knots point → locate.Located knots point lower
+    → OnAxis knots point (cell-at knots point lower)
 unfolding h fraction
-on-one-axis knots point lower label given located labelled =
+on-one-axis knots point lower given located =
     let cell = located .rising (given .rising) (given .point-finite) in
     record {
-      found = rw (labelled .rising (given .rising) (given .point-finite) cell, cell) refl;
+      found = rw cell refl;
       inside = located .inside;
     }
 
@@ -48,7 +47,7 @@ pub record Turn (g : Grid) (coordinates : List Float) (cells : List AxisCell) (b
   pub on-axes : OnAxes g coordinates i cells
 
 abbrev unused-cell : AxisCell
-unused-cell = record { lower = 0; width = plus-zero; t = plus-zero; label = 0 }
+unused-cell = record { lower = 0; width = plus-zero; t = plus-zero }
 
 module _ (g : Grid) (coordinates : List Float) where
   pub turn-first : Accepted g coordinates → Turn g coordinates (replicate 4 unused-cell) 0 0
@@ -61,7 +60,7 @@ module _ (g : Grid) (coordinates : List Float) where
       four = refl;
       found = λ j h. absurd (omega arith);
       inside = λ j h. absurd (omega arith);
-      unused = λ j h l. ap (λ (c : AxisCell). c .label) (getD-replicate 4 j unused-cell _ l);
+      unused = λ j h l. ap (λ (c : AxisCell). c .lower) (getD-replicate 4 j unused-cell _ l);
     };
   }
 

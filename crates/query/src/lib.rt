@@ -20,7 +20,7 @@ fn refused(refusal: usize) -> QueryAnswer
     }
 }
 
-// PUBLIC. The surface's value at a point, beyond the grid too, and the cell label of each axis, 0 past those in use. Refuses 1 2 3 4 7 8 10;
+// PUBLIC. The surface's value at a point, beyond the grid too, and for each axis the label, which is the cell that was evaluated, 0 past those in use. Refuses 1 2 3 4 7 8 10;
 // then the value is +0.0 and every label 0. The tensor is not searched for 7.
 pub fn query(
     axes: usize,
@@ -44,7 +44,7 @@ pub fn query(
         QueryAnswer {
             refusal: 0,
             value,
-            labels: located::labels(cells),
+            labels: lower,
         }
     } else {
         refused(10)

@@ -1,16 +1,14 @@
-// Where an accepted point lies on the axes, and its labels. None of these is public.
+// Where an accepted point lies on the axes. None of these is public.
 ghost use mathlib.Core.Path.{_≡_};
-ghost use Rattle.rules.specs.Numbers.{table};
 ghost use Rattle.grid.specs.Given.{grid};
-ghost use Rattle.query.specs.Located.{axis-cell, lowers, widths, fractions, AxisAccepted, OnAxis, Accepted, OnAxes};
+ghost use Rattle.query.specs.Located.{lowers, widths, fractions, AxisAccepted, OnAxis, Accepted, OnAxes};
 use rules::Axis;
 
-// Where a point lies on one axis: the lower knot of its cell, the cell's width, the fraction of it, and the label for the log.
+// Where a point lies on one axis: the lower knot of its cell, the cell's width, and the fraction of it.
 pub struct AxisCell {
     pub lower: usize,
     pub width: f64,
     pub t: f64,
-    pub label: usize,
 }
 
 // Where a point lies among the knots of an axis.
@@ -21,16 +19,10 @@ fn locate_on_axis(knots: &[f64], point: f64) -> AxisCell
     let lower = locate::locate_lower_index(knots, point);
     let width = knots[lower + 1] - knots[lower];
     let t = (point - knots[lower]) / width;
-    let label = locate::cell_label(knots, point, lower);
-    AxisCell {
-        lower,
-        width,
-        t,
-        label,
-    }
+    AxisCell { lower, width, t }
 }
 
-// Where a point lies on each axis in use. Past them the label is 0.
+// Where a point lies on each axis in use. Past them the index is 0.
 pub fn locate_on_axes(
     axes: usize,
     all: [Axis; 4],
@@ -44,7 +36,6 @@ pub fn locate_on_axes(
         lower: 0,
         width: 0.0,
         t: 0.0,
-        label: 0,
     };
     let mut cells = [unused; 4];
     let mut begin = 0;
@@ -58,7 +49,7 @@ pub fn locate_on_axes(
     cells
 }
 
-// The lower knots of the four axes.
+// The lower knots of the four axes, which are the labels too.
 pub fn lowers(cells: [AxisCell; 4]) -> [usize; 4]
     ensures { λ r. ⌜ r ≡ lowers cells ⌝ }
 {
@@ -87,16 +78,4 @@ pub fn fractions(cells: [AxisCell; 4]) -> [f64; 4]
     ensures { λ r. ⌜ r ≡ fractions cells ⌝ }
 {
     [cells[0].t, cells[1].t, cells[2].t, cells[3].t]
-}
-
-// The labels of the four axes.
-pub fn labels(cells: [AxisCell; 4]) -> [usize; 4]
-    ensures { λ r. ⌜ r ≡ table 4 (λ i. axis-cell cells i .label) ⌝ }
-{
-    [
-        cells[0].label,
-        cells[1].label,
-        cells[2].label,
-        cells[3].label,
-    ]
 }

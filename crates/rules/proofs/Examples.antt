@@ -8,14 +8,14 @@ use lib.Ieee.{Float, binary64}
 use Rattle.rules.specs.Numbers.{at, zeros, any}
 use Rattle.rules.specs.Ends.{not-a-knot, natural, clamped, periodic}
 use Rattle.rules.specs.Sizes.{Grid, points, sum-below, product-below, unused-axis, place-of}
-use Rattle.rules.specs.Locate.{locate, label}
+use Rattle.rules.specs.Locate.{locate}
 use Rattle.rules.specs.Moments.{moments}
 use Rattle.rules.specs.Curve.{curve, knot-slopes}
 use Rattle.rules.specs.Tensor.{tensor}
 use Rattle.rules.specs.Change.{changed-tensor, build-lanes, change-lanes, lane-sum}
 use Rattle.rules.specs.Query.{query}
 use Rattle.rules.specs.Refusals.{step-refused}
-use Rattle.rules.specs.Calls.{moments-refusal}
+use Rattle.rules.specs.Calls.{moments-refusal, labels}
 use Rattle.rules.specs.declared.Condition.{Condition}
 use Rattle.rules.specs.declared.Condition.the-variants.{Endpoints}
 use Rattle.rules.specs.declared.End.the-variants.{NotAKnot, FirstDerivative, SecondDerivative}
@@ -75,7 +75,15 @@ square c = record {
   flat-knots = 0′ ∷ 1′ ∷ 0′ ∷ 1′ ∷ [];
 }
 
--- its samples 0 0 0 1
+-- the labels of a point on one axis of the knots 0 1 2
+abbrev labels-at : Float → List ℕ
+labels-at point =
+    labels
+    (record { axes = 1; entries = record { points = 3; condition = natural } ∷ unused-axis ∷ unused-axis ∷ unused-axis ∷ []; flat-knots = knots-3 })
+    []
+    (point ∷ [])
+
+-- the samples of the square, 0 0 0 1
 abbrev corner-up : List Float
 corner-up = 0′ ∷ 0′ ∷ 0′ ∷ 1′ ∷ []
 
@@ -121,10 +129,11 @@ pub record Examples : Type 0 where
   pub lanes-of-the-build : length (build-lanes (square natural)) ≡ 6
   -- cells and labels on three knots: on the middle one, on the last, and below the first
   pub cell-at-interior-knot : locate knots-3 2 1′ ≡ 0
-  pub label-at-interior-knot : label knots-3 2 1′ ≡ 1
+  pub label-at-interior-knot : labels-at 1′ ≡ 0 ∷ 0 ∷ 0 ∷ 0 ∷ []
   pub cell-at-last-knot : locate knots-3 2 2′ ≡ 1
-  pub label-at-last-knot : label knots-3 2 2′ ≡ 1
+  pub label-at-last-knot : labels-at 2′ ≡ 1 ∷ 0 ∷ 0 ∷ 0 ∷ []
   pub cell-below : locate knots-3 2 -1′ ≡ 0
+  pub label-below : labels-at -1′ ≡ 0 ∷ 0 ∷ 0 ∷ 0 ∷ []
   -- one point too few for NotAKnot, and just enough: at both ends, at the lower, at the upper
   pub both-ends-3 : refusal-of 3 knots-3 not-a-knot ≡ 9
   pub both-ends-4 : refusal-of 4 knots-4 not-a-knot ≡ 0
@@ -150,7 +159,7 @@ pub record Examples : Type 0 where
   pub rounded-twice : spline knots-3 2 natural (0′ ∷ 1′ ∷ 5′ ∷ []) (pattern 0x3FD0_0000_0000_0000) ≡ pattern 0x3FB3_0000_0000_0000
 
 pub examples : Examples
-unfolding any sum-below product-below locate label moments curve knot-slopes tensor changed-tensor change-lanes lane-sum query step-refused moments-refusal Ieee.add Ieee.sub Ieee.mul Ieee.div Ieee.neg Ieee.lt Ieee.le Ieee.ofBits
+unfolding any sum-below product-below locate labels moments curve knot-slopes tensor changed-tensor change-lanes lane-sum query step-refused moments-refusal Ieee.add Ieee.sub Ieee.mul Ieee.div Ieee.neg Ieee.lt Ieee.le Ieee.ofBits
 examples = record {
   natural-moments = refl;
   natural-slopes = refl;
@@ -174,6 +183,7 @@ examples = record {
   cell-at-last-knot = refl;
   label-at-last-knot = refl;
   cell-below = refl;
+  label-below = refl;
   both-ends-3 = refl;
   both-ends-4 = refl;
   lower-end-2 = refl;

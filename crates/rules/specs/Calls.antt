@@ -7,14 +7,13 @@ use lib.Dec.{ltb, eqb}
 use lib.ListN.{length}
 use lib.Ieee.{Float}
 use Rattle.rules.specs.Numbers.{plus-zero, at, zeros, table}
-use Rattle.rules.specs.Sizes.{most-axes, scratch-of-rows, Grid, points, knots-length, knots, samples-length, tensor-length, scratch-length, Place}
+use Rattle.rules.specs.Sizes.{most-axes, scratch-of-rows, Grid, knots-length, knots, samples-length, tensor-length, scratch-length, Place}
 use Rattle.rules.specs.Refusals.{axes-refused, points-refused, some-points-refused, tensor-refused, length-refused, scratch-refused, place-refused, number-refused, some-number-refused, ends-refused, some-ends-refused, knots-refused, some-knots-refused, fewness-refused, some-fewness-refused, outcome-refused, answer-refused}
-use Rattle.rules.specs.Locate.{label}
 use Rattle.rules.specs.Moments.{moments}
 use Rattle.rules.specs.Curve.{curve, knot-slopes}
 use Rattle.rules.specs.Tensor.{tensor}
 use Rattle.rules.specs.Change.{changed-tensor, change-lanes}
-use Rattle.rules.specs.Query.{query}
+use Rattle.rules.specs.Query.{cell-of, query}
 use Rattle.rules.specs.declared.Condition.{Condition}
 use Rattle.rules.specs.declared.CurveAnswer.{CurveAnswer}
 use Rattle.rules.specs.declared.ChangeAnswer.{ChangeAnswer}
@@ -180,10 +179,10 @@ module _ (g : Grid) (tensor-lent coordinates : List Float) where
       (cond (some-knots-refused g) 8
       (cond (answer-refused (query g tensor-lent (at coordinates))) 10 0))))))
 
-  -- the labels of the four axes, 0 for those not in use
+  -- the labels of the four axes: the cell that is evaluated, and 0 for those not in use
   unfoldable pub labels : List ℕ
-  unfolding label
-  labels = table most-axes (λ i. cond (ltb i (g .axes)) (label (knots g i) (points g i - 1) (at coordinates i)) 0)
+  unfolding cell-of
+  labels = table most-axes (λ i. cond (ltb i (g .axes)) (cell-of g (at coordinates) i) 0)
 
   -- its answer: the refusal, the value at the coordinates, and the labels
   unfoldable pub query-answer : QueryAnswer

@@ -1,7 +1,7 @@
--- The chapter Locate of docs/RULES.md: the cell of a point among n + 1 knots, and its label.
+-- The chapter Locate of docs/RULES.md: the cell of a point among n + 1 knots.
 use mathlib.Core.Bool.{true, false, cond}
 use mathlib.Core.List.{List}
-use Prim.Native.Nat.{ℕ, zero, suc, _-_, min}
+use Prim.Native.Nat.{ℕ, zero, suc, _-_}
 use lib.Ieee.{Float, lt, le}
 use Rattle.rules.specs.Numbers.{at}
 
@@ -17,13 +17,3 @@ locate x n p =
     cond (lt p (at x 0)) 0
     (cond (le (at x n) p) (n - 1)
     (first-at-or-above x p n 0 - 1))
-
--- the last of the knots 0 to k that is at or below the point; 0 where none is
-unfoldable pub last-at-or-below : List Float → Float → ℕ → ℕ
-last-at-or-below x p zero = 0
-last-at-or-below x p (suc k) = elim (le (at x (suc k)) p) [ true ↦ suc k | false ↦ last-at-or-below x p k ]
-
--- the label of a point: the index of that knot, and the last cell's where it is the last knot's
-unfoldable pub label : List Float → ℕ → Float → ℕ
-unfolding last-at-or-below
-label x n p = min (last-at-or-below x p n) (n - 1)

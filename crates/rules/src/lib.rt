@@ -40,7 +40,7 @@ pub struct ChangeAnswer {
     pub lanes: usize,
 }
 
-// A refusal's number, 0 for none, the surface's value, and the cell label of each axis.
+// A refusal's number, 0 for none, the surface's value, and of each axis the label: the cell that was evaluated.
 pub struct QueryAnswer {
     pub refusal: usize,
     pub value: f64,

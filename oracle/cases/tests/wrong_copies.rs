@@ -153,14 +153,15 @@ fn a_change_of_the_lanes_through_the_place_only_is_found() {
 }
 
 #[test]
-fn a_label_that_is_the_cell_is_found() {
+fn a_label_of_the_knot_that_a_point_lies_on_is_found() {
     let wrong = Altered {
         call: Call::Query,
         alter: |given, answered| {
             let knots = &given.argument("knots").floats()[..given.argument("points").numbers()[0]];
             let point = given.argument("coordinates").floats()[0];
-            let cell = locate_lower_index(knots.into(), &point);
-            answered.argument_mut("labels").numbers_mut()[0] = cell;
+            let last = knots.iter().rposition(|knot| *knot <= point);
+            let label = last.unwrap_or(0).min(knots.len() - 2);
+            answered.argument_mut("labels").numbers_mut()[0] = label;
         },
     };
     assert!(differences(&wrong, Kind::Query) > 0);

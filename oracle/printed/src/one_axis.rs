@@ -130,13 +130,11 @@ fn periodic_rounds() -> String {
     moments_and_curve("periodic rounds", &knots, &samples, Ends::PERIODIC, &points)
 }
 
-/// The cell that the unchanged search gives, and the label of a query.
+/// The cell that the unchanged search gives.
 fn cell(name: &str, point: f64) -> String {
     let knots = [0.0, 1.0, 2.0];
     let cell = ninterp_unchanged::locate_lower_index(knots.as_slice().into(), &point);
-    let grid = crate::grid::Grid::new(&[(Ends::NATURAL, &knots)]);
-    let (_, _, labels) = grid.query(&[0.0; 6], &[point]);
-    format!("{name} on knots 0 1 2: cell {cell} label {}\n", labels[0])
+    format!("{name} on knots 0 1 2: cell {cell}\n")
 }
 
 /// What the program one_axis_examples prints.

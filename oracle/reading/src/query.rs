@@ -2,9 +2,10 @@
 
 use crate::refusals::{all_finite, knots_rise, require, Refusal};
 use crate::shape::{views, Shape};
-use ninterp_unchanged::{evaluate_spline_corner_cached, ArrayD, IxDyn};
+use ninterp_unchanged::{evaluate_spline_corner_cached, locate_lower_index, ArrayD, IxDyn};
 
-/// The tensor's value at a point, with the cell label of every axis.
+/// The tensor's value at a point, and of every axis the cell that the unchanged search
+/// finds, which is the label.
 pub fn query(
     axes: usize,
     points: &[usize],
@@ -45,7 +46,8 @@ fn answer(
     let value = value_at(shape, &knots, tensor, coordinates);
     require(value.is_finite(), 10)?;
     let cells = knots.iter().zip(coordinates);
-    let labels = cells.map(|(knots, point)| label(knots, *point)).collect();
+    let cell = |(knots, point): (&&[f64], &f64)| locate_lower_index((*knots).into(), point);
+    let labels = cells.map(cell).collect();
     Ok((value, labels))
 }
 
@@ -56,10 +58,4 @@ fn value_at(shape: &Shape, knots: &[&[f64]], tensor: &[f64], coordinates: &[f64]
     let tensor = ArrayD::from_shape_vec(IxDyn(&lengths), tensor.to_vec())
         .expect("the tensor has its exact length");
     evaluate_spline_corner_cached(&views(knots), tensor.view(), coordinates)
-}
-
-/// The last knot that is not above the point, kept within the cells.
-fn label(knots: &[f64], point: f64) -> usize {
-    let last = knots.iter().rposition(|knot| *knot <= point);
-    last.unwrap_or(0).min(knots.len() - 2)
 }

@@ -201,7 +201,7 @@ fn cells_and_labels_on_three_knots() {
         assert_eq!((refusal, &labels[1..]), (0, [0; 3].as_slice()));
         labels[0]
     };
-    assert_eq!([label(1.0), label(2.0), label(-1.0)], [1, 1, 0]);
+    assert_eq!([label(1.0), label(2.0), label(-1.0)], [0, 1, 0]);
 }
 
 #[test]

@@ -30,7 +30,7 @@ value-requires c κs =
 
 returns-2 : tie.Need-returns-2
 returns-2 c =
-    let tested = c .before .before in
+    let tested = c .before in
     let apart = tested .before .before in
     let located = apart .before .before .before in
     let check = located .before .before in
@@ -43,8 +43,8 @@ returns-2 c =
     (rw (apart .before .before .lowers .ensures, apart .before .widths .ensures, apart .fractions .ensures) at (tested .before .value .ensures))
     _
     (tested .is-finite .ensures)
-    (c .before .if2 .taken)
-    _ (c .labels .ensures)
+    (c .if2 .taken)
+    _ (apart .before .before .lowers .ensures)
 
 returns-3 : tie.Need-returns-3
 returns-3 c =
@@ -76,7 +76,6 @@ query-spec =
     (λ c κs. search needs)
     (λ c κs. search needs)
     value-requires
-    (λ c κs. search needs)
     (λ c κs. search needs)
     (λ c κs. search needs)
     returns-2

@@ -5,8 +5,8 @@ use Rattle.query.proofs.located.locate_on_axis.Tie as tie
 
 returns : tie.Need-returns
 returns c =
-    let found = c .before .before .before .before in
-    on-one-axis _ _ _ _ (found .before .before .pre) (found .locate-lower-index .ensures) (c .cell-label .ensures)
+    let found = c .before .before .before in
+    on-one-axis _ _ _ (found .before .before .pre) (found .locate-lower-index .ensures)
 
 pub locate-on-axis-spec : {M : Type 1} → statement M
 locate-on-axis-spec =
@@ -20,5 +20,4 @@ locate-on-axis-spec =
     (λ c. search needs)
     (λ c. search needs)
     (λ c. search needs)
-    (λ c κs. search needs)
     returns)
