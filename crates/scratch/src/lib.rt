@@ -14,13 +14,8 @@
 //                      over it: the moments; y of the cyclic
 //     2048   TENSOR    the working tensor, the mask fastest       tensor, lanes::store_slopes    the call ends
 
-// How many numbers a row has, and how many all rows have together: the scratch that is asked for beside the tensor's length.
-pub const ROW: usize = 256;
-
+// How many numbers all rows have together: the scratch that is asked for beside the tensor's length.
 pub const ROWS: usize = 2048;
-
-// The longest scratch that a call asks for: that of a tensor of 4,096 numbers.
-pub const MOST: usize = 6144;
 
 // Where each row begins; the lane's numbers stand in front of all. SUB_BEFORE + k is number k - 1 of SUB, which row k has left of its diagonal.
 pub const SUB: usize = 256;
