@@ -1,11 +1,11 @@
--- The search of the Rust's `locate_lower_index`, for any knots at all.
+-- The chapter Search of docs/RULES.md: the search of the Rust's `locate_lower_index`, for any knots at all.
 use mathlib.Core.Bool.{cond, _&&_}
-use mathlib.Core.List.{List}
+use mathlib.Core.List.{List, [], _∷_}
 use Prim.Native.Nat.{ℕ, zero, suc, _+_, _-_, _/_, min}
 use lib.Dec.{ltb}
 use lib.ListN.{length}
 use lib.Ieee.{Float, lt, le}
 use Rattle.rules.specs.Numbers.{at}
 
 -- halfway between low and high, rounded down
 abbrev pub middle : ℕ → ℕ → ℕ
@@ -45,3 +45,22 @@ held index points = min index (points - 2)
 unfoldable pub lower-index : List Float → Float → ℕ
 unfolding rust-index
 lower-index knots point = held (rust-index knots point) (length knots)
+
+-- the knots that the halvings between low and high look at, by the recursion of the search itself
+unfoldable pub middles : List Float → Float → ℕ → ℕ → ℕ → List ℕ
+middles knots point zero low high = []
+middles knots point (suc halvings) low high =
+    cond (ltb low high)
+    (middle low high ∷ cond (le point (at knots (middle low high)))
+    (middles knots point halvings low (middle low high))
+    (middles knots point halvings (middle low high + 1) high))
+    []
+
+-- all knots that matter to a cell: the first, the last, the two of the cell, and those that the halvings look at
+unfoldable pub visited : List Float → Float → List ℕ
+unfolding lower-index middles
+visited knots point =
+    0 ∷ (length knots - 1) ∷ lower-index knots point ∷ (lower-index knots point + 1)
+    ∷ cond (lt point (at knots 0)) []
+    (cond (le (at knots (length knots - 1)) point) []
+    (middles knots point most-halvings 0 (length knots - 1)))
