@@ -81,7 +81,6 @@ abbrev labels-at : Float → List ℕ
 labels-at point =
     labels
     (record { axes = 1; entries = record { points = 3; condition = natural } ∷ unused-axis ∷ unused-axis ∷ unused-axis ∷ []; flat-knots = knots-3 })
-    []
     (point ∷ [])
 
 -- the samples of the square, 0 0 0 1
