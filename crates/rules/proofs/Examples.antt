@@ -14,12 +14,15 @@ use Rattle.rules.specs.Moments.{moments}
 use Rattle.rules.specs.Curve.{curve, knot-slopes}
 use Rattle.rules.specs.Tensor.{tensor}
 use Rattle.rules.specs.Change.{changed-tensor, build-lanes, change-lanes, lane-sum}
+use Rattle.rules.specs.Outside.{side, placed}
 use Rattle.rules.specs.Query.{query}
 use Rattle.rules.specs.Refusals.{step-refused}
 use Rattle.rules.specs.Calls.{moments-refusal, labels}
 use Rattle.rules.specs.declared.Condition.{Condition}
 use Rattle.rules.specs.declared.Condition.the-variants.{Endpoints}
 use Rattle.rules.specs.declared.End.the-variants.{NotAKnot, FirstDerivative, SecondDerivative}
+use Rattle.rules.specs.declared.Mode.the-variants.{Extend, Hold}
+use Rattle.rules.specs.declared.Side.the-variants.{Below, Inside, Above}
 
 -- the float of a bit pattern
 abbrev pattern : ℕ → Float
@@ -142,6 +145,18 @@ pub record Examples : Type 0 where
   pub scan-of-falling-knots : locate falling-knots 4 3′ ≡ 0
   pub search-of-falling-knots : lower-index falling-knots 3′ ≡ 3
   pub looked-at-in-falling-knots : visited falling-knots 3′ ≡ 0 ∷ 4 ∷ 3 ∷ 4 ∷ 2 ∷ 3 ∷ []
+  -- the sides of three knots: on an end knot a point is inside; and below goes first on knots where both hold
+  pub side-below : side knots-3 -1′ ≡ Below
+  pub side-at-first-knot : side knots-3 0′ ≡ Inside
+  pub side-at-last-knot : side knots-3 2′ ≡ Inside
+  pub side-above : side knots-3 3′ ≡ Above
+  pub side-of-both : side (5′ ∷ 1′ ∷ []) 3′ ≡ Below
+  -- what hold takes in place of the points -1 0 2 3
+  pub held-below : placed Hold knots-3 -1′ ≡ 0′
+  pub held-at-first-knot : placed Hold knots-3 0′ ≡ 0′
+  pub held-at-last-knot : placed Hold knots-3 2′ ≡ 2′
+  pub held-above : placed Hold knots-3 3′ ≡ 2′
+  pub extended-above : placed Extend knots-3 3′ ≡ 3′
   -- one point too few for NotAKnot, and just enough: at both ends, at the lower, at the upper
   pub both-ends-3 : refusal-of 3 knots-3 not-a-knot ≡ 9
   pub both-ends-4 : refusal-of 4 knots-4 not-a-knot ≡ 0
@@ -167,7 +182,7 @@ pub record Examples : Type 0 where
   pub rounded-twice : spline knots-3 2 natural (0′ ∷ 1′ ∷ 5′ ∷ []) (pattern 0x3FD0_0000_0000_0000) ≡ pattern 0x3FB3_0000_0000_0000
 
 pub examples : Examples
-unfolding any sum-below product-below locate lower-index visited labels moments curve knot-slopes tensor changed-tensor change-lanes lane-sum query step-refused moments-refusal Ieee.add Ieee.sub Ieee.mul Ieee.div Ieee.neg Ieee.lt Ieee.le Ieee.ofBits
+unfolding any sum-below product-below locate lower-index visited side labels moments curve knot-slopes tensor changed-tensor change-lanes lane-sum query step-refused moments-refusal Ieee.add Ieee.sub Ieee.mul Ieee.div Ieee.neg Ieee.lt Ieee.le Ieee.ofBits
 examples = record {
   natural-moments = refl;
   natural-slopes = refl;
@@ -195,6 +210,16 @@ examples = record {
   scan-of-falling-knots = refl;
   search-of-falling-knots = refl;
   looked-at-in-falling-knots = refl;
+  side-below = refl;
+  side-at-first-knot = refl;
+  side-at-last-knot = refl;
+  side-above = refl;
+  side-of-both = refl;
+  held-below = refl;
+  held-at-first-knot = refl;
+  held-at-last-knot = refl;
+  held-above = refl;
+  extended-above = refl;
   both-ends-3 = refl;
   both-ends-4 = refl;
   lower-end-2 = refl;
