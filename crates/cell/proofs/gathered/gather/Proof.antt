@@ -1,9 +1,9 @@
 use borrow.Author.Needs.{needs}
 use native.Mathlib.Omega.{arith}
 use Prim.Native.Nat.{_-_}
-use Rattle.query.proofs.Gathering.{Turn, turn-first, Room, room, same-parts, turn-next, turn-last}
-use Rattle.query.proofs.cell.gather.Statement.{statement}
-use Rattle.query.proofs.cell.gather.Tie as tie
+use Rattle.cell.proofs.Gathering.{Turn, turn-first, Room, room, same-parts, turn-next, turn-last}
+use Rattle.cell.proofs.gathered.gather.Statement.{statement}
+use Rattle.cell.proofs.gathered.gather.Tie as tie
 
 abbrev Inv-loop : tie.InvT-loop
 Inv-loop cell₀ axes all lower tensor masks two bits₀ cell bits = Turn cell₀ axes all lower tensor masks cell bits

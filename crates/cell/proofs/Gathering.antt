@@ -17,8 +17,8 @@ use Rattle.rules.specs.Query.{corner, cell, blend}
 use Rattle.rules.specs.declared.Axis.{Axis}
 use Rattle.rules.proofs.Places.{flat-below}
 use Rattle.grid.specs.Given.{sizes-of, points-of, CellInside}
-use Rattle.blend.proofs.Blending.{blend-ext}
-use Rattle.query.specs.Cell.{Gathered}
+use Rattle.rules.proofs.Cells.{blend-ext}
+use Rattle.cell.specs.Gathered.{Gathered}
 use Rattle.grid.proofs.Corners.{side-by-side, corner-on-grid}
 
 -- ---- a part of a list replaced by another of the same length

@@ -1,8 +1,8 @@
 use native.Mathlib.Omega.{arith}
 use mathlib.Core.Path.{_≡_, refl}
 use borrow.Author.Needs.{needs}
-use Rattle.query.proofs.cell.value.Statement.{statement}
-use Rattle.query.proofs.cell.value.Tie as tie
+use Rattle.cell.proofs.gathered.value.Statement.{statement}
+use Rattle.cell.proofs.gathered.value.Tie as tie
 
 blend-in-requires : tie.Need-blend-in-requires
 blend-in-requires c κs =

@@ -1,10 +1,10 @@
-// The cell of the tensor around a located point: its numbers gathered, and blended. None of these is public.
+// The numbers of a cell of the tensor, gathered and blended.
 ghost use mathlib.Core.Path.{_≡_};
 ghost use Prim.Native.Nat.{_^_};
 ghost use lib.ListN.{length};
 ghost use Rattle.rules.specs.Sizes.{place-of, tensor-length};
 ghost use Rattle.grid.specs.Given.{sizes-of, CellInside};
-ghost use Rattle.query.specs.Cell.{Gathered, blended};
+ghost use Rattle.cell.specs.Gathered.{Gathered, blended};
 use rules::Axis;
 
 // The numbers of the cell from the tensor, corner after corner, the mask fastest. Two corners that differ on the last axis alone stand side by

@@ -1,7 +1,7 @@
-use Rattle.query.proofs.Gathering.{gathered-blend}
+use Rattle.cell.proofs.Gathering.{gathered-blend}
 use borrow.Author.Needs.{needs}
-use Rattle.query.proofs.cell.blend_in.Statement.{statement}
-use Rattle.query.proofs.cell.blend_in.Tie as tie
+use Rattle.cell.proofs.gathered.blend_in.Statement.{statement}
+use Rattle.cell.proofs.gathered.blend_in.Tie as tie
 
 returns : tie.Need-returns
 returns c =

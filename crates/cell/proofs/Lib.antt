@@ -1,0 +1,4 @@
+pub mod Gathering
+mod Searching
+mod Lying
+pub mod Answering
