@@ -4,27 +4,26 @@ use mathlib.Core.Path.{_≡_, refl, sym, _∙_}
 use mathlib.Core.Logic.{_≢_}
 use mathlib.Core.Bool.{true}
 use mathlib.Core.List.{List}
-use Prim.Native.Nat.{ℕ, _+_, _<_}
+use Prim.Native.Nat.{ℕ, _<_}
 use lib.ListN.{length}
 use lib.Ieee.{Float}
 use lib.Ieee.Scale.{finite}
 use borrow.Author.Tests.{not-false}
 use Rattle.rules.specs.Numbers.{at}
-use Rattle.rules.specs.Sizes.{Grid, points, knots, sum-below, place-of, tensor-length}
+use Rattle.rules.specs.Sizes.{Grid, points, knots, place-of, tensor-length}
 use Rattle.rules.specs.Refusals.{number-refused}
 use Rattle.rules.specs.Query.{cell-of, query}
 use Rattle.rules.specs.Calls.{labels, query-refusal, query-answer, QueryPromise}
 use Rattle.rules.specs.declared.QueryAnswer.{QueryAnswer}
 use Rattle.base.proofs.Scan.{any-at}
-use Rattle.grid.proofs.Products.{sum-within}
-use Rattle.grid.proofs.Knots.{knots-of-axis, knot-at}
 use Rattle.checks.specs.Given.{GridGiven, QueryGiven}
 use Rattle.checks.specs.Check.{query-check}
-use Rattle.checks.proofs.Accepted.{query-given, knots-step}
+use Rattle.checks.proofs.Accepted.{query-given}
 use Rattle.checks.proofs.ThenOutcome.{refused, outcome, query-outcome}
 use Rattle.locate.specs.Answers.{Rising}
 use Rattle.cell.specs.Searched.{SearchGiven, Searched}
 use Rattle.cell.specs.Answers.{CellGiven, refused-with, answer-in}
+use Rattle.cell.proofs.Accepted.{rising-on-axis}
 use Rattle.cell.proofs.Answering.{refused-is, answer-is}
 
 -- ---- what the check lets pass
@@ -41,19 +40,8 @@ module _ (g : Grid) (tensor-given : ℕ) (coordinates : List Float) (given : Que
   }
 
   module _ (i : ℕ) (lt : i < g .axes) where
-    knot-finite : (k : ℕ) → k < points g i → finite (at (knots g i) k) ≡ true
-    knot-finite k h =
-        rw (knot-at g i k h)
-        (not-false _
-        (any-at (λ j. number-refused (at (g .flat-knots) j)) (length (g .flat-knots)) (on-grid .knots-finite) (sum-below (points g) i + k)
-        (omega (arith, on-grid .knots-exact, sum-within (points g) i (g .axes) lt))))
-
     rising : Rising (knots g i) (points g i)
-    rising = record {
-      count = knots-of-axis g (on-grid .knots-exact) i lt;
-      finite = knot-finite;
-      rise = λ k h. knots-step (knots g i) (points g i) (on-grid .knots-rise i lt) k h .0;
-    }
+    rising = rising-on-axis g (on-grid .knots-exact) (on-grid .knots-finite) i lt (on-grid .knots-rise i lt)
 
     point-finite : finite (at coordinates i) ≡ true
     point-finite = not-false _ (any-at (λ j. number-refused (at coordinates j)) (length coordinates) (given .coordinates-finite) i (omega (arith, given .coordinates-exact)))
