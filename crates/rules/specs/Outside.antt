@@ -41,13 +41,17 @@ placed Refuse x p = p
 abbrev pub placed-on : Grid → List Mode → (ℕ → Float) → ℕ → Float
 placed-on g modes point i = placed (mode-at modes i) (knots g i) (point i)
 
+-- whether a side is not the inside
+abbrev pub outside : Side → Bool
+outside Below = true
+outside Inside = false
+outside Above = true
+
 -- 18: the mode is refuse, and the point lies outside
 abbrev pub outside-refused : Mode → Side → Bool
 outside-refused Extend s = false
 outside-refused Hold s = false
-outside-refused Refuse Below = true
-outside-refused Refuse Inside = false
-outside-refused Refuse Above = true
+outside-refused Refuse s = outside s
 
 -- 18 of a grid: so for an axis in use
 abbrev pub some-outside-refused : Grid → List Mode → (ℕ → Float) → Bool
