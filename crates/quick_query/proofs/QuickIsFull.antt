@@ -13,7 +13,9 @@ use borrow.Author.Tests.{ltb-true, ltb-false, not-false}
 use Rattle.rules.specs.Numbers.{at}
 use Rattle.rules.specs.Sizes.{Grid, points, knots, sum-below, knots-length, tensor-length}
 use Rattle.rules.specs.Refusals.{length-refused, number-refused, some-number-refused, step-refused, knots-refused, some-knots-refused, found-cell-refused, some-found-cell-refused, answer-refused}
-use Rattle.rules.specs.Query.{cell-of, query, quick-cell-of, quick-query}
+use Rattle.rules.specs.Outside.{placed-on, some-outside-refused}
+use Rattle.rules.specs.Query.{cell-of, quick-cell-of, query-in-modes, quick-query-in-modes}
+use Rattle.rules.specs.declared.Mode.{Mode}
 use Rattle.rules.specs.Calls.{or-else, labels-of, answer-of, query-refusal, labels, query-answer, quick-query-refusal, quick-labels, quick-query-answer}
 use Rattle.rules.proofs.Tables.{table-ext}
 use Rattle.rules.proofs.Cells.{value-in-ext}
@@ -33,7 +35,7 @@ use Rattle.cell.proofs.Accepted.{rising-on-axis}
 refused-alike : {r r′ n : ℕ} (v v′ : Float) (l l′ : List ℕ) → r ≡ suc n → r′ ≡ suc n → answer-of r v l ≡ answer-of r′ v′ l′
 refused-alike v v′ l l′ e f = rw (e, f) refl
 
-module _ (g : Grid) (tensor coordinates : List Float) (knots-fit : AllFit (g .flat-knots)) (coordinates-fit : AllFit coordinates) where
+module _ (g : Grid) (modes : List Mode) (tensor coordinates : List Float) (knots-fit : AllFit (g .flat-knots)) (coordinates-fit : AllFit coordinates) where
   -- the rows that both have first
   abbrev first-rows : List Refusal
   first-rows =
@@ -48,24 +50,26 @@ module _ (g : Grid) (tensor coordinates : List Float) (knots-fit : AllFit (g .fl
   abbrev full-later : ℕ
   full-later =
       cond (some-number-refused (g .flat-knots) || some-number-refused coordinates) 7
-      (cond (some-knots-refused g) 8 (cond (answer-refused (query g tensor (at coordinates))) 10 0))
+      (cond (some-knots-refused g) 8
+      (cond (some-outside-refused g modes (at coordinates)) 18 (cond (answer-refused (query-in-modes g modes tensor (at coordinates))) 10 0)))
 
   abbrev quick-later : ℕ
   quick-later =
       cond (some-number-refused coordinates) 7
-      (cond (some-found-cell-refused g (quick-cell-of g (at coordinates))) 8 (cond (answer-refused (quick-query g tensor (at coordinates))) 10 0))
+      (cond (some-found-cell-refused g (quick-cell-of g (at coordinates))) 8
+      (cond (some-outside-refused g modes (at coordinates)) 18 (cond (answer-refused (quick-query-in-modes g modes tensor (at coordinates))) 10 0)))
 
-  full-is : query-refusal g tensor coordinates ≡ or-else early full-later
+  full-is : query-refusal g modes tensor coordinates ≡ or-else early full-later
   unfolding query-refusal
   full-is = rows-then first-rows full-later tt
 
-  quick-is : quick-query-refusal g tensor coordinates ≡ or-else early quick-later
+  quick-is : quick-query-refusal g modes tensor coordinates ≡ or-else early quick-later
   unfolding quick-query-refusal
   quick-is = rows-then first-rows quick-later tt
 
   -- ---- they refuse early
 
-  early-alike : (n : ℕ) → early ≡ suc n → quick-query-answer g tensor coordinates ≡ query-answer g tensor coordinates
+  early-alike : (n : ℕ) → early ≡ suc n → quick-query-answer g modes tensor coordinates ≡ query-answer g modes tensor coordinates
   unfolding quick-query-answer query-answer
   early-alike n e = refused-alike _ _ _ _ (quick-is ∙ ap (λ (k : ℕ). or-else k quick-later) e) (full-is ∙ ap (λ (k : ℕ). or-else k full-later) e)
 
@@ -81,7 +85,7 @@ module _ (g : Grid) (tensor coordinates : List Float) (knots-fit : AllFit (g .fl
     lengths : (length (g .flat-knots) ≡ knots-length g) × (length tensor ≡ tensor-length g) × (length coordinates ≡ g .axes)
     lengths = exact-3 (length (g .flat-knots)) (knots-length g) (length tensor) (tensor-length g) (length coordinates) (g .axes) (none-applies first-rows tt none .1 .1 .1 .0)
 
-    both-7 : some-number-refused coordinates ≡ true → quick-query-answer g tensor coordinates ≡ query-answer g tensor coordinates
+    both-7 : some-number-refused coordinates ≡ true → quick-query-answer g modes tensor coordinates ≡ query-answer g modes tensor coordinates
     unfolding quick-query-answer query-answer
     both-7 e = refused-alike {n = 6} _ _ _ _ (quick-is ∙ rw (none, e) refl) (full-is ∙ rw (none, numbers, e) refl)
 
@@ -127,11 +131,11 @@ module _ (g : Grid) (tensor coordinates : List Float) (knots-fit : AllFit (g .fl
       none-found : some-found-cell-refused g (quick-cell-of g (at coordinates)) ≡ false
       none-found = any-never (λ i. found-cell-refused (knots g i) (quick-cell-of g (at coordinates) i)) (g .axes) found-fine
 
-      value-same : quick-query g tensor (at coordinates) ≡ query g tensor (at coordinates)
-      unfolding quick-query query
-      value-same = value-in-ext g tensor (quick-cell-of g (at coordinates)) (cell-of g (at coordinates)) (at coordinates) cell-same
+      value-same : quick-query-in-modes g modes tensor (at coordinates) ≡ query-in-modes g modes tensor (at coordinates)
+      unfolding quick-query-in-modes query-in-modes
+      value-same = value-in-ext g tensor (quick-cell-of g (at coordinates)) (cell-of g (at coordinates)) (placed-on g modes (at coordinates)) cell-same
 
-      labels-same : quick-labels g tensor coordinates ≡ labels g tensor coordinates
+      labels-same : quick-labels g coordinates ≡ labels g coordinates
       unfolding quick-labels labels
       labels-same = table-ext 4 _ _ (λ i h. go i (ltb i (g .axes)) refl)
         where
@@ -139,27 +143,27 @@ module _ (g : Grid) (tensor coordinates : List Float) (knots-fit : AllFit (g .fl
           go i true e = cell-same i (ltb-true i (g .axes) e)
           go i false e = refl
 
-      refusal-same : quick-query-refusal g tensor coordinates ≡ query-refusal g tensor coordinates
+      refusal-same : quick-query-refusal g modes tensor coordinates ≡ query-refusal g modes tensor coordinates
       refusal-same = rw (quick-is, full-is, none, finite-point, none-found, value-same, numbers, rise) refl
 
-      both-answer : quick-query-answer g tensor coordinates ≡ query-answer g tensor coordinates
+      both-answer : quick-query-answer g modes tensor coordinates ≡ query-answer g modes tensor coordinates
       unfolding quick-query-answer query-answer
       both-answer = cc (refusal-same, value-same, labels-same)
 
-    later-alike : (b : Bool) → some-number-refused coordinates ≡ b → quick-query-answer g tensor coordinates ≡ query-answer g tensor coordinates
+    later-alike : (b : Bool) → some-number-refused coordinates ≡ b → quick-query-answer g modes tensor coordinates ≡ query-answer g modes tensor coordinates
     later-alike true e = both-7 e
     later-alike false e = both-answer e
 
   -- where the knots are finite and rise by finite steps, whatever else is given
-  pub quick-is-full : some-number-refused (g .flat-knots) ≡ false → some-knots-refused g ≡ false → quick-query-answer g tensor coordinates ≡ query-answer g tensor coordinates
+  pub quick-is-full : some-number-refused (g .flat-knots) ≡ false → some-knots-refused g ≡ false → quick-query-answer g modes tensor coordinates ≡ query-answer g modes tensor coordinates
   quick-is-full numbers rise = go early refl
     where
-      go : (n : ℕ) → early ≡ n → quick-query-answer g tensor coordinates ≡ query-answer g tensor coordinates
+      go : (n : ℕ) → early ≡ n → quick-query-answer g modes tensor coordinates ≡ query-answer g modes tensor coordinates
       go zero e = later-alike e numbers rise (some-number-refused coordinates) refl
       go (suc n) e = early-alike n e
 
   -- so wherever the query refuses neither by 7 nor by 8
-  pub quick-is-full-unless-refused : (query-refusal g tensor coordinates ≡ 7 → ⊥) → (query-refusal g tensor coordinates ≡ 8 → ⊥) → quick-query-answer g tensor coordinates ≡ query-answer g tensor coordinates
+  pub quick-is-full-unless-refused : (query-refusal g modes tensor coordinates ≡ 7 → ⊥) → (query-refusal g modes tensor coordinates ≡ 8 → ⊥) → quick-query-answer g modes tensor coordinates ≡ query-answer g modes tensor coordinates
   quick-is-full-unless-refused not-7 not-8 = go early refl
     where
       seven : early ≡ 0 → (b : Bool) → (some-number-refused (g .flat-knots) || some-number-refused coordinates) ≡ b → b ≡ false
@@ -170,7 +174,7 @@ module _ (g : Grid) (tensor coordinates : List Float) (knots-fit : AllFit (g .fl
       eight e f true h = absurd (not-8 (full-is ∙ rw (e, f, h) refl))
       eight e f false h = refl
 
-      go : (n : ℕ) → early ≡ n → quick-query-answer g tensor coordinates ≡ query-answer g tensor coordinates
+      go : (n : ℕ) → early ≡ n → quick-query-answer g modes tensor coordinates ≡ query-answer g modes tensor coordinates
       go zero e =
           let f = seven e (some-number-refused (g .flat-knots) || some-number-refused coordinates) refl in
           quick-is-full (neither (some-number-refused (g .flat-knots)) (some-number-refused coordinates) f .0) (eight e f (some-knots-refused g) refl)
