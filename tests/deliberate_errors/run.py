@@ -28,8 +28,9 @@ ERRORS = [
     "moments/reciprocal_of_six_in_a_slope",
     "moments/reciprocal_of_six_in_the_curve",
     "locate/cell_k_at_interior_knot_k",
-    "query/reciprocal_of_the_width",
-    "query/label_of_the_next_cell",
+    "cell/reciprocal_of_the_width",
+    "cell/label_of_the_next_cell",
+    "host/full_query_for_the_quick_one",
 ]
 
 # What `rt try` says of a compiled run that wrote the counts where nothing is expected.

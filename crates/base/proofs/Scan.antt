@@ -1,5 +1,5 @@
 -- The laws of `any`: what a loop knows that looks for an index of which a test holds, and what is known where there is none.
-use mathlib.Core.Path.{_≡_, refl, sym, ap₂, subst}
+use mathlib.Core.Path.{_≡_, refl, sym, subst}
 use mathlib.Core.Bool.{Bool, true, false, _||_}
 use mathlib.Core.Logic.{⊎-elim}
 use Prim.Native.Nat.{ℕ, zero, suc, _+_, _<_}
@@ -65,10 +65,3 @@ module _ (test : ℕ → Bool) where
   any-never zero fails = refl
   any-never (suc n) fails =
       none-of-two (any test n) (test n) (any-never n (λ i l. fails i (omega arith))) (fails n (omega arith))
-
--- two tests that agree at each index find alike
-pub any-ext : (test other : ℕ → Bool) (n : ℕ) → ((i : ℕ) → i < n → test i ≡ other i) → any test n ≡ any other n
-unfolding any
-any-ext test other zero same = refl
-any-ext test other (suc n) same =
-    ap₂ (λ (a b : Bool). a || b) (any-ext test other n (λ i l. same i (omega arith))) (same n (omega arith))

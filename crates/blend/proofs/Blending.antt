@@ -1,4 +1,4 @@
--- The blend sees only the numbers of its cell and its axes, and one axis removed in place is one step of it.
+-- One axis removed in place is one step of the blend.
 use native.Mathlib.Omega.{arith}
 use mathlib.Core.Path.{_≡_, refl, ap, _∙_}
 use mathlib.Core.Logic.{_≢_}
@@ -11,42 +11,8 @@ use lib.Seq.{getD-take}
 use lib.Ieee.{Float, nan}
 use Rattle.rules.specs.Numbers.{at}
 use Rattle.rules.specs.Query.{without-lowest, blend}
+use Rattle.rules.proofs.Cells.{blend-ext}
 use Rattle.blend.specs.Blend.{Removed}
-
--- ---- what the blend sees
-
-without-lowest-ext :
-    (size : ℕ) {width width′ t t′ : Float} (cell cell′ : ℕ → Float) → width ≡ width′ → t ≡ t′
-    → ((e : ℕ) → e < 4 * size → cell e ≡ cell′ e) → (e : ℕ) → e < size
-    → without-lowest size width t cell e ≡ without-lowest size width′ t′ cell′ e
-unfolding without-lowest
-without-lowest-ext size cell cell′ w u same e h =
-    cc (
-      same (2 * e) (omega arith),
-      same (2 * e + 1) (omega arith),
-      same (2 * size + 2 * e) (omega arith),
-      same (2 * size + 2 * e + 1) (omega arith),
-    )
-
--- two blends are equal where widths and fractions agree on the axes and the cells on their numbers
-pub blend-ext :
-    (axes lowest : ℕ) (widths widths′ ts ts′ cell cell′ : ℕ → Float)
-    → ((i : ℕ) → lowest ≤ i → i < lowest + axes → widths i ≡ widths′ i)
-    → ((i : ℕ) → lowest ≤ i → i < lowest + axes → ts i ≡ ts′ i)
-    → ((e : ℕ) → e < 4 ^ axes → cell e ≡ cell′ e)
-    → blend axes lowest widths ts cell ≡ blend axes lowest widths′ ts′ cell′
-unfolding blend
-blend-ext zero lowest widths widths′ ts ts′ cell cell′ w t same = same 0 (omega arith)
-blend-ext (suc axes) lowest widths widths′ ts ts′ cell cell′ w t same =
-    blend-ext axes (suc lowest) widths widths′ ts ts′ _ _
-    (λ i a b. w i (omega arith) (omega arith))
-    (λ i a b. t i (omega arith) (omega arith))
-    (without-lowest-ext (4 ^ axes) cell cell′
-    (w lowest (omega arith) (omega arith))
-    (t lowest (omega arith) (omega arith))
-    (λ e h. same e (omega (arith, pow-suc 4 axes))))
-
--- ---- one step
 
 -- a quarter of a cell is the cell of one axis fewer
 pub quarter : (left n : ℕ) → left ≢ 0 → n ≡ 4 ^ left → n / 4 ≡ 4 ^ (left - 1)

@@ -5,20 +5,18 @@ use mathlib.Core.List.{List}
 use Prim.Native.Nat.{ℕ, _+_, _-_, _<_}
 use native.Mathlib.Omega.{arith}
 use lib.Dec.{leb}
-use lib.ListN.{length, drop, length-drop}
-use lib.Seq.{length-take-le}
+use lib.ListN.{length}
 use lib.Ieee.{Float, lt}
 use lib.Ieee.Scale.{finite}
 use borrow.Author.Tests.{ltb-false, leb-false, not-false}
 use Rattle.rules.specs.Numbers.{at}
 use Rattle.rules.specs.Steps.{h}
-use Rattle.rules.specs.Sizes.{most-in-a-tensor, scratch-of-rows, Grid, points, condition, sum-below, knots, knots-length, samples-length, tensor-length, scratch-length, Place}
+use Rattle.rules.specs.Sizes.{most-in-a-tensor, scratch-of-rows, Grid, points, condition, knots, knots-length, samples-length, tensor-length, scratch-length, Place}
 use Rattle.rules.specs.Refusals.{axes-refused, points-refused, some-points-refused, tensor-refused, scratch-refused, number-refused, some-number-refused, ends-refused, some-ends-refused, step-refused, knots-refused, some-knots-refused, fewness-refused, some-fewness-refused}
 use Rattle.rules.specs.declared.Condition.{Condition}
 use Rattle.base.proofs.Scan.{neither, any-at}
 use Rattle.checks.specs.Given.{AxisGiven, MomentsGiven, CurveGiven, SlopesGiven, GridGiven, SolveGiven, BuildGiven, ChangeGiven, QueryGiven}
 use Rattle.checks.specs.Check.{moments-rows, curve-rows, slopes-rows, build-rows, change-rows, query-rows, moments-check, curve-check, slopes-check, build-check, change-check, query-check}
-use Rattle.grid.proofs.Products.{sum-within}
 use Rattle.checks.proofs.Rows.{none-applies, axes-few, in-range, exact-2, exact-3, exact-4}
 
 neither-3 : (a b c : Bool) → (a || b || c) ≡ false → (a ≡ false) × (b ≡ false) × (c ≡ false)
@@ -151,9 +149,3 @@ unfolding step-refused
 knots-step x n e k l =
     let two = neither (not (lt (at x k) (at x (k + 1)))) (not (finite (h x k))) (any-at (step-refused x) (n - 1) e k (omega arith)) in
     (not-false _ (two .0), not-false _ (two .1))
-
--- there is one for each point
-pub knots-of-axis : (g : Grid) (tensor-given : ℕ) → GridGiven g tensor-given → (i : ℕ) → i < g .axes → length (knots g i) ≡ points g i
-knots-of-axis g tensor-given given i l =
-    let within = sum-within (points g) i (g .axes) l in
-    length-take-le (points g i) (drop (sum-below (points g) i) (g .flat-knots)) (rw length-drop (omega (arith, given .knots-exact)))

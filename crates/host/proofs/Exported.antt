@@ -6,7 +6,7 @@ use lib.ListN.{set}
 use lib.Ieee.{Float}
 use Rattle.rules.specs.Numbers.{plus-zero, table}
 use Rattle.rules.specs.Sizes.{most-axes, place-of}
-use Rattle.rules.specs.Calls.{or-else, stored, answered, counted, labelled, MomentsPromise, CurvePromise, BuildPromise, change-answer, ChangePromise, query-answer, QueryPromise}
+use Rattle.rules.specs.Calls.{or-else, stored, answered, counted, labelled, MomentsPromise, CurvePromise, BuildPromise, change-answer, ChangePromise, QueryPromise, QuickQueryPromise}
 use Rattle.rules.specs.declared.Condition.{Condition}
 use Rattle.rules.specs.declared.CurveAnswer.{CurveAnswer}
 use Rattle.rules.specs.declared.ChangeAnswer.{ChangeAnswer}
@@ -23,7 +23,7 @@ use Rattle.sheet_build.proofs.Builds.{answered-refusal}
 use Rattle.plain_axes.specs.Axes.{condition-given, axes-given, axes-without-ends, AxesStored}
 use Rattle.boundary.specs.OwnRefusals.{moments-own-refusal, curve-own-refusal, build-own-refusal, change-own-refusal, query-own-refusal, read-own-refusal, sheet-tensor-own-refusal}
 use Rattle.boundary.specs.Slots.{in-slot, QueryStored}
-use Rattle.host.specs.Exports.{FoundStored, MomentsExport, CurveExport, BuildExport, ChangeExport, QueryExport, ReadExport, SheetTensorExport}
+use Rattle.host.specs.Exports.{FoundStored, MomentsExport, CurveExport, BuildExport, ChangeExport, AnswerExport, QueryExport, QuickQueryExport, ReadExport, SheetTensorExport}
 use Rattle.boundary.proofs.Lengths.{read-lengths, sheet-tensor-lengths}
 use Rattle.plain_axes.proofs.Slots.{one-stored}
 
@@ -145,30 +145,49 @@ module _ (axes : ℕ) (points kinds : List ℕ) (values knots tensor-lent scratc
         slot = rw (sym e ∙ none) (in-place ∙ ap (λ (b : ChangeAnswer). in-slot lanes-lent (b .lanes)) (q .answer));
       }
 
--- ---- the query
+-- ---- the queries
+
+module _ (own : ℕ) (given : QueryAnswer) (value-lent : List Float) (labels-lent : List ℕ) {r : ℕ} (e : r ≡ own) where
+  answer-refused :
+      (r ≡ 0 → ⊥) → {v : List Float} {l : List ℕ} → QueryStored value-lent labels-lent plus-zero (table most-axes (λ i. 0)) v l
+      → AnswerExport own given value-lent labels-lent r v l
+  answer-refused some in-place = record {
+    answer = own-answer _ _ e some;
+    answer-stored = rw (← no-value _ (given .value) e some, ← no-labels _ (given .labels) e some) in-place;
+  }
+
+  answer-given :
+      r ≡ 0 → (a : QueryAnswer) {v : List Float} {l : List ℕ} → a ≡ given
+      → QueryStored value-lent labels-lent (a .value) (a .labels) v l
+      → AnswerExport own given value-lent labels-lent (a .refusal) v l
+  answer-given none a is in-place = record {
+    answer = call-answer _ e none (ap (λ (b : QueryAnswer). b .refusal) is);
+    answer-stored = rw (sym e ∙ none) (rw is at in-place);
+  }
 
 module _ (axes : ℕ) (points : List ℕ) (knots tensor-lent coordinates value-lent : List Float) (labels-lent : List ℕ) {r : ℕ} (e : r ≡ query-own-refusal axes points value-lent labels-lent) where
   pub query-refused :
       (r ≡ 0 → ⊥) → {v : List Float} {l : List ℕ} → QueryStored value-lent labels-lent plus-zero (table most-axes (λ i. 0)) v l
       → QueryExport axes points knots tensor-lent coordinates value-lent labels-lent r v l
-  query-refused some in-place = record {
-    answer = own-answer _ _ e some;
-    answer-stored =
-        let q = query-answer (record { axes = axes; entries = axes-without-ends axes points; flat-knots = knots }) tensor-lent coordinates in
-        rw (← no-value _ (q .value) e some, ← no-labels _ (q .labels) e some) in-place;
-  }
+  query-refused = answer-refused _ _ value-lent labels-lent e
 
-  pub query-called :
-      r ≡ 0 → (all : List Axis) → all ≡ axes-without-ends axes points → (a : QueryAnswer) {v : List Float} {l : List ℕ}
-      → QueryPromise (record { axes = axes; entries = all; flat-knots = knots }) tensor-lent coordinates a
-      → QueryStored value-lent labels-lent (a .value) (a .labels) v l
-      → QueryExport axes points knots tensor-lent coordinates value-lent labels-lent (a .refusal) v l
-  query-called none all given a p in-place =
-      let q = (rw given at p) .answer in
-      record {
-        answer = call-answer _ e none (ap (λ (b : QueryAnswer). b .refusal) q);
-        answer-stored = rw (sym e ∙ none) (rw q at in-place);
-      }
+  pub quick-query-refused :
+      (r ≡ 0 → ⊥) → {v : List Float} {l : List ℕ} → QueryStored value-lent labels-lent plus-zero (table most-axes (λ i. 0)) v l
+      → QuickQueryExport axes points knots tensor-lent coordinates value-lent labels-lent r v l
+  quick-query-refused = answer-refused _ _ value-lent labels-lent e
+
+  module _ (none : r ≡ 0) (all : List Axis) (given : all ≡ axes-without-ends axes points) (a : QueryAnswer) {v : List Float} {l : List ℕ} where
+    pub query-called :
+        QueryPromise (record { axes = axes; entries = all; flat-knots = knots }) tensor-lent coordinates a
+        → QueryStored value-lent labels-lent (a .value) (a .labels) v l
+        → QueryExport axes points knots tensor-lent coordinates value-lent labels-lent (a .refusal) v l
+    query-called p = answer-given _ _ value-lent labels-lent e none a ((rw given at p) .answer)
+
+    pub quick-query-called :
+        QuickQueryPromise (record { axes = axes; entries = all; flat-knots = knots }) tensor-lent coordinates a
+        → QueryStored value-lent labels-lent (a .value) (a .labels) v l
+        → QuickQueryExport axes points knots tensor-lent coordinates value-lent labels-lent (a .refusal) v l
+    quick-query-called p = answer-given _ _ value-lent labels-lent e none a ((rw given at p) .answer)
 
 -- ---- the sheet
 

@@ -4,7 +4,8 @@ use mathlib.Core.List.{List}
 use Prim.Native.Nat.{ℕ}
 use lib.Ieee.{Float}
 use Rattle.rules.specs.declared.Axis.{Axis}
-use Rattle.host.specs.Exports.{FoundStored, MomentsExport, CurveExport, BuildExport, ChangeExport, QueryExport, ReadExport, SheetTensorExport}
+use Rattle.rules.specs.declared.QueryAnswer.{QueryAnswer}
+use Rattle.host.specs.Exports.{FoundStored, MomentsExport, CurveExport, BuildExport, ChangeExport, AnswerExport, QueryExport, QuickQueryExport, ReadExport, SheetTensorExport}
 
 -- two things that equal a third
 same : {A : Type 0} {a b c : A} → a ≡ c → b ≡ c → a ≡ b
@@ -45,14 +46,29 @@ pub change-unique :
 change-unique axes points kinds values knots tensor-lent scratch-lent place sample lanes-lent r r′ t t′ s s′ l l′ p q =
     (same (p .answer) (q .answer), same (p .output) (q .output), same (p .scratch) (q .scratch), same (p .slot) (q .slot))
 
+same-answer :
+    (own : ℕ) (given : QueryAnswer) (value-lent : List Float) (labels-lent : List ℕ) (r r′ : ℕ) (v v′ : List Float) (l l′ : List ℕ)
+    → AnswerExport own given value-lent labels-lent r v l
+    → AnswerExport own given value-lent labels-lent r′ v′ l′
+    → (r ≡ r′) × (v ≡ v′) × (l ≡ l′)
+same-answer own given value-lent labels-lent r r′ v v′ l l′ p q =
+    (same (p .answer) (q .answer), same (p .answer-stored .slot) (q .answer-stored .slot), same (p .answer-stored .slots) (q .answer-stored .slots))
+
 pub query-unique :
     (axes : ℕ) (points : List ℕ) (knots tensor-lent coordinates value-lent : List Float) (labels-lent : List ℕ)
     (r r′ : ℕ) (v v′ : List Float) (l l′ : List ℕ)
     → QueryExport axes points knots tensor-lent coordinates value-lent labels-lent r v l
     → QueryExport axes points knots tensor-lent coordinates value-lent labels-lent r′ v′ l′
     → (r ≡ r′) × (v ≡ v′) × (l ≡ l′)
-query-unique axes points knots tensor-lent coordinates value-lent labels-lent r r′ v v′ l l′ p q =
-    (same (p .answer) (q .answer), same (p .answer-stored .slot) (q .answer-stored .slot), same (p .answer-stored .slots) (q .answer-stored .slots))
+query-unique axes points knots tensor-lent coordinates value-lent labels-lent = same-answer _ _ value-lent labels-lent
+
+pub quick-query-unique :
+    (axes : ℕ) (points : List ℕ) (knots tensor-lent coordinates value-lent : List Float) (labels-lent : List ℕ)
+    (r r′ : ℕ) (v v′ : List Float) (l l′ : List ℕ)
+    → QuickQueryExport axes points knots tensor-lent coordinates value-lent labels-lent r v l
+    → QuickQueryExport axes points knots tensor-lent coordinates value-lent labels-lent r′ v′ l′
+    → (r ≡ r′) × (v ≡ v′) × (l ≡ l′)
+quick-query-unique axes points knots tensor-lent coordinates value-lent labels-lent = same-answer _ _ value-lent labels-lent
 
 same-found :
     (own axes : ℕ) (all : List Axis) (axes-lent points-lent kinds-lent : List ℕ) (values-lent : List Float) (a a′ p p′ n n′ : List ℕ) (v v′ : List Float)

@@ -8,7 +8,7 @@ use Rattle.rules.specs.Sizes.{place-of}
 use Rattle.rules.specs.Moments.{moments}
 use Rattle.rules.specs.Tensor.{tensor}
 use Rattle.rules.specs.Change.{changed-tensor}
-use Rattle.rules.specs.Calls.{or-else, stored, scratch-after, answered, counted, labelled, moments-refusal, curve-answer, build-refusal, change-refusal, change-answer, query-answer}
+use Rattle.rules.specs.Calls.{or-else, stored, scratch-after, answered, counted, labelled, moments-refusal, curve-answer, build-refusal, change-refusal, change-answer, query-answer, quick-query-answer}
 use Rattle.rules.specs.declared.Axis.{Axis}
 use Rattle.rules.specs.declared.QueryAnswer.{QueryAnswer}
 use Rattle.sheet.specs.Fields.{axes as axes-said, entries, knots-below, sheet-grid, sheet-samples}
@@ -102,23 +102,33 @@ module _ (axes : ℕ) (points kinds : List ℕ) (values knots tensor-lent scratc
         (counted change-own
         (change-answer (grid-given axes points kinds values knots) tensor-lent scratch-lent (place-of place) sample .lanes))
 
--- ---- the query
+-- ---- the queries
+
+-- what is promised of an export that gives a query's answer after its own refusal: the refusal, the value in its slot, the labels
+pub record AnswerExport (own : ℕ) (given : QueryAnswer) (value-lent : List Float) (labels-lent : List ℕ) (refusal : ℕ) (value-later : List Float) (labels-later : List ℕ) : Type 0 where
+  pub answer : refusal ≡ or-else own (given .refusal)
+  pub answer-stored :
+      QueryStored value-lent labels-lent
+      (answered own (given .value)) (labelled own (given .labels))
+      value-later labels-later
 
 module _ (axes : ℕ) (points : List ℕ) (knots tensor-lent coordinates value-lent : List Float) (labels-lent : List ℕ) where
-  -- short names for what the record is said by
+  -- short names for what the promises are said by
   abbrev given-query-answer : QueryAnswer
   given-query-answer = query-answer (grid-without-ends axes points knots) tensor-lent coordinates
+
+  abbrev given-quick-query-answer : QueryAnswer
+  given-quick-query-answer = quick-query-answer (grid-without-ends axes points knots) tensor-lent coordinates
 
   abbrev query-own : ℕ
   query-own = query-own-refusal axes points value-lent labels-lent
 
-  -- what is promised: the refusal, the value in its slot, the labels
-  pub record QueryExport (refusal : ℕ) (value-later : List Float) (labels-later : List ℕ) : Type 0 where
-    pub answer : refusal ≡ or-else query-own (given-query-answer .refusal)
-    pub answer-stored :
-        QueryStored value-lent labels-lent
-        (answered query-own (given-query-answer .value)) (labelled query-own (given-query-answer .labels))
-        value-later labels-later
+  -- what is promised of the query, and of the quick query, which has the same slots and the same own refusal
+  abbrev pub QueryExport : ℕ → List Float → List ℕ → Type 0
+  QueryExport = AnswerExport query-own given-query-answer value-lent labels-lent
+
+  abbrev pub QuickQueryExport : ℕ → List Float → List ℕ → Type 0
+  QuickQueryExport = AnswerExport query-own given-quick-query-answer value-lent labels-lent
 
 -- ---- the sheet
 

@@ -1,6 +1,6 @@
 // Every public call exported for C, over numbers and plain slices. Each returns its refusal's number, 0 for none, in the one order that boundary::own says.
 ghost use Rattle.rules.specs.Calls.{SlopesPromise};
-ghost use Rattle.host.specs.Exports.{MomentsExport, CurveExport, BuildExport, ChangeExport, QueryExport, ReadExport, SheetTensorExport};
+ghost use Rattle.host.specs.Exports.{MomentsExport, CurveExport, BuildExport, ChangeExport, QueryExport, QuickQueryExport, ReadExport, SheetTensorExport};
 use boundary::own;
 use boundary::slots;
 
@@ -131,6 +131,31 @@ pub extern "C" fn hullashlar_query(
     }
     let all = plain_axes::axes_without_ends(axes, points);
     let answer = query::query(axes, all, knots, tensor, coordinates);
+    let found = answer.labels;
+    slots::store_query(value, labels, answer.value, found);
+    answer.refusal
+}
+
+// The surface's value at the coordinates and the labels, as above, in the cell that the search finds: no axis is walked, and the knots may be any. The answer is that of the query wherever it does not refuse the knots. Refuses 1 2 3 4, 7 for a coordinate, 8 for the found cell's knots, 10, and then value and labels are 0; and 4 of its own.
+#[no_mangle]
+pub extern "C" fn hullashlar_quick_query(
+    axes: usize,
+    points: &[usize],
+    knots: &[f64],
+    tensor: &[f64],
+    coordinates: &[f64],
+    value: &mut [f64],
+    labels: &mut [usize],
+) -> usize
+    ensures { λ r. ⌜ QuickQueryExport axes (now (points .entry)) (now (knots .entry)) (now (tensor .entry)) (now (coordinates .entry)) (now (value .entry)) (now (labels .entry)) r (now (value .exit)) (now (labels .exit)) ⌝ }
+{
+    let refusal = own::query_own_refusal(axes, points, value, labels);
+    if refusal != 0 {
+        slots::store_query(value, labels, 0.0, [0; 4]);
+        return refusal;
+    }
+    let all = plain_axes::axes_without_ends(axes, points);
+    let answer = quick_query::quick_query(axes, all, knots, tensor, coordinates);
     let found = answer.labels;
     slots::store_query(value, labels, answer.value, found);
     answer.refusal

@@ -12,10 +12,10 @@ use Rattle.rules.specs.Numbers.{at}
 use Rattle.rules.specs.Locate.{first-at-or-above, locate}
 use Rattle.floats.specs.Place.{place, Real, AllFit}
 use Rattle.floats.proofs.Reals.{lt-is, le-is}
-use Rattle.locate.specs.Cell.{middle, halving, most-halvings, one-back, rust-index, lower-index}
+use Rattle.rules.specs.Search.{middle, halving, most-halvings, one-back, rust-index, lower-index}
 use Rattle.locate.specs.Answers.{Rising}
 use Rattle.locate.proofs.Split.{Split, split}
-use Rattle.locate.proofs.Halving.{half, halving-ends, halving-down, halving-up}
+use Rattle.rules.proofs.Halving.{half, halving-ends, halving-down, halving-up}
 
 -- ---- n knots, and a point among them
 

@@ -10,7 +10,7 @@ use borrow.Author.Tests.{lt-ltb, le-ltb}
 use lib.Ieee.{Float, binary64, fits, lt, le}
 use Rattle.rules.specs.Numbers.{at}
 use Rattle.floats.specs.Place.{AllFit}
-use Rattle.locate.specs.Cell.{halving, most-halvings, one-back, rust-index, held, lower-index}
+use Rattle.rules.specs.Search.{halving, most-halvings, one-back, rust-index, held, lower-index}
 use Rattle.locate.specs.Answers.{Located}
 use Rattle.locate.proofs.Among.{lower-index-is-locate}
 

@@ -11,8 +11,8 @@ use lib.Ieee.{Float, nan, binary64, fits, lt, le}
 use Rattle.rules.specs.Numbers.{at}
 use Rattle.floats.specs.Place.{place, AllFit}
 use Rattle.floats.proofs.Places.{le-places}
-use Rattle.locate.specs.Cell.{halving, most-halvings, one-back, rust-index, lower-index}
-use Rattle.locate.proofs.Halving.{halving-under}
+use Rattle.rules.specs.Search.{halving, most-halvings, one-back, rust-index, lower-index}
+use Rattle.rules.proofs.Halving.{halving-under}
 use Rattle.locate.proofs.Answered.{back-from-above}
 
 module _ (knots : List Float) (point : Float) where

@@ -8,7 +8,7 @@ use lib.Ieee.{Float, lt}
 use lib.Ieee.Scale.{finite}
 use Rattle.rules.specs.Numbers.{at}
 use Rattle.rules.specs.Locate.{locate}
-use Rattle.locate.specs.Cell.{lower-index}
+use Rattle.rules.specs.Search.{lower-index}
 
 -- n knots, all finite, each below the next
 pub record Rising (knots : List Float) (n : ℕ) : Type 0 where

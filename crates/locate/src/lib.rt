@@ -2,7 +2,7 @@
 ghost use mathlib.Core.Path.{_≡_};
 ghost use Prim.Native.Nat.{_+_, _≤_, _<_};
 ghost use lib.ListN.{length};
-ghost use Rattle.locate.specs.Cell.{one-back, held};
+ghost use Rattle.rules.specs.Search.{one-back, held};
 ghost use Rattle.locate.specs.Answers.{Located};
 
 // The index, or points minus 2, the last cell, where that is less.

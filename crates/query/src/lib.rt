@@ -1,24 +1,8 @@
 // The query of a tensor: a point located on each axis, and the blend of the cell around it.
-ghost use mathlib.Core.Path.{_≡_};
 ghost use Rattle.rules.specs.Calls.{QueryPromise};
 ghost use Rattle.grid.specs.Given.{grid};
-ghost use Rattle.query.specs.Answer.{refused-with};
 use rules::Axis;
 use rules::QueryAnswer;
-
-mod cell;
-mod located;
-
-// A refusal: its number, +0.0, and labels 0.
-fn refused(refusal: usize) -> QueryAnswer
-    ensures { λ r. ⌜ r ≡ refused-with refusal ⌝ }
-{
-    QueryAnswer {
-        refusal,
-        value: 0.0,
-        labels: [0; 4],
-    }
-}
 
 // PUBLIC. The surface's value at a point, beyond the grid too, and for each axis the label, which is the cell that was evaluated, 0 past those in use. Refuses 1 2 3 4 7 8 10;
 // then the value is +0.0 and every label 0. The tensor is not searched for 7.
@@ -33,20 +17,8 @@ pub fn query(
 {
     let refusal = checks::query_refusal(axes, all, knots, tensor.len(), coordinates);
     if refusal != 0 {
-        return refused(refusal);
+        return cell::refused(refusal);
     }
-    let cells = located::locate_on_axes(axes, all, knots, coordinates);
-    let lower = located::lowers(cells);
-    let widths = located::widths(cells);
-    let ts = located::fractions(cells);
-    let value = cell::value(axes, all, lower, widths, ts, tensor);
-    if base::is_finite(value) {
-        QueryAnswer {
-            refusal: 0,
-            value,
-            labels: lower,
-        }
-    } else {
-        refused(10)
-    }
+    let lower = cell::searched::search_on_axes(axes, all, knots, coordinates);
+    cell::answer_in(axes, all, knots, tensor, lower, coordinates)
 }

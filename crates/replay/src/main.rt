@@ -14,6 +14,7 @@ use replay_sheets::sheet_tensor;
 use replay_surfaces::build;
 use replay_surfaces::change;
 use replay_surfaces::query;
+use replay_surfaces::quick_query;
 
 // The case at a place: the number of its call, and its arguments. A number that no call has is no case, and differs.
 fn case_at(list: &[u8], place: usize) -> Replayed {
@@ -27,6 +28,7 @@ fn case_at(list: &[u8], place: usize) -> Replayed {
         5 => query(list, begin),
         6 => read(list, begin),
         7 => sheet_tensor(list, begin),
+        8 => quick_query(list, begin),
         _ => Replayed {
             same: false,
             next: begin,

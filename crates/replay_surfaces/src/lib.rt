@@ -1,4 +1,4 @@
-// The cases of a surface (its build, its change, its query), each replayed through the exported call: whether it answers as the list says, and leaves every slice so. No list makes a function here trap.
+// The cases of a surface (its build, its change, its queries), each replayed through the exported call: whether it answers as the list says, and leaves every slice so. No list makes a function here trap.
 use replay_items::Replayed;
 use replay_items::items::after_given;
 use replay_items::items::after_left;
@@ -252,8 +252,27 @@ pub fn change(list: &[u8], begin: usize) -> Replayed {
     )
 }
 
+// Either query, which take and write the same slices.
+fn queried(
+    quick: bool,
+    axes: usize,
+    points: &[usize],
+    knots: &[f64],
+    tensor: &[f64],
+    coordinates: &[f64],
+    value: &mut [f64],
+    labels: &mut [usize],
+) -> usize {
+    if quick {
+        host::hullashlar_quick_query(axes, points, knots, tensor, coordinates, value, labels)
+    } else {
+        host::hullashlar_query(axes, points, knots, tensor, coordinates, value, labels)
+    }
+}
+
 // The call on what the list gives, where the arguments end at `answer` and the written slices are given at the places named so.
 fn query_answered(
+    quick: bool,
     list: &[u8],
     answer: usize,
     given_value: usize,
@@ -266,7 +285,16 @@ fn query_answered(
     value: &mut [f64],
     labels: &mut [usize],
 ) -> Replayed {
-    let refusal = host::hullashlar_query(axes, points, knots, tensor, coordinates, value, labels);
+    let refusal = queried(
+        quick,
+        axes,
+        points,
+        knots,
+        tensor,
+        coordinates,
+        value,
+        labels,
+    );
     let left_value = after(answer, 1);
     let left_labels = after_left(list, left_value);
     let next = after_left(list, left_labels);
@@ -282,8 +310,8 @@ fn query_answered(
     }
 }
 
-// A case of a query, whose arguments begin at a place.
-pub fn query(list: &[u8], begin: usize) -> Replayed {
+// A case of either query, whose arguments begin at a place.
+fn query_case(quick: bool, list: &[u8], begin: usize) -> Replayed {
     let at_axes = begin;
     let at_points = after(at_axes, 1);
     let at_knots = after_given(list, at_points);
@@ -305,6 +333,7 @@ pub fn query(list: &[u8], begin: usize) -> Replayed {
     let value_end = floats_at(list, at_value);
     let labels_end = numbers_at(list, at_labels);
     query_answered(
+        quick,
         list,
         answer,
         at_value,
@@ -317,4 +346,14 @@ pub fn query(list: &[u8], begin: usize) -> Replayed {
         &mut value[0..value_end],
         &mut labels[0..labels_end],
     )
+}
+
+// A case of a query, whose arguments begin at a place.
+pub fn query(list: &[u8], begin: usize) -> Replayed {
+    query_case(false, list, begin)
+}
+
+// A case of a quick query, likewise.
+pub fn quick_query(list: &[u8], begin: usize) -> Replayed {
+    query_case(true, list, begin)
 }

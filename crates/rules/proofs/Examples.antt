@@ -9,6 +9,7 @@ use Rattle.rules.specs.Numbers.{at, zeros, any}
 use Rattle.rules.specs.Ends.{not-a-knot, natural, clamped, periodic}
 use Rattle.rules.specs.Sizes.{Grid, points, sum-below, product-below, unused-axis, place-of}
 use Rattle.rules.specs.Locate.{locate}
+use Rattle.rules.specs.Search.{lower-index, visited}
 use Rattle.rules.specs.Moments.{moments}
 use Rattle.rules.specs.Curve.{curve, knot-slopes}
 use Rattle.rules.specs.Tensor.{tensor}
@@ -98,6 +99,10 @@ tensor-after = 0′ ∷ 0′ ∷ 2′ ∷ -1′ ∷ 2′ ∷ -1′ ∷ 2′ ∷ 
 abbrev place-01 : ℕ → ℕ
 place-01 = place-of (0 ∷ 1 ∷ 0 ∷ 0 ∷ [])
 
+-- knots 0 5 1 2 9, which do not rise
+abbrev falling-knots : List Float
+falling-knots = 0′ ∷ 5′ ∷ 1′ ∷ 2′ ∷ pattern 0x4022_0000_0000_0000 ∷ []
+
 -- the refusal of the moments of samples that are all 0, with all lengths right
 abbrev refusal-of : ℕ → List Float → Condition → ℕ
 refusal-of n x c = moments-refusal n x (zeros n) c (zeros n) (zeros 2048)
@@ -134,6 +139,10 @@ pub record Examples : Type 0 where
   pub label-at-last-knot : labels-at 2′ ≡ 1 ∷ 0 ∷ 0 ∷ 0 ∷ []
   pub cell-below : locate knots-3 2 -1′ ≡ 0
   pub label-below : labels-at -1′ ≡ 0 ∷ 0 ∷ 0 ∷ 0 ∷ []
+  -- on knots that do not rise the scan stops at the first knot above 3; the search finds the last cell, and looks at knots 0, 2, 3 and 4 for it
+  pub scan-of-falling-knots : locate falling-knots 4 3′ ≡ 0
+  pub search-of-falling-knots : lower-index falling-knots 3′ ≡ 3
+  pub looked-at-in-falling-knots : visited falling-knots 3′ ≡ 0 ∷ 4 ∷ 3 ∷ 4 ∷ 2 ∷ 3 ∷ []
   -- one point too few for NotAKnot, and just enough: at both ends, at the lower, at the upper
   pub both-ends-3 : refusal-of 3 knots-3 not-a-knot ≡ 9
   pub both-ends-4 : refusal-of 4 knots-4 not-a-knot ≡ 0
@@ -159,7 +168,7 @@ pub record Examples : Type 0 where
   pub rounded-twice : spline knots-3 2 natural (0′ ∷ 1′ ∷ 5′ ∷ []) (pattern 0x3FD0_0000_0000_0000) ≡ pattern 0x3FB3_0000_0000_0000
 
 pub examples : Examples
-unfolding any sum-below product-below locate labels moments curve knot-slopes tensor changed-tensor change-lanes lane-sum query step-refused moments-refusal Ieee.add Ieee.sub Ieee.mul Ieee.div Ieee.neg Ieee.lt Ieee.le Ieee.ofBits
+unfolding any sum-below product-below locate lower-index visited labels moments curve knot-slopes tensor changed-tensor change-lanes lane-sum query step-refused moments-refusal Ieee.add Ieee.sub Ieee.mul Ieee.div Ieee.neg Ieee.lt Ieee.le Ieee.ofBits
 examples = record {
   natural-moments = refl;
   natural-slopes = refl;
@@ -184,6 +193,9 @@ examples = record {
   label-at-last-knot = refl;
   cell-below = refl;
   label-below = refl;
+  scan-of-falling-knots = refl;
+  search-of-falling-knots = refl;
+  looked-at-in-falling-knots = refl;
   both-ends-3 = refl;
   both-ends-4 = refl;
   lower-end-2 = refl;

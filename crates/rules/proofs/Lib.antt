@@ -2,11 +2,14 @@ pub mod Cases
 pub mod Tables
 pub mod Places
 pub mod Mask
+pub mod Cells
+pub mod Halving
 pub mod Sums
 pub mod Locality
 pub mod ChangeIsBuild
 pub mod LaneCount
 pub mod Refused
+pub mod QuickReads
 pub mod BranchNeverReached
 pub mod Unique
 pub mod Examples

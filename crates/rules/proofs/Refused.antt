@@ -1,8 +1,10 @@
 -- What follows where a refusal is met, and where none is.
-use mathlib.Core.Path.{_≡_, refl}
+use mathlib.Core.Path.{_≡_, refl, ap₂}
+use mathlib.Core.Bool.{Bool, _||_}
 use mathlib.Core.List.{List}
-use Prim.Native.Nat.{ℕ, zero, suc}
+use Prim.Native.Nat.{ℕ, zero, suc, _<_}
 use native.Mathlib.Omega.{arith}
+use Rattle.rules.specs.Numbers.{any}
 use Rattle.rules.specs.Calls.{or-else, stored}
 
 pub or-else-met : (first later : ℕ) → (first ≡ 0 → ⊥) → or-else first later ≡ first
@@ -17,3 +19,10 @@ or-else-passed (suc first) later e = absurd (omega (arith, e))
 pub unchanged : {A : Type 0} (refusal : ℕ) (old new : List A) → (refusal ≡ 0 → ⊥) → old ≡ stored refusal old new
 unchanged zero old new met = absurd (met refl)
 unchanged (suc refusal) old new met = refl
+
+-- two tests that agree at each index find alike
+pub any-ext : (test other : ℕ → Bool) (n : ℕ) → ((i : ℕ) → i < n → test i ≡ other i) → any test n ≡ any other n
+unfolding any
+any-ext test other zero same = refl
+any-ext test other (suc n) same =
+    ap₂ (λ (a b : Bool). a || b) (any-ext test other n (λ i l. same i (omega arith))) (same n (omega arith))

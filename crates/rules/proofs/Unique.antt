@@ -4,7 +4,7 @@ use mathlib.Core.List.{List}
 use Prim.Native.Nat.{ℕ}
 use lib.Ieee.{Float}
 use Rattle.rules.specs.Sizes.{Grid, Place}
-use Rattle.rules.specs.Calls.{MomentsPromise, CurvePromise, SlopesPromise, BuildPromise, ChangePromise, QueryPromise}
+use Rattle.rules.specs.Calls.{MomentsPromise, CurvePromise, SlopesPromise, BuildPromise, ChangePromise, QueryPromise, QuickQueryPromise}
 use Rattle.rules.specs.declared.Condition.{Condition}
 use Rattle.rules.specs.declared.CurveAnswer.{CurveAnswer}
 use Rattle.rules.specs.declared.ChangeAnswer.{ChangeAnswer}
@@ -59,3 +59,10 @@ pub query-unique :
     → QueryPromise g tensor-lent coordinates a′
     → a ≡ a′
 query-unique g tensor-lent coordinates a a′ p q = same (p .answer) (q .answer)
+
+pub quick-query-unique :
+    (g : Grid) (tensor-lent coordinates : List Float) (a a′ : QueryAnswer)
+    → QuickQueryPromise g tensor-lent coordinates a
+    → QuickQueryPromise g tensor-lent coordinates a′
+    → a ≡ a′
+quick-query-unique g tensor-lent coordinates a a′ p q = same (p .answer) (q .answer)

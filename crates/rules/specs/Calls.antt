@@ -1,6 +1,6 @@
 -- The chapter Calls of docs/RULES.md: for each public call its refusal, its answer, and what stands afterwards in all that it was lent.
 use mathlib.Core.Path.{_≡_}
-use mathlib.Core.Bool.{cond, _||_}
+use mathlib.Core.Bool.{Bool, cond, _||_}
 use mathlib.Core.List.{List}
 use Prim.Native.Nat.{ℕ, zero, suc, _-_}
 use lib.Dec.{ltb, eqb}
@@ -8,12 +8,12 @@ use lib.ListN.{length}
 use lib.Ieee.{Float}
 use Rattle.rules.specs.Numbers.{plus-zero, at, zeros, table}
 use Rattle.rules.specs.Sizes.{most-axes, scratch-of-rows, Grid, knots-length, knots, samples-length, tensor-length, scratch-length, Place}
-use Rattle.rules.specs.Refusals.{axes-refused, points-refused, some-points-refused, tensor-refused, length-refused, scratch-refused, place-refused, number-refused, some-number-refused, ends-refused, some-ends-refused, knots-refused, some-knots-refused, fewness-refused, some-fewness-refused, outcome-refused, answer-refused}
+use Rattle.rules.specs.Refusals.{axes-refused, points-refused, some-points-refused, tensor-refused, length-refused, scratch-refused, place-refused, number-refused, some-number-refused, ends-refused, some-ends-refused, knots-refused, some-knots-refused, some-found-cell-refused, fewness-refused, some-fewness-refused, outcome-refused, answer-refused}
 use Rattle.rules.specs.Moments.{moments}
 use Rattle.rules.specs.Curve.{curve, knot-slopes}
 use Rattle.rules.specs.Tensor.{tensor}
 use Rattle.rules.specs.Change.{changed-tensor, change-lanes}
-use Rattle.rules.specs.Query.{cell-of, query}
+use Rattle.rules.specs.Query.{cell-of, query, quick-cell-of, quick-query}
 use Rattle.rules.specs.declared.Condition.{Condition}
 use Rattle.rules.specs.declared.CurveAnswer.{CurveAnswer}
 use Rattle.rules.specs.declared.ChangeAnswer.{ChangeAnswer}
@@ -164,35 +164,74 @@ module _ (g : Grid) (tensor-lent scratch-lent : List Float) (changed : Place) (v
     pub output : tensor-later ≡ stored change-refusal tensor-lent (changed-tensor g changed v tensor-lent)
     pub scratch : scratch-later ≡ scratch-after change-refusal scratch-lent
 
--- ---- the query
+-- ---- the queries
+
+-- the labels of the four axes: the cell that is evaluated, and 0 for those not in use
+abbrev pub labels-of : Grid → Place → List ℕ
+labels-of g cells = table most-axes (λ i. cond (ltb i (g .axes)) (cells i) 0)
+
+-- what a query answers of its refusal, value and labels
+abbrev pub answer-of : ℕ → Float → List ℕ → QueryAnswer
+answer-of refusal value labels = record {
+  refusal = refusal;
+  value = answered refusal value;
+  labels = labelled refusal labels;
+}
 
 module _ (g : Grid) (tensor-lent coordinates : List Float) where
-  -- its refusal, the first of 1 2 3 4 7 8 10 that applies
+  -- 4 of every query
+  abbrev pub query-lengths-refused : Bool
+  query-lengths-refused =
+      length-refused (length (g .flat-knots)) (knots-length g) || length-refused (length tensor-lent) (tensor-length g) || length-refused (length coordinates) (g .axes)
+
+  -- the query's refusal, the first of 1 2 3 4 7 8 10 that applies
   unfoldable pub query-refusal : ℕ
   unfolding query
   query-refusal =
       cond (axes-refused g) 1
       (cond (some-points-refused g) 2
       (cond (tensor-refused g) 3
-      (cond (length-refused (length (g .flat-knots)) (knots-length g) || length-refused (length tensor-lent) (tensor-length g) || length-refused (length coordinates) (g .axes)) 4
+      (cond query-lengths-refused 4
       (cond (some-number-refused (g .flat-knots) || some-number-refused coordinates) 7
       (cond (some-knots-refused g) 8
       (cond (answer-refused (query g tensor-lent (at coordinates))) 10 0))))))
 
-  -- the labels of the four axes: the cell that is evaluated, and 0 for those not in use
+  -- its labels
   unfoldable pub labels : List ℕ
   unfolding cell-of
-  labels = table most-axes (λ i. cond (ltb i (g .axes)) (cell-of g (at coordinates) i) 0)
+  labels = labels-of g (cell-of g (at coordinates))
 
   -- its answer: the refusal, the value at the coordinates, and the labels
   unfoldable pub query-answer : QueryAnswer
   unfolding query-refusal labels
-  query-answer = record {
-    refusal = query-refusal;
-    value = answered query-refusal (query g tensor-lent (at coordinates));
-    labels = labelled query-refusal labels;
-  }
+  query-answer = answer-of query-refusal (query g tensor-lent (at coordinates)) labels
 
   -- what it promises: the answer
   pub record QueryPromise (given : QueryAnswer) : Type 0 where
     pub answer : given ≡ query-answer
+
+  -- the quick query's refusal, the first of 1 2 3 4 7 8 10 that applies: 7 of the coordinates and 8 of the found cells alone
+  unfoldable pub quick-query-refusal : ℕ
+  unfolding quick-cell-of quick-query
+  quick-query-refusal =
+      cond (axes-refused g) 1
+      (cond (some-points-refused g) 2
+      (cond (tensor-refused g) 3
+      (cond query-lengths-refused 4
+      (cond (some-number-refused coordinates) 7
+      (cond (some-found-cell-refused g (quick-cell-of g (at coordinates))) 8
+      (cond (answer-refused (quick-query g tensor-lent (at coordinates))) 10 0))))))
+
+  -- its labels
+  unfoldable pub quick-labels : List ℕ
+  unfolding quick-cell-of
+  quick-labels = labels-of g (quick-cell-of g (at coordinates))
+
+  -- its answer: the refusal, the value at the coordinates, and the labels
+  unfoldable pub quick-query-answer : QueryAnswer
+  unfolding quick-query-refusal quick-labels
+  quick-query-answer = answer-of quick-query-refusal (quick-query g tensor-lent (at coordinates)) quick-labels
+
+  -- what it promises: the answer
+  pub record QuickQueryPromise (given : QueryAnswer) : Type 0 where
+    pub answer : given ≡ quick-query-answer

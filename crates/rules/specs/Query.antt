@@ -6,6 +6,7 @@ use Rattle.rules.specs.Numbers.{_⊕_, _⊖_, _⊗_, _⊘_, one, two, th
 use Rattle.rules.specs.Sizes.{Grid, points, knots, masks, Place, flat, spot}
 use Rattle.rules.specs.Steps.{h}
 use Rattle.rules.specs.Locate.{locate}
+use Rattle.rules.specs.Search.{lower-index}
 
 -- the blend of two knots with values p0, p1 and slopes m0, m1, at the fraction t of their width; with the names of the Rust in `evaluate_hermite_1d`
 unfoldable pub hermite : Float → Float → Float → Float → Float → Float → Float
@@ -40,21 +41,36 @@ unfoldable pub cell : Grid → List Float → Place → ℕ → Float
 unfolding flat corner
 cell g tensor lower e = at tensor (spot g (corner (g .axes) lower (e / masks g)) (e % masks g))
 
--- the cell of a point: the lower knot on each axis
-unfoldable pub cell-of : Grid → (ℕ → Float) → Place
-unfolding locate
-cell-of g point i = locate (knots g i) (points g i - 1) (point i)
-
 -- where the point lies in cell l, counted from its lower knot in widths
 unfoldable pub fraction : List Float → ℕ → Float → Float
 unfolding h
 fraction x l point = (point ⊖ at x l) ⊘ h x l
 
+-- the value at a point of the surface's cubic in a given cell, wherever the point lies
+unfoldable pub value-in : Grid → List Float → Place → (ℕ → Float) → Float
+unfolding h blend cell fraction
+value-in g tensor cells point =
+    blend (g .axes) 0
+    (λ i. h (knots g i) (cells i))
+    (λ i. fraction (knots g i) (cells i) (point i))
+    (cell g tensor cells)
+
+-- the cell of a point: the lower knot on each axis
+unfoldable pub cell-of : Grid → (ℕ → Float) → Place
+unfolding locate
+cell-of g point i = locate (knots g i) (points g i - 1) (point i)
+
 -- the surface's value at a point
 unfoldable pub query : Grid → List Float → (ℕ → Float) → Float
-unfolding h blend cell cell-of fraction
-query g tensor point =
-    blend (g .axes) 0
-    (λ i. h (knots g i) (cell-of g point i))
-    (λ i. fraction (knots g i) (cell-of g point i) (point i))
-    (cell g tensor (cell-of g point))
+unfolding value-in cell-of
+query g tensor point = value-in g tensor (cell-of g point) point
+
+-- the cell that the search finds on each axis, on any knots
+unfoldable pub quick-cell-of : Grid → (ℕ → Float) → Place
+unfolding lower-index
+quick-cell-of g point i = lower-index (knots g i) (point i)
+
+-- the value at a point in the cell that the search finds
+unfoldable pub quick-query : Grid → List Float → (ℕ → Float) → Float
+unfolding value-in quick-cell-of
+quick-query g tensor point = value-in g tensor (quick-cell-of g point) point

@@ -79,6 +79,15 @@ knots-refused x n = any (step-refused x) (n - 1)
 abbrev pub some-knots-refused : Grid → Bool
 some-knots-refused g = any (λ i. knots-refused (knots g i) (points g i)) (g .axes)
 
+-- 8 of cell l alone: one of its two knots is infinite or NaN, or its step is refused
+unfoldable pub found-cell-refused : List Float → ℕ → Bool
+unfolding step-refused
+found-cell-refused x l = number-refused (at x l) || number-refused (at x (l + 1)) || step-refused x l
+
+-- 8 of the cells found: so for an axis in use
+abbrev pub some-found-cell-refused : Grid → Place → Bool
+some-found-cell-refused g cells = any (λ i. found-cell-refused (knots g i) (cells i)) (g .axes)
+
 -- 9: an axis has fewer points than its condition needs
 abbrev pub fewness-refused : Condition → ℕ → Bool
 fewness-refused c n = ltb n (fewest-points c)

@@ -23,7 +23,8 @@ use Rattle.rules.proofs.Places.{OnGrid, flat-below}
 use Rattle.rules.proofs.Tables.{length-table}
 use Rattle.rules.proofs.ChangeIsBuild.{kept, built-entry, set-is-with-sample, change-is-build}
 use Rattle.rules.proofs.LaneCount.{lane-count}
-use Rattle.base.proofs.Scan.{neither, any-found, any-at, any-ext}
+use Rattle.rules.proofs.Refused.{any-ext}
+use Rattle.base.proofs.Scan.{neither, any-found, any-at}
 use Rattle.lane_starts.proofs.Agreement.{agree-at}
 use Rattle.tensor.specs.Changes.{Step, Kept, tensor-after, standing, samples-after}
 

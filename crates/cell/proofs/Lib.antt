@@ -1,0 +1,5 @@
+pub mod Gathering
+pub mod Accepted
+mod Searching
+mod Lying
+pub mod Answering

@@ -1,0 +1,3 @@
+mod FoundCells
+pub mod Answers
+pub mod QuickIsFull

@@ -1,0 +1,61 @@
+-- What a value in a cell sees: the two knots of the cell on each axis in use, the point there, and the numbers of the cell.
+use native.Mathlib.Omega.{arith}
+use mathlib.Core.Path.{_≡_, refl, ap, _∙_}
+use mathlib.Core.List.{List}
+use Prim.Native.Nat.{ℕ, zero, suc, _+_, _-_, _*_, _/_, _%_, _^_, _<_, _≤_}
+use native.Mathlib.Nat.{pow-suc}
+use lib.Ieee.{Float}
+use Rattle.rules.specs.Numbers.{at}
+use Rattle.rules.specs.Sizes.{Grid, points, knots, masks, Place}
+use Rattle.rules.specs.Steps.{h}
+use Rattle.rules.specs.Query.{without-lowest, blend, corner, cell, fraction, value-in}
+use Rattle.rules.proofs.Places.{One, flat-ext}
+
+without-lowest-ext :
+    (size : ℕ) {width width′ t t′ : Float} (cell cell′ : ℕ → Float) → width ≡ width′ → t ≡ t′
+    → ((e : ℕ) → e < 4 * size → cell e ≡ cell′ e) → (e : ℕ) → e < size
+    → without-lowest size width t cell e ≡ without-lowest size width′ t′ cell′ e
+unfolding without-lowest
+without-lowest-ext size cell cell′ w u same e h =
+    cc (
+      same (2 * e) (omega arith),
+      same (2 * e + 1) (omega arith),
+      same (2 * size + 2 * e) (omega arith),
+      same (2 * size + 2 * e + 1) (omega arith),
+    )
+
+-- two blends are equal where widths and fractions agree on the axes and the cells on their numbers
+pub blend-ext :
+    (axes lowest : ℕ) (widths widths′ ts ts′ cell cell′ : ℕ → Float)
+    → ((i : ℕ) → lowest ≤ i → i < lowest + axes → widths i ≡ widths′ i)
+    → ((i : ℕ) → lowest ≤ i → i < lowest + axes → ts i ≡ ts′ i)
+    → ((e : ℕ) → e < 4 ^ axes → cell e ≡ cell′ e)
+    → blend axes lowest widths ts cell ≡ blend axes lowest widths′ ts′ cell′
+unfolding blend
+blend-ext zero lowest widths widths′ ts ts′ cell cell′ w t same = same 0 (omega arith)
+blend-ext (suc axes) lowest widths widths′ ts ts′ cell cell′ w t same =
+    blend-ext axes (suc lowest) widths widths′ ts ts′ _ _
+    (λ i a b. w i (omega arith) (omega arith))
+    (λ i a b. t i (omega arith) (omega arith))
+    (without-lowest-ext (4 ^ axes) cell cell′
+    (w lowest (omega arith) (omega arith))
+    (t lowest (omega arith) (omega arith))
+    (λ e h. same e (omega (arith, pow-suc 4 axes))))
+
+-- the numbers of a cell are found by its lower indices on the axes in use
+pub cell-ext : (g : Grid) (tensor : List Float) (p q : Place) → One (g .axes) p q → (e : ℕ) → cell g tensor p e ≡ cell g tensor q e
+unfolding cell corner
+cell-ext g tensor p q same e =
+    ap (λ (place : ℕ). at tensor (place * masks g + e % masks g))
+    (flat-ext (points g) (g .axes) _ _ (λ j h. ap (λ (l : ℕ). l + e / masks g / 2 ^ (g .axes - 1 - j) % 2) (same j h)))
+
+-- one value for two cells with the same lower indices
+pub value-in-ext :
+    (g : Grid) (tensor : List Float) (cells cells′ : Place) (point : ℕ → Float) → One (g .axes) cells cells′
+    → value-in g tensor cells point ≡ value-in g tensor cells′ point
+unfolding value-in
+value-in-ext g tensor cells cells′ point same =
+    blend-ext (g .axes) 0 _ _ _ _ _ _
+    (λ i a b. ap (h (knots g i)) (same i (omega arith)))
+    (λ i a b. ap (λ (l : ℕ). fraction (knots g i) l (point i)) (same i (omega arith)))
+    (λ e b. cell-ext g tensor cells cells′ same e)
