@@ -166,6 +166,21 @@ size_t hullashlar_query(size_t axes,
                         double *value, size_t value_length,
                         size_t *labels, size_t labels_length);
 
+/* The same at a cost that does not grow with the knots but by at most 8 halvings for each axis: only the first and the
+ * last knot of an axis are looked at, those that the search visits and the two of the cell that it finds. On knots that
+ * hullashlar_query accepts the whole answer is the same. Any others are searched in the same way; 8 is then given where,
+ * of the cell that was found on some axis, a knot is infinite or NaN, or the upper one is not above the lower by a step
+ * that a double holds.
+ * Lengths: as of hullashlar_query.
+ * Written: value, labels. Refuses by 1, 2, 3, 4, 7 for coordinates alone, 8, 10. */
+size_t hullashlar_quick_query(size_t axes,
+                              const size_t *points, size_t points_length,
+                              const double *knots, size_t knots_length,
+                              const double *tensor, size_t tensor_length,
+                              const double *coordinates, size_t coordinates_length,
+                              double *value, size_t value_length,
+                              size_t *labels, size_t labels_length);
+
 /* The parts of a packed sheet: knots and samples in the first places of their buffers, whose other places are as they
  * were; how many axes there are; and of each axis the points, and the kinds and values of its ends, as the calls above
  * take them. Points, kinds and values past the axes in use are 0, and so is the value of a kind that has none. Numbers
