@@ -209,6 +209,31 @@ pub fn query(
     outcome(refusal, (value[0], labels))
 }
 
+/// The same with no look at knots but those that the search visits and those of the cell.
+#[rustfmt::skip]
+pub fn quick_query(
+    axes: &Axes,
+    knots: &[f64],
+    tensor: &[f64],
+    coordinates: &[f64],
+) -> Result<(f64, [usize; 4]), Refusal> {
+    let mut value = [0.0];
+    let mut labels = [0; 4];
+    // SAFETY: each pointer goes with the length of a live slice, and no two slices overlap.
+    let refusal = unsafe {
+        hullashlar_quick_query(
+            axes.count,
+            axes.points.as_ptr(), axes.points.len(),
+            knots.as_ptr(), knots.len(),
+            tensor.as_ptr(), tensor.len(),
+            coordinates.as_ptr(), coordinates.len(),
+            value.as_mut_ptr(), value.len(),
+            labels.as_mut_ptr(), labels.len(),
+        )
+    };
+    outcome(refusal, (value[0], labels))
+}
+
 /// The axes of a packed sheet, once its knots and samples stand in the lent buffers.
 #[rustfmt::skip]
 pub fn read(

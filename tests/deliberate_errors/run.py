@@ -30,6 +30,7 @@ ERRORS = [
     "locate/cell_k_at_interior_knot_k",
     "query/reciprocal_of_the_width",
     "query/label_of_the_next_cell",
+    "host/full_query_for_the_quick_one",
 ]
 
 # What `rt try` says of a compiled run that wrote the counts where nothing is expected.

@@ -139,11 +139,22 @@ fn written_anew_it_is_the_same() {
 }
 
 #[test]
-fn seven_halvings_are_found() {
+fn six_halvings_are_found() {
     assert!(is_found(&Anew {
-        search: |knots, point| in_halvings(knots, point, 7),
+        search: |knots, point| in_halvings(knots, point, 6),
         ..RIGHT
     }));
+}
+
+/// The eighth halving asks of the last knot but one what the step back asks again.
+#[test]
+fn seven_halvings_find_the_same_cells() {
+    let seven = Anew {
+        search: |knots, point| in_halvings(knots, point, 7),
+        ..RIGHT
+    };
+    assert_eq!(differences(&seven, Kind::QuickQuery), 0);
+    assert_eq!(differences(&seven, Kind::QuickBesideFull), 0);
 }
 
 #[test]
