@@ -25,8 +25,9 @@ use Rattle.sheet_build.specs.declared.SheetAnswer.{SheetAnswer}
 use Rattle.sheet_build.proofs.Builds.{answered-refusal}
 use Rattle.sheet_build.proofs.Demand3.{grid-made, samples-made, tensor-made, sheet-is-built}
 use Rattle.plain_axes.specs.Axes.{axes-given, grid-given, points-found, kinds-found, values-found}
-use Rattle.host.specs.Exports.{build-own-refusal, change-own-refusal, sheet-tensor-own-refusal, BuildExport, ChangeExport, SheetTensorExport}
-use Rattle.host.proofs.Lengths.{change-lengths}
+use Rattle.boundary.specs.OwnRefusals.{build-own-refusal, change-own-refusal, sheet-tensor-own-refusal}
+use Rattle.host.specs.Exports.{BuildExport, ChangeExport, SheetTensorExport}
+use Rattle.boundary.proofs.Lengths.{change-lengths}
 use Rattle.host.proofs.SheetAxes.{sheet-axes-again, sheet-axes-fine}
 use Rattle.host.proofs.Accepted.{Fine, build-fine, build-accepted, change-accepted}
 

@@ -21,8 +21,10 @@ use Rattle.sheet_build.specs.SheetTensor.{reading-refusal, sheet-tensor-refusal
 use Rattle.sheet_build.specs.declared.SheetAnswer.{SheetAnswer}
 use Rattle.sheet_build.proofs.Builds.{answered-refusal}
 use Rattle.plain_axes.specs.Axes.{condition-given, axes-given, axes-without-ends, AxesStored}
-use Rattle.host.specs.Exports.{moments-own-refusal, curve-own-refusal, build-own-refusal, change-own-refusal, query-own-refusal, read-own-refusal, sheet-tensor-own-refusal, in-slot, QueryStored, FoundStored, MomentsExport, CurveExport, BuildExport, ChangeExport, AnswerExport, QueryExport, QuickQueryExport, ReadExport, SheetTensorExport}
-use Rattle.host.proofs.Lengths.{read-lengths, sheet-tensor-lengths}
+use Rattle.boundary.specs.OwnRefusals.{moments-own-refusal, curve-own-refusal, build-own-refusal, change-own-refusal, query-own-refusal, read-own-refusal, sheet-tensor-own-refusal}
+use Rattle.boundary.specs.Slots.{in-slot, QueryStored}
+use Rattle.host.specs.Exports.{FoundStored, MomentsExport, CurveExport, BuildExport, ChangeExport, AnswerExport, QueryExport, QuickQueryExport, ReadExport, SheetTensorExport}
+use Rattle.boundary.proofs.Lengths.{read-lengths, sheet-tensor-lengths}
 use Rattle.plain_axes.proofs.Slots.{one-stored}
 
 -- ---- the host refuses: its number is the answer, each slice is as it was, and slots say that nothing was answered

@@ -1,5 +1,3 @@
-pub mod Rows
-pub mod Lengths
 pub mod Exported
 pub mod Accepted
 pub mod SheetAxes

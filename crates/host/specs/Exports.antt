@@ -1,51 +1,26 @@
--- The chapter Exports of docs/RULES.md: the exported calls. A call with axes refuses by 1 for their number alone, by 4 for points that are not four, by 2, by 3, by 4 for every other slice and slot, by 13 for the kinds of the axes in use, and then by 5 and on; a call on one axis by 2, 4 and 13, and then by the rest. The host's own refusal has the rows of that order down to where the call's own may follow: what the call refuses stands after it. With the host's own, nothing but the slots of the answer is written. These are written with every answer, a refusal's too, where all of them have their lengths.
+-- The chapter Exports of docs/RULES.md: the exported calls. What the host itself refuses comes first, and what the call refuses after it. With the host's own, nothing but the slots of the answer is written.
 use mathlib.Core.Path.{_≡_}
-use mathlib.Core.Bool.{Bool, cond, _||_}
-use mathlib.Core.List.{List, [], _∷_, _++_}
+use mathlib.Core.List.{List, [], _∷_}
 use Prim.Native.Nat.{ℕ, _-_}
 use lib.ListN.{length}
 use lib.Ieee.{Float}
-use Rattle.rules.specs.Sizes.{most-axes, Grid, knots-length, samples-length, tensor-length, place-of}
-use Rattle.rules.specs.Refusals.{axes-refused, points-refused, some-points-refused, tensor-refused, length-refused}
+use Rattle.rules.specs.Sizes.{place-of}
 use Rattle.rules.specs.Moments.{moments}
 use Rattle.rules.specs.Tensor.{tensor}
 use Rattle.rules.specs.Change.{changed-tensor}
 use Rattle.rules.specs.Calls.{or-else, stored, scratch-after, answered, counted, labelled, moments-refusal, curve-answer, build-refusal, change-refusal, change-answer, query-answer, quick-query-answer}
 use Rattle.rules.specs.declared.Axis.{Axis}
 use Rattle.rules.specs.declared.QueryAnswer.{QueryAnswer}
-use Rattle.checks.specs.Tables.{Refusal, row, lowest}
 use Rattle.sheet.specs.Fields.{axes as axes-said, entries, knots-below, sheet-grid, sheet-samples}
 use Rattle.sheet.specs.Read.{over, read-refusal, answer-of as read-answer-of}
 use Rattle.sheet.specs.declared.ReadAnswer.{ReadAnswer}
 use Rattle.sheet_build.specs.SheetTensor.{answer-of, reading-refusal, sheet-tensor-refusal}
 use Rattle.sheet_build.specs.declared.SheetAnswer.{SheetAnswer}
-use Rattle.kinds.specs.Kinds.{kinds-refused}
-use Rattle.plain_axes.specs.Axes.{two-ends, eight-ends, lower-kind, upper-kind, condition-given, some-kinds-refused, grid-given, grid-without-ends, points-found, kinds-found, values-found}
-
--- an answer in a slot of one, which is left as it was where it is another slice
-abbrev pub in-slot : {A : Type 0} → List A → A → List A
-in-slot lent answer = cond (length-refused (length lent) 1) lent (answer ∷ [])
+use Rattle.plain_axes.specs.Axes.{condition-given, grid-given, grid-without-ends, points-found, kinds-found, values-found}
+use Rattle.boundary.specs.OwnRefusals.{moments-own-refusal, curve-own-refusal, build-own-refusal, change-own-refusal, query-own-refusal, read-own-refusal, sheet-tensor-own-refusal}
+use Rattle.boundary.specs.Slots.{in-slot, QueryStored}
 
 -- ---- the curve's moments
-
--- 4 for the kinds and the values of two ends
-abbrev pub two-ends-refused : List ℕ → List Float → Bool
-two-ends-refused kinds values = length-refused (length kinds) two-ends || length-refused (length values) two-ends
-
-module _ (n : ℕ) (knots samples : List Float) (kinds : List ℕ) (values moments-lent : List Float) where
-  -- 4 for the two ends and for the call's own slices
-  abbrev pub moments-own-rows : List Refusal
-  moments-own-rows =
-      row 2 (points-refused n)
-      ∷ row 4 (
-      two-ends-refused kinds values
-      || (length-refused (length knots) n || length-refused (length samples) n || length-refused (length moments-lent) n)
-      )
-      ∷ row 13 (kinds-refused (lower-kind kinds 0) (upper-kind kinds 0))
-      ∷ []
-
-  unfoldable pub moments-own-refusal : ℕ
-  moments-own-refusal = lowest moments-own-rows 0
 
 module _ (n : ℕ) (knots samples : List Float) (kinds : List ℕ) (values moments-lent scratch-lent : List Float) where
   -- what the call refuses of what was given
@@ -68,13 +43,6 @@ module _ (n : ℕ) (knots samples : List Float) (kinds : List ℕ) (values momen
 
 -- ---- the curve's value
 
--- 4 for the slot of the value
-abbrev pub curve-own-rows : ℕ → List Float → List Refusal
-curve-own-rows n value = row 2 (points-refused n) ∷ row 4 (length-refused (length value) 1) ∷ []
-
-unfoldable pub curve-own-refusal : ℕ → List Float → ℕ
-curve-own-refusal n value = lowest (curve-own-rows n value) 0
-
 module _ (n : ℕ) (knots samples moments-in : List Float) (point : Float) (value-lent : List Float) where
   -- short names for what the record is said by
   abbrev curve-own : ℕ
@@ -87,49 +55,7 @@ module _ (n : ℕ) (knots samples moments-in : List Float) (point : Float) (valu
 
 -- The knot slopes have no refusal of the host's own: their record is that of `rules`.
 
--- ---- the calls with axes
-
--- the sizes that are given: ends play no part in them
-abbrev pub sizes-given : ℕ → List ℕ → Grid
-sizes-given axes points = grid-without-ends axes points []
-
--- what every one of them meets first
-abbrev pub axes-rows : ℕ → List ℕ → List Refusal
-axes-rows axes points =
-    row 1 (axes-refused (sizes-given axes points))
-    ∷ row 4 (length-refused (length points) most-axes)
-    ∷ row 2 (some-points-refused (sizes-given axes points))
-    ∷ row 3 (tensor-refused (sizes-given axes points))
-    ∷ []
-
-unfoldable pub axes-own-refusal : ℕ → List ℕ → ℕ
-axes-own-refusal axes points = lowest (axes-rows axes points) 0
-
--- 4 for the kinds and the values of the ends of four axes
-abbrev pub eight-ends-refused : List ℕ → List Float → Bool
-eight-ends-refused kinds values = length-refused (length kinds) eight-ends || length-refused (length values) eight-ends
-
 -- ---- the build
-
-module _ (axes : ℕ) (points kinds : List ℕ) (values knots samples tensor-lent : List Float) where
-  -- 4 for the ends and for the call's own slices
-  abbrev pub build-own-rows : List Refusal
-  build-own-rows =
-      axes-rows axes points ++ (
-      row 4 (
-      eight-ends-refused kinds values
-      || (
-      length-refused (length knots) (knots-length (sizes-given axes points))
-      || length-refused (length samples) (samples-length (sizes-given axes points))
-      || length-refused (length tensor-lent) (tensor-length (sizes-given axes points))
-      )
-      )
-      ∷ row 13 (some-kinds-refused axes kinds)
-      ∷ []
-      )
-
-  unfoldable pub build-own-refusal : ℕ
-  build-own-refusal = lowest build-own-rows 0
 
 module _ (axes : ℕ) (points kinds : List ℕ) (values knots samples tensor-lent scratch-lent : List Float) where
   -- what the call refuses of what was given
@@ -150,29 +76,6 @@ module _ (axes : ℕ) (points kinds : List ℕ) (values knots samples tensor-len
     pub scratch : scratch-later ≡ stored build-own scratch-lent (scratch-after given-build-refusal scratch-lent)
 
 -- ---- the change
-
--- 4 for the place and the slot of the count
-abbrev pub place-or-lanes-refused : List ℕ → List ℕ → Bool
-place-or-lanes-refused place lanes = length-refused (length place) most-axes || length-refused (length lanes) 1
-
-module _ (axes : ℕ) (points kinds : List ℕ) (values knots tensor-lent : List Float) (place lanes-lent : List ℕ) where
-  -- 4 for the ends, the place, the slot of the count and for the call's own slices
-  abbrev pub change-own-rows : List Refusal
-  change-own-rows =
-      axes-rows axes points ++ (
-      row 4 (
-      eight-ends-refused kinds values || place-or-lanes-refused place lanes-lent
-      || (
-      length-refused (length knots) (knots-length (sizes-given axes points))
-      || length-refused (length tensor-lent) (tensor-length (sizes-given axes points))
-      )
-      )
-      ∷ row 13 (some-kinds-refused axes kinds)
-      ∷ []
-      )
-
-  unfoldable pub change-own-refusal : ℕ
-  change-own-refusal = lowest change-own-rows 0
 
 module _ (axes : ℕ) (points kinds : List ℕ) (values knots tensor-lent scratch-lent : List Float) (place : List ℕ) (sample : Float) (lanes-lent : List ℕ) where
   -- what the call refuses of what was given
@@ -200,21 +103,6 @@ module _ (axes : ℕ) (points kinds : List ℕ) (values knots tensor-lent scratc
         (change-answer (grid-given axes points kinds values knots) tensor-lent scratch-lent (place-of place) sample .lanes))
 
 -- ---- the queries
-
--- 4 for the slots of value and labels
-abbrev pub query-slots-refused : List Float → List ℕ → Bool
-query-slots-refused value labels = length-refused (length value) 1 || length-refused (length labels) most-axes
-
--- a value and labels in these slots, which are both left as they were where one is another slice
-pub record QueryStored (value-lent : List Float) (labels-lent : List ℕ) (value : Float) (labels : List ℕ) (value-later : List Float) (labels-later : List ℕ) : Type 0 where
-  pub slot : value-later ≡ cond (query-slots-refused value-lent labels-lent) value-lent (value ∷ [])
-  pub slots : labels-later ≡ cond (query-slots-refused value-lent labels-lent) labels-lent labels
-
-abbrev pub query-own-rows : ℕ → List ℕ → List Float → List ℕ → List Refusal
-query-own-rows axes points value labels = axes-rows axes points ++ (row 4 (query-slots-refused value labels) ∷ [])
-
-unfoldable pub query-own-refusal : ℕ → List ℕ → List Float → List ℕ → ℕ
-query-own-refusal axes points value labels = lowest (query-own-rows axes points value labels) 0
 
 -- what is promised of an export that gives a query's answer after its own refusal: the refusal, the value in its slot, the labels
 pub record AnswerExport (own : ℕ) (given : QueryAnswer) (value-lent : List Float) (labels-lent : List ℕ) (refusal : ℕ) (value-later : List Float) (labels-later : List ℕ) : Type 0 where
@@ -244,20 +132,12 @@ module _ (axes : ℕ) (points : List ℕ) (knots tensor-lent coordinates value-l
 
 -- ---- the sheet
 
--- 4 for the slot of the number of axes, and for the slices of what is found of them
-abbrev pub found-slots-refused : List ℕ → List ℕ → List ℕ → List Float → Bool
-found-slots-refused axes points kinds values =
-    length-refused (length axes) 1 || length-refused (length points) most-axes || eight-ends-refused kinds values
-
 -- what stands in these after axes were found, where the host refuses nothing
 pub record FoundStored (own axes : ℕ) (all : List Axis) (axes-lent points-lent kinds-lent : List ℕ) (values-lent : List Float) (axes-later points-later kinds-later : List ℕ) (values-later : List Float) : Type 0 where
   pub slot : axes-later ≡ stored own axes-lent (axes ∷ [])
   pub points : points-later ≡ stored own points-lent (points-found all)
   pub kinds : kinds-later ≡ stored own kinds-lent (kinds-found all)
   pub values : values-later ≡ stored own values-lent (values-found all)
-
-unfoldable pub read-own-refusal : List ℕ → List ℕ → List ℕ → List Float → ℕ
-read-own-refusal axes points kinds values = cond (found-slots-refused axes points kinds values) 4 0
 
 module _ (bytes : List ℕ) (knots-lent samples-lent : List Float) (axes-lent points-lent kinds-lent : List ℕ) (values-lent : List Float) where
   -- what the call refuses of what was given
@@ -285,11 +165,6 @@ module _ (bytes : List ℕ) (knots-lent samples-lent : List Float) (axes-lent po
         axes-lent points-lent kinds-lent values-lent axes-later points-later kinds-later values-later
 
 -- ---- the sheet's tensor
-
--- 4 for the same slots, and for that of the length
-unfoldable pub sheet-tensor-own-refusal : List ℕ → List ℕ → List ℕ → List Float → List ℕ → ℕ
-sheet-tensor-own-refusal axes points kinds values length-lent =
-    cond (found-slots-refused axes points kinds values || length-refused (length length-lent) 1) 4 0
 
 module _ (bytes : List ℕ) (knots-lent samples-lent : List Float) (axes-lent points-lent kinds-lent : List ℕ) (values-lent tensor-lent scratch-lent : List Float) (length-lent : List ℕ) where
   -- what is met before the build

@@ -155,6 +155,7 @@ fn sample(number: usize) -> f64 {
 
 /// Everything that is measured.
 pub struct Inputs {
+    pub line_of_2: Surface,
     pub line_of_16: Surface,
     pub line_of_256: Surface,
     pub two_axes: Surface,
@@ -172,6 +173,7 @@ impl Inputs {
         let two_axes = Surface::new(&[16, 16], Ends::Natural);
         let four_axes = Surface::new(&[4, 4, 4, 4], Ends::Natural);
         Self {
+            line_of_2: Surface::new(&[2], Ends::Natural),
             line_of_16: Surface::new(&[16], Ends::Natural),
             line_of_256: Surface::new(&[256], Ends::Natural),
             three_axes: Surface::new(&[6, 6, 6], Ends::NotAKnot),
@@ -186,8 +188,9 @@ impl Inputs {
     }
 
     /// Surfaces of one to four axes, and of four axes with all the ends.
-    pub fn surfaces(&self) -> [&Surface; 7] {
+    pub fn surfaces(&self) -> [&Surface; 8] {
         [
+            &self.line_of_2,
             &self.line_of_16,
             &self.line_of_256,
             &self.two_axes,

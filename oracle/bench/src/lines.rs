@@ -20,6 +20,7 @@ pub struct Line<'a> {
 }
 
 const THE_RUST: &str = "the Rust's";
+const OUR_QUERY: &str = "our query";
 const OUR_BUILD: &str = "our fresh build";
 const RUST_BUILD: &str = "the Rust's fresh build";
 const THE_ORACLE: &str = "the oracle's reader";
@@ -32,6 +33,7 @@ pub fn lines(inputs: &Inputs) -> Vec<Line<'_>> {
     let mut lines = Vec::new();
     lines.extend(builds(inputs));
     lines.extend(queries(inputs));
+    lines.extend(quick_queries(inputs));
     lines.extend(changes(inputs));
     lines.extend([
         moments(&inputs.line_of_256),
@@ -104,6 +106,36 @@ fn our_query(surface: &Surface) -> Work<'_> {
     let point = surface.middle_point();
     Box::new(move || {
         let answer = hullashlar::query(&surface.axes, &surface.knots, &tensor, &point);
+        answer.expect(ACCEPTED).0
+    })
+}
+
+/// Each beside the Rust's query, and beside ours. A line of two points needs no halving.
+fn quick_queries(inputs: &Inputs) -> Vec<Line<'_>> {
+    let measured = [
+        ("quick query, 2", &inputs.line_of_2),
+        ("quick query, 16", &inputs.line_of_16),
+        ("quick query, 16×16", &inputs.two_axes),
+        ("quick query, 6×6×6", &inputs.three_axes),
+        ("quick query, 4×4×4×4", &inputs.four_axes),
+        ("quick query, one axis of 256", &inputs.line_of_256),
+    ];
+    let line = |(name, surface), held_against, other| Line {
+        name,
+        held_against,
+        ours: our_quick_query(surface),
+        other,
+    };
+    let rust = measured.map(|each| line(each, THE_RUST, rust_query(each.1)));
+    let full = measured.map(|each| line(each, OUR_QUERY, our_query(each.1)));
+    rust.into_iter().chain(full).collect()
+}
+
+fn our_quick_query(surface: &Surface) -> Work<'_> {
+    let tensor: Vec<f64> = surface.tensor().iter().copied().collect();
+    let point = surface.middle_point();
+    Box::new(move || {
+        let answer = hullashlar::quick_query(&surface.axes, &surface.knots, &tensor, &point);
         answer.expect(ACCEPTED).0
     })
 }

@@ -13,6 +13,7 @@ pub enum Call {
     Query,
     Read,
     SheetTensor,
+    QuickQuery,
 }
 
 impl Call {
@@ -31,7 +32,7 @@ impl Call {
                 "axes", "points", "kinds", "values", "knots", "tensor", "scratch", "place",
                 "sample", "lanes",
             ],
-            Call::Query => &[
+            Call::Query | Call::QuickQuery => &[
                 "axes",
                 "points",
                 "knots",
@@ -58,7 +59,7 @@ impl Call {
             Call::Slopes => &["slopes"],
             Call::Build => &["tensor", "scratch"],
             Call::Change => &["tensor", "scratch", "lanes"],
-            Call::Query => &["value", "labels"],
+            Call::Query | Call::QuickQuery => &["value", "labels"],
             Call::Read => &["knots", "samples", "axes", "points", "kinds", "values"],
             Call::SheetTensor => &[
                 "knots", "samples", "axes", "points", "kinds", "values", "tensor", "scratch",

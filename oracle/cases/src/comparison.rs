@@ -2,7 +2,7 @@
 
 mod either_order;
 
-use crate::case::{Argument, Calls, Case};
+use crate::case::{Argument, Call, Calls, Case};
 use crate::examples::examples;
 use crate::faults::spoil;
 use crate::generator::{self, Kind, KINDS};
@@ -29,6 +29,9 @@ const CHANGES_IN_A_LIST: u64 = 25;
 /// The same changes in two orders are some 8 calls.
 const CALLS_IN_TWO_ORDERS: u64 = 8;
 
+/// A quick query and a full one.
+const CALLS_BESIDE: u64 = 2;
+
 impl Plan {
     /// About so many calls of each kind, the examples once, and no sheet of up to
     /// two bytes twice.
@@ -38,6 +41,7 @@ impl Plan {
             Kind::ShortSheet => calls.min(SHORT_SHEETS),
             Kind::ChangeList => calls.div_ceil(CHANGES_IN_A_LIST),
             Kind::EitherOrder => calls.div_ceil(CALLS_IN_TWO_ORDERS),
+            Kind::QuickBesideFull => calls.div_ceil(CALLS_BESIDE),
             _ => calls,
         });
         Self { seed, cases }
@@ -77,6 +81,7 @@ fn compare_kind(subject: &dyn Calls, plan: &Plan, kind: Kind, report: &mut Repor
             Kind::EitherOrder => {
                 run.either_order(random);
             }
+            Kind::QuickBesideFull => run.quick_beside_full(random),
             _ => {
                 run.compare(&generator::single(kind, number as usize, random));
             }
@@ -132,6 +137,22 @@ impl Run<'_> {
     fn compare_sheet(&mut self, random: &mut Random, bytes: &[u8]) {
         self.compare(&lending::read(random, bytes));
         self.compare(&lending::sheet_tensor(random, bytes, LONGEST_TENSOR));
+    }
+
+    /// A quick query and a full one: on knots that the full one accepts their whole answers
+    /// are equal.
+    fn quick_beside_full(&mut self, random: &mut Random) {
+        let given = generator::quick_beside_full(random);
+        let full = Case::new(Call::Query, given.arguments.clone());
+        let (refusal, quick, _) = self.compare(&given);
+        let (full_refusal, full, _) = self.compare(&full);
+        let knots_refused = full_refusal == 8;
+        if !knots_refused && (refusal != full_refusal || !same_arguments(&full, &quick)) {
+            let title = format!("{}, held against the full query", self.title);
+            self.report.difference(self.kind, || {
+                describe(&title, &given, (full_refusal, &full), (refusal, &quick))
+            });
+        }
     }
 
     /// A list of changes from a built tensor, shorter on a large one. After each

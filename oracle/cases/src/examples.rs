@@ -32,6 +32,7 @@ pub fn examples() -> Vec<Case> {
         lending::read(random, &[]),
         lending::sheet_tensor(random, &[], 4),
     ]);
+    cases.extend(quick_queries(random));
     cases
 }
 
@@ -116,6 +117,31 @@ fn labels(random: &mut Random) -> Vec<Case> {
     let tensor = [0.0, 1.5, 1.0, 0.0, 0.0, -1.5];
     let mut at = |point: f64| lending::query(random, &line, &tensor, &[point]);
     vec![at(1.0), at(2.0), at(-1.0)]
+}
+
+/// Quick queries on knots that rise, that fall off the path and on it, and that are no
+/// numbers there; the last is searched past its last cell.
+fn quick_queries(random: &mut Random) -> Vec<Case> {
+    let rising = [0.0, 1.0, 2.0];
+    let falling = [0.0, 5.0, 1.0, 2.0, 9.0];
+    let off_the_path = [0.0, f64::NAN, 2.0, 3.0, 4.0, 5.0];
+    let last_no_number = [0.0, 1.0, f64::NAN];
+    let mut at = |knots: &[f64], point: f64| {
+        let line = line(knots, [SECOND; 2]);
+        let tensor: Vec<f64> = (0..2 * knots.len()).map(|at| at as f64).collect();
+        lending::quick_query(random, &line, &tensor, &[point])
+    };
+    vec![
+        at(&rising, 1.0),
+        at(&rising, 2.0),
+        at(&rising, -1.0),
+        at(&falling, 3.0),
+        at(&falling, 0.5),
+        at(&off_the_path, 2.5),
+        at(&off_the_path, f64::NAN),
+        at(&last_no_number, 1.5),
+        at(&[-1e308, 1e308], 0.0),
+    ]
 }
 
 /// NotAKnot with one point too few, and with just enough.

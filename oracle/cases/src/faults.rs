@@ -76,6 +76,16 @@ const OF_QUERY: &[Fault] = &[
     overflow,
 ];
 
+/// The faults of a quick query, apart from those of its knots.
+const OF_QUICK_QUERY: &[Fault] = &[
+    axes_off,
+    points_off,
+    shape_too_large,
+    length_off,
+    coordinate_not_finite,
+    overflow,
+];
+
 /// The faults of a call, apart from lists of a fixed length and damaged sheets.
 fn faults_of(call: Call) -> &'static [Fault] {
     match call {
@@ -83,6 +93,7 @@ fn faults_of(call: Call) -> &'static [Fault] {
         Call::Curve | Call::Slopes => OF_CURVE,
         Call::Build | Call::Change => OF_TENSOR,
         Call::Query => OF_QUERY,
+        Call::QuickQuery => OF_QUICK_QUERY,
         Call::Read => &[length_off],
         Call::SheetTensor => &[length_off, scratch_short],
     }
@@ -217,6 +228,11 @@ fn number_not_finite(random: &mut Random, case: &mut Case) {
     let name = random.pick(&present(case, &names));
     let number = not_finite(random);
     store(random, case, name, number);
+}
+
+fn coordinate_not_finite(random: &mut Random, case: &mut Case) {
+    let number = not_finite(random);
+    store(random, case, "coordinates", number);
 }
 
 fn overflow(random: &mut Random, case: &mut Case) {

@@ -1,5 +1,6 @@
 //! One case of each kind from a sequence of random numbers.
 
+use crate::any_knots::disturb;
 use crate::case::Case;
 use crate::faults::spoil;
 use crate::grid::Grid;
@@ -11,7 +12,8 @@ use crate::sheet::{damaged_sheet, good_sheet, swept_sheet};
 use reading::CURVE_SCRATCH;
 
 /// The kinds of cases: the worked examples, one kind for each call, lists
-/// of changes, the sheets of up to two bytes, and changes in two orders.
+/// of changes, the sheets of up to two bytes, changes in two orders, and quick
+/// queries beside full ones.
 #[derive(Debug, Clone, Copy, PartialEq, Eq)]
 pub enum Kind {
     Example,
@@ -26,10 +28,12 @@ pub enum Kind {
     SheetTensor,
     ShortSheet,
     EitherOrder,
+    QuickQuery,
+    QuickBesideFull,
 }
 
 /// Every kind, in the order of the report.
-pub const KINDS: [Kind; 12] = [
+pub const KINDS: [Kind; 14] = [
     Kind::Example,
     Kind::Moments,
     Kind::Curve,
@@ -42,6 +46,8 @@ pub const KINDS: [Kind; 12] = [
     Kind::SheetTensor,
     Kind::ShortSheet,
     Kind::EitherOrder,
+    Kind::QuickQuery,
+    Kind::QuickBesideFull,
 ];
 
 impl Kind {
@@ -60,6 +66,8 @@ impl Kind {
             Kind::SheetTensor => "sheet_tensor",
             Kind::ShortSheet => "short_sheet",
             Kind::EitherOrder => "either_order",
+            Kind::QuickQuery => "quick_query",
+            Kind::QuickBesideFull => "quick_beside_full",
         }
     }
 
@@ -67,7 +75,11 @@ impl Kind {
     pub fn is_single_call(self) -> bool {
         !matches!(
             self,
-            Kind::Example | Kind::ChangeList | Kind::ShortSheet | Kind::EitherOrder
+            Kind::Example
+                | Kind::ChangeList
+                | Kind::ShortSheet
+                | Kind::EitherOrder
+                | Kind::QuickBesideFull
         )
     }
 }
@@ -83,6 +95,11 @@ const AT_THE_EDGE: usize = 1;
 const FAULTY_TO_READ: usize = 46;
 const FAULTY_TO_BUILD: usize = 30;
 
+/// On knots of any sort many a cell is refused without another fault; on knots that
+/// a full query accepts the two are to be compared, and not their refusals.
+const FAULTY_QUICK: usize = 7;
+const FAULTY_BESIDE: usize = 4;
+
 /// The case of a kind that is a single call, by its number.
 pub fn single(kind: Kind, number: usize, random: &mut Random) -> Case {
     match kind {
@@ -94,7 +111,12 @@ pub fn single(kind: Kind, number: usize, random: &mut Random) -> Case {
         Kind::Query => query(random),
         Kind::Read => read(random, number),
         Kind::SheetTensor => sheet_tensor(random, number),
-        Kind::Example | Kind::ChangeList | Kind::ShortSheet | Kind::EitherOrder => {
+        Kind::QuickQuery => quick_query(random),
+        Kind::Example
+        | Kind::ChangeList
+        | Kind::ShortSheet
+        | Kind::EitherOrder
+        | Kind::QuickBesideFull => {
             panic!("more than one call: {}", kind.name())
         }
     }
@@ -153,6 +175,44 @@ fn query(random: &mut Random) -> Case {
     let coordinates = grid.coordinates(random);
     let case = lending::query(random, &grid, &tensor, &coordinates);
     altered_at_times(random, case)
+}
+
+/// A quick query, most often on knots that a full one refuses.
+fn quick_query(random: &mut Random) -> Case {
+    let mut grid = searched_grid(random);
+    let coordinates = if random.percent(75) {
+        disturb(random, &mut grid)
+    } else {
+        grid.coordinates(random)
+    };
+    let tensor = list(random, grid.tensor());
+    let mut case = lending::quick_query(random, &grid, &tensor, &coordinates);
+    if random.percent(FAULTY_QUICK) {
+        spoil(random, &mut case);
+    }
+    case
+}
+
+/// A grid of any shape, or an axis that it takes some halvings to search, or all eight.
+fn searched_grid(random: &mut Random) -> Grid {
+    let points = match random.below(100) {
+        0..=2 => random.between(129, 256),
+        3..=39 => random.between(9, 40),
+        _ => return Grid::generate(random),
+    };
+    Grid::of_shape(random, &[points])
+}
+
+/// A quick query on knots that a full one accepts, at times with another fault.
+pub fn quick_beside_full(random: &mut Random) -> Case {
+    let grid = Grid::generate(random);
+    let tensor = tensor(random, &grid);
+    let coordinates = grid.coordinates(random);
+    let mut case = lending::quick_query(random, &grid, &tensor, &coordinates);
+    if random.percent(FAULTY_BESIDE) {
+        spoil(random, &mut case);
+    }
+    case
 }
 
 /// A sheet to be read: first every cut and every single damaged bit of a small

@@ -107,7 +107,24 @@ pub fn change(
 
 /// A query of a tensor on a grid.
 pub fn query(random: &mut Random, grid: &Grid, tensor: &[f64], coordinates: &[f64]) -> Case {
-    let arguments = vec![
+    let arguments = query_arguments(random, grid, tensor, coordinates);
+    Case::new(Call::Query, arguments)
+}
+
+/// A quick query of a tensor on a grid.
+pub fn quick_query(random: &mut Random, grid: &Grid, tensor: &[f64], coordinates: &[f64]) -> Case {
+    let arguments = query_arguments(random, grid, tensor, coordinates);
+    Case::new(Call::QuickQuery, arguments)
+}
+
+/// What both queries are given.
+fn query_arguments(
+    random: &mut Random,
+    grid: &Grid,
+    tensor: &[f64],
+    coordinates: &[f64],
+) -> Vec<Argument> {
+    vec![
         Argument::Number(grid.axes),
         Argument::of_numbers(&grid.points),
         Argument::of_floats(&grid.knots),
@@ -115,8 +132,7 @@ pub fn query(random: &mut Random, grid: &Grid, tensor: &[f64], coordinates: &[f6
         Argument::of_floats(coordinates),
         room(random, 1),
         room_of_axes(),
-    ];
-    Case::new(Call::Query, arguments)
+    ]
 }
 
 /// A sheet, the two buffers, and room for its axes. What is no number keeps no payload

@@ -1,5 +1,6 @@
 //! Generated calls, and their comparison with the reading of the rules.
 
+mod any_knots;
 mod case;
 mod comparison;
 mod examples;

@@ -23,7 +23,7 @@ use crate::random::Random;
 use crate::reading_calls::Reading;
 
 /// The calls in the order of their numbers.
-pub const CALLS: [Call; 8] = [
+pub const CALLS: [Call; 9] = [
     Call::Moments,
     Call::Curve,
     Call::Slopes,
@@ -32,13 +32,14 @@ pub const CALLS: [Call; 8] = [
     Call::Query,
     Call::Read,
     Call::SheetTensor,
+    Call::QuickQuery,
 ];
 
 /// The seed of the list; another one makes another list.
 const SEED: u64 = 1;
 
 /// How many accepted cases of each call the list has.
-const ACCEPTED: usize = 60;
+const ACCEPTED: usize = 48;
 
 /// How many cases of each refusal of each call.
 const REFUSED: usize = 3;

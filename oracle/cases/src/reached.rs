@@ -2,6 +2,7 @@
 
 use crate::case::{Call, Case};
 use crate::overflow::{numbered_ends, refusal_with};
+use ninterp_unchanged::locate_lower_index;
 
 /// An edge in words, and whether a case with its refusal reaches it.
 struct Edge {
@@ -10,7 +11,7 @@ struct Edge {
 }
 
 /// How many edges there are.
-const COUNT: usize = 12;
+const COUNT: usize = 17;
 
 const EDGES: [Edge; COUNT] = [
     Edge {
@@ -61,7 +62,56 @@ const EDGES: [Edge; COUNT] = [
         name: "kinds that are refused beside knots of another length",
         is_reached: |case, refusal| refusal == 4 && no_kinds_beside_a_length_off(case),
     },
+    Edge {
+        name: "a quick query on knots that the full one accepts",
+        is_reached: |case, refusal| is_searched(case, refusal) && knots_rise(case),
+    },
+    Edge {
+        name: "a quick query on knots that the full one refuses",
+        is_reached: |case, refusal| is_searched(case, refusal) && !knots_rise(case),
+    },
+    Edge {
+        name: "an accepted quick query beside an infinity or NaN among its knots",
+        is_reached: |case, refusal| is_quick(case) && refusal == 0 && !knots_finite(case),
+    },
+    Edge {
+        name: "an accepted quick query beside finite knots that do not rise",
+        is_reached: |case, refusal| {
+            is_quick(case) && refusal == 0 && knots_finite(case) && !knots_rise(case)
+        },
+    },
+    Edge {
+        name: "a search that ends past the last cell",
+        is_reached: |case, refusal| is_searched(case, refusal) && is_held(case),
+    },
 ];
+
+fn is_quick(case: &Case) -> bool {
+    case.call == Call::QuickQuery
+}
+
+/// Whether a quick query went as far as its knots.
+fn is_searched(case: &Case, refusal: usize) -> bool {
+    is_quick(case) && matches!(refusal, 0 | 8 | 10)
+}
+
+fn knots_finite(case: &Case) -> bool {
+    let mut knots = case.argument("knots").floats().iter();
+    knots.all(|knot| knot.is_finite())
+}
+
+/// Whether every step of the knots rises, by a finite number.
+fn knots_rise(case: &Case) -> bool {
+    let mut steps = steps(case).into_iter();
+    steps.all(|(lower, upper)| lower < upper && (upper - lower).is_finite())
+}
+
+/// Whether the unchanged search has to be held to the last cell on some axis.
+fn is_held(case: &Case) -> bool {
+    let coordinates = coordinates(case);
+    let mut axes = coordinates.iter().zip(knots_by_axis(case));
+    axes.any(|(point, knots)| locate_lower_index(knots.into(), point) == knots.len() - 1)
+}
 
 /// How many cases have reached each edge.
 #[derive(Debug, Default)]
@@ -141,7 +191,7 @@ fn knots_by_axis(case: &Case) -> Vec<&[f64]> {
 fn coordinates(case: &Case) -> Vec<f64> {
     match case.call {
         Call::Curve => vec![case.argument("point").float()],
-        Call::Query => case.argument("coordinates").floats().to_vec(),
+        Call::Query | Call::QuickQuery => case.argument("coordinates").floats().to_vec(),
         _ => Vec::new(),
     }
 }

@@ -10,7 +10,8 @@ impl Calls for Reading {
         let arguments = case.arguments.as_mut_slice();
         let refusal = match case.call {
             Call::Moments | Call::Curve | Call::Slopes => on_a_line(case.call, arguments),
-            Call::Build | Call::Change | Call::Query => on_a_grid(case.call, arguments),
+            Call::Build | Call::Change => on_a_grid(case.call, arguments),
+            Call::Query | Call::QuickQuery => of_a_tensor(case.call, arguments),
             Call::Read | Call::SheetTensor => on_a_sheet(case.call, arguments),
         };
         Some(refusal)
@@ -55,14 +56,20 @@ fn on_a_grid(call: Call, arguments: &mut [Argument]) -> usize {
             knots.floats(), tensor.floats_mut(), scratch.floats_mut(), place.numbers(),
             sample.float(), lanes.numbers_mut(),
         ),
-        (Call::Query, [axes, points, knots, tensor, coordinates, value, labels]) => {
-            reading::query(
-                axes.number(), points.numbers(), knots.floats(), tensor.floats(),
-                coordinates.floats(), value.floats_mut(), labels.numbers_mut(),
-            )
-        }
         _ => panic!("a case has the arguments of its call"),
     }
+}
+
+#[rustfmt::skip]
+fn of_a_tensor(call: Call, arguments: &mut [Argument]) -> usize {
+    let [axes, points, knots, tensor, coordinates, value, labels] = arguments else {
+        panic!("a case has the arguments of its call")
+    };
+    let query = if call == Call::Query { reading::query } else { reading::quick_query };
+    query(
+        axes.number(), points.numbers(), knots.floats(), tensor.floats(),
+        coordinates.floats(), value.floats_mut(), labels.numbers_mut(),
+    )
 }
 
 #[rustfmt::skip]

@@ -72,6 +72,9 @@ impl Words {
     }
 }
 
+/// The bytes that the program `replay` has room for.
+const ROOM: usize = 524_288;
+
 /// The list that the program `replay` is run on.
 const STORED: &[u8] = include_bytes!("../../../crates/replay/stdin");
 
@@ -101,6 +104,7 @@ fn the_list_gives_the_readings_answers_back() {
     }
     assert_eq!(words.words.len(), 0);
     assert!((300..=800).contains(&count), "{count}");
+    assert!(STORED.len() < ROOM, "{}", STORED.len());
     assert!(seen.iter().all(|refusals| refusals[0] >= 24));
     let refused = |number: usize| seen.iter().any(|refusals| refusals[number] > 0);
     assert!((1..=14).all(refused));

@@ -29,6 +29,7 @@ impl Calls for Archive {
             Call::Build => build(arguments),
             Call::Change => change(arguments),
             Call::Query => query(arguments),
+            Call::QuickQuery => quick_query(arguments),
             Call::Read => read(arguments),
             Call::SheetTensor => sheet_tensor(arguments),
         };
@@ -150,6 +151,26 @@ fn query(arguments: &mut [Argument]) -> usize {
     // SAFETY: each pair is a live slice; no two of them overlap.
     unsafe {
         hullashlar_query(
+            axes.number(), points.0, points.1, knots.0, knots.1, tensor.0, tensor.1,
+            coordinates.0, coordinates.1, value.0, value.1, labels.0, labels.1,
+        )
+    }
+}
+
+#[rustfmt::skip]
+fn quick_query(arguments: &mut [Argument]) -> usize {
+    let [axes, points, knots, tensor, coordinates, value, labels] = arguments else {
+        panic!("a case has the arguments of its call")
+    };
+    let points = lent(points.numbers());
+    let knots = lent(knots.floats());
+    let tensor = lent(tensor.floats());
+    let coordinates = lent(coordinates.floats());
+    let value = lent_mut(value.floats_mut());
+    let labels = lent_mut(labels.numbers_mut());
+    // SAFETY: each pair is a live slice; no two of them overlap.
+    unsafe {
+        hullashlar_quick_query(
             axes.number(), points.0, points.1, knots.0, knots.1, tensor.0, tensor.1,
             coordinates.0, coordinates.1, value.0, value.1, labels.0, labels.1,
         )

@@ -15,7 +15,7 @@ mod tensor;
 
 pub use curve::{curve, moments, slopes};
 pub use ends::{conditions, Condition};
-pub use query::query;
+pub use query::{query, quick_query};
 pub use refusals::CURVE_SCRATCH;
 pub use shape::{Shape, LONGEST_TENSOR};
 pub use sheet::{read, sheet_tensor, BUFFER};

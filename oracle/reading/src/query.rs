@@ -1,4 +1,4 @@
-//! The call that asks a tensor for its value at a point.
+//! The calls that ask a tensor for its value at a point.
 
 use crate::refusals::{all_finite, knots_rise, require, Refusal};
 use crate::shape::{views, Shape};
@@ -16,10 +16,37 @@ pub fn query(
     labels: &mut [usize],
 ) -> Refusal {
     let slots_stand = value.len() == 1 && labels.len() == 4;
-    let answer = Shape::checked(axes, points).and_then(|shape| {
-        require(slots_stand, 4)?;
-        answer(&shape, knots, tensor, coordinates)
-    });
+    let asked = Asked::checked(axes, points, slots_stand, knots, tensor, coordinates);
+    let answer = asked.and_then(|asked| asked.answer());
+    hand_over(answer, slots_stand, value, labels)
+}
+
+/// The same, with no look at knots but those that the search visits and those of the cell.
+pub fn quick_query(
+    axes: usize,
+    points: &[usize],
+    knots: &[f64],
+    tensor: &[f64],
+    coordinates: &[f64],
+    value: &mut [f64],
+    labels: &mut [usize],
+) -> Refusal {
+    let slots_stand = value.len() == 1 && labels.len() == 4;
+    let asked = Asked::checked(axes, points, slots_stand, knots, tensor, coordinates);
+    let answer = asked.and_then(|asked| asked.quick_answer());
+    hand_over(answer, slots_stand, value, labels)
+}
+
+/// The value, and the cells of the axes in use.
+type Answer = (f64, Vec<usize>);
+
+/// Stores an answer in its slots, +0.0 and zeros for a refusal, where these have their lengths.
+fn hand_over(
+    answer: Result<Answer, Refusal>,
+    slots_stand: bool,
+    value: &mut [f64],
+    labels: &mut [usize],
+) -> Refusal {
     let refusal = answer.as_ref().err().copied().unwrap_or(0);
     if slots_stand {
         let (answer, cells) = answer.unwrap_or_default();
@@ -30,31 +57,92 @@ pub fn query(
     refusal
 }
 
-/// The value and the labels of the axes in use, or the refusal.
-fn answer(
-    shape: &Shape,
-    knots: &[f64],
-    tensor: &[f64],
-    coordinates: &[f64],
-) -> Result<(f64, Vec<usize>), Refusal> {
-    require(knots.len() == shape.knots_length(), 4)?;
-    require(tensor.len() == shape.tensor_length(), 4)?;
-    require(coordinates.len() == shape.axes(), 4)?;
-    require(all_finite(knots) && all_finite(coordinates), 7)?;
-    let knots = shape.knots_by_axis(knots);
-    require(knots.iter().all(|knots| knots_rise(knots)), 8)?;
-    let value = value_at(shape, &knots, tensor, coordinates);
-    require(value.is_finite(), 10)?;
-    let cells = knots.iter().zip(coordinates);
-    let cell = |(knots, point): (&&[f64], &f64)| locate_lower_index((*knots).into(), point);
-    let labels = cells.map(cell).collect();
-    Ok((value, labels))
+/// What a query is given, once everything has its length.
+struct Asked<'a> {
+    shape: Shape<'a>,
+    knots: Vec<&'a [f64]>,
+    tensor: &'a [f64],
+    coordinates: &'a [f64],
+}
+
+impl<'a> Asked<'a> {
+    /// 1 to 4.
+    fn checked(
+        axes: usize,
+        points: &'a [usize],
+        slots_stand: bool,
+        knots: &'a [f64],
+        tensor: &'a [f64],
+        coordinates: &'a [f64],
+    ) -> Result<Self, Refusal> {
+        let shape = Shape::checked(axes, points)?;
+        require(slots_stand, 4)?;
+        require(knots.len() == shape.knots_length(), 4)?;
+        require(tensor.len() == shape.tensor_length(), 4)?;
+        require(coordinates.len() == shape.axes(), 4)?;
+        Ok(Self {
+            shape,
+            knots: shape.knots_by_axis(knots),
+            tensor,
+            coordinates,
+        })
+    }
+
+    /// The answer on knots that all are looked at.
+    fn answer(&self) -> Result<Answer, Refusal> {
+        let finite = self.knots.iter().all(|knots| all_finite(knots));
+        require(finite && all_finite(self.coordinates), 7)?;
+        require(self.knots.iter().all(|knots| knots_rise(knots)), 8)?;
+        let points = self.shape.points();
+        let value = value_at(points, &self.knots, self.tensor, self.coordinates);
+        require(value.is_finite(), 10)?;
+        Ok((value, self.cells()))
+    }
+
+    /// The answer on any knots. The blend is handed the cell alone: on knots that do not rise
+    /// the whole grid would be searched for another one.
+    fn quick_answer(&self) -> Result<Answer, Refusal> {
+        require(all_finite(self.coordinates), 7)?;
+        let cells = self.cells();
+        let ends = self.knots.iter().zip(&cells);
+        let ends: Vec<&[f64]> = ends.map(|(knots, cell)| &knots[*cell..cell + 2]).collect();
+        let good = |ends: &&[f64]| all_finite(ends) && knots_rise(ends);
+        require(ends.iter().all(good), 8)?;
+        let corners = self.corners(&cells);
+        let value = value_at(&vec![2; cells.len()], &ends, &corners, self.coordinates);
+        require(value.is_finite(), 10)?;
+        Ok((value, cells))
+    }
+
+    /// The cell that the unchanged search finds on each axis, held to the last one.
+    fn cells(&self) -> Vec<usize> {
+        let axes = self.knots.iter().zip(self.coordinates);
+        axes.map(|(knots, point)| {
+            let found = locate_lower_index((*knots).into(), point);
+            found.min(knots.len() - 2)
+        })
+        .collect()
+    }
+
+    /// The tensor's numbers at the corners of a cell, as a tensor of two points on each axis.
+    fn corners(&self, cells: &[usize]) -> Vec<f64> {
+        let masks = self.shape.masks();
+        let mut corners = Vec::new();
+        for corner in 0..1 << cells.len() {
+            let upper = |axis: usize| corner >> (cells.len() - 1 - axis) & 1;
+            let axes = cells.iter().enumerate();
+            let place: Vec<usize> = axes.map(|(axis, cell)| cell + upper(axis)).collect();
+            let first = self.shape.position(&place, 0);
+            corners.extend_from_slice(&self.tensor[first..first + masks]);
+        }
+        corners
+    }
 }
 
 /// The value as ninterp blends it, finite or not.
-fn value_at(shape: &Shape, knots: &[&[f64]], tensor: &[f64], coordinates: &[f64]) -> f64 {
-    let mut lengths = shape.points().to_vec();
-    lengths.push(shape.masks());
+fn value_at(points: &[usize], knots: &[&[f64]], tensor: &[f64], coordinates: &[f64]) -> f64 {
+    let mut lengths = points.to_vec();
+    lengths.push(1 << points.len());
     let tensor = ArrayD::from_shape_vec(IxDyn(&lengths), tensor.to_vec())
         .expect("the tensor has its exact length");
     evaluate_spline_corner_cached(&views(knots), tensor.view(), coordinates)

@@ -1,5 +1,5 @@
 use mathlib.Core.Path.{sym, _∙_}
-use Rattle.host.proofs.Lengths.{build-lengths}
+use Rattle.boundary.proofs.Lengths.{build-lengths}
 use Rattle.host.proofs.Exported.{build-refused, build-called}
 use borrow.Author.Needs.{needs}
 use Rattle.host.proofs.hullashlar_build.Statement.{statement}

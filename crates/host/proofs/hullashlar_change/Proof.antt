@@ -1,5 +1,5 @@
 use mathlib.Core.Path.{sym, _∙_}
-use Rattle.host.proofs.Lengths.{change-lengths}
+use Rattle.boundary.proofs.Lengths.{change-lengths}
 use Rattle.host.proofs.Exported.{change-refused, change-called}
 use borrow.Author.Needs.{needs}
 use Rattle.host.proofs.hullashlar_change.Statement.{statement}

@@ -1,6 +1,6 @@
 use mathlib.Core.Path.{sym, _∙_}
 use native.Mathlib.Omega.{arith}
-use Rattle.host.proofs.Lengths.{moments-lengths}
+use Rattle.boundary.proofs.Lengths.{moments-lengths}
 use Rattle.host.proofs.Exported.{moments-refused, moments-called}
 use borrow.Author.Needs.{needs}
 use Rattle.host.proofs.hullashlar_moments.Statement.{statement}

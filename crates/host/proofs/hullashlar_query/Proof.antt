@@ -1,5 +1,5 @@
 use mathlib.Core.Path.{sym, _∙_}
-use Rattle.host.proofs.Lengths.{query-lengths}
+use Rattle.boundary.proofs.Lengths.{query-lengths}
 use Rattle.host.proofs.Exported.{query-refused, query-called}
 use borrow.Author.Needs.{needs}
 use Rattle.host.proofs.hullashlar_query.Statement.{statement}

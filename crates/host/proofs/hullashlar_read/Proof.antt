@@ -1,6 +1,6 @@
 use mathlib.Core.Path.{sym, _∙_}
 use native.Mathlib.Omega.{arith}
-use Rattle.host.proofs.Lengths.{read-lengths}
+use Rattle.boundary.proofs.Lengths.{read-lengths}
 use Rattle.host.proofs.Exported.{read-refused, read-called}
 use borrow.Author.Needs.{needs}
 use Rattle.host.proofs.hullashlar_read.Statement.{statement}

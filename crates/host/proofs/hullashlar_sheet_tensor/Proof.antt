@@ -1,6 +1,6 @@
 use mathlib.Core.Path.{sym, _∙_}
 use native.Mathlib.Omega.{arith}
-use Rattle.host.proofs.Lengths.{sheet-tensor-lengths}
+use Rattle.boundary.proofs.Lengths.{sheet-tensor-lengths}
 use Rattle.host.proofs.Exported.{sheet-tensor-refused, sheet-tensor-called}
 use borrow.Author.Needs.{needs}
 use Rattle.host.proofs.hullashlar_sheet_tensor.Statement.{statement}

@@ -1,0 +1,35 @@
+use mathlib.Core.Path.{refl}
+use Rattle.checks.proofs.Rows.{first, second, stop, pass}
+use Rattle.boundary.specs.OwnRefusals.{sheet-tensor-own-refusal}
+use borrow.Author.Needs.{needs}
+use Rattle.boundary.proofs.own.sheet_tensor_own_refusal.Statement.{statement}
+use Rattle.boundary.proofs.own.sheet_tensor_own_refusal.Tie as tie
+
+returns : tie.Need-returns
+unfolding sheet-tensor-own-refusal
+returns c = stop _ (first _ (c .before .found-slots-refused .ensures) (c .if1 .taken)) refl
+
+returns-2 : tie.Need-returns-2
+unfolding sheet-tensor-own-refusal
+returns-2 c =
+    stop _
+    (second (c .before .before .before .found-slots-refused .ensures) (c .before .before .if1 .left) (c .before .length-refused .ensures))
+    (c .if2 .taken)
+
+returns-3 : tie.Need-returns-3
+unfolding sheet-tensor-own-refusal
+returns-3 c =
+    pass _
+    (second (c .before .before .before .found-slots-refused .ensures) (c .before .before .if1 .left) (c .before .length-refused .ensures))
+    (c .if2 .left)
+    refl
+
+pub sheet-tensor-own-refusal-spec : {M : Type 1} → statement M
+sheet-tensor-own-refusal-spec =
+    tie.close
+    (tie.spec
+    (λ c κs. search needs)
+    returns
+    (λ c κs. search needs)
+    returns-2
+    returns-3)

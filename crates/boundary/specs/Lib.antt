@@ -1,0 +1,2 @@
+pub mod OwnRefusals
+pub mod Slots

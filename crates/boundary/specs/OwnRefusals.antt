@@ -1,0 +1,139 @@
+-- The chapter OwnRefusals of docs/RULES.md: what the host itself refuses, in one order for every export. A call with axes refuses by 1 for their number alone, by 4 for points that are not four, by 2, by 3, by 4 for every other slice and slot, and by 13 for the kinds of the axes in use; a call on one axis by 2, 4 and 13. Each table has the rows of that order down to where the call's own refusals may follow.
+use mathlib.Core.Bool.{Bool, cond, _||_}
+use mathlib.Core.List.{List, [], _∷_, _++_}
+use Prim.Native.Nat.{ℕ}
+use lib.ListN.{length}
+use lib.Ieee.{Float}
+use Rattle.rules.specs.Sizes.{most-axes, Grid, knots-length, samples-length, tensor-length}
+use Rattle.rules.specs.Refusals.{axes-refused, points-refused, some-points-refused, tensor-refused, length-refused}
+use Rattle.checks.specs.Tables.{Refusal, row, lowest}
+use Rattle.kinds.specs.Kinds.{kinds-refused}
+use Rattle.plain_axes.specs.Axes.{two-ends, eight-ends, lower-kind, upper-kind, some-kinds-refused, grid-without-ends}
+
+-- ---- the curve's moments
+
+-- 4 for the kinds and the values of two ends
+abbrev pub two-ends-refused : List ℕ → List Float → Bool
+two-ends-refused kinds values = length-refused (length kinds) two-ends || length-refused (length values) two-ends
+
+module _ (n : ℕ) (knots samples : List Float) (kinds : List ℕ) (values moments-lent : List Float) where
+  -- 4 for the two ends and for the call's own slices
+  abbrev pub moments-own-rows : List Refusal
+  moments-own-rows =
+      row 2 (points-refused n)
+      ∷ row 4 (
+      two-ends-refused kinds values
+      || (length-refused (length knots) n || length-refused (length samples) n || length-refused (length moments-lent) n)
+      )
+      ∷ row 13 (kinds-refused (lower-kind kinds 0) (upper-kind kinds 0))
+      ∷ []
+
+  unfoldable pub moments-own-refusal : ℕ
+  moments-own-refusal = lowest moments-own-rows 0
+
+-- ---- the curve's value
+
+-- 4 for the slot of the value
+abbrev pub curve-own-rows : ℕ → List Float → List Refusal
+curve-own-rows n value = row 2 (points-refused n) ∷ row 4 (length-refused (length value) 1) ∷ []
+
+unfoldable pub curve-own-refusal : ℕ → List Float → ℕ
+curve-own-refusal n value = lowest (curve-own-rows n value) 0
+
+-- ---- the calls with axes
+
+-- the sizes that are given: ends play no part in them
+abbrev pub sizes-given : ℕ → List ℕ → Grid
+sizes-given axes points = grid-without-ends axes points []
+
+-- what every one of them meets first
+abbrev pub axes-rows : ℕ → List ℕ → List Refusal
+axes-rows axes points =
+    row 1 (axes-refused (sizes-given axes points))
+    ∷ row 4 (length-refused (length points) most-axes)
+    ∷ row 2 (some-points-refused (sizes-given axes points))
+    ∷ row 3 (tensor-refused (sizes-given axes points))
+    ∷ []
+
+unfoldable pub axes-own-refusal : ℕ → List ℕ → ℕ
+axes-own-refusal axes points = lowest (axes-rows axes points) 0
+
+-- 4 for the kinds and the values of the ends of four axes
+abbrev pub eight-ends-refused : List ℕ → List Float → Bool
+eight-ends-refused kinds values = length-refused (length kinds) eight-ends || length-refused (length values) eight-ends
+
+-- ---- the build
+
+module _ (axes : ℕ) (points kinds : List ℕ) (values knots samples tensor-lent : List Float) where
+  -- 4 for the ends and for the call's own slices
+  abbrev pub build-own-rows : List Refusal
+  build-own-rows =
+      axes-rows axes points ++ (
+      row 4 (
+      eight-ends-refused kinds values
+      || (
+      length-refused (length knots) (knots-length (sizes-given axes points))
+      || length-refused (length samples) (samples-length (sizes-given axes points))
+      || length-refused (length tensor-lent) (tensor-length (sizes-given axes points))
+      )
+      )
+      ∷ row 13 (some-kinds-refused axes kinds)
+      ∷ []
+      )
+
+  unfoldable pub build-own-refusal : ℕ
+  build-own-refusal = lowest build-own-rows 0
+
+-- ---- the change
+
+-- 4 for the place and the slot of the count
+abbrev pub place-or-lanes-refused : List ℕ → List ℕ → Bool
+place-or-lanes-refused place lanes = length-refused (length place) most-axes || length-refused (length lanes) 1
+
+module _ (axes : ℕ) (points kinds : List ℕ) (values knots tensor-lent : List Float) (place lanes-lent : List ℕ) where
+  -- 4 for the ends, the place, the slot of the count and for the call's own slices
+  abbrev pub change-own-rows : List Refusal
+  change-own-rows =
+      axes-rows axes points ++ (
+      row 4 (
+      eight-ends-refused kinds values || place-or-lanes-refused place lanes-lent
+      || (
+      length-refused (length knots) (knots-length (sizes-given axes points))
+      || length-refused (length tensor-lent) (tensor-length (sizes-given axes points))
+      )
+      )
+      ∷ row 13 (some-kinds-refused axes kinds)
+      ∷ []
+      )
+
+  unfoldable pub change-own-refusal : ℕ
+  change-own-refusal = lowest change-own-rows 0
+
+-- ---- the query
+
+-- 4 for the slots of value and labels
+abbrev pub query-slots-refused : List Float → List ℕ → Bool
+query-slots-refused value labels = length-refused (length value) 1 || length-refused (length labels) most-axes
+
+abbrev pub query-own-rows : ℕ → List ℕ → List Float → List ℕ → List Refusal
+query-own-rows axes points value labels = axes-rows axes points ++ (row 4 (query-slots-refused value labels) ∷ [])
+
+unfoldable pub query-own-refusal : ℕ → List ℕ → List Float → List ℕ → ℕ
+query-own-refusal axes points value labels = lowest (query-own-rows axes points value labels) 0
+
+-- ---- the sheet
+
+-- 4 for the slot of the number of axes, and for the slices of what is found of them
+abbrev pub found-slots-refused : List ℕ → List ℕ → List ℕ → List Float → Bool
+found-slots-refused axes points kinds values =
+    length-refused (length axes) 1 || length-refused (length points) most-axes || eight-ends-refused kinds values
+
+unfoldable pub read-own-refusal : List ℕ → List ℕ → List ℕ → List Float → ℕ
+read-own-refusal axes points kinds values = cond (found-slots-refused axes points kinds values) 4 0
+
+-- ---- the sheet's tensor
+
+-- 4 for the same slots, and for that of the length
+unfoldable pub sheet-tensor-own-refusal : List ℕ → List ℕ → List ℕ → List Float → List ℕ → ℕ
+sheet-tensor-own-refusal axes points kinds values length-lent =
+    cond (found-slots-refused axes points kinds values || length-refused (length length-lent) 1) 4 0
