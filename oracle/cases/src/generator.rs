@@ -97,7 +97,7 @@ const FAULTY_TO_BUILD: usize = 30;
 
 /// On knots of any sort many a cell is refused without another fault; on knots that
 /// a full query accepts the two are to be compared, and not their refusals.
-const FAULTY_QUICK: usize = 7;
+const FAULTY_QUICK: usize = 4;
 const FAULTY_BESIDE: usize = 4;
 
 /// The case of a kind that is a single call, by its number.
