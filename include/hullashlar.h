@@ -18,8 +18,8 @@
  * docs/BENCH.md has the stack of each call (below 6,300 bytes), the size of the code (below 30,000 bytes) and what the
  * archive's proofs rest on.
  *
- * Axes. Points, kinds, values, modes, places and labels are lent for four axes. No call looks at what stands past the axes in
- * use, and labels are 0 there. kinds[2 i] and values[2 i] are the lower end of axis i, kinds[2 i + 1] and
+ * Axes. Points, kinds, values, modes, places and labels are lent for four axes. No call looks at what stands past the
+ * axes in use, and labels are 0 there. kinds[2 i] and values[2 i] are the lower end of axis i, kinds[2 i + 1] and
  * values[2 i + 1] the upper one. A value is read where its kind is a first or a second derivative.
  *
  * Grids. The knots of an axis follow those of the axis before it. Of samples and tensors, neighbours along the last
@@ -83,7 +83,7 @@ enum hullashlar_kind {
     HULLASHLAR_PERIODIC = 3
 };
 
-/* What becomes of a coordinate below the first knot of its axis or above the last. One equal to an end knot is inside. */
+/* What becomes of a coordinate below the first knot of its axis or above the last. An end knot itself is inside. */
 enum hullashlar_mode {
     HULLASHLAR_EXTEND = 0,           /* the boundary cubic goes on */
     HULLASHLAR_HOLD = 1,             /* the nearest end knot is taken in its place */
@@ -165,8 +165,8 @@ size_t hullashlar_change(size_t axes,
 
 /* The surface's value at the coordinates, outside the knots of an axis as its mode says, and a label for each axis: the
  * number of the cell that was evaluated, which on a knot between two cells is the lower one.
- * Lengths: points and modes 4; knots as many as the points of all axes together; tensor 2^axes for each place of the grid;
- * coordinates as many as axes; value 1; labels 4.
+ * Lengths: points and modes 4; knots as many as the points of all axes together; tensor 2^axes for each place of the
+ * grid; coordinates as many as axes; value 1; labels 4.
  * Written: value, labels. Refuses by 1, 2, 3, 4, 22, 7, 8, 18, 10. */
 size_t hullashlar_query(size_t axes,
                         const size_t *points, size_t points_length,
@@ -180,9 +180,8 @@ size_t hullashlar_query(size_t axes,
 /* The same at a cost that does not grow with the knots but by at most 8 halvings for each axis: only the first and the
  * last knot of an axis are looked at, those that the search visits and the two of the cell that it finds. On knots that
  * hullashlar_query accepts the whole answer is the same. Any others are searched in the same way, and a coordinate that
- * is held keeps the cell that was found for it as it was given; 8 is then given where,
- * of the cell that was found on some axis, a knot is infinite or NaN, or the upper one is not above the lower by a step
- * that a double holds.
+ * is held keeps the cell that was found for it as it was given; 8 is then given where, of the cell that was found on
+ * some axis, a knot is infinite or NaN, or the upper one is not above the lower by a step that a double holds.
  * Lengths: as of hullashlar_query.
  * Written: value, labels. Refuses by 1, 2, 3, 4, 22, 7 for coordinates alone, 8, 18, 10. */
 size_t hullashlar_quick_query(size_t axes,
