@@ -1,7 +1,5 @@
 //! Ends and axes as the calls of the reading take them.
 
-use reading::EXTEND;
-
 /// The kinds of an axis's two ends, and their values.
 #[derive(Clone, Copy)]
 pub struct Ends {
@@ -97,13 +95,13 @@ impl Grid {
         (refusal, lanes[0])
     }
 
-    /// The refusal of a query that extends every axis, its value and its labels.
-    pub fn query(&self, tensor: &[f64], coordinates: &[f64]) -> (usize, f64, [usize; 4]) {
+    /// The refusal of a query with one mode for every axis, its value and its labels.
+    pub fn query(&self, mode: u8, tensor: &[f64], coordinates: &[f64]) -> (usize, f64, [usize; 4]) {
         let (mut value, mut labels) = ([0.0], [0; 4]);
         let refusal = reading::query(
             self.axes,
             &self.points,
-            &[EXTEND; 4],
+            &[mode; 4],
             &self.knots,
             tensor,
             coordinates,
