@@ -18,7 +18,7 @@ use Rattle.rules.specs.Calls.{labels-of, answer-of}
 use Rattle.rules.specs.declared.QueryAnswer.{QueryAnswer}
 use Rattle.rules.proofs.Places.{One}
 use Rattle.rules.proofs.Tables.{table-is}
-use Rattle.rules.proofs.Cells.{blend-ext, value-in-ext}
+use Rattle.rules.proofs.Cells.{blend-ext, value-at-ext, value-in-ext}
 use Rattle.cell.specs.Gathered.{blended}
 use Rattle.cell.specs.Answers.{WithinCell, refused-with, answer-in}
 use Rattle.cell.specs.declared.Within.{Within}
@@ -53,11 +53,11 @@ pub refused-is : (refusal number : ℕ) (value : Float) (labels : List ℕ) → 
 refused-is refusal zero value labels e some = absurd (some refl)
 refused-is refusal (suc number) value labels e some = rw e refl
 
--- the lower knots that were found are those of a rule: one cell, one value, and its labels
-module _ (g : Grid) (tensor : List Float) (point : ℕ → Float) (lower : List ℕ) (cells : Place)
+-- the lower knots that were found are those of a rule, and so is the point in them: one cell, one value, and its labels
+module _ (g : Grid) (tensor : List Float) (placed point : ℕ → Float) (stands : (i : ℕ) → i < g .axes → placed i ≡ point i) (lower : List ℕ) (cells : Place)
     (four : length lower ≡ most-axes) (same : One (g .axes) (place-of lower) cells) (unused : (j : ℕ) → g .axes ≤ j → j < most-axes → place-of lower j ≡ 0) where
-  value-same : value-in g tensor (place-of lower) point ≡ value-in g tensor cells point
-  value-same = value-in-ext g tensor (place-of lower) cells point same
+  value-same : value-in g tensor (place-of lower) placed ≡ value-in g tensor cells point
+  value-same = value-at-ext g tensor (place-of lower) placed point stands ∙ value-in-ext g tensor (place-of lower) cells point same
 
   labels-are : lower ≡ labels-of g cells
   labels-are = table-is 0 lower most-axes _ four (λ i h. go i h (ltb i (g .axes)) refl)
@@ -66,7 +66,7 @@ module _ (g : Grid) (tensor : List Float) (point : ℕ → Float) (lower : List 
       go i h true e = same i (ltb-true i (g .axes) e)
       go i h false e = unused i (ltb-false i (g .axes) e) h
 
-  pub answer-is : (refusal : ℕ) → refusal ≡ cond (answer-refused (value-in g tensor cells point)) 10 0 → answer-in g tensor lower point ≡ answer-of refusal (value-in g tensor cells point) (labels-of g cells)
+  pub answer-is : (refusal : ℕ) → refusal ≡ cond (answer-refused (value-in g tensor cells point)) 10 0 → answer-in g tensor lower placed ≡ answer-of refusal (value-in g tensor cells point) (labels-of g cells)
   answer-is refusal e =
       ap (λ (v : Float). answer-of (cond (answer-refused v) 10 0) v lower) value-same
       ∙ rw (e, ← labels-are) refl

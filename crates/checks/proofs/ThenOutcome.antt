@@ -8,18 +8,17 @@ use lib.Dec.{T}
 use lib.ListN.{length}
 use lib.Ieee.{Float}
 use borrow.Author.Tests.{ne-eqb}
-use Rattle.rules.specs.Numbers.{plus-zero, at}
+use Rattle.rules.specs.Numbers.{plus-zero}
 use Rattle.rules.specs.Sizes.{Grid, Place}
 use Rattle.rules.specs.Refusals.{outcome-refused, answer-refused}
 use Rattle.rules.specs.Moments.{moments}
 use Rattle.rules.specs.Curve.{curve, knot-slopes}
 use Rattle.rules.specs.Tensor.{tensor}
 use Rattle.rules.specs.Change.{changed-tensor}
-use Rattle.rules.specs.Query.{query}
-use Rattle.rules.specs.Calls.{or-else, stored, scratch-after, answered, counted, moments-refusal, curve-refusal, slopes-refusal, build-refusal, change-refusal, query-refusal}
+use Rattle.rules.specs.Calls.{or-else, stored, scratch-after, answered, counted, moments-refusal, curve-refusal, slopes-refusal, build-refusal, change-refusal}
 use Rattle.rules.specs.declared.Condition.{Condition}
 use Rattle.rules.proofs.Refused.{or-else-met}
-use Rattle.checks.specs.Check.{moments-rows, curve-rows, slopes-rows, build-rows, change-rows, query-rows, moments-check, curve-check, slopes-check, build-check, change-check, query-check}
+use Rattle.checks.specs.Check.{moments-rows, curve-rows, slopes-rows, build-rows, change-rows, moments-check, curve-check, slopes-check, build-check, change-check}
 use Rattle.checks.specs.Tables.{Refusal, lowest}
 use Rattle.checks.proofs.Rows.{numbered, below-outcome, rows-then, rows-below-10}
 
@@ -91,8 +90,3 @@ module _ (g : Grid) where
   unfolding change-check change-refusal
   change-outcome tensor-lent scratch-lent changed v =
       then-outcome (change-rows g tensor-lent (length scratch-lent) changed v) (outcome-refused (changed-tensor g changed v tensor-lent)) tt tt
-
-  pub query-outcome : (tensor-lent coordinates : List Float) → ThenOutcome (query-check g (length tensor-lent) coordinates) (answer-refused (query g tensor-lent (at coordinates))) (query-refusal g tensor-lent coordinates)
-  unfolding query-check query-refusal
-  query-outcome tensor-lent coordinates =
-      then-outcome (query-rows g (length tensor-lent) coordinates) (answer-refused (query g tensor-lent (at coordinates))) tt tt

@@ -3,4 +3,5 @@ mod Split
 pub mod Among
 pub mod Accepted
 mod Answered
+mod Sides
 pub mod Unheld

@@ -5,6 +5,8 @@ ghost use lib.ListN.{length};
 ghost use Rattle.rules.specs.Search.{one-back, held};
 ghost use Rattle.locate.specs.Answers.{Located};
 
+pub mod outside; // outside.rt: the side of a point, and what a mode makes of it
+
 // The index, or points minus 2, the last cell, where that is less.
 fn held(index: usize, points: usize) -> usize
     requires { ⌜ 2 ≤ points ⌝ }

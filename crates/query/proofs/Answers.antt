@@ -1,8 +1,8 @@
 -- What the query answers: on knots that its check lets pass the search finds the cell of the rules, so the value in that cell and its labels are theirs.
 use native.Mathlib.Omega.{arith}
-use mathlib.Core.Path.{_≡_, refl, sym, _∙_}
+use mathlib.Core.Path.{_≡_, refl, sym, ap, _∙_}
 use mathlib.Core.Logic.{_≢_}
-use mathlib.Core.Bool.{true}
+use mathlib.Core.Bool.{Bool, true, false, cond}
 use mathlib.Core.List.{List}
 use Prim.Native.Nat.{ℕ, _<_}
 use lib.ListN.{length}
@@ -11,24 +11,28 @@ use lib.Ieee.Scale.{finite}
 use borrow.Author.Tests.{not-false}
 use Rattle.rules.specs.Numbers.{at}
 use Rattle.rules.specs.Sizes.{Grid, points, knots, place-of, tensor-length}
-use Rattle.rules.specs.Refusals.{number-refused}
-use Rattle.rules.specs.Query.{cell-of, query}
-use Rattle.rules.specs.Calls.{labels, query-refusal, query-answer, QueryPromise}
+use Rattle.rules.specs.Refusals.{number-refused, answer-refused}
+use Rattle.rules.specs.Outside.{placed-on, some-outside-refused}
+use Rattle.rules.specs.Query.{cell-of, query-in-modes}
+use Rattle.rules.specs.Calls.{or-else, labels, query-refusal, query-answer, QueryPromise}
+use Rattle.rules.specs.declared.Mode.{Mode}
 use Rattle.rules.specs.declared.QueryAnswer.{QueryAnswer}
+use Rattle.rules.proofs.Refused.{or-else-met}
 use Rattle.base.proofs.Scan.{any-at}
 use Rattle.checks.specs.Given.{GridGiven, QueryGiven}
-use Rattle.checks.specs.Check.{query-check}
+use Rattle.checks.specs.Check.{query-rows, query-check}
 use Rattle.checks.proofs.Accepted.{query-given}
-use Rattle.checks.proofs.ThenOutcome.{refused, outcome, query-outcome}
+use Rattle.checks.proofs.Rows.{rows-then}
 use Rattle.locate.specs.Answers.{Rising}
 use Rattle.cell.specs.Searched.{SearchGiven, Searched}
+use Rattle.cell.specs.declared.searched.Found.{Found}
 use Rattle.cell.specs.Answers.{CellGiven, refused-with, answer-in}
 use Rattle.cell.proofs.Accepted.{rising-on-axis}
 use Rattle.cell.proofs.Answering.{refused-is, answer-is}
 
 -- ---- what the check lets pass
 
-module _ (g : Grid) (tensor-given : ℕ) (coordinates : List Float) (given : QueryGiven g tensor-given coordinates) where
+module _ (g : Grid) (modes : List Mode) (tensor-given : ℕ) (coordinates : List Float) (given : QueryGiven g tensor-given coordinates) where
   abbrev on-grid : GridGiven g tensor-given
   on-grid = given .grid-given
 
@@ -46,8 +50,8 @@ module _ (g : Grid) (tensor-given : ℕ) (coordinates : List Float) (given : Que
     point-finite : finite (at coordinates i) ≡ true
     point-finite = not-false _ (any-at (λ j. number-refused (at coordinates j)) (length coordinates) (given .coordinates-finite) i (omega (arith, given .coordinates-exact)))
 
-  module _ (lower : List ℕ) (searched : Searched g coordinates (g .axes) lower) where
-    pub cell-given : CellGiven g (place-of lower) coordinates × (tensor-given ≡ tensor-length g)
+  module _ (found : Found) (searched : Searched g modes coordinates (g .axes) found) where
+    pub cell-given : CellGiven g (place-of (found .lower)) (found .placed) × (tensor-given ≡ tensor-length g)
     cell-given = (
       record {
         inside = record {
@@ -57,32 +61,54 @@ module _ (g : Grid) (tensor-given : ℕ) (coordinates : List Float) (given : Que
           upper = searched .inside;
         };
         knots-exact = on-grid .knots-exact;
-        coordinates-enough = omega (arith, given .coordinates-exact);
+        coordinates-enough = omega (arith, searched .placed-four, on-grid .in-range .few-axes);
       },
       on-grid .tensor-exact,
     )
 
-    pub cell-found : (i : ℕ) → i < g .axes → place-of lower i ≡ cell-of g (at coordinates) i
+    pub cell-found : (i : ℕ) → i < g .axes → place-of (found .lower) i ≡ cell-of g (at coordinates) i
     cell-found i lt = searched .rising i lt (rising i lt) (point-finite i lt)
 
 -- ---- the answers
 
-module _ (g : Grid) (tensor coordinates : List Float) (check : ℕ) (checked : check ≡ query-check g (length tensor) coordinates) where
-  -- the check refuses
-  pub check-refuses : check ≢ 0 → (r : QueryAnswer) → r ≡ refused-with check → QueryPromise g tensor coordinates r
-  unfolding query-answer
-  check-refuses some r is = record {
-    answer = is ∙ refused-is _ check _ _ (refused (query-outcome g tensor coordinates) (rw checked at some) .same ∙ sym checked) some;
-  }
+module _ (g : Grid) (modes : List Mode) (tensor coordinates : List Float) where
+  abbrev outside-refused : Bool
+  outside-refused = some-outside-refused g modes (at coordinates)
 
-  -- it does not
-  pub check-passes : check ≡ 0 → QueryGiven g (length tensor) coordinates
-  check-passes none = query-given g (length tensor) coordinates (sym checked ∙ none)
+  abbrev value-refused : Bool
+  value-refused = answer-refused (query-in-modes g modes tensor (at coordinates))
 
-  pub cell-answers : check ≡ 0 → (lower : List ℕ) → Searched g coordinates (g .axes) lower → (r : QueryAnswer) → r ≡ answer-in g tensor lower (at coordinates) → QueryPromise g tensor coordinates r
-  unfolding query-answer query labels
-  cell-answers none lower searched r is = record {
-    answer = is
-        ∙ answer-is g tensor (at coordinates) lower (cell-of g (at coordinates)) (searched .four) (cell-found g (length tensor) coordinates (check-passes none) lower searched) (searched .unused)
-        (query-refusal g tensor coordinates) (outcome (query-outcome g tensor coordinates) (sym checked ∙ none));
-  }
+  refusal-is : query-refusal g modes tensor coordinates ≡ or-else (query-check g (length tensor) coordinates) (cond outside-refused 18 (cond value-refused 10 0))
+  unfolding query-refusal query-check
+  refusal-is = rows-then (query-rows g (length tensor) coordinates) (cond outside-refused 18 (cond value-refused 10 0)) tt
+
+  module _ (check : ℕ) (checked : check ≡ query-check g (length tensor) coordinates) where
+    refused-by : (number : ℕ) → query-refusal g modes tensor coordinates ≡ number → number ≢ 0 → (r : QueryAnswer) → r ≡ refused-with number → QueryPromise g modes tensor coordinates r
+    unfolding query-answer
+    refused-by number e some r is = record { answer = is ∙ refused-is _ number _ _ e some }
+
+    -- the check refuses
+    pub check-refuses : check ≢ 0 → (r : QueryAnswer) → r ≡ refused-with check → QueryPromise g modes tensor coordinates r
+    check-refuses some = refused-by check (refusal-is ∙ rw (← checked) (or-else-met check _ some)) some
+
+    -- it does not
+    pub check-passes : check ≡ 0 → QueryGiven g (length tensor) coordinates
+    check-passes none = query-given g (length tensor) coordinates (sym checked ∙ none)
+
+    module _ (none : check ≡ 0) (found : Found) (searched : Searched g modes coordinates (g .axes) found) where
+      later-is : query-refusal g modes tensor coordinates ≡ cond (found .refused) 18 (cond value-refused 10 0)
+      later-is = refusal-is ∙ rw (← checked, none, searched .refused) refl
+
+      -- a mode refuses
+      pub mode-refuses : found .refused ≡ true → (r : QueryAnswer) → r ≡ refused-with 18 → QueryPromise g modes tensor coordinates r
+      mode-refuses e = refused-by 18 (later-is ∙ ap (λ (b : Bool). cond b 18 (cond value-refused 10 0)) e) (λ z. omega arith)
+
+      -- none does
+      pub cell-answers : found .refused ≡ false → (r : QueryAnswer) → r ≡ answer-in g tensor (found .lower) (at (found .placed)) → QueryPromise g modes tensor coordinates r
+      unfolding query-answer query-in-modes labels
+      cell-answers e r is = record {
+        answer = is
+            ∙ answer-is g tensor (at (found .placed)) (placed-on g modes (at coordinates)) (searched .placed) (found .lower) (cell-of g (at coordinates))
+            (searched .four) (cell-found g modes (length tensor) coordinates (check-passes none) found searched) (searched .unused)
+            (query-refusal g modes tensor coordinates) (later-is ∙ ap (λ (b : Bool). cond b 18 (cond value-refused 10 0)) e);
+      }

@@ -11,19 +11,22 @@ use borrow.Author.Tests.{ltb-false}
 use Rattle.rules.specs.Numbers.{at}
 use Rattle.rules.specs.Sizes.{most-in-a-tensor, Grid, knots, place-of, knots-length, tensor-length}
 use Rattle.rules.specs.Refusals.{found-cell-refused, some-found-cell-refused, answer-refused}
-use Rattle.rules.specs.Query.{quick-cell-of, quick-query}
+use Rattle.rules.specs.Outside.{placed-on, some-outside-refused}
+use Rattle.rules.specs.Query.{quick-cell-of, quick-query-in-modes}
 use Rattle.rules.specs.Calls.{or-else, quick-labels, quick-query-refusal, quick-query-answer, QuickQueryPromise}
 use Rattle.rules.specs.declared.QueryAnswer.{QueryAnswer}
+use Rattle.rules.specs.declared.Mode.{Mode}
 use Rattle.rules.proofs.Refused.{or-else-met, any-ext}
 use Rattle.checks.proofs.Rows.{rows-then, none-applies, axes-few, in-range, exact-3}
 use Rattle.cell.specs.Searched.{SearchGiven, Searched}
+use Rattle.cell.specs.declared.searched.Found.{Found}
 use Rattle.cell.specs.Answers.{CellGiven, refused-with, answer-in}
 use Rattle.cell.proofs.Answering.{refused-is, answer-is}
 use Rattle.quick_query.specs.Check.{quick-query-rows, quick-query-check, QuickQueryGiven}
 
 -- ---- what the check lets pass
 
-module _ (g : Grid) (tensor-given : ℕ) (coordinates : List Float) where
+module _ (g : Grid) (modes : List Mode) (tensor-given : ℕ) (coordinates : List Float) where
   pub quick-query-given : quick-query-check g tensor-given coordinates ≡ 0 → QuickQueryGiven g tensor-given coordinates
   unfolding quick-query-check
   quick-query-given e =
@@ -47,8 +50,8 @@ module _ (g : Grid) (tensor-given : ℕ) (coordinates : List Float) where
       coordinates-exact = given .coordinates-exact;
     }
 
-    pub cell-given : (lower : List ℕ) → Searched g coordinates (g .axes) lower → CellGiven g (place-of lower) coordinates × (tensor-given ≡ tensor-length g)
-    cell-given lower searched = (
+    pub cell-given : (found : Found) → Searched g modes coordinates (g .axes) found → CellGiven g (place-of (found .lower)) (found .placed) × (tensor-given ≡ tensor-length g)
+    cell-given found searched = (
       record {
         inside = record {
           some-axes = given .in-range .some-axes;
@@ -57,54 +60,69 @@ module _ (g : Grid) (tensor-given : ℕ) (coordinates : List Float) where
           upper = searched .inside;
         };
         knots-exact = given .knots-exact;
-        coordinates-enough = omega (arith, given .coordinates-exact);
+        coordinates-enough = omega (arith, searched .placed-four, given .in-range .few-axes);
       },
       given .tensor-exact,
     )
 
 -- ---- the answers
 
-module _ (g : Grid) (tensor coordinates : List Float) where
+module _ (g : Grid) (modes : List Mode) (tensor coordinates : List Float) where
   abbrev found-refused : Bool
   found-refused = some-found-cell-refused g (quick-cell-of g (at coordinates))
 
-  abbrev value-refused : Bool
-  value-refused = answer-refused (quick-query g tensor (at coordinates))
+  abbrev outside-refused : Bool
+  outside-refused = some-outside-refused g modes (at coordinates)
 
-  refusal-is : quick-query-refusal g tensor coordinates ≡ or-else (quick-query-check g (length tensor) coordinates) (cond found-refused 8 (cond value-refused 10 0))
+  abbrev value-refused : Bool
+  value-refused = answer-refused (quick-query-in-modes g modes tensor (at coordinates))
+
+  -- what is looked at after the check
+  abbrev later : Bool → Bool → ℕ
+  later cells sides = cond cells 8 (cond sides 18 (cond value-refused 10 0))
+
+  refusal-is : quick-query-refusal g modes tensor coordinates ≡ or-else (quick-query-check g (length tensor) coordinates) (later found-refused outside-refused)
   unfolding quick-query-refusal quick-query-check
-  refusal-is = rows-then (quick-query-rows g (length tensor) coordinates) (cond found-refused 8 (cond value-refused 10 0)) tt
+  refusal-is = rows-then (quick-query-rows g (length tensor) coordinates) (later found-refused outside-refused) tt
 
   module _ (check : ℕ) (checked : check ≡ quick-query-check g (length tensor) coordinates) where
-    refused-by : (number : ℕ) → quick-query-refusal g tensor coordinates ≡ number → number ≢ 0 → (r : QueryAnswer) → r ≡ refused-with number → QuickQueryPromise g tensor coordinates r
+    refused-by : (number : ℕ) → quick-query-refusal g modes tensor coordinates ≡ number → number ≢ 0 → (r : QueryAnswer) → r ≡ refused-with number → QuickQueryPromise g modes tensor coordinates r
     unfolding quick-query-answer
     refused-by number e some r is = record { answer = is ∙ refused-is _ number _ _ e some }
 
     -- the check refuses
-    pub check-refuses : check ≢ 0 → (r : QueryAnswer) → r ≡ refused-with check → QuickQueryPromise g tensor coordinates r
+    pub check-refuses : check ≢ 0 → (r : QueryAnswer) → r ≡ refused-with check → QuickQueryPromise g modes tensor coordinates r
     check-refuses some = refused-by check (refusal-is ∙ rw (← checked) (or-else-met check _ some)) some
 
     -- it does not
     pub check-passes : check ≡ 0 → QuickQueryGiven g (length tensor) coordinates
-    check-passes none = quick-query-given g (length tensor) coordinates (sym checked ∙ none)
+    check-passes none = quick-query-given g modes (length tensor) coordinates (sym checked ∙ none)
 
-    module _ (none : check ≡ 0) (lower : List ℕ) (searched : Searched g coordinates (g .axes) lower) {found : Bool} (is-found : found ≡ some-found-cell-refused g (place-of lower)) where
-      found-is : found ≡ found-refused
-      found-is =
+    module _ (none : check ≡ 0) (found : Found) (searched : Searched g modes coordinates (g .axes) found) {cells : Bool} (is-found : cells ≡ some-found-cell-refused g (place-of (found .lower))) where
+      cells-are : cells ≡ found-refused
+      cells-are =
           is-found
-          ∙ any-ext (λ i. found-cell-refused (knots g i) (place-of lower i)) (λ i. found-cell-refused (knots g i) (quick-cell-of g (at coordinates) i)) (g .axes)
+          ∙ any-ext (λ i. found-cell-refused (knots g i) (place-of (found .lower) i)) (λ i. found-cell-refused (knots g i) (quick-cell-of g (at coordinates) i)) (g .axes)
           (λ i l. ap (found-cell-refused (knots g i)) (searched .found i l))
 
-      later-is : quick-query-refusal g tensor coordinates ≡ cond found 8 (cond value-refused 10 0)
-      later-is = refusal-is ∙ rw (← checked, none, found-is) refl
+      later-is : quick-query-refusal g modes tensor coordinates ≡ later cells (found .refused)
+      later-is = refusal-is ∙ rw (← checked, none, cells-are, searched .refused) refl
 
-      pub cell-refused : found ≡ true → (r : QueryAnswer) → r ≡ refused-with 8 → QuickQueryPromise g tensor coordinates r
-      cell-refused e = refused-by 8 (later-is ∙ ap (λ (b : Bool). cond b 8 (cond value-refused 10 0)) e) (λ z. omega arith)
+      -- a found cell is refused
+      pub cell-refused : cells ≡ true → (r : QueryAnswer) → r ≡ refused-with 8 → QuickQueryPromise g modes tensor coordinates r
+      cell-refused e = refused-by 8 (later-is ∙ ap (λ (b : Bool). later b (found .refused)) e) (λ z. omega arith)
 
-      pub cell-answers : found ≡ false → (r : QueryAnswer) → r ≡ answer-in g tensor lower (at coordinates) → QuickQueryPromise g tensor coordinates r
-      unfolding quick-query-answer quick-query quick-labels
-      cell-answers e r is = record {
-        answer = is
-            ∙ answer-is g tensor (at coordinates) lower (quick-cell-of g (at coordinates)) (searched .four) (searched .found) (searched .unused)
-            (quick-query-refusal g tensor coordinates) (later-is ∙ ap (λ (b : Bool). cond b 8 (cond value-refused 10 0)) e);
-      }
+      module _ (cells-pass : cells ≡ false) where
+        -- a mode refuses
+        pub mode-refuses : found .refused ≡ true → (r : QueryAnswer) → r ≡ refused-with 18 → QuickQueryPromise g modes tensor coordinates r
+        mode-refuses e = refused-by 18 (later-is ∙ rw (cells-pass, e) refl) (λ z. omega arith)
+
+        -- none does
+        pub cell-answers : found .refused ≡ false → (r : QueryAnswer) → r ≡ answer-in g tensor (found .lower) (at (found .placed)) → QuickQueryPromise g modes tensor coordinates r
+        unfolding quick-query-answer quick-query-in-modes quick-labels
+        cell-answers e r is = record {
+          answer = is
+              ∙ answer-is g tensor (at (found .placed)) (placed-on g modes (at coordinates)) (searched .placed) (found .lower) (quick-cell-of g (at coordinates))
+              (searched .four) (searched .found) (searched .unused)
+              (quick-query-refusal g modes tensor coordinates) (later-is ∙ rw (cells-pass, e) refl);
+        }

@@ -49,6 +49,17 @@ cell-ext g tensor p q same e =
     ap (λ (place : ℕ). at tensor (place * masks g + e % masks g))
     (flat-ext (points g) (g .axes) _ _ (λ j h. ap (λ (l : ℕ). l + e / masks g / 2 ^ (g .axes - 1 - j) % 2) (same j h)))
 
+-- one value for two points that agree on the axes in use
+pub value-at-ext :
+    (g : Grid) (tensor : List Float) (cells : Place) (point point′ : ℕ → Float) → ((i : ℕ) → i < g .axes → point i ≡ point′ i)
+    → value-in g tensor cells point ≡ value-in g tensor cells point′
+unfolding value-in
+value-at-ext g tensor cells point point′ same =
+    blend-ext (g .axes) 0 _ _ _ _ _ _
+    (λ i a b. refl)
+    (λ i a b. ap (fraction (knots g i) (cells i)) (same i (omega arith)))
+    (λ e b. refl)
+
 -- one value for two cells with the same lower indices
 pub value-in-ext :
     (g : Grid) (tensor : List Float) (cells cells′ : Place) (point : ℕ → Float) → One (g .axes) cells cells′

@@ -14,12 +14,15 @@ use Rattle.rules.specs.Moments.{moments}
 use Rattle.rules.specs.Curve.{curve, knot-slopes}
 use Rattle.rules.specs.Tensor.{tensor}
 use Rattle.rules.specs.Change.{changed-tensor, build-lanes, change-lanes, lane-sum}
+use Rattle.rules.specs.Outside.{side, placed}
 use Rattle.rules.specs.Query.{query}
 use Rattle.rules.specs.Refusals.{step-refused, found-cell-refused}
-use Rattle.rules.specs.Calls.{moments-refusal, labels, quick-query-refusal}
+use Rattle.rules.specs.Calls.{moments-refusal, labels, query-refusal, quick-query-refusal}
 use Rattle.rules.specs.declared.Condition.{Condition}
 use Rattle.rules.specs.declared.Condition.the-variants.{Endpoints}
 use Rattle.rules.specs.declared.End.the-variants.{NotAKnot, FirstDerivative, SecondDerivative}
+use Rattle.rules.specs.declared.Mode.the-variants.{Extend, Hold, Refuse}
+use Rattle.rules.specs.declared.Side.the-variants.{Below, Inside, Above}
 
 -- the float of a bit pattern
 abbrev pattern : ℕ → Float
@@ -81,7 +84,6 @@ abbrev labels-at : Float → List ℕ
 labels-at point =
     labels
     (record { axes = 1; entries = record { points = 3; condition = natural } ∷ unused-axis ∷ unused-axis ∷ unused-axis ∷ []; flat-knots = knots-3 })
-    []
     (point ∷ [])
 
 -- the samples of the square, 0 0 0 1
@@ -108,11 +110,18 @@ abbrev quick-refusal-of : List Float → Float → ℕ
 quick-refusal-of x point =
     quick-query-refusal
     (record { axes = 1; entries = record { points = length x; condition = natural } ∷ []; flat-knots = x })
-    (zeros (2 * length x)) (point ∷ [])
+    [] (zeros (2 * length x)) (point ∷ [])
 
 -- the refusal of the moments of samples that are all 0, with all lengths right
 abbrev refusal-of : ℕ → List Float → Condition → ℕ
 refusal-of n x c = moments-refusal n x (zeros n) c (zeros n) (zeros 2048)
+
+-- the refusal of the query in mode refuse at the point 3, on one axis of two knots
+abbrev refusal-at-3 : List Float → List Float → ℕ
+refusal-at-3 x t =
+    query-refusal
+    (record { axes = 1; entries = record { points = 2; condition = natural } ∷ unused-axis ∷ unused-axis ∷ unused-axis ∷ []; flat-knots = x })
+    (Refuse ∷ []) t (3′ ∷ [])
 
 pub record Examples : Type 0 where
   -- natural, three knots, up by 1 and down again: in the middle the moment is −3; the slopes are 1.5, 0 and −1.5; at 0.5 stands 0.6875
@@ -150,11 +159,26 @@ pub record Examples : Type 0 where
   pub scan-of-falling-knots : locate falling-knots 4 3′ ≡ 0
   pub search-of-falling-knots : lower-index falling-knots 3′ ≡ 3
   pub looked-at-in-falling-knots : visited falling-knots 3′ ≡ 0 ∷ 4 ∷ 3 ∷ 4 ∷ 2 ∷ 3 ∷ []
+  -- the sides of three knots: on an end knot a point is inside; and below goes first on knots where both hold
+  pub side-below : side knots-3 -1′ ≡ Below
+  pub side-at-first-knot : side knots-3 0′ ≡ Inside
+  pub side-at-last-knot : side knots-3 2′ ≡ Inside
+  pub side-above : side knots-3 3′ ≡ Above
+  pub side-of-both : side (5′ ∷ 1′ ∷ []) 3′ ≡ Below
+  -- what hold takes in place of the points -1 0 2 3
+  pub held-below : placed Hold knots-3 -1′ ≡ 0′
+  pub held-at-first-knot : placed Hold knots-3 0′ ≡ 0′
+  pub held-at-last-knot : placed Hold knots-3 2′ ≡ 2′
+  pub held-above : placed Hold knots-3 3′ ≡ 2′
+  pub extended-above : placed Extend knots-3 3′ ≡ 3′
   -- a quick query of those knots is accepted, since the cell that is found rises; a falling cell is refused by 8, and by 7 where the point is a NaN; a NaN knot is refused with its cell
   pub falling-off-the-path : quick-refusal-of falling-knots 3′ ≡ 0
   pub falling-cell : quick-refusal-of (1′ ∷ 0′ ∷ []) ½ ≡ 8
   pub point-before-the-cell : quick-refusal-of (1′ ∷ 0′ ∷ []) Ieee.nan ≡ 7
   pub cell-of-a-NaN : quick-refusal-of (0′ ∷ 1′ ∷ Ieee.nan ∷ []) 2′ ≡ 8
+  -- 18 comes after 8, so on knots that do not rise, and before 10, so where the value would be infinite
+  pub outside-of-falling-knots : refusal-at-3 (1′ ∷ 0′ ∷ []) (zeros 4) ≡ 8
+  pub outside-with-an-infinite-value : refusal-at-3 knots-2 (pattern 0x7FF0_0000_0000_0000 ∷ zeros 3) ≡ 18
   -- one point too few for NotAKnot, and just enough: at both ends, at the lower, at the upper
   pub both-ends-3 : refusal-of 3 knots-3 not-a-knot ≡ 9
   pub both-ends-4 : refusal-of 4 knots-4 not-a-knot ≡ 0
@@ -180,7 +204,7 @@ pub record Examples : Type 0 where
   pub rounded-twice : spline knots-3 2 natural (0′ ∷ 1′ ∷ 5′ ∷ []) (pattern 0x3FD0_0000_0000_0000) ≡ pattern 0x3FB3_0000_0000_0000
 
 pub examples : Examples
-unfolding any sum-below product-below locate lower-index visited labels moments curve knot-slopes tensor changed-tensor change-lanes lane-sum query step-refused found-cell-refused moments-refusal quick-query-refusal Ieee.add Ieee.sub Ieee.mul Ieee.div Ieee.neg Ieee.lt Ieee.le Ieee.ofBits
+unfolding any sum-below product-below locate lower-index visited side labels moments curve knot-slopes tensor changed-tensor change-lanes lane-sum query step-refused moments-refusal Ieee.add Ieee.sub Ieee.mul Ieee.div Ieee.neg Ieee.lt Ieee.le Ieee.ofBits found-cell-refused quick-query-refusal query-refusal
 examples = record {
   natural-moments = refl;
   natural-slopes = refl;
@@ -208,10 +232,22 @@ examples = record {
   scan-of-falling-knots = refl;
   search-of-falling-knots = refl;
   looked-at-in-falling-knots = refl;
+  side-below = refl;
+  side-at-first-knot = refl;
+  side-at-last-knot = refl;
+  side-above = refl;
+  side-of-both = refl;
+  held-below = refl;
+  held-at-first-knot = refl;
+  held-at-last-knot = refl;
+  held-above = refl;
+  extended-above = refl;
   falling-off-the-path = refl;
   falling-cell = refl;
   point-before-the-cell = refl;
   cell-of-a-NaN = refl;
+  outside-of-falling-knots = refl;
+  outside-with-an-infinite-value = refl;
   both-ends-3 = refl;
   both-ends-4 = refl;
   lower-end-2 = refl;

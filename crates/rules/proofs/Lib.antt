@@ -10,6 +10,7 @@ pub mod ChangeIsBuild
 pub mod LaneCount
 pub mod Refused
 pub mod QuickReads
+pub mod Modes
 pub mod BranchNeverReached
 pub mod Unique
 pub mod Examples

@@ -14,9 +14,14 @@ use Rattle.rules.specs.Sizes.{Grid, points, knots, sum-below}
 use Rattle.rules.specs.Steps.{h}
 use Rattle.rules.specs.Search.{middle, halving, most-halvings, one-back, rust-index, lower-index, middles, visited}
 use Rattle.rules.specs.Refusals.{step-refused, found-cell-refused, some-found-cell-refused}
-use Rattle.rules.specs.Query.{cell, fraction, value-in, quick-cell-of, quick-query}
+use Rattle.rules.specs.Outside.{mode-at, side, nearest, placed, placed-on, outside-refused}
+use Rattle.rules.specs.Query.{cell, fraction, value-in, quick-cell-of, quick-query-in-modes}
 use Rattle.rules.specs.Calls.{labels-of, answer-of, quick-query-refusal, quick-labels, quick-query-answer}
 use Rattle.rules.specs.declared.Axis.{Axis}
+use Rattle.rules.specs.declared.Mode.{Mode}
+use Rattle.rules.specs.declared.Mode.the-variants.{Extend, Hold, Refuse}
+use Rattle.rules.specs.declared.Side.{Side}
+use Rattle.rules.specs.declared.Side.the-variants.{Below, Inside, Above}
 use Rattle.rules.proofs.Cases.{not-both}
 use Rattle.rules.proofs.Tables.{table-ext}
 use Rattle.rules.proofs.Refused.{any-ext}
@@ -127,7 +132,7 @@ few-visited x point = go (lt point (at x 0)) (le (at x (length x - 1)) point)
 
 -- ---- the whole answer
 
-module _ (axes : ℕ) (all : List Axis) (x x′ tensor tensor′ coordinates : List Float) where
+module _ (axes : ℕ) (all : List Axis) (modes : List Mode) (x x′ tensor tensor′ coordinates : List Float) where
   abbrev g : Grid
   g = record { axes = axes; entries = all; flat-knots = x }
 
@@ -167,16 +172,36 @@ module _ (axes : ℕ) (all : List Axis) (x x′ tensor tensor′ coordinates : L
     unfolding found-cell-refused step-refused h
     refused-same i l = rw (← cells-same i l, ← lower-same i l, ← upper-same i l) refl
 
-    value-same : quick-query g tensor (at coordinates) ≡ quick-query g′ tensor′ (at coordinates)
-    unfolding quick-query value-in h fraction cell
+    side-same : (i : ℕ) → i < axes → side (knots g i) (at coordinates i) ≡ side (knots g′ i) (at coordinates i)
+    unfolding side visited
+    side-same i l = rw (← alike .knots-agree i l .0, ← axis-count i, ← alike .knots-agree i l .1 .0) refl
+
+    nearest-same : (i : ℕ) → i < axes → (s : Side) → nearest s (knots g i) (at coordinates i) ≡ nearest s (knots g′ i) (at coordinates i)
+    unfolding visited
+    nearest-same i l Below = alike .knots-agree i l .0
+    nearest-same i l Inside = refl
+    nearest-same i l Above = rw (← axis-count i) (alike .knots-agree i l .1 .0)
+
+    placed-same : (i : ℕ) → i < axes → placed-on g modes (at coordinates) i ≡ placed-on g′ modes (at coordinates) i
+    placed-same i l = go (mode-at modes i)
+      where
+        go : (mode : Mode) → placed mode (knots g i) (at coordinates i) ≡ placed mode (knots g′ i) (at coordinates i)
+        go Extend = refl
+        go Hold =
+            nearest-same i l (side (knots g i) (at coordinates i))
+            ∙ ap (λ (s : Side). nearest s (knots g′ i) (at coordinates i)) (side-same i l)
+        go Refuse = refl
+
+    value-same : quick-query-in-modes g modes tensor (at coordinates) ≡ quick-query-in-modes g′ modes tensor′ (at coordinates)
+    unfolding quick-query-in-modes value-in h fraction cell
     value-same =
         blend-ext axes 0 _ _ _ _ _ _
         (λ i a b. rw (lower-same i (omega arith), upper-same i (omega arith)) refl)
-        (λ i a b. rw (lower-same i (omega arith), upper-same i (omega arith)) refl)
+        (λ i a b. rw (lower-same i (omega arith), upper-same i (omega arith), placed-same i (omega arith)) refl)
         (alike .tensor-agrees)
-        ∙ value-in-ext g′ tensor′ cells (quick-cell-of g′ (at coordinates)) (at coordinates) cells-same
+        ∙ value-in-ext g′ tensor′ cells (quick-cell-of g′ (at coordinates)) (placed-on g′ modes (at coordinates)) cells-same
 
-    labels-same : quick-labels g tensor coordinates ≡ quick-labels g′ tensor′ coordinates
+    labels-same : quick-labels g coordinates ≡ quick-labels g′ coordinates
     unfolding quick-labels
     labels-same = table-ext 4 _ _ (λ i l. go i (ltb i axes) refl)
       where
@@ -184,12 +209,19 @@ module _ (axes : ℕ) (all : List Axis) (x x′ tensor tensor′ coordinates : L
         go i true e = cells-same i (ltb-true i axes e)
         go i false e = refl
 
-    refusal-same : quick-query-refusal g tensor coordinates ≡ quick-query-refusal g′ tensor′ coordinates
+    refusal-same : quick-query-refusal g modes tensor coordinates ≡ quick-query-refusal g′ modes tensor′ coordinates
     unfolding quick-query-refusal
     refusal-same =
-        rw (alike .knots-count, alike .tensor-count, value-same, any-ext (λ i. found-cell-refused (knots g i) (cells i)) (λ i. found-cell-refused (knots g′ i) (quick-cell-of g′ (at coordinates) i)) axes refused-same) refl
+        rw (
+          alike .knots-count,
+          alike .tensor-count,
+          value-same,
+          any-ext (λ i. found-cell-refused (knots g i) (cells i)) (λ i. found-cell-refused (knots g′ i) (quick-cell-of g′ (at coordinates) i)) axes refused-same,
+          any-ext (λ i. outside-refused (mode-at modes i) (side (knots g i) (at coordinates i))) (λ i. outside-refused (mode-at modes i) (side (knots g′ i) (at coordinates i))) axes (λ i l. ap (outside-refused (mode-at modes i)) (side-same i l)),
+        )
+        refl
 
     -- refusal, value and labels are the same: nothing else can matter
-    pub quick-reads : quick-query-answer g tensor coordinates ≡ quick-query-answer g′ tensor′ coordinates
+    pub quick-reads : quick-query-answer g modes tensor coordinates ≡ quick-query-answer g′ modes tensor′ coordinates
     unfolding quick-query-answer
     quick-reads = cc (refusal-same, value-same, labels-same)

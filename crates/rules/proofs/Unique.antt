@@ -9,6 +9,7 @@ use Rattle.rules.specs.declared.Condition.{Condition}
 use Rattle.rules.specs.declared.CurveAnswer.{CurveAnswer}
 use Rattle.rules.specs.declared.ChangeAnswer.{ChangeAnswer}
 use Rattle.rules.specs.declared.QueryAnswer.{QueryAnswer}
+use Rattle.rules.specs.declared.Mode.{Mode}
 
 -- two things that equal a third
 same : {A : Type 0} {a b c : A} → a ≡ c → b ≡ c → a ≡ b
@@ -54,15 +55,15 @@ change-unique g tensor-lent scratch changed v a a′ t t′ s s′ p q =
     (same (p .answer) (q .answer), same (p .output) (q .output), same (p .scratch) (q .scratch))
 
 pub query-unique :
-    (g : Grid) (tensor-lent coordinates : List Float) (a a′ : QueryAnswer)
-    → QueryPromise g tensor-lent coordinates a
-    → QueryPromise g tensor-lent coordinates a′
+    (g : Grid) (modes : List Mode) (tensor-lent coordinates : List Float) (a a′ : QueryAnswer)
+    → QueryPromise g modes tensor-lent coordinates a
+    → QueryPromise g modes tensor-lent coordinates a′
     → a ≡ a′
-query-unique g tensor-lent coordinates a a′ p q = same (p .answer) (q .answer)
+query-unique g modes tensor-lent coordinates a a′ p q = same (p .answer) (q .answer)
 
 pub quick-query-unique :
-    (g : Grid) (tensor-lent coordinates : List Float) (a a′ : QueryAnswer)
-    → QuickQueryPromise g tensor-lent coordinates a
-    → QuickQueryPromise g tensor-lent coordinates a′
+    (g : Grid) (modes : List Mode) (tensor-lent coordinates : List Float) (a a′ : QueryAnswer)
+    → QuickQueryPromise g modes tensor-lent coordinates a
+    → QuickQueryPromise g modes tensor-lent coordinates a′
     → a ≡ a′
-quick-query-unique g tensor-lent coordinates a a′ p q = same (p .answer) (q .answer)
+quick-query-unique g modes tensor-lent coordinates a a′ p q = same (p .answer) (q .answer)

@@ -13,11 +13,13 @@ use Rattle.rules.specs.Moments.{moments}
 use Rattle.rules.specs.Curve.{curve, knot-slopes}
 use Rattle.rules.specs.Tensor.{tensor}
 use Rattle.rules.specs.Change.{changed-tensor, change-lanes}
-use Rattle.rules.specs.Query.{cell-of, query, quick-cell-of, quick-query}
+use Rattle.rules.specs.Outside.{some-outside-refused}
+use Rattle.rules.specs.Query.{cell-of, quick-cell-of, query-in-modes, quick-query-in-modes}
 use Rattle.rules.specs.declared.Condition.{Condition}
 use Rattle.rules.specs.declared.CurveAnswer.{CurveAnswer}
 use Rattle.rules.specs.declared.ChangeAnswer.{ChangeAnswer}
 use Rattle.rules.specs.declared.QueryAnswer.{QueryAnswer}
+use Rattle.rules.specs.declared.Mode.{Mode}
 
 -- a refusal, or what comes later where it is 0
 abbrev pub or-else : ℕ → ℕ → ℕ
@@ -178,59 +180,62 @@ answer-of refusal value labels = record {
   labels = labelled refusal labels;
 }
 
-module _ (g : Grid) (tensor-lent coordinates : List Float) where
-  -- 4 of every query
-  abbrev pub query-lengths-refused : Bool
-  query-lengths-refused =
-      length-refused (length (g .flat-knots)) (knots-length g) || length-refused (length tensor-lent) (tensor-length g) || length-refused (length coordinates) (g .axes)
+-- 4 of every query
+abbrev pub query-lengths-refused : Grid → List Float → List Float → Bool
+query-lengths-refused g tensor-lent coordinates =
+    length-refused (length (g .flat-knots)) (knots-length g) || length-refused (length tensor-lent) (tensor-length g) || length-refused (length coordinates) (g .axes)
 
-  -- the query's refusal, the first of 1 2 3 4 7 8 10 that applies
-  unfoldable pub query-refusal : ℕ
-  unfolding query
-  query-refusal =
+-- the labels of the query, and those of the quick query: the cells of the coordinates as they are given, in every mode
+unfoldable pub labels : Grid → List Float → List ℕ
+unfolding cell-of
+labels g coordinates = labels-of g (cell-of g (at coordinates))
+
+unfoldable pub quick-labels : Grid → List Float → List ℕ
+unfolding quick-cell-of
+quick-labels g coordinates = labels-of g (quick-cell-of g (at coordinates))
+
+module _ (g : Grid) (modes : List Mode) (tensor-lent coordinates : List Float) where
+  -- the refusal of both queries, the first of 1 2 3 4 7 8 18 10 that applies; of 7, 8 and 10 each has its own tests
+  abbrev pub refusal-in-order : Bool → Bool → Bool → ℕ
+  refusal-in-order numbers-refused cells-refused value-refused =
       cond (axes-refused g) 1
       (cond (some-points-refused g) 2
       (cond (tensor-refused g) 3
-      (cond query-lengths-refused 4
-      (cond (some-number-refused (g .flat-knots) || some-number-refused coordinates) 7
-      (cond (some-knots-refused g) 8
-      (cond (answer-refused (query g tensor-lent (at coordinates))) 10 0))))))
+      (cond (query-lengths-refused g tensor-lent coordinates) 4
+      (cond numbers-refused 7
+      (cond cells-refused 8
+      (cond (some-outside-refused g modes (at coordinates)) 18
+      (cond value-refused 10 0)))))))
 
-  -- its labels
-  unfoldable pub labels : List ℕ
-  unfolding cell-of
-  labels = labels-of g (cell-of g (at coordinates))
+  -- the query's refusal
+  unfoldable pub query-refusal : ℕ
+  unfolding query-in-modes
+  query-refusal =
+      refusal-in-order (some-number-refused (g .flat-knots) || some-number-refused coordinates)
+      (some-knots-refused g)
+      (answer-refused (query-in-modes g modes tensor-lent (at coordinates)))
 
   -- its answer: the refusal, the value at the coordinates, and the labels
   unfoldable pub query-answer : QueryAnswer
   unfolding query-refusal labels
-  query-answer = answer-of query-refusal (query g tensor-lent (at coordinates)) labels
+  query-answer = answer-of query-refusal (query-in-modes g modes tensor-lent (at coordinates)) (labels g coordinates)
 
   -- what it promises: the answer
   pub record QueryPromise (given : QueryAnswer) : Type 0 where
     pub answer : given ≡ query-answer
 
-  -- the quick query's refusal, the first of 1 2 3 4 7 8 10 that applies: 7 of the coordinates and 8 of the found cells alone
+  -- the quick query's refusal: 7 of the coordinates and 8 of the found cells alone
   unfoldable pub quick-query-refusal : ℕ
-  unfolding quick-cell-of quick-query
+  unfolding quick-cell-of quick-query-in-modes
   quick-query-refusal =
-      cond (axes-refused g) 1
-      (cond (some-points-refused g) 2
-      (cond (tensor-refused g) 3
-      (cond query-lengths-refused 4
-      (cond (some-number-refused coordinates) 7
-      (cond (some-found-cell-refused g (quick-cell-of g (at coordinates))) 8
-      (cond (answer-refused (quick-query g tensor-lent (at coordinates))) 10 0))))))
-
-  -- its labels
-  unfoldable pub quick-labels : List ℕ
-  unfolding quick-cell-of
-  quick-labels = labels-of g (quick-cell-of g (at coordinates))
+      refusal-in-order (some-number-refused coordinates)
+      (some-found-cell-refused g (quick-cell-of g (at coordinates)))
+      (answer-refused (quick-query-in-modes g modes tensor-lent (at coordinates)))
 
   -- its answer: the refusal, the value at the coordinates, and the labels
   unfoldable pub quick-query-answer : QueryAnswer
   unfolding quick-query-refusal quick-labels
-  quick-query-answer = answer-of quick-query-refusal (quick-query g tensor-lent (at coordinates)) quick-labels
+  quick-query-answer = answer-of quick-query-refusal (quick-query-in-modes g modes tensor-lent (at coordinates)) (quick-labels g coordinates)
 
   -- what it promises: the answer
   pub record QuickQueryPromise (given : QueryAnswer) : Type 0 where

@@ -5,6 +5,7 @@ pub mod Steps
 pub mod Refusals
 pub mod Locate
 pub mod Search
+pub mod Outside
 pub mod Solve
 pub mod Moments
 pub mod Curve
@@ -12,3 +13,4 @@ pub mod Tensor
 pub mod Change
 pub mod Query
 pub mod Calls
+pub mod Extended

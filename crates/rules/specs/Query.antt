@@ -7,6 +7,8 @@ use Rattle.rules.specs.Sizes.{Grid, points, knots, masks, Place, flat, s
 use Rattle.rules.specs.Steps.{h}
 use Rattle.rules.specs.Locate.{locate}
 use Rattle.rules.specs.Search.{lower-index}
+use Rattle.rules.specs.Outside.{placed-on}
+use Rattle.rules.specs.declared.Mode.{Mode}
 
 -- the blend of two knots with values p0, p1 and slopes m0, m1, at the fraction t of their width; with the names of the Rust in `evaluate_hermite_1d`
 unfoldable pub hermite : Float → Float → Float → Float → Float → Float → Float
@@ -74,3 +76,12 @@ quick-cell-of g point i = lower-index (knots g i) (point i)
 unfoldable pub quick-query : Grid → List Float → (ℕ → Float) → Float
 unfolding value-in quick-cell-of
 quick-query g tensor point = value-in g tensor (quick-cell-of g point) point
+
+-- both values with a mode for each axis: the cell is that of the point as it is given, and hold moves the point in it
+unfoldable pub query-in-modes : Grid → List Mode → List Float → (ℕ → Float) → Float
+unfolding value-in cell-of
+query-in-modes g modes tensor point = value-in g tensor (cell-of g point) (placed-on g modes point)
+
+unfoldable pub quick-query-in-modes : Grid → List Mode → List Float → (ℕ → Float) → Float
+unfolding value-in quick-cell-of
+quick-query-in-modes g modes tensor point = value-in g tensor (quick-cell-of g point) (placed-on g modes point)

@@ -21,6 +21,20 @@ pub struct Axis {
     pub condition: Condition,
 }
 
+// What a query does with a coordinate outside the knots of its axis: extend the outermost cubic, take the nearest end knot, or refuse.
+pub enum Mode {
+    Extend,
+    Hold,
+    Refuse,
+}
+
+// Where a coordinate lies beside the knots of its axis; on an end knot it is inside.
+pub enum Side {
+    Below,
+    Inside,
+    Above,
+}
+
 // What an end's row has for its own knot and for the one neighbour it names.
 pub struct Row {
     pub diagonal: f64,

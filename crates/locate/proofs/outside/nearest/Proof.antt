@@ -1,0 +1,25 @@
+use Rattle.locate.proofs.Sides.{nearest-below, nearest-above}
+use borrow.Author.Needs.{needs}
+use Rattle.locate.proofs.outside.nearest.Statement.{statement}
+use Rattle.locate.proofs.outside.nearest.Tie as tie
+
+returns : tie.Need-returns
+returns c = nearest-below _ _ (c .before .enum-told .given .1)
+
+returns-3 : tie.Need-returns-3
+returns-3 c = nearest-above _ _ (c .before .enum-told3 .given .1)
+
+pub nearest-spec : {M : Type 1} → statement M
+nearest-spec =
+    tie.close
+    (tie.spec
+    (λ c. search needs)
+    (λ c. search needs)
+    (λ c. search needs)
+    (λ c. search needs)
+    (λ c. search needs)
+    (λ c. search needs)
+    (λ c. search needs)
+    returns
+    (λ c. search needs)
+    returns-3)

@@ -1,0 +1,169 @@
+-- What the modes of a query come to: where no coordinate is moved and none refused, the answer is the one without modes. So with extend on every axis, and so in every mode where every coordinate lies inside. And 18 is given exactly where an axis in refuse has its coordinate outside and none of 1 2 3 4 7 8 applies.
+use mathlib.Core.Path.{_≡_, refl, sym, ap, _∙_}
+use mathlib.Core.Bool.{Bool, true, false, cond, _||_}
+use mathlib.Core.List.{List}
+use Prim.Native.Nat.{ℕ, zero, suc, _<_}
+use native.Mathlib.Omega.{arith}
+use lib.Ieee.{Float}
+use Rattle.rules.specs.Numbers.{at, any}
+use Rattle.rules.specs.Sizes.{Grid, knots}
+use Rattle.rules.specs.Refusals.{axes-refused, some-points-refused, tensor-refused, some-number-refused, some-knots-refused, some-found-cell-refused, answer-refused}
+use Rattle.rules.specs.Outside.{mode-at, side, nearest, placed, placed-on, outside-refused, some-outside-refused}
+use Rattle.rules.specs.Query.{cell-of, query, quick-cell-of, quick-query, query-in-modes, quick-query-in-modes}
+use Rattle.rules.specs.Calls.{answer-of, labels, quick-labels, query-lengths-refused, refusal-in-order, query-refusal, query-answer, quick-query-refusal, quick-query-answer}
+use Rattle.rules.specs.Extended.{extended-query-refusal, extended-query-answer, extended-quick-refusal, extended-quick-answer}
+use Rattle.rules.specs.declared.Mode.{Mode}
+use Rattle.rules.specs.declared.Mode.the-variants.{Extend, Hold, Refuse}
+use Rattle.rules.specs.declared.Side.{Side}
+use Rattle.rules.specs.declared.Side.the-variants.{Below, Inside, Above}
+use Rattle.rules.proofs.Cells.{value-at-ext}
+
+-- a test that fails at every index below n fails there
+none-below : (test : ℕ → Bool) (n : ℕ) → ((i : ℕ) → i < n → test i ≡ false) → any test n ≡ false
+unfolding any
+none-below test zero never = refl
+none-below test (suc n) never = rw (none-below test n (λ i l. never i (omega arith)), never n (omega arith)) refl
+
+module _ (g : Grid) (modes : List Mode) (tensor coordinates : List Float) where
+  -- on each axis in use the coordinate stays where it is and is not refused
+  pub record AtEase : Type 0 where
+    pub stays : (i : ℕ) → i < g .axes → placed-on g modes (at coordinates) i ≡ at coordinates i
+    pub passes : (i : ℕ) → i < g .axes → outside-refused (mode-at modes i) (side (knots g i) (at coordinates i)) ≡ false
+
+  module _ (ease : AtEase) where
+    none-outside : some-outside-refused g modes (at coordinates) ≡ false
+    none-outside = none-below (λ i. outside-refused (mode-at modes i) (side (knots g i) (at coordinates i))) (g .axes) (ease .passes)
+
+    same-value : query-in-modes g modes tensor (at coordinates) ≡ query g tensor (at coordinates)
+    unfolding query-in-modes query
+    same-value = value-at-ext g tensor _ _ _ (ease .stays)
+
+    same-quick-value : quick-query-in-modes g modes tensor (at coordinates) ≡ quick-query g tensor (at coordinates)
+    unfolding quick-query-in-modes quick-query
+    same-quick-value = value-at-ext g tensor _ _ _ (ease .stays)
+
+    same-refusal : query-refusal g modes tensor coordinates ≡ extended-query-refusal g tensor coordinates
+    unfolding query-refusal extended-query-refusal
+    same-refusal = rw (none-outside, same-value) refl
+
+    same-quick-refusal : quick-query-refusal g modes tensor coordinates ≡ extended-quick-refusal g tensor coordinates
+    unfolding quick-query-refusal extended-quick-refusal
+    same-quick-refusal = rw (none-outside, same-quick-value) refl
+
+    -- the answers are those without modes
+    pub as-extended : query-answer g modes tensor coordinates ≡ extended-query-answer g tensor coordinates
+    unfolding query-answer extended-query-answer
+    as-extended = cc (same-refusal, same-value)
+
+    pub quick-as-extended : quick-query-answer g modes tensor coordinates ≡ extended-quick-answer g tensor coordinates
+    unfolding quick-query-answer extended-quick-answer
+    quick-as-extended = cc (same-quick-refusal, same-quick-value)
+
+  -- ---- extend on every axis in use
+
+  module _ (extend : (i : ℕ) → i < g .axes → mode-at modes i ≡ Extend) where
+    extends : AtEase
+    extends = record {
+      stays = λ i l. rw (extend i l) refl;
+      passes = λ i l. rw (extend i l) refl;
+    }
+
+    pub extend-as-before : query-answer g modes tensor coordinates ≡ extended-query-answer g tensor coordinates
+    extend-as-before = as-extended extends
+
+    pub quick-extend-as-before : quick-query-answer g modes tensor coordinates ≡ extended-quick-answer g tensor coordinates
+    quick-extend-as-before = quick-as-extended extends
+
+  -- ---- every coordinate inside
+
+  module _ (inside : (i : ℕ) → i < g .axes → side (knots g i) (at coordinates i) ≡ Inside) where
+    within : AtEase
+    within = record {
+      stays = λ i l. stay i (mode-at modes i) (inside i l);
+      passes = λ i l. rw (inside i l) (pass (mode-at modes i));
+    }
+      where
+        stay : (i : ℕ) (mode : Mode) → side (knots g i) (at coordinates i) ≡ Inside → placed mode (knots g i) (at coordinates i) ≡ at coordinates i
+        stay i Extend e = refl
+        stay i Hold e = ap (λ (s : Side). nearest s (knots g i) (at coordinates i)) e
+        stay i Refuse e = refl
+
+        pass : (mode : Mode) → outside-refused mode Inside ≡ false
+        pass Extend = refl
+        pass Hold = refl
+        pass Refuse = refl
+
+-- all modes give the same whole answer
+module _ (g : Grid) (modes modes′ : List Mode) (tensor coordinates : List Float) (inside : (i : ℕ) → i < g .axes → side (knots g i) (at coordinates i) ≡ Inside) where
+  pub inside-alike : query-answer g modes tensor coordinates ≡ query-answer g modes′ tensor coordinates
+  inside-alike = as-extended g modes tensor coordinates (within g modes tensor coordinates inside) ∙ sym (as-extended g modes′ tensor coordinates (within g modes′ tensor coordinates inside))
+
+  pub quick-inside-alike : quick-query-answer g modes tensor coordinates ≡ quick-query-answer g modes′ tensor coordinates
+  quick-inside-alike = quick-as-extended g modes tensor coordinates (within g modes tensor coordinates inside) ∙ sym (quick-as-extended g modes′ tensor coordinates (within g modes′ tensor coordinates inside))
+
+-- ---- 18
+
+-- a test that gives another number than the answer has not been met
+passed : (test : Bool) (number : ℕ) {later answer : ℕ} → (number ≡ answer → ⊥) → cond test number later ≡ answer → (test ≡ false) × (later ≡ answer)
+passed true number other e = absurd (other e)
+passed false number other e = (refl, e)
+
+-- the test of 18 and what may follow it
+met-18 : (test beyond : Bool) (answer : ℕ) → answer ≡ cond test 18 (cond beyond 10 0) → answer ≡ 18 → test ≡ true
+met-18 true beyond answer e eighteen = refl
+met-18 false true answer e eighteen = absurd (omega (arith, e, eighteen))
+met-18 false false answer e eighteen = absurd (omega (arith, e, eighteen))
+
+module _ (g : Grid) (modes : List Mode) (tensor coordinates : List Float) (numbers-refused cells-refused : Bool) where
+  -- none of 1 2 3 4 7 8 applies, and an axis in refuse has its coordinate outside
+  pub record OnlyOutside : Type 0 where
+    pub axes-pass : axes-refused g ≡ false
+    pub points-pass : some-points-refused g ≡ false
+    pub size-passes : tensor-refused g ≡ false
+    pub lengths-pass : query-lengths-refused g tensor coordinates ≡ false
+    pub numbers-pass : numbers-refused ≡ false
+    pub cells-pass : cells-refused ≡ false
+    pub outside : some-outside-refused g modes (at coordinates) ≡ true
+
+  only-outside : (beyond : Bool) → refusal-in-order g modes tensor coordinates numbers-refused cells-refused beyond ≡ 18 → OnlyOutside
+  only-outside beyond e =
+      let after-1 = passed (axes-refused g) 1 (λ z. omega (arith, z)) e in
+      let after-2 = passed (some-points-refused g) 2 (λ z. omega (arith, z)) (after-1 .1) in
+      let after-3 = passed (tensor-refused g) 3 (λ z. omega (arith, z)) (after-2 .1) in
+      let after-4 = passed (query-lengths-refused g tensor coordinates) 4 (λ z. omega (arith, z)) (after-3 .1) in
+      let after-7 = passed numbers-refused 7 (λ z. omega (arith, z)) (after-4 .1) in
+      let after-8 = passed cells-refused 8 (λ z. omega (arith, z)) (after-7 .1) in
+      record {
+        axes-pass = after-1 .0;
+        points-pass = after-2 .0;
+        size-passes = after-3 .0;
+        lengths-pass = after-4 .0;
+        numbers-pass = after-7 .0;
+        cells-pass = after-8 .0;
+        outside = met-18 (some-outside-refused g modes (at coordinates)) beyond _ refl (after-8 .1);
+      }
+
+  outside-only : (beyond : Bool) → OnlyOutside → refusal-in-order g modes tensor coordinates numbers-refused cells-refused beyond ≡ 18
+  outside-only beyond only =
+      rw (only .axes-pass, only .points-pass, only .size-passes, only .lengths-pass, only .numbers-pass, only .cells-pass, only .outside) refl
+
+module _ (g : Grid) (modes : List Mode) (tensor coordinates : List Float) where
+  -- 18 of the query
+  abbrev pub OutsideOfQuery : Type 0
+  OutsideOfQuery = OnlyOutside g modes tensor coordinates (some-number-refused (g .flat-knots) || some-number-refused coordinates) (some-knots-refused g)
+
+  pub refused-by-18 : (query-refusal g modes tensor coordinates ≡ 18 → OutsideOfQuery) × (OutsideOfQuery → query-refusal g modes tensor coordinates ≡ 18)
+  unfolding query-refusal
+  refused-by-18 =
+      let beyond = answer-refused (query-in-modes g modes tensor (at coordinates)) in
+      (only-outside g modes tensor coordinates _ _ beyond, outside-only g modes tensor coordinates _ _ beyond)
+
+  -- 18 of the quick query
+  abbrev pub OutsideOfQuickQuery : Type 0
+  OutsideOfQuickQuery = OnlyOutside g modes tensor coordinates (some-number-refused coordinates) (some-found-cell-refused g (quick-cell-of g (at coordinates)))
+
+  pub quick-refused-by-18 : (quick-query-refusal g modes tensor coordinates ≡ 18 → OutsideOfQuickQuery) × (OutsideOfQuickQuery → quick-query-refusal g modes tensor coordinates ≡ 18)
+  unfolding quick-query-refusal
+  quick-refused-by-18 =
+      let beyond = answer-refused (quick-query-in-modes g modes tensor (at coordinates)) in
+      (only-outside g modes tensor coordinates _ _ beyond, outside-only g modes tensor coordinates _ _ beyond)
