@@ -8,5 +8,6 @@ pub mod ChangeIsBuild
 pub mod LaneCount
 pub mod Refused
 pub mod BranchNeverReached
+pub mod EvenAxes
 pub mod Unique
 pub mod Examples

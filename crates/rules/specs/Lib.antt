@@ -4,6 +4,7 @@ pub mod Sizes
 pub mod Steps
 pub mod Refusals
 pub mod Locate
+pub mod Even
 pub mod Solve
 pub mod Moments
 pub mod Curve
