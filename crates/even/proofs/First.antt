@@ -5,7 +5,6 @@ use Prim.Native.Nat.{ℕ, zero, suc, _+_, _-_, _<_, _≤_}
 use native.Mathlib.Omega.{arith}
 use native.Mathlib.Numerals.{add-one}
 use Rattle.rules.specs.Even.{first-that}
-use Rattle.rules.proofs.Cases.{not-both}
 
 module _ (test : ℕ → Bool) where
   that-holds : (d k : ℕ) → 0 < d → test k ≡ true → first-that test d k ≡ k

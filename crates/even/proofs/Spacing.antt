@@ -1,6 +1,6 @@
 -- What the tests of two steps come to: a number without its sign, the tolerance, and whether an interval fails.
 use mathlib.Core.Path.{_≡_, refl, sym, ap, _∙_}
-use mathlib.Core.Bool.{Bool, true, false, cond, _&&_, _||_}
+use mathlib.Core.Bool.{Bool, true, false, cond, _&&_}
 use mathlib.Core.List.{List}
 use Prim.Native.Nat.{ℕ, zero, suc, _+_, _-_, _*_, _<_}
 use native.Mathlib.Nat.{mul-one, zero-mul, mul-pos, zero-lt-suc}
@@ -12,15 +12,20 @@ use lib.Ieee as Ieee
 use lib.Ieee.{Float, nan, inf, fin, up, down, binary64, fits, lt, eq, neg}
 use lib.Ieee.Fits.{up-pos}
 use lib.Ieee.Back.{whole-unique}
-use Rattle.rules.specs.Numbers.{_⊖_, plus-zero}
+use Rattle.rules.specs.Numbers.{_⊖_, _⊗_, plus-zero}
 use Rattle.rules.specs.Steps.{h}
 use Rattle.rules.proofs.Cases.{not-both}
 use Rattle.rules.specs.Even.{absolute, epsilon, doubled, tolerance, apart, fails, first-that, first-failing}
 
 -- ten doublings of 2 to the -52 are 2 to the -42
-pub ten-doublings : Ieee.ofBits binary64 0x3D50_0000_0000_0000 ≡ doubled 10 epsilon
+ten-doublings : Ieee.ofBits binary64 0x3D50_0000_0000_0000 ≡ doubled 10 epsilon
 unfolding Ieee.ofBits Ieee.add doubled
 ten-doublings = refl
+
+-- so one product gives the tolerance
+pub tolerance-is : (step size : Float) → size ≡ absolute step → size ⊗ Ieee.ofBits binary64 0x3D50_0000_0000_0000 ≡ tolerance step
+unfolding tolerance
+tolerance-is step size e = ap (λ (v : Float). v ⊗ Ieee.ofBits binary64 0x3D50_0000_0000_0000) e ∙ ap (λ (v : Float). absolute step ⊗ v) ten-doublings
 
 pub apart-wider : (spacing step : Float) → lt step spacing ≡ true → spacing ⊖ step ≡ apart spacing step
 unfolding apart

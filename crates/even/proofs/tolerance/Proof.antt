@@ -1,6 +1,5 @@
 use borrow.Author.Needs.{needs}
-use Rattle.rules.specs.Even.{tolerance}
-use Rattle.even.proofs.Spacing.{ten-doublings}
+use Rattle.even.proofs.Spacing.{tolerance-is}
 use Rattle.even.proofs.tolerance.Statement.{statement}
 use Rattle.even.proofs.tolerance.Tie as tie
 
@@ -9,8 +8,7 @@ unfolding lib.Ieee.nanBits
 float-from-bits-result c = search needs
 
 returns : tie.Need-returns
-unfolding tolerance
-returns c = cc (c .absolute .ensures, ten-doublings)
+returns c = tolerance-is _ _ (c .absolute .ensures)
 
 pub tolerance-spec : {M : Type 1} → statement M
 tolerance-spec = tie.close (tie.spec (λ c κs. search needs) float-from-bits-result returns)
