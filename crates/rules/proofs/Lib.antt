@@ -12,5 +12,6 @@ pub mod Refused
 pub mod QuickReads
 pub mod Modes
 pub mod BranchNeverReached
+pub mod EvenAxes
 pub mod Unique
 pub mod Examples

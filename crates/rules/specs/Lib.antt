@@ -6,6 +6,7 @@ pub mod Refusals
 pub mod Locate
 pub mod Search
 pub mod Outside
+pub mod Even
 pub mod Solve
 pub mod Moments
 pub mod Curve

@@ -37,6 +37,38 @@ fn a_point_that_is_no_number_lies_past_the_last_cell() {
     assert_eq!(locate_lower_index(knots.as_slice().into(), &f64::NAN), 1);
 }
 
+/// The comment calls the direct cell equivalent to the searched one.
+#[test]
+fn an_interior_knot_lies_in_the_direct_cell_after_it() {
+    let knots = [0.0, 1.0, 2.0];
+    assert_eq!(locate_lower_index_uniform(0.0, 1.0, 3, 1.0), 1);
+    assert_eq!(locate_lower_index(knots.as_slice().into(), &1.0), 0);
+}
+
+/// The same comment, from the first quotient that no index holds.
+#[test]
+fn a_quotient_of_2_to_the_64_lies_in_the_first_direct_cell() {
+    let knots = [0.0, 1.0, 2.0];
+    let too_large = 18_446_744_073_709_551_616.0;
+    assert_eq!(locate_lower_index_uniform(0.0, 1.0, 3, too_large), 0);
+    assert_eq!(
+        locate_lower_index_uniform(0.0, 1.0, 3, too_large.next_down()),
+        1
+    );
+    assert_eq!(locate_lower_index(knots.as_slice().into(), &too_large), 1);
+    assert_eq!(locate_lower_index_uniform(0.0, 0.0, 3, 0.0), 0);
+}
+
+/// The same comment, at a knot whose difference from the first overflows.
+#[test]
+fn the_last_knot_of_a_wide_even_axis_lies_in_the_first_direct_cell() {
+    let knots = [-1e308, 0.0, 1e308];
+    assert!(validate_uniform_grid_epsilon(knots.as_slice().into(), 0, None).is_ok());
+    assert_eq!(locate_lower_index_uniform(knots[0], 1e308, 3, knots[2]), 0);
+    assert_eq!(locate_lower_index(knots.as_slice().into(), &knots[2]), 1);
+    assert_eq!((knots[2] - knots[0]) / (knots[1] - knots[0]), f64::INFINITY);
+}
+
 /// The comment has the curve pass through its samples exactly.
 #[test]
 fn a_periodic_curve_misses_a_sample() {
