@@ -1,4 +1,4 @@
--- The direct cell is one of the axis, an axis of two points is even, and examples of even axes: where the direct cell and the searched one part, and what the tolerance is.
+-- The direct cell is one of the axis, an axis of two points is even, and examples of even axes: where the direct cell and the searched one part, what the tolerance is, and what is refused and placed first.
 use mathlib.Core.Path.{_≡_, refl}
 use mathlib.Core.Bool.{Bool, true, false, cond}
 use mathlib.Core.List.{List, [], _∷_}
@@ -6,13 +6,19 @@ use Prim.Native.Nat.{ℕ, _-_, min, _≤_}
 use native.Mathlib.Omega.{arith}
 use lib.Ieee as Ieee
 use lib.Ieee.{Float, nan, inf, binary64, lt}
-use Rattle.rules.specs.Numbers.{_⊖_, _⊗_, _⊘_, plus-zero, any}
+use Rattle.rules.specs.Numbers.{_⊖_, _⊗_, _⊘_, plus-zero, zeros, any}
 use Rattle.rules.specs.Ends.{natural}
-use Rattle.rules.specs.Sizes.{Grid, sum-below, unused-axis}
+use Rattle.rules.specs.Sizes.{Grid, sum-below, product-below, unused-axis}
 use Rattle.rules.specs.Steps.{h}
+use Rattle.rules.specs.Refusals.{step-refused}
 use Rattle.rules.specs.Locate.{locate}
-use Rattle.rules.specs.Even.{absolute, epsilon, doubled, tolerance, first-that, first-failing, uneven-refused, some-uneven-refused, uneven-axis, uneven-interval, as-index, direct-cell}
-use Rattle.rules.specs.Query.{hermite, fraction}
+use Rattle.rules.specs.Outside.{side}
+use Rattle.rules.specs.Even.{absolute, epsilon, doubled, tolerance, first-that, first-failing, uneven-refused, some-uneven-refused, uneven-axis, uneven-interval, first-too-large, as-index, direct-cell}
+use Rattle.rules.specs.Query.{hermite, fraction, even-cell-of}
+use Rattle.rules.specs.Calls.{query-answer}
+use Rattle.rules.specs.EvenCalls.{even-query-refusal, even-query-answer}
+use Rattle.rules.specs.declared.Mode.{Mode}
+use Rattle.rules.specs.declared.Mode.the-variants.{Extend, Hold, Refuse}
 
 -- whatever the numbers are
 pub direct-cell-inside : (first step : Float) (points : ℕ) (p : Float) → direct-cell first step points p ≤ points - 2
@@ -90,6 +96,24 @@ two-axes knots = record {
 abbrev second-axis-uneven : Grid
 second-axis-uneven = two-axes (0′ ∷ 1′ ∷ 2′ ∷ 0′ ∷ 1′ ∷ 3′ ∷ [])
 
+abbrev both-axes-even : Grid
+both-axes-even = two-axes (0′ ∷ 1′ ∷ 2′ ∷ 0′ ∷ 1′ ∷ 2′ ∷ [])
+
+-- one axis on the knots 0 1 2, and the tensor of the line through 0 0, 1 1, 2 2
+abbrev one-axis : Grid
+one-axis = record {
+  axes = 1;
+  entries = record { points = 3; condition = natural } ∷ unused-axis ∷ unused-axis ∷ unused-axis ∷ [];
+  flat-knots = knots-3;
+}
+
+abbrev line : List Float
+line = 0′ ∷ 1′ ∷ 1′ ∷ 1′ ∷ 2′ ∷ 1′ ∷ []
+
+-- the four axes in one mode
+abbrev all-in : Mode → List Mode
+all-in mode = mode ∷ mode ∷ mode ∷ mode ∷ []
+
 pub record EvenExamples : Type 0 where
   -- on knot 1 of 0 1 2 the two cells part; on the last knot, below the first and just below knot 1 they do not
   pub direct-at-interior-knot : cell-at 1′ ≡ 1
@@ -124,14 +148,23 @@ pub record EvenExamples : Type 0 where
   -- of the steps 1 1 2 1 3 interval 2 is the first that fails
   pub first-of-two : first-failing (0′ ∷ 1′ ∷ 2′ ∷ 4′ ∷ 5′ ∷ 8′ ∷ []) 6 ≡ 2
   -- the lowest axis that is not even, and its first interval that fails: of none, of the second, and of both
-  pub both-even : some-uneven-refused (two-axes (0′ ∷ 1′ ∷ 2′ ∷ 0′ ∷ 1′ ∷ 2′ ∷ [])) ≡ false
+  pub both-even : some-uneven-refused both-axes-even ≡ false
   pub second-uneven : some-uneven-refused second-axis-uneven ≡ true
   pub second-axis : uneven-axis second-axis-uneven ≡ 1
   pub second-interval : uneven-interval second-axis-uneven ≡ 1
   pub lowest-of-both : uneven-axis (two-axes (0′ ∷ 1′ ∷ 3′ ∷ 0′ ∷ 1′ ∷ 4′ ∷ [])) ≡ 0
+  -- on interior knot 1 the two queries answer the same value of two cells
+  pub even-at-interior-knot : even-query-answer one-axis (all-in Extend) line (1′ ∷ []) ≡ record { refusal = 0; value = 1′; labels = 1 ∷ 0 ∷ 0 ∷ 0 ∷ []; axis = 0; interval = 0 }
+  pub query-at-interior-knot : query-answer one-axis (all-in Extend) line (1′ ∷ []) ≡ record { refusal = 0; value = 1′; labels = 0 ∷ 0 ∷ 0 ∷ 0 ∷ [] }
+  -- 2 to the 64 lies in cell 0 where the axis extends; hold first takes knot 2, which lies in cell 1
+  pub extended-too-large : even-cell-of one-axis (all-in Extend) (λ i. first-too-large) 0 ≡ 0
+  pub held-too-large : even-cell-of one-axis (all-in Hold) (λ i. first-too-large) 0 ≡ 1
+  -- a coordinate outside on axis 0, in refuse, is refused by 18, but where axis 1 is not even by 21
+  pub outside-alone : even-query-refusal both-axes-even (all-in Refuse) (zeros 36) (5′ ∷ 1′ ∷ []) ≡ 18
+  pub uneven-before-outside : even-query-answer second-axis-uneven (all-in Refuse) (zeros 36) (5′ ∷ 1′ ∷ []) ≡ record { refusal = 21; value = 0′; labels = 0 ∷ 0 ∷ 0 ∷ 0 ∷ []; axis = 1; interval = 1 }
 
 pub even-examples : EvenExamples
-unfolding any sum-below locate h absolute doubled tolerance first-failing first-that uneven-axis uneven-interval direct-cell hermite fraction Ieee.add Ieee.sub Ieee.mul Ieee.div Ieee.neg Ieee.lt Ieee.le Ieee.ofBits
+unfolding any sum-below product-below step-refused locate side h absolute doubled tolerance first-failing first-that uneven-axis uneven-interval direct-cell hermite fraction even-cell-of query-answer even-query-refusal even-query-answer Ieee.add Ieee.sub Ieee.mul Ieee.div Ieee.neg Ieee.lt Ieee.le Ieee.ofBits
 even-examples = record {
   direct-at-interior-knot = refl;
   searched-at-interior-knot = refl;
@@ -163,4 +196,10 @@ even-examples = record {
   second-axis = refl;
   second-interval = refl;
   lowest-of-both = refl;
+  even-at-interior-knot = refl;
+  query-at-interior-knot = refl;
+  extended-too-large = refl;
+  held-too-large = refl;
+  outside-alone = refl;
+  uneven-before-outside = refl;
 }

@@ -13,5 +13,6 @@ pub mod QuickReads
 pub mod Modes
 pub mod BranchNeverReached
 pub mod EvenAxes
+pub mod EvenIsQuery
 pub mod Unique
 pub mod Examples

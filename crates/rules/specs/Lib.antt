@@ -14,3 +14,4 @@ pub mod Tensor
 pub mod Change
 pub mod Query
 pub mod Calls
+pub mod EvenCalls
