@@ -3,10 +3,9 @@ use native.Mathlib.Omega.{arith}
 use mathlib.Core.Path.{_≡_, refl, _∙_}
 use mathlib.Core.Bool.{Bool, false, _||_}
 use mathlib.Core.List.{List}
-use Prim.Native.Nat.{ℕ, _+_, _-_, _<_, _≤_}
-use native.Mathlib.Nat.{add-sub-cancel-left}
+use Prim.Native.Nat.{ℕ, _+_, _<_, _≤_}
 use native.Mathlib.Numerals.{add-one}
-use lib.ListN.{length, take, drop, set, replicate, length-set, getD-replicate}
+use lib.ListN.{length, set, replicate, length-set, getD-replicate}
 use lib.Seq.{getD-set-same, getD-set-other}
 use lib.Ieee.{Float, nan}
 use borrow.Author.Count.{below-more}
@@ -14,8 +13,8 @@ use Rattle.rules.specs.Numbers.{plus-zero, at, any}
 use Rattle.rules.specs.Sizes.{most-in-a-tensor, Grid, points, knots, sum-below, tensor-length, Place, place-of}
 use Rattle.rules.specs.Outside.{mode-at, side, placed-on, outside-refused}
 use Rattle.rules.specs.declared.Mode.{Mode}
-use Rattle.grid.proofs.Products.{sum-more, sum-within}
-use Rattle.grid.proofs.Knots.{knots-of-axis}
+use Rattle.grid.proofs.Products.{sum-more}
+use Rattle.grid.proofs.Knots as of-axis
 use Rattle.locate.specs.Answers.{Placed}
 use Rattle.locate.specs.declared.outside.PlacedPoint.{PlacedPoint}
 use Rattle.cell.specs.Searched.{SearchGiven, FoundOn}
@@ -48,18 +47,19 @@ module _ (g : Grid) (modes : List Mode) (coordinates : List Float) (cells : Plac
   }
 
   module _ (r : Found) (begin i : ℕ) (turn : Turn g modes coordinates cells r begin i) where
-    pub end-within : i < g .axes → begin + points g i ≤ length (g .flat-knots)
-    end-within lt = omega (arith, turn .begun, turn .given .knots-exact, sum-within (points g) i (g .axes) lt)
-
+    -- the knots that it lends on axis i
     abbrev pub part : List Float
-    part = take (begin + points g i - begin) (drop begin (g .flat-knots))
+    part = of-axis.part g begin i (turn .begun)
 
     pub part-is : part ≡ knots g i
-    part-is = rw (add-sub-cancel-left, turn .begun) refl
+    part-is = of-axis.part-is g begin i (turn .begun)
+
+    pub end-within : i < g .axes → begin + points g i ≤ length (g .flat-knots)
+    end-within = of-axis.part-within g begin i (turn .begun) (turn .given .knots-exact)
 
     module _ (lt : i < g .axes) where
       pub exact : length part ≡ points g i
-      exact = rw part-is (knots-of-axis g (turn .given .knots-exact) i lt)
+      exact = of-axis.part-length g begin i (turn .begun) (turn .given .knots-exact) lt
 
       pub size-given : (2 ≤ length part) × (length part ≤ 256)
       size-given = (

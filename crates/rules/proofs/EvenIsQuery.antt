@@ -1,5 +1,5 @@
 -- Where every axis is even and the direct cells are those that the query evaluates, the query of even axes answers as the query does, with axis and interval 0.
-use mathlib.Core.Path.{_≡_, refl}
+use mathlib.Core.Path.{_≡_, refl, _∙_}
 use mathlib.Core.Bool.{Bool, true, false, cond, _||_}
 use mathlib.Core.List.{List}
 use Prim.Native.Nat.{ℕ}
@@ -11,10 +11,10 @@ use Rattle.rules.specs.Numbers.{at}
 use Rattle.rules.specs.Sizes.{Grid}
 use Rattle.rules.specs.Refusals.{axes-refused, some-points-refused, tensor-refused, some-number-refused, some-knots-refused, answer-refused}
 use Rattle.rules.specs.Outside.{placed-on, some-outside-refused}
-use Rattle.rules.specs.Even.{some-uneven-refused, uneven-axis, uneven-interval}
+use Rattle.rules.specs.Even.{some-uneven-refused}
 use Rattle.rules.specs.Query.{cell-of, query-in-modes, even-cell-of, even-query}
-use Rattle.rules.specs.Calls.{query-lengths-refused, labels, query-refusal, query-answer}
-use Rattle.rules.specs.EvenCalls.{told-of-uneven, nothing-told, even-query-refusal, even-labels, even-query-answer}
+use Rattle.rules.specs.Calls.{answer-of, query-lengths-refused, labels, query-refusal, query-answer}
+use Rattle.rules.specs.EvenCalls.{told-of-uneven, even-answer-of, nothing-told, even-query-refusal, even-labels, even-query-answer}
 use Rattle.rules.specs.declared.Mode.{Mode}
 use Rattle.rules.proofs.Places.{One}
 use Rattle.rules.proofs.Cells.{value-in-ext, labels-ext}
@@ -31,6 +31,10 @@ not-told refusal number other = go (eqb refusal 21) refl
     go : (b : Bool) → eqb refusal 21 ≡ b → cond b number 0 ≡ 0
     go true e = absurd (other (eqb-true refusal 21 e))
     go false e = refl
+
+-- so the rest is a query's answer
+pub answers-as-query : (refusal : ℕ) (value : Float) (labels : List ℕ) (axis interval : ℕ) → (refusal ≡ 21 → ⊥) → even-answer-of refusal value labels axis interval ≡ nothing-told (answer-of refusal value labels)
+answers-as-query refusal value labels axis interval other = rw (not-told refusal axis other, not-told refusal interval other) refl
 
 module _ (g : Grid) (modes : List Mode) (tensor coordinates : List Float) where
   query-never-21 : query-refusal g modes tensor coordinates ≡ 21 → ⊥
@@ -58,9 +62,8 @@ module _ (g : Grid) (modes : List Mode) (tensor coordinates : List Float) where
     unfolding even-labels labels
     same-labels = labels-ext g (even-cell-of g modes (at coordinates)) (cell-of g (at coordinates)) agree
 
-    none-told : (number : ℕ) → told-of-uneven (even-query-refusal g modes tensor coordinates) number ≡ 0
-    none-told number = not-told (even-query-refusal g modes tensor coordinates) number (rw same-refusal query-never-21)
-
     pub even-is-query-where-cells-agree : even-query-answer g modes tensor coordinates ≡ nothing-told (query-answer g modes tensor coordinates)
     unfolding even-query-answer query-answer
-    even-is-query-where-cells-agree = rw (none-told (uneven-axis g), none-told (uneven-interval g), same-refusal, same-value, same-labels) refl
+    even-is-query-where-cells-agree =
+        answers-as-query (even-query-refusal g modes tensor coordinates) _ _ _ _ (rw same-refusal query-never-21)
+        ∙ rw (same-refusal, same-value, same-labels) refl
