@@ -49,9 +49,9 @@ module _ (g : Grid) (modes : List Mode) (tensor-given : ℕ) (coordinates : List
 
 -- ---- the answers
 
-outcome-low : (refused : Bool) → cond refused 10 0 ≢ 21
-outcome-low true z = omega (arith, z)
-outcome-low false z = omega (arith, z)
+outcome-low : (refused : Bool) {refusal : ℕ} → refusal ≡ cond refused 10 0 → refusal ≢ 21
+outcome-low true is z = omega (arith, is, z)
+outcome-low false is z = omega (arith, is, z)
 
 module _ (g : Grid) (modes : List Mode) (tensor coordinates : List Float) where
   abbrev refusal : ℕ
@@ -120,10 +120,10 @@ module _ (g : Grid) (modes : List Mode) (tensor coordinates : List Float) where
             record {
               answer = is
                   ∙ ap nothing-told (
-                    evaluated
-                    ∙ answer-is g tensor (at (found .placed)) (placed-on g modes (at coordinates)) (is-found .placed) (found .lower) (even-cell-of g modes (at coordinates))
-                    (is-found .four) (is-found .found) (is-found .unused)
-                    refusal last
+                  evaluated
+                  ∙ answer-is g tensor (at (found .placed)) (placed-on g modes (at coordinates)) (is-found .placed) (found .lower) (even-cell-of g modes (at coordinates))
+                  (is-found .four) (is-found .found) (is-found .unused)
+                  refusal last
                   )
-                  ∙ sym (answers-as-query refusal _ _ _ _ (λ z. outcome-low value-refused (sym last ∙ z)));
+                  ∙ sym (answers-as-query refusal _ _ _ _ (outcome-low value-refused last));
             }

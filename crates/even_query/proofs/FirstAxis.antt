@@ -5,6 +5,7 @@ use mathlib.Core.Logic.{_≢_}
 use mathlib.Core.Bool.{Bool, true, false}
 use mathlib.Core.List.{List}
 use Prim.Native.Nat.{ℕ, _+_, _<_, _≤_}
+use native.Mathlib.Nat.{sub-zero}
 use lib.Dec.{ltb}
 use lib.ListN.{length}
 use lib.Ieee.{Float}
@@ -63,7 +64,7 @@ module _ (g : Grid) where
         unfolding uneven-axis uneven-interval
         turn-found some =
             let here : is-uneven i ≡ true = rw (← interval-is) (lt-ltb 0 interval (omega arith)) in
-            let lowest = first.turn-found is-uneven 0 (g .axes) i (turn .looks) l here in
+            let lowest : i ≡ uneven-axis g = rw sub-zero at (first.turn-found is-uneven 0 (g .axes) i (turn .looks) l here) in
             record {
               axis = lowest;
               interval = interval-is ∙ ap (λ (j : ℕ). first-failing (knots g j) (points g j)) lowest;
@@ -84,7 +85,7 @@ module _ (g : Grid) where
     pub turn-last : g .axes ≤ i → FirstUneven g (record { axis = 0; interval = 0 })
     unfolding uneven-axis uneven-interval
     turn-last h =
-        let lowest = first.turn-last is-uneven 0 (g .axes) i (turn .looks) h in
+        let lowest : 0 ≡ uneven-axis g = rw sub-zero at (first.turn-last is-uneven 0 (g .axes) i (turn .looks) h) in
         let all = any-end is-uneven i (g .axes) (turn .none) (omega (arith, turn .looks .most)) in
         let even : first-failing (knots g 0) (points g 0) ≤ 0 = ltb-false 0 _ (any-at is-uneven (g .axes) all 0 (turn .in-range .some-axes)) in
         record {

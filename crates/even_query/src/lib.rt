@@ -15,10 +15,11 @@ mod uneven; // uneven.rt: the lowest axis that is not even
 fn nothing_told(answer: QueryAnswer) -> EvenAnswer
     ensures { λ r. ⌜ r ≡ nothing-told answer ⌝ }
 {
+    let labels = answer.labels;
     EvenAnswer {
         refusal: answer.refusal,
         value: answer.value,
-        labels: answer.labels,
+        labels,
         axis: 0,
         interval: 0,
     }
