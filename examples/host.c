@@ -90,8 +90,11 @@ static size_t change(const struct sheet *sheet, const size_t place[HULLASHLAR_AX
 
 static size_t query(const struct sheet *sheet, const double *coordinates, double *value, size_t labels[HULLASHLAR_AXES])
 {
-    return hullashlar_query(sheet->axes, sheet->points, HULLASHLAR_AXES, sheet->knots, knots_length(sheet), tensor,
-                            tensor_length(sheet), coordinates, sheet->axes, value, 1, labels, HULLASHLAR_AXES);
+    /* Outside what was measured the gain is that of the nearest end. */
+    const uint8_t modes[HULLASHLAR_AXES] = {HULLASHLAR_HOLD, HULLASHLAR_HOLD};
+    return hullashlar_query(sheet->axes, sheet->points, HULLASHLAR_AXES, modes, HULLASHLAR_AXES, sheet->knots,
+                            knots_length(sheet), tensor, tensor_length(sheet), coordinates, sheet->axes, value, 1,
+                            labels, HULLASHLAR_AXES);
 }
 
 static void print_gain(const struct sheet *sheet, const double *coordinates)

@@ -62,10 +62,12 @@ impl Surface {
         Ok(lanes)
     }
 
-    /// The gain at a frequency and a level, and the cell it lies in.
+    /// The gain at a frequency and a level, outside what was measured that of the nearest end, and
+    /// the cell it lies in.
     fn gain(&self, coordinates: [f64; 2]) -> Result<(f64, [usize; 4]), Refusal> {
         hullashlar::query(
             &self.axes,
+            hullashlar::HOLD,
             &self.knots[..self.axes.knots_length()],
             &self.tensor[..self.axes.tensor_length()],
             &coordinates,

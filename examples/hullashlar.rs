@@ -23,6 +23,12 @@ pub const BUFFER: usize = 1024;
 /// The most numbers that a tensor holds.
 pub const LONGEST_TENSOR: usize = 4096;
 
+/// The modes of four axes that are all extended beyond their knots.
+pub const EXTEND: [u8; 4] = [0; 4];
+
+/// The modes of four axes that are all held at their end knots.
+pub const HOLD: [u8; 4] = [1; 4];
+
 /// The axes as the calls take them; what stands past the axes in use is not read.
 #[derive(Debug, Clone, Default)]
 pub struct Axes {
@@ -184,10 +190,12 @@ pub fn change(
     outcome(refusal, lanes[0])
 }
 
-/// The tensor's value at a point, and for each axis the cell that was evaluated.
+/// The tensor's value at a point, outside the knots of an axis as its mode says, and for each axis the cell that was
+/// evaluated.
 #[rustfmt::skip]
 pub fn query(
     axes: &Axes,
+    modes: [u8; 4],
     knots: &[f64],
     tensor: &[f64],
     coordinates: &[f64],
@@ -199,6 +207,7 @@ pub fn query(
         hullashlar_query(
             axes.count,
             axes.points.as_ptr(), axes.points.len(),
+            modes.as_ptr(), modes.len(),
             knots.as_ptr(), knots.len(),
             tensor.as_ptr(), tensor.len(),
             coordinates.as_ptr(), coordinates.len(),
@@ -213,6 +222,7 @@ pub fn query(
 #[rustfmt::skip]
 pub fn quick_query(
     axes: &Axes,
+    modes: [u8; 4],
     knots: &[f64],
     tensor: &[f64],
     coordinates: &[f64],
@@ -224,6 +234,7 @@ pub fn quick_query(
         hullashlar_quick_query(
             axes.count,
             axes.points.as_ptr(), axes.points.len(),
+            modes.as_ptr(), modes.len(),
             knots.as_ptr(), knots.len(),
             tensor.as_ptr(), tensor.len(),
             coordinates.as_ptr(), coordinates.len(),

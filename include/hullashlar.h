@@ -18,8 +18,8 @@
  * docs/BENCH.md has the stack of each call (below 6,300 bytes), the size of the code (below 30,000 bytes) and what the
  * archive's proofs rest on.
  *
- * Axes. Points, kinds, values, places and labels are lent for four axes. No call looks at what stands past the axes in
- * use, and labels are 0 there. kinds[2 i] and values[2 i] are the lower end of axis i, kinds[2 i + 1] and
+ * Axes. Points, kinds, values, modes, places and labels are lent for four axes. No call looks at what stands past the
+ * axes in use, and labels are 0 there. kinds[2 i] and values[2 i] are the lower end of axis i, kinds[2 i + 1] and
  * values[2 i + 1] the upper one. A value is read where its kind is a first or a second derivative.
  *
  * Grids. The knots of an axis follow those of the axis before it. Of samples and tensors, neighbours along the last
@@ -28,8 +28,9 @@
  *
  * Refusals. Every call returns its refusal, and all calls look for one in the same order.
  *   - With axes: 1 by their number alone; 4 for points that are not four; 2; 3; 4 for every other slice and slot; 13
- *     for kinds of an axis in use that are none, or Periodic at one end only; then the rest of the call's list, 5 and
- *     on, in the list's order.
+ *     for kinds of an axis in use that are none, or Periodic at one end only; 22 for a mode of an axis in use that is
+ *     none; then the rest of the call's list, 5 and on, in the list's order. That is not always the order of the
+ *     numbers: 18 stands before 10.
  *   - On one axis: 2; 4; 13; then the rest of the list.
  *   - Of a sheet: 4; then the faults of the sheet, the first that is met on the way through it; then, where its tensor
  *     is built, 5, 7, 8, 9, 10.
@@ -69,7 +70,9 @@ enum hullashlar_refusal {
     HULLASHLAR_REFUSED_SHORT = 11,   /* a sheet ends before its fields do */
     HULLASHLAR_REFUSED_EDITION = 12, /* a sheet of another edition than 1 */
     HULLASHLAR_REFUSED_KINDS = 13,   /* Periodic at one end of an axis and not at the other, or no kind at all */
-    HULLASHLAR_REFUSED_TAIL = 14     /* a sheet goes on after its fields, by a byte or by a bit that is set */
+    HULLASHLAR_REFUSED_TAIL = 14,    /* a sheet goes on after its fields, by a byte or by a bit that is set */
+    HULLASHLAR_REFUSED_OUTSIDE = 18, /* a coordinate outside the knots of an axis whose mode refuses it */
+    HULLASHLAR_REFUSED_MODE = 22     /* no mode at all */
 };
 
 /* The kinds of an end. Periodic stands at both ends of an axis or at neither. */
@@ -80,9 +83,16 @@ enum hullashlar_kind {
     HULLASHLAR_PERIODIC = 3
 };
 
+/* What becomes of a coordinate below the first knot of its axis or above the last. An end knot itself is inside. */
+enum hullashlar_mode {
+    HULLASHLAR_EXTEND = 0,           /* the boundary cubic goes on */
+    HULLASHLAR_HOLD = 1,             /* the nearest end knot is taken in its place */
+    HULLASHLAR_REFUSE = 2            /* the query is refused by 18 */
+};
+
 /* Sizes, in elements. */
 enum hullashlar_size {
-    HULLASHLAR_AXES = 4,             /* the most axes, and the length of points, place and labels */
+    HULLASHLAR_AXES = 4,             /* the most axes, and the length of points, modes, place and labels */
     HULLASHLAR_ENDS = 8,             /* the length of kinds and values */
     HULLASHLAR_AXIS_ENDS = 2,        /* the same in a call on one axis */
     HULLASHLAR_POINTS = 256,         /* the most points on an axis */
@@ -153,13 +163,14 @@ size_t hullashlar_change(size_t axes,
                          double sample,
                          size_t *lanes, size_t lanes_length);
 
-/* The surface's value at the coordinates, beyond the grid too, and a label for each axis: the number of the cell that
- * was evaluated, which on a knot between two cells is the lower one.
- * Lengths: points 4; knots as many as the points of all axes together; tensor 2^axes for each place of the grid;
- * coordinates as many as axes; value 1; labels 4.
- * Written: value, labels. Refuses by 1, 2, 3, 4, 7, 8, 10. */
+/* The surface's value at the coordinates, outside the knots of an axis as its mode says, and a label for each axis: the
+ * number of the cell that was evaluated, which on a knot between two cells is the lower one.
+ * Lengths: points and modes 4; knots as many as the points of all axes together; tensor 2^axes for each place of the
+ * grid; coordinates as many as axes; value 1; labels 4.
+ * Written: value, labels. Refuses by 1, 2, 3, 4, 22, 7, 8, 18, 10. */
 size_t hullashlar_query(size_t axes,
                         const size_t *points, size_t points_length,
+                        const uint8_t *modes, size_t modes_length,
                         const double *knots, size_t knots_length,
                         const double *tensor, size_t tensor_length,
                         const double *coordinates, size_t coordinates_length,
@@ -168,13 +179,14 @@ size_t hullashlar_query(size_t axes,
 
 /* The same at a cost that does not grow with the knots but by at most 8 halvings for each axis: only the first and the
  * last knot of an axis are looked at, those that the search visits and the two of the cell that it finds. On knots that
- * hullashlar_query accepts the whole answer is the same. Any others are searched in the same way; 8 is then given where,
- * of the cell that was found on some axis, a knot is infinite or NaN, or the upper one is not above the lower by a step
- * that a double holds.
+ * hullashlar_query accepts the whole answer is the same. Any others are searched in the same way, and a coordinate that
+ * is held keeps the cell that was found for it as it was given; 8 is then given where, of the cell that was found on
+ * some axis, a knot is infinite or NaN, or the upper one is not above the lower by a step that a double holds.
  * Lengths: as of hullashlar_query.
- * Written: value, labels. Refuses by 1, 2, 3, 4, 7 for coordinates alone, 8, 10. */
+ * Written: value, labels. Refuses by 1, 2, 3, 4, 22, 7 for coordinates alone, 8, 18, 10. */
 size_t hullashlar_quick_query(size_t axes,
                               const size_t *points, size_t points_length,
+                              const uint8_t *modes, size_t modes_length,
                               const double *knots, size_t knots_length,
                               const double *tensor, size_t tensor_length,
                               const double *coordinates, size_t coordinates_length,

@@ -51,6 +51,7 @@ extern "C" {
     pub fn hullashlar_query(
         axes: usize,
         points: *const usize, points_length: usize,
+        modes: *const u8, modes_length: usize,
         knots: *const f64, knots_length: usize,
         tensor: *const f64, tensor_length: usize,
         coordinates: *const f64, coordinates_length: usize,
@@ -60,6 +61,7 @@ extern "C" {
     pub fn hullashlar_quick_query(
         axes: usize,
         points: *const usize, points_length: usize,
+        modes: *const u8, modes_length: usize,
         knots: *const f64, knots_length: usize,
         tensor: *const f64, tensor_length: usize,
         coordinates: *const f64, coordinates_length: usize,

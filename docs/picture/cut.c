@@ -50,8 +50,9 @@ static double gain(const double *tensor, double level)
     const double coordinates[AXES] = {knots[ROW], level};
     double value;
     size_t labels[HULLASHLAR_AXES];
-    accept(hullashlar_query(AXES, points, HULLASHLAR_AXES, knots, KNOTS, tensor, TENSOR, coordinates, AXES, &value, 1,
-                            labels, HULLASHLAR_AXES));
+    const uint8_t modes[HULLASHLAR_AXES] = {HULLASHLAR_EXTEND, HULLASHLAR_EXTEND};
+    accept(hullashlar_query(AXES, points, HULLASHLAR_AXES, modes, HULLASHLAR_AXES, knots, KNOTS, tensor, TENSOR,
+                            coordinates, AXES, &value, 1, labels, HULLASHLAR_AXES));
     return value;
 }
 

@@ -31,6 +31,7 @@ ERRORS = [
     "cell/reciprocal_of_the_width",
     "cell/label_of_the_next_cell",
     "host/full_query_for_the_quick_one",
+    "locate/end_knot_taken_as_outside",
 ]
 
 # What `rt try` says of a compiled run that wrote the counts where nothing is expected.

@@ -10,7 +10,7 @@ use Rattle.rules.specs.Sizes.{most-axes, knots-length, samples-length, tensor-l
 use Rattle.rules.specs.Refusals.{length-refused}
 use Rattle.base.proofs.Scan.{neither}
 use Rattle.checks.proofs.Rows.{none-applies, exact, exact-2}
-use Rattle.boundary.specs.OwnRefusals.{sizes-given, two-ends-refused, eight-ends-refused, place-or-lanes-refused, query-slots-refused, found-slots-refused, moments-own-rows, moments-own-refusal, build-own-rows, build-own-refusal, change-own-rows, change-own-refusal, query-own-rows, query-own-refusal, read-own-refusal, sheet-tensor-own-refusal}
+use Rattle.boundary.specs.OwnRefusals.{sizes-given, two-ends-refused, eight-ends-refused, place-or-lanes-refused, query-slots-refused, modes-or-slots-refused, found-slots-refused, moments-own-rows, moments-own-refusal, build-own-rows, build-own-refusal, change-own-rows, change-own-refusal, query-own-rows, query-own-refusal, read-own-refusal, sheet-tensor-own-refusal}
 
 -- one row that does not apply
 not-the-first : (applies : Bool) (number : ℕ) → cond applies (suc number) 0 ≡ 0 → applies ≡ false
@@ -60,10 +60,19 @@ module _ (axes : ℕ) (points kinds : List ℕ) (values knots tensor : List Floa
       let slots = exact-2 (length place) 4 (length lanes) 1 (two .1) in
       (slots .0, exact (length points) 4 (rows .1 .0), ends .0, ends .1, slots .1)
 
-pub query-lengths : (axes : ℕ) (points : List ℕ) (value : List Float) (labels : List ℕ) → query-own-refusal axes points value labels ≡ 0 → length points ≡ 4
-unfolding query-own-refusal
-query-lengths axes points value labels none =
-    exact (length points) 4 (none-applies (query-own-rows axes points value labels) tt none .1 .0)
+pub mode-lengths : (modes : List ℕ) (value : List Float) (labels : List ℕ) → modes-or-slots-refused modes value labels ≡ false → length modes ≡ 4
+mode-lengths modes value labels none =
+    exact (length modes) 4 (neither (length-refused (length modes) 4) (query-slots-refused value labels) none .0)
+
+module _ (axes : ℕ) (points modes : List ℕ) (knots tensor coordinates value : List Float) (labels : List ℕ) where
+  pub query-lengths : query-own-refusal axes points modes knots tensor coordinates value labels ≡ 0 → (length points ≡ 4) × (length modes ≡ 4)
+  unfolding query-own-refusal
+  query-lengths none =
+      let rows = none-applies (query-own-rows axes points modes knots tensor coordinates value labels) tt none in
+      let g = sizes-given axes points in
+      let given =
+      neither (modes-or-slots-refused modes value labels) (length-refused (length knots) (knots-length g) || length-refused (length tensor) (tensor-length g) || length-refused (length coordinates) axes) (rows .1 .1 .1 .1 .0) .0 in
+      (exact (length points) 4 (rows .1 .0), mode-lengths modes value labels given)
 
 found-lengths :
     (axes points kinds : List ℕ) (values : List Float)

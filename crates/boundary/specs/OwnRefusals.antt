@@ -1,4 +1,4 @@
--- The chapter OwnRefusals of docs/RULES.md: what the host itself refuses, in one order for every export. A call with axes refuses by 1 for their number alone, by 4 for points that are not four, by 2, by 3, by 4 for every other slice and slot, and by 13 for the kinds of the axes in use; a call on one axis by 2, 4 and 13. Each table has the rows of that order down to where the call's own refusals may follow.
+-- The chapter OwnRefusals of docs/RULES.md: what the host itself refuses, in one order for every export. A call with axes refuses by 1 for their number alone, by 4 for points that are not four, by 2, by 3, by 4 for every other slice and slot, by 13 for the kinds of the axes in use, and by 22 for their modes; a call on one axis by 2, 4 and 13. Each table has the rows of that order down to where the call's own refusals may follow.
 use mathlib.Core.Bool.{Bool, cond, _||_}
 use mathlib.Core.List.{List, [], _∷_, _++_}
 use Prim.Native.Nat.{ℕ}
@@ -8,7 +8,7 @@ use Rattle.rules.specs.Sizes.{most-axes, Grid, knots-length, samples-length, te
 use Rattle.rules.specs.Refusals.{axes-refused, points-refused, some-points-refused, tensor-refused, length-refused}
 use Rattle.checks.specs.Tables.{Refusal, row, lowest}
 use Rattle.kinds.specs.Kinds.{kinds-refused}
-use Rattle.plain_axes.specs.Axes.{two-ends, eight-ends, lower-kind, upper-kind, some-kinds-refused, grid-without-ends}
+use Rattle.plain_axes.specs.Axes.{two-ends, eight-ends, lower-kind, upper-kind, some-kinds-refused, some-modes-refused, grid-without-ends}
 
 -- ---- the curve's moments
 
@@ -115,11 +115,29 @@ module _ (axes : ℕ) (points kinds : List ℕ) (values knots tensor-lent : List
 abbrev pub query-slots-refused : List Float → List ℕ → Bool
 query-slots-refused value labels = length-refused (length value) 1 || length-refused (length labels) most-axes
 
-abbrev pub query-own-rows : ℕ → List ℕ → List Float → List ℕ → List Refusal
-query-own-rows axes points value labels = axes-rows axes points ++ (row 4 (query-slots-refused value labels) ∷ [])
+-- 4 for the modes of four axes, and for these slots
+abbrev pub modes-or-slots-refused : List ℕ → List Float → List ℕ → Bool
+modes-or-slots-refused modes value labels = length-refused (length modes) most-axes || query-slots-refused value labels
 
-unfoldable pub query-own-refusal : ℕ → List ℕ → List Float → List ℕ → ℕ
-query-own-refusal axes points value labels = lowest (query-own-rows axes points value labels) 0
+module _ (axes : ℕ) (points modes : List ℕ) (knots tensor coordinates value : List Float) (labels : List ℕ) where
+  -- 4 for the modes, the slots and for the call's own slices
+  abbrev pub query-own-rows : List Refusal
+  query-own-rows =
+      axes-rows axes points ++ (
+      row 4 (
+      modes-or-slots-refused modes value labels
+      || (
+      length-refused (length knots) (knots-length (sizes-given axes points))
+      || length-refused (length tensor) (tensor-length (sizes-given axes points))
+      || length-refused (length coordinates) axes
+      )
+      )
+      ∷ row 22 (some-modes-refused axes modes)
+      ∷ []
+      )
+
+  unfoldable pub query-own-refusal : ℕ
+  query-own-refusal = lowest query-own-rows 0
 
 -- ---- the sheet
 

@@ -1,12 +1,13 @@
-// The host's own refusals, in the one order of every export: with axes 1, 4 for the points, 2, 3, 4 for every other slice and slot, and 13 for the kinds; on one axis 2, 4 and 13. Each is 0 where none applies, and then the call's own follow.
+// The host's own refusals, in the one order of every export: with axes 1, 4 for the points, 2, 3, 4 for every other slice and slot, 13 for the kinds and 22 for the modes; on one axis 2, 4 and 13. Each is 0 where none applies, and then the call's own follow.
 ghost use mathlib.Core.Path.{_≡_};
-ghost use Rattle.boundary.specs.OwnRefusals.{two-ends-refused, eight-ends-refused, place-or-lanes-refused, query-slots-refused, found-slots-refused, moments-own-refusal, curve-own-refusal, axes-own-refusal, build-own-refusal, change-own-refusal, query-own-refusal, read-own-refusal, sheet-tensor-own-refusal};
+ghost use Rattle.boundary.specs.OwnRefusals.{two-ends-refused, eight-ends-refused, place-or-lanes-refused, query-slots-refused, modes-or-slots-refused, found-slots-refused, moments-own-refusal, curve-own-refusal, axes-own-refusal, build-own-refusal, change-own-refusal, query-own-refusal, read-own-refusal, sheet-tensor-own-refusal};
 use checks::lengths;
 use checks::sizes;
 use kinds::ends::kinds_refused;
 use kinds::ends::wide;
 use plain_axes::axes_without_ends;
 use plain_axes::some_kinds_refused;
+use plain_axes::some_modes_refused;
 
 // Whether kinds or values are not those of one axis's two ends.
 fn two_ends_refused(kinds: &[u8], values: &[f64]) -> bool
@@ -162,16 +163,42 @@ pub fn query_slots_refused(value: &[f64], labels: &[usize]) -> bool
     lengths::length_refused(labels.len(), 4)
 }
 
-// Of a query: the slots of its answer.
-pub fn query_own_refusal(axes: usize, points: &[usize], value: &[f64], labels: &[usize]) -> usize
-    ensures { λ r. ⌜ r ≡ query-own-refusal axes (now (points .entry)) (now (value .entry)) (now (labels .entry)) ⌝ }
+// Whether the modes are not those of four axes, or a slot of a query's answer is of another length.
+fn modes_or_slots_refused(modes: &[u8], value: &[f64], labels: &[usize]) -> bool
+    ensures { λ r. ⌜ r ≡ modes-or-slots-refused (now (modes .entry)) (now (value .entry)) (now (labels .entry)) ⌝ }
+{
+    if lengths::length_refused(modes.len(), 4) {
+        return true;
+    }
+    query_slots_refused(value, labels)
+}
+
+// Of a query: the modes, the slots of its answer, and the call's own slices, which 22 comes after.
+pub fn query_own_refusal(
+    axes: usize,
+    points: &[usize],
+    modes: &[u8],
+    knots: &[f64],
+    tensor: &[f64],
+    coordinates: &[f64],
+    value: &[f64],
+    labels: &[usize],
+) -> usize
+    ensures { λ r. ⌜ r ≡ query-own-refusal axes (now (points .entry)) (now (modes .entry)) (now (knots .entry)) (now (tensor .entry)) (now (coordinates .entry)) (now (value .entry)) (now (labels .entry)) ⌝ }
 {
     let refusal = axes_own_refusal(axes, points);
     if refusal != 0 {
         return refusal;
     }
-    if query_slots_refused(value, labels) {
+    if modes_or_slots_refused(modes, value, labels) {
         return 4;
+    }
+    let all = axes_without_ends(axes, points);
+    if lengths::query_refused(axes, all, knots.len(), tensor.len(), coordinates.len()) {
+        return 4;
+    }
+    if some_modes_refused(axes, modes) {
+        return 22;
     }
     0
 }

@@ -12,6 +12,7 @@ use Rattle.rules.specs.declared.CurveAnswer.{CurveAnswer}
 use Rattle.rules.specs.declared.ChangeAnswer.{ChangeAnswer}
 use Rattle.rules.specs.declared.QueryAnswer.{QueryAnswer}
 use Rattle.rules.specs.declared.Axis.{Axis}
+use Rattle.rules.specs.declared.Mode.{Mode}
 use Rattle.rules.proofs.Refused.{or-else-met, unchanged}
 use Rattle.sheet.specs.Fields.{sheet-grid}
 use Rattle.sheet.specs.Read.{ReadPromise}
@@ -20,7 +21,7 @@ use Rattle.sheet.proofs.Promises.{answer-refusal}
 use Rattle.sheet_build.specs.SheetTensor.{reading-refusal, sheet-tensor-refusal, SheetPromise}
 use Rattle.sheet_build.specs.declared.SheetAnswer.{SheetAnswer}
 use Rattle.sheet_build.proofs.Builds.{answered-refusal}
-use Rattle.plain_axes.specs.Axes.{condition-given, axes-given, axes-without-ends, AxesStored}
+use Rattle.plain_axes.specs.Axes.{condition-given, axes-given, axes-without-ends, modes-given, AxesStored}
 use Rattle.boundary.specs.OwnRefusals.{moments-own-refusal, curve-own-refusal, build-own-refusal, change-own-refusal, query-own-refusal, read-own-refusal, sheet-tensor-own-refusal}
 use Rattle.boundary.specs.Slots.{in-slot, QueryStored}
 use Rattle.host.specs.Exports.{FoundStored, MomentsExport, CurveExport, BuildExport, ChangeExport, AnswerExport, QueryExport, QuickQueryExport, ReadExport, SheetTensorExport}
@@ -165,29 +166,29 @@ module _ (own : ℕ) (given : QueryAnswer) (value-lent : List Float) (labels-len
     answer-stored = rw (sym e ∙ none) (rw is at in-place);
   }
 
-module _ (axes : ℕ) (points : List ℕ) (knots tensor-lent coordinates value-lent : List Float) (labels-lent : List ℕ) {r : ℕ} (e : r ≡ query-own-refusal axes points value-lent labels-lent) where
+module _ (axes : ℕ) (points modes : List ℕ) (knots tensor-lent coordinates value-lent : List Float) (labels-lent : List ℕ) {r : ℕ} (e : r ≡ query-own-refusal axes points modes knots tensor-lent coordinates value-lent labels-lent) where
   pub query-refused :
       (r ≡ 0 → ⊥) → {v : List Float} {l : List ℕ} → QueryStored value-lent labels-lent plus-zero (table most-axes (λ i. 0)) v l
-      → QueryExport axes points knots tensor-lent coordinates value-lent labels-lent r v l
+      → QueryExport axes points modes knots tensor-lent coordinates value-lent labels-lent r v l
   query-refused = answer-refused _ _ value-lent labels-lent e
 
   pub quick-query-refused :
       (r ≡ 0 → ⊥) → {v : List Float} {l : List ℕ} → QueryStored value-lent labels-lent plus-zero (table most-axes (λ i. 0)) v l
-      → QuickQueryExport axes points knots tensor-lent coordinates value-lent labels-lent r v l
+      → QuickQueryExport axes points modes knots tensor-lent coordinates value-lent labels-lent r v l
   quick-query-refused = answer-refused _ _ value-lent labels-lent e
 
-  module _ (none : r ≡ 0) (all : List Axis) (given : all ≡ axes-without-ends axes points) (a : QueryAnswer) {v : List Float} {l : List ℕ} where
+  module _ (none : r ≡ 0) (all : List Axis) (given : all ≡ axes-without-ends axes points) (chosen : List Mode) (modes-are : chosen ≡ modes-given axes modes) (a : QueryAnswer) {v : List Float} {l : List ℕ} where
     pub query-called :
-        QueryPromise (record { axes = axes; entries = all; flat-knots = knots }) tensor-lent coordinates a
+        QueryPromise (record { axes = axes; entries = all; flat-knots = knots }) chosen tensor-lent coordinates a
         → QueryStored value-lent labels-lent (a .value) (a .labels) v l
-        → QueryExport axes points knots tensor-lent coordinates value-lent labels-lent (a .refusal) v l
-    query-called p = answer-given _ _ value-lent labels-lent e none a ((rw given at p) .answer)
+        → QueryExport axes points modes knots tensor-lent coordinates value-lent labels-lent (a .refusal) v l
+    query-called p = answer-given _ _ value-lent labels-lent e none a ((rw (given, modes-are) at p) .answer)
 
     pub quick-query-called :
-        QuickQueryPromise (record { axes = axes; entries = all; flat-knots = knots }) tensor-lent coordinates a
+        QuickQueryPromise (record { axes = axes; entries = all; flat-knots = knots }) chosen tensor-lent coordinates a
         → QueryStored value-lent labels-lent (a .value) (a .labels) v l
-        → QuickQueryExport axes points knots tensor-lent coordinates value-lent labels-lent (a .refusal) v l
-    quick-query-called p = answer-given _ _ value-lent labels-lent e none a ((rw given at p) .answer)
+        → QuickQueryExport axes points modes knots tensor-lent coordinates value-lent labels-lent (a .refusal) v l
+    quick-query-called p = answer-given _ _ value-lent labels-lent e none a ((rw (given, modes-are) at p) .answer)
 
 -- ---- the sheet
 

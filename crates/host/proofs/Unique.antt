@@ -55,20 +55,20 @@ same-answer own given value-lent labels-lent r r′ v v′ l l′ p q =
     (same (p .answer) (q .answer), same (p .answer-stored .slot) (q .answer-stored .slot), same (p .answer-stored .slots) (q .answer-stored .slots))
 
 pub query-unique :
-    (axes : ℕ) (points : List ℕ) (knots tensor-lent coordinates value-lent : List Float) (labels-lent : List ℕ)
+    (axes : ℕ) (points modes : List ℕ) (knots tensor-lent coordinates value-lent : List Float) (labels-lent : List ℕ)
     (r r′ : ℕ) (v v′ : List Float) (l l′ : List ℕ)
-    → QueryExport axes points knots tensor-lent coordinates value-lent labels-lent r v l
-    → QueryExport axes points knots tensor-lent coordinates value-lent labels-lent r′ v′ l′
+    → QueryExport axes points modes knots tensor-lent coordinates value-lent labels-lent r v l
+    → QueryExport axes points modes knots tensor-lent coordinates value-lent labels-lent r′ v′ l′
     → (r ≡ r′) × (v ≡ v′) × (l ≡ l′)
-query-unique axes points knots tensor-lent coordinates value-lent labels-lent = same-answer _ _ value-lent labels-lent
+query-unique axes points modes knots tensor-lent coordinates value-lent labels-lent = same-answer _ _ value-lent labels-lent
 
 pub quick-query-unique :
-    (axes : ℕ) (points : List ℕ) (knots tensor-lent coordinates value-lent : List Float) (labels-lent : List ℕ)
+    (axes : ℕ) (points modes : List ℕ) (knots tensor-lent coordinates value-lent : List Float) (labels-lent : List ℕ)
     (r r′ : ℕ) (v v′ : List Float) (l l′ : List ℕ)
-    → QuickQueryExport axes points knots tensor-lent coordinates value-lent labels-lent r v l
-    → QuickQueryExport axes points knots tensor-lent coordinates value-lent labels-lent r′ v′ l′
+    → QuickQueryExport axes points modes knots tensor-lent coordinates value-lent labels-lent r v l
+    → QuickQueryExport axes points modes knots tensor-lent coordinates value-lent labels-lent r′ v′ l′
     → (r ≡ r′) × (v ≡ v′) × (l ≡ l′)
-quick-query-unique axes points knots tensor-lent coordinates value-lent labels-lent = same-answer _ _ value-lent labels-lent
+quick-query-unique axes points modes knots tensor-lent coordinates value-lent labels-lent = same-answer _ _ value-lent labels-lent
 
 same-found :
     (own axes : ℕ) (all : List Axis) (axes-lent points-lent kinds-lent : List ℕ) (values-lent : List Float) (a a′ p p′ n n′ : List ℕ) (v v′ : List Float)

@@ -16,7 +16,7 @@ use Rattle.sheet.specs.Read.{over, read-refusal, answer-of as read-answer-of}
 use Rattle.sheet.specs.declared.ReadAnswer.{ReadAnswer}
 use Rattle.sheet_build.specs.SheetTensor.{answer-of, reading-refusal, sheet-tensor-refusal}
 use Rattle.sheet_build.specs.declared.SheetAnswer.{SheetAnswer}
-use Rattle.plain_axes.specs.Axes.{condition-given, grid-given, grid-without-ends, points-found, kinds-found, values-found}
+use Rattle.plain_axes.specs.Axes.{condition-given, grid-given, grid-without-ends, modes-given, points-found, kinds-found, values-found}
 use Rattle.boundary.specs.OwnRefusals.{moments-own-refusal, curve-own-refusal, build-own-refusal, change-own-refusal, query-own-refusal, read-own-refusal, sheet-tensor-own-refusal}
 use Rattle.boundary.specs.Slots.{in-slot, QueryStored}
 
@@ -112,16 +112,16 @@ pub record AnswerExport (own : ℕ) (given : QueryAnswer) (value-lent : List Flo
       (answered own (given .value)) (labelled own (given .labels))
       value-later labels-later
 
-module _ (axes : ℕ) (points : List ℕ) (knots tensor-lent coordinates value-lent : List Float) (labels-lent : List ℕ) where
+module _ (axes : ℕ) (points modes : List ℕ) (knots tensor-lent coordinates value-lent : List Float) (labels-lent : List ℕ) where
   -- short names for what the promises are said by
   abbrev given-query-answer : QueryAnswer
-  given-query-answer = query-answer (grid-without-ends axes points knots) tensor-lent coordinates
+  given-query-answer = query-answer (grid-without-ends axes points knots) (modes-given axes modes) tensor-lent coordinates
 
   abbrev given-quick-query-answer : QueryAnswer
-  given-quick-query-answer = quick-query-answer (grid-without-ends axes points knots) tensor-lent coordinates
+  given-quick-query-answer = quick-query-answer (grid-without-ends axes points knots) (modes-given axes modes) tensor-lent coordinates
 
   abbrev query-own : ℕ
-  query-own = query-own-refusal axes points value-lent labels-lent
+  query-own = query-own-refusal axes points modes knots tensor-lent coordinates value-lent labels-lent
 
   -- what is promised of the query, and of the quick query, which has the same slots and the same own refusal
   abbrev pub QueryExport : ℕ → List Float → List ℕ → Type 0

@@ -111,51 +111,73 @@ pub extern "C" fn hullashlar_change(
     answer.refusal
 }
 
-// The surface's value at the coordinates, beyond the grid too, in a slot of one, and for each axis the label, which is the cell that was evaluated, 0 past those in use. Refuses 1 2 3 4 7 8 10, and then value and labels are 0; and 4 of its own.
+// The surface's value at the coordinates in a slot of one, with a mode for each axis, 0 to extend beyond its knots, 1 to hold at the nearest end knot, 2 to refuse, and for each axis the label, which is the cell that was evaluated, 0 past those in use. Refuses 1 2 3 4 7 8 18 10, in this order, and then value and labels are 0; and 4 and 22 of its own.
 #[no_mangle]
 pub extern "C" fn hullashlar_query(
     axes: usize,
     points: &[usize],
+    modes: &[u8],
     knots: &[f64],
     tensor: &[f64],
     coordinates: &[f64],
     value: &mut [f64],
     labels: &mut [usize],
 ) -> usize
-    ensures { λ r. ⌜ QueryExport axes (now (points .entry)) (now (knots .entry)) (now (tensor .entry)) (now (coordinates .entry)) (now (value .entry)) (now (labels .entry)) r (now (value .exit)) (now (labels .exit)) ⌝ }
+    ensures { λ r. ⌜ QueryExport axes (now (points .entry)) (now (modes .entry)) (now (knots .entry)) (now (tensor .entry)) (now (coordinates .entry)) (now (value .entry)) (now (labels .entry)) r (now (value .exit)) (now (labels .exit)) ⌝ }
 {
-    let refusal = own::query_own_refusal(axes, points, value, labels);
+    let refusal = own::query_own_refusal(
+        axes,
+        points,
+        modes,
+        knots,
+        tensor,
+        coordinates,
+        value,
+        labels,
+    );
     if refusal != 0 {
         slots::store_query(value, labels, 0.0, [0; 4]);
         return refusal;
     }
     let all = plain_axes::axes_without_ends(axes, points);
-    let answer = query::query(axes, all, knots, tensor, coordinates);
+    let chosen = plain_axes::modes_given(axes, modes);
+    let answer = query::query(axes, all, chosen, knots, tensor, coordinates);
     let found = answer.labels;
     slots::store_query(value, labels, answer.value, found);
     answer.refusal
 }
 
-// The surface's value at the coordinates and the labels, as above, in the cell that the search finds: no axis is walked, and the knots may be any. The answer is that of the query wherever it does not refuse the knots. Refuses 1 2 3 4, 7 for a coordinate, 8 for the found cell's knots, 10, and then value and labels are 0; and 4 of its own.
+// The surface's value at the coordinates and the labels, as above, in the cell that the search finds: no axis is walked, and the knots may be any. The answer is that of the query wherever it does not refuse the knots. Refuses 1 2 3 4, 7 for a coordinate, 8 for the found cell's knots, 18 10, in this order, and then value and labels are 0; and 4 and 22 of its own.
 #[no_mangle]
 pub extern "C" fn hullashlar_quick_query(
     axes: usize,
     points: &[usize],
+    modes: &[u8],
     knots: &[f64],
     tensor: &[f64],
     coordinates: &[f64],
     value: &mut [f64],
     labels: &mut [usize],
 ) -> usize
-    ensures { λ r. ⌜ QuickQueryExport axes (now (points .entry)) (now (knots .entry)) (now (tensor .entry)) (now (coordinates .entry)) (now (value .entry)) (now (labels .entry)) r (now (value .exit)) (now (labels .exit)) ⌝ }
+    ensures { λ r. ⌜ QuickQueryExport axes (now (points .entry)) (now (modes .entry)) (now (knots .entry)) (now (tensor .entry)) (now (coordinates .entry)) (now (value .entry)) (now (labels .entry)) r (now (value .exit)) (now (labels .exit)) ⌝ }
 {
-    let refusal = own::query_own_refusal(axes, points, value, labels);
+    let refusal = own::query_own_refusal(
+        axes,
+        points,
+        modes,
+        knots,
+        tensor,
+        coordinates,
+        value,
+        labels,
+    );
     if refusal != 0 {
         slots::store_query(value, labels, 0.0, [0; 4]);
         return refusal;
     }
     let all = plain_axes::axes_without_ends(axes, points);
-    let answer = quick_query::quick_query(axes, all, knots, tensor, coordinates);
+    let chosen = plain_axes::modes_given(axes, modes);
+    let answer = quick_query::quick_query(axes, all, chosen, knots, tensor, coordinates);
     let found = answer.labels;
     slots::store_query(value, labels, answer.value, found);
     answer.refusal

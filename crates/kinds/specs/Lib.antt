@@ -1,3 +1,4 @@
 pub mod Ranges
 pub mod Kinds
+pub mod Modes
 pub mod Classes

@@ -10,9 +10,11 @@ use borrow.Author.Tests.{ltb-true, ltb-false, leb-true, leb-false, lt-ltb, le-lt
 use lib.Ieee.{Float, lt, le}
 use Rattle.rules.specs.Numbers.{at}
 use Rattle.rules.specs.Locate.{first-at-or-above, locate}
+use Rattle.rules.specs.Outside.{side, nearest}
 use Rattle.floats.specs.Place.{place, Real, AllFit}
 use Rattle.floats.proofs.Reals.{lt-is, le-is}
 use Rattle.rules.specs.Search.{middle, halving, most-halvings, one-back, rust-index, lower-index}
+use Rattle.rules.specs.declared.Side.the-variants.{Below, Inside, Above}
 use Rattle.locate.specs.Answers.{Rising}
 use Rattle.locate.proofs.Split.{Split, split}
 use Rattle.rules.proofs.Halving.{half, halving-ends, halving-down, halving-up}
@@ -130,3 +132,52 @@ module _ (knots : List Float) (point : Float) (n : ℕ) (R : Rising knots n) (F 
   -- the search finds the cell of the rules
   pub lower-index-is-locate : n ≤ 256 → lower-index knots point ≡ locate knots (n - 1) point
   lower-index-is-locate few = lower-index-is knots point (n - 1) placed counted (omega arith) ∙ sym (locate-is knots point (n - 1) placed)
+
+-- ---- the end knots
+
+module _ (knots : List Float) (n : ℕ) (R : Rising knots n) (F : AllFit knots) (some : 2 ≤ n) where
+  real-knot : (k : ℕ) → k < n → Real (at knots k)
+  real-knot = real knots (at knots 0) n R F (record { fits = F 0; finite = R .finite 0 (omega arith) })
+
+  at-itself : (k : ℕ) → k < n → le (at knots k) (at knots k) ≡ true
+  at-itself k h =
+      let r = real-knot k h in
+      le-is (at knots k) (at knots k) r r ∙ le-leb (place (at knots k)) (place (at knots k)) (omega arith)
+
+  first-cell : locate knots (n - 1) (at knots 0) ≡ 0
+  first-cell =
+      let a = placed knots (at knots 0) n R F (real-knot 0 (omega arith)) some in
+      let above = leb-true (a .above) 0 (sym (a .at-or-above 0 (omega arith)) ∙ at-itself 0 (omega arith)) in
+      locate-is knots (at knots 0) (n - 1) a ∙ (let e : min (a .above - 1) (n - 1 - 1) ≡ 0 = omega arith in e)
+
+  last-cell : locate knots (n - 1) (at knots (n - 1)) ≡ n - 1 - 1
+  last-cell =
+      let a = placed knots (at knots (n - 1)) n R F (real-knot (n - 1) (omega arith)) some in
+      let below = ltb-true (n - 1) (a .below) (sym (a .at-or-below (n - 1) (omega arith)) ∙ at-itself (n - 1) (omega arith)) in
+      locate-is knots (at knots (n - 1)) (n - 1) a ∙ (let e : min (a .above - 1) (n - 1 - 1) ≡ n - 1 - 1 = omega (arith, a .close) in e)
+
+  module _ (point : Float) (P : Real point) where
+    beyond : lt (at knots (n - 1)) point ≡ true → le (at knots (n - 1)) point ≡ true
+    beyond e =
+        let r = real-knot (n - 1) (omega arith) in
+        let l = ltb-true (place (at knots (n - 1))) (place point) (sym (lt-is (at knots (n - 1)) point r P) ∙ e) in
+        le-is (at knots (n - 1)) point r P ∙ le-leb (place (at knots (n - 1))) (place point) (omega arith)
+
+    in-first : lt point (at knots 0) ≡ true → locate knots (n - 1) point ≡ 0
+    unfolding locate
+    in-first e = rw e refl
+
+    in-last : lt point (at knots 0) ≡ false → le (at knots (n - 1)) point ≡ true → locate knots (n - 1) point ≡ n - 1 - 1
+    unfolding locate
+    in-last e f = rw (e, f) refl
+
+    -- a point outside lies in the cell of the end knot that is nearest to it
+    pub cell-of-nearest : locate knots (n - 1) (nearest (side knots point) knots point) ≡ locate knots (n - 1) point
+    unfolding side
+    cell-of-nearest = rw (R .count) (go (lt point (at knots 0)) refl (lt (at knots (n - 1)) point) refl)
+      where
+        go : (b : Bool) → lt point (at knots 0) ≡ b → (c : Bool) → lt (at knots (n - 1)) point ≡ c
+            → locate knots (n - 1) (nearest (cond b Below (cond c Above Inside)) knots point) ≡ locate knots (n - 1) point
+        go true e c f = first-cell ∙ sym (in-first e)
+        go false e true f = rw (R .count) (last-cell ∙ sym (in-last e (beyond f)))
+        go false e false f = refl

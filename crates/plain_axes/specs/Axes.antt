@@ -11,6 +11,9 @@ use Rattle.rules.specs.Ends.{not-a-knot}
 use Rattle.rules.specs.Sizes.{most-axes, unused-axis, Grid}
 use Rattle.rules.specs.declared.Axis.{Axis}
 use Rattle.rules.specs.declared.Condition.{Condition}
+use Rattle.rules.specs.declared.Mode.{Mode}
+use Rattle.rules.specs.declared.Mode.the-variants.{Extend}
+use Rattle.kinds.specs.Modes.{unknown-mode, mode-of-number}
 use Rattle.kinds.specs.Kinds.{end-of-kind, condition-of-kind, kinds-refused, lower-kind-of, upper-kind-of, lower-value-of, upper-value-of}
 
 -- how many ends a call on one axis has
@@ -70,6 +73,20 @@ grid-given axes points kinds values knots =
 abbrev pub grid-without-ends : ℕ → List ℕ → List Float → Grid
 grid-without-ends axes points knots =
     record { axes = axes; entries = axes-without-ends axes points; flat-knots = knots }
+
+-- 22 of the axes in use
+unfoldable pub some-modes-refused : ℕ → List ℕ → Bool
+some-modes-refused axes modes = any (λ i. unknown-mode (getD modes i 0)) axes
+
+-- entry i of the four modes, and extend where the axis is not in use
+unfoldable pub mode-given : ℕ → List ℕ → ℕ → Mode
+unfolding mode-of-number
+mode-given axes modes i = cond (ltb i axes) (mode-of-number (getD modes i 0)) Extend
+
+-- the four modes so given
+unfoldable pub modes-given : ℕ → List ℕ → List Mode
+unfolding mode-given
+modes-given axes modes = table most-axes (mode-given axes modes)
 
 -- ---- the other way, from the axes that a sheet has to numbers
 

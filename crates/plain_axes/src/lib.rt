@@ -2,7 +2,7 @@
 ghost use mathlib.Core.Path.{_≡_};
 ghost use Prim.Native.Nat.{_+_, _*_, _<_, _≤_};
 ghost use lib.ListN.{length};
-ghost use Rattle.plain_axes.specs.Axes.{condition-given, some-kinds-refused, axis-given, axes-given, axis-without-ends, axes-without-ends, AxisStored, AxesStored};
+ghost use Rattle.plain_axes.specs.Axes.{condition-given, some-kinds-refused, axis-given, axes-given, axis-without-ends, axes-without-ends, some-modes-refused, mode-given, modes-given, AxisStored, AxesStored};
 use kinds::ends::condition_of_kind;
 use kinds::ends::end_of_kind;
 use kinds::ends::kinds_refused;
@@ -11,8 +11,11 @@ use kinds::ends::lower_value;
 use kinds::ends::upper_kind;
 use kinds::ends::upper_value;
 use kinds::ends::wide;
+use kinds::modes::is_unknown_mode;
+use kinds::modes::mode_of_number;
 use rules::Axis;
 use rules::Condition;
+use rules::Mode;
 
 // The condition of axis i.
 pub fn condition_given(kinds: &[u8], values: &[f64], i: usize) -> Condition
@@ -97,6 +100,46 @@ pub fn some_kinds_refused(axes: usize, kinds: &[u8]) -> bool
         i += 1;
     }
     false
+}
+
+// Whether the mode of an axis in use is refused by 22.
+pub fn some_modes_refused(axes: usize, modes: &[u8]) -> bool
+    requires { ⌜ (axes ≤ 4) × (length (now modes) ≡ 4) ⌝ }
+    ensures { λ r. ⌜ r ≡ some-modes-refused axes (now (modes .entry)) ⌝ }
+{
+    let mut i = 0;
+    while i < axes {
+        if is_unknown_mode(wide(modes[i])) {
+            return true;
+        }
+        i += 1;
+    }
+    false
+}
+
+// Entry i of the four: the mode, where the axis is in use.
+fn mode_given(axes: usize, modes: &[u8], i: usize) -> Mode
+    requires { ⌜ i < length (now modes) ⌝ }
+    ensures { λ r. ⌜ r ≡ mode-given axes (now (modes .entry)) i ⌝ }
+{
+    if i < axes {
+        mode_of_number(wide(modes[i]))
+    } else {
+        Mode::Extend
+    }
+}
+
+// The four modes.
+pub fn modes_given(axes: usize, modes: &[u8]) -> [Mode; 4]
+    requires { ⌜ length (now modes) ≡ 4 ⌝ }
+    ensures { λ r. ⌜ r ≡ modes-given axes (now (modes .entry)) ⌝ }
+{
+    [
+        mode_given(axes, modes, 0),
+        mode_given(axes, modes, 1),
+        mode_given(axes, modes, 2),
+        mode_given(axes, modes, 3),
+    ]
 }
 
 // The four entries of a place.

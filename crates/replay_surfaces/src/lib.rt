@@ -257,6 +257,7 @@ fn queried(
     quick: bool,
     axes: usize,
     points: &[usize],
+    modes: &[u8],
     knots: &[f64],
     tensor: &[f64],
     coordinates: &[f64],
@@ -264,9 +265,27 @@ fn queried(
     labels: &mut [usize],
 ) -> usize {
     if quick {
-        host::hullashlar_quick_query(axes, points, knots, tensor, coordinates, value, labels)
+        host::hullashlar_quick_query(
+            axes,
+            points,
+            modes,
+            knots,
+            tensor,
+            coordinates,
+            value,
+            labels,
+        )
     } else {
-        host::hullashlar_query(axes, points, knots, tensor, coordinates, value, labels)
+        host::hullashlar_query(
+            axes,
+            points,
+            modes,
+            knots,
+            tensor,
+            coordinates,
+            value,
+            labels,
+        )
     }
 }
 
@@ -279,6 +298,7 @@ fn query_answered(
     given_labels: usize,
     axes: usize,
     points: &[usize],
+    modes: &[u8],
     knots: &[f64],
     tensor: &[f64],
     coordinates: &[f64],
@@ -289,6 +309,7 @@ fn query_answered(
         quick,
         axes,
         points,
+        modes,
         knots,
         tensor,
         coordinates,
@@ -314,19 +335,22 @@ fn query_answered(
 fn query_case(quick: bool, list: &[u8], begin: usize) -> Replayed {
     let at_axes = begin;
     let at_points = after(at_axes, 1);
-    let at_knots = after_given(list, at_points);
+    let at_modes = after_given(list, at_points);
+    let at_knots = after_given(list, at_modes);
     let at_tensor = after_given(list, at_knots);
     let at_coordinates = after_given(list, at_tensor);
     let at_value = after_given(list, at_coordinates);
     let at_labels = after_given(list, at_value);
     let answer = after_given(list, at_labels);
     let points = numbers_given(list, at_points);
+    let modes = bytes_given(list, at_modes);
     let knots = floats_given(list, at_knots);
     let tensor = floats_given(list, at_tensor);
     let coordinates = floats_given(list, at_coordinates);
     let mut value = floats_given(list, at_value);
     let mut labels = numbers_given(list, at_labels);
     let points_end = numbers_at(list, at_points);
+    let modes_end = bytes_at(list, at_modes);
     let knots_end = floats_at(list, at_knots);
     let tensor_end = floats_at(list, at_tensor);
     let coordinates_end = floats_at(list, at_coordinates);
@@ -340,6 +364,7 @@ fn query_case(quick: bool, list: &[u8], begin: usize) -> Replayed {
         at_labels,
         word(list, at_axes) as usize,
         &points[0..points_end],
+        &modes[0..modes_end],
         &knots[0..knots_end],
         &tensor[0..tensor_end],
         &coordinates[0..coordinates_end],

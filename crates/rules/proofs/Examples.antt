@@ -1,7 +1,7 @@
 -- The worked examples, and examples that an error which looks right would not pass: the rows of one theorem about the definitions. Every float is a bit pattern.
 use mathlib.Core.Path.{_≡_, refl}
 use mathlib.Core.List.{List, [], _∷_}
-use Prim.Native.Nat.{ℕ}
+use Prim.Native.Nat.{ℕ, _*_}
 use lib.ListN.{length}
 use lib.Ieee as Ieee
 use lib.Ieee.{Float, binary64}
@@ -16,8 +16,8 @@ use Rattle.rules.specs.Tensor.{tensor}
 use Rattle.rules.specs.Change.{changed-tensor, build-lanes, change-lanes, lane-sum}
 use Rattle.rules.specs.Outside.{side, placed}
 use Rattle.rules.specs.Query.{query}
-use Rattle.rules.specs.Refusals.{step-refused}
-use Rattle.rules.specs.Calls.{moments-refusal, labels}
+use Rattle.rules.specs.Refusals.{step-refused, found-cell-refused}
+use Rattle.rules.specs.Calls.{moments-refusal, labels, quick-query-refusal}
 use Rattle.rules.specs.declared.Condition.{Condition}
 use Rattle.rules.specs.declared.Condition.the-variants.{Endpoints}
 use Rattle.rules.specs.declared.End.the-variants.{NotAKnot, FirstDerivative, SecondDerivative}
@@ -105,6 +105,13 @@ place-01 = place-of (0 ∷ 1 ∷ 0 ∷ 0 ∷ [])
 abbrev falling-knots : List Float
 falling-knots = 0′ ∷ 5′ ∷ 1′ ∷ 2′ ∷ pattern 0x4022_0000_0000_0000 ∷ []
 
+-- the refusal of a quick query among these knots, with all lengths right and all numbers of the tensor 0
+abbrev quick-refusal-of : List Float → Float → ℕ
+quick-refusal-of x point =
+    quick-query-refusal
+    (record { axes = 1; entries = record { points = length x; condition = natural } ∷ []; flat-knots = x })
+    [] (zeros (2 * length x)) (point ∷ [])
+
 -- the refusal of the moments of samples that are all 0, with all lengths right
 abbrev refusal-of : ℕ → List Float → Condition → ℕ
 refusal-of n x c = moments-refusal n x (zeros n) c (zeros n) (zeros 2048)
@@ -157,6 +164,11 @@ pub record Examples : Type 0 where
   pub held-at-last-knot : placed Hold knots-3 2′ ≡ 2′
   pub held-above : placed Hold knots-3 3′ ≡ 2′
   pub extended-above : placed Extend knots-3 3′ ≡ 3′
+  -- a quick query of those knots is accepted, since the cell that is found rises; a falling cell is refused by 8, and by 7 where the point is a NaN; a NaN knot is refused with its cell
+  pub falling-off-the-path : quick-refusal-of falling-knots 3′ ≡ 0
+  pub falling-cell : quick-refusal-of (1′ ∷ 0′ ∷ []) ½ ≡ 8
+  pub point-before-the-cell : quick-refusal-of (1′ ∷ 0′ ∷ []) Ieee.nan ≡ 7
+  pub cell-of-a-NaN : quick-refusal-of (0′ ∷ 1′ ∷ Ieee.nan ∷ []) 2′ ≡ 8
   -- one point too few for NotAKnot, and just enough: at both ends, at the lower, at the upper
   pub both-ends-3 : refusal-of 3 knots-3 not-a-knot ≡ 9
   pub both-ends-4 : refusal-of 4 knots-4 not-a-knot ≡ 0
@@ -182,7 +194,7 @@ pub record Examples : Type 0 where
   pub rounded-twice : spline knots-3 2 natural (0′ ∷ 1′ ∷ 5′ ∷ []) (pattern 0x3FD0_0000_0000_0000) ≡ pattern 0x3FB3_0000_0000_0000
 
 pub examples : Examples
-unfolding any sum-below product-below locate lower-index visited side labels moments curve knot-slopes tensor changed-tensor change-lanes lane-sum query step-refused moments-refusal Ieee.add Ieee.sub Ieee.mul Ieee.div Ieee.neg Ieee.lt Ieee.le Ieee.ofBits
+unfolding any sum-below product-below locate lower-index visited side labels moments curve knot-slopes tensor changed-tensor change-lanes lane-sum query step-refused moments-refusal Ieee.add Ieee.sub Ieee.mul Ieee.div Ieee.neg Ieee.lt Ieee.le Ieee.ofBits found-cell-refused quick-query-refusal
 examples = record {
   natural-moments = refl;
   natural-slopes = refl;
@@ -220,6 +232,10 @@ examples = record {
   held-at-last-knot = refl;
   held-above = refl;
   extended-above = refl;
+  falling-off-the-path = refl;
+  falling-cell = refl;
+  point-before-the-cell = refl;
+  cell-of-a-NaN = refl;
   both-ends-3 = refl;
   both-ends-4 = refl;
   lower-end-2 = refl;

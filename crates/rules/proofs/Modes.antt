@@ -10,7 +10,8 @@ use Rattle.rules.specs.Sizes.{Grid, knots}
 use Rattle.rules.specs.Refusals.{axes-refused, some-points-refused, tensor-refused, some-number-refused, some-knots-refused, some-found-cell-refused, answer-refused}
 use Rattle.rules.specs.Outside.{mode-at, side, nearest, placed, placed-on, outside-refused, some-outside-refused}
 use Rattle.rules.specs.Query.{cell-of, query, quick-cell-of, quick-query, query-in-modes, quick-query-in-modes}
-use Rattle.rules.specs.Calls.{answer-of, labels, quick-labels, query-lengths-refused, query-refusal, query-answer, quick-query-refusal, quick-query-answer, extended-query-refusal, extended-query-answer, extended-quick-refusal, extended-quick-answer}
+use Rattle.rules.specs.Calls.{answer-of, labels, quick-labels, query-lengths-refused, query-refusal, query-answer, quick-query-refusal, quick-query-answer}
+use Rattle.rules.specs.Extended.{extended-query-refusal, extended-query-answer, extended-quick-refusal, extended-quick-answer}
 use Rattle.rules.specs.declared.Mode.{Mode}
 use Rattle.rules.specs.declared.Mode.the-variants.{Extend, Hold, Refuse}
 use Rattle.rules.specs.declared.Side.{Side}

@@ -14,7 +14,7 @@ use Rattle.rules.specs.Curve.{curve, knot-slopes}
 use Rattle.rules.specs.Tensor.{tensor}
 use Rattle.rules.specs.Change.{changed-tensor, change-lanes}
 use Rattle.rules.specs.Outside.{some-outside-refused}
-use Rattle.rules.specs.Query.{cell-of, query, quick-cell-of, quick-query, query-in-modes, quick-query-in-modes}
+use Rattle.rules.specs.Query.{cell-of, quick-cell-of, query-in-modes, quick-query-in-modes}
 use Rattle.rules.specs.declared.Condition.{Condition}
 use Rattle.rules.specs.declared.CurveAnswer.{CurveAnswer}
 use Rattle.rules.specs.declared.ChangeAnswer.{ChangeAnswer}
@@ -238,40 +238,3 @@ module _ (g : Grid) (modes : List Mode) (tensor-lent coordinates : List Float) w
   -- what it promises: the answer
   pub record QuickQueryPromise (given : QueryAnswer) : Type 0 where
     pub answer : given ≡ quick-query-answer
-
--- ---- the queries where every axis extends, said without modes and sides
-
-module _ (g : Grid) (tensor-lent coordinates : List Float) where
-  -- the query's refusal then, the first of 1 2 3 4 7 8 10 that applies
-  unfoldable pub extended-query-refusal : ℕ
-  unfolding query
-  extended-query-refusal =
-      cond (axes-refused g) 1
-      (cond (some-points-refused g) 2
-      (cond (tensor-refused g) 3
-      (cond (query-lengths-refused g tensor-lent coordinates) 4
-      (cond (some-number-refused (g .flat-knots) || some-number-refused coordinates) 7
-      (cond (some-knots-refused g) 8
-      (cond (answer-refused (query g tensor-lent (at coordinates))) 10 0))))))
-
-  -- its answer
-  unfoldable pub extended-query-answer : QueryAnswer
-  unfolding extended-query-refusal labels
-  extended-query-answer = answer-of extended-query-refusal (query g tensor-lent (at coordinates)) (labels g coordinates)
-
-  -- the quick query's refusal then, likewise
-  unfoldable pub extended-quick-refusal : ℕ
-  unfolding quick-cell-of quick-query
-  extended-quick-refusal =
-      cond (axes-refused g) 1
-      (cond (some-points-refused g) 2
-      (cond (tensor-refused g) 3
-      (cond (query-lengths-refused g tensor-lent coordinates) 4
-      (cond (some-number-refused coordinates) 7
-      (cond (some-found-cell-refused g (quick-cell-of g (at coordinates))) 8
-      (cond (answer-refused (quick-query g tensor-lent (at coordinates))) 10 0))))))
-
-  -- its answer
-  unfoldable pub extended-quick-answer : QueryAnswer
-  unfolding extended-quick-refusal quick-labels
-  extended-quick-answer = answer-of extended-quick-refusal (quick-query g tensor-lent (at coordinates)) (quick-labels g coordinates)

@@ -14,4 +14,5 @@ pub mod Tensor
 pub mod Change
 pub mod Query
 pub mod Calls
+pub mod Extended
 pub mod EvenCalls

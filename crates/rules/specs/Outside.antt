@@ -1,10 +1,10 @@
 -- The chapter Outside of docs/RULES.md: on which side of the knots of an axis a point lies, and what the axis's mode makes of one outside.
 use mathlib.Core.Bool.{Bool, true, false, cond}
-use mathlib.Core.List.{List}
+use mathlib.Core.List.{List, [], _∷_}
 use Prim.Native.Nat.{ℕ, _-_}
 use lib.ListN.{getD, length}
 use lib.Ieee.{Float, lt}
-use Rattle.rules.specs.Numbers.{at, any}
+use Rattle.rules.specs.Numbers.{at, any, table}
 use Rattle.rules.specs.Sizes.{Grid, knots}
 use Rattle.rules.specs.declared.Mode.{Mode}
 use Rattle.rules.specs.declared.Mode.the-variants.{Extend, Hold, Refuse}
@@ -56,3 +56,18 @@ outside-refused Refuse s = outside s
 -- 18 of a grid: so for an axis in use
 abbrev pub some-outside-refused : Grid → List Mode → (ℕ → Float) → Bool
 some-outside-refused g modes point = any (λ i. outside-refused (mode-at modes i) (side (knots g i) (point i))) (g .axes)
+
+-- a mode with extend for hold
+abbrev pub released : Mode → Mode
+released Extend = Extend
+released Hold = Extend
+released Refuse = Refuse
+
+-- the same of each of a list
+abbrev pub let-go : List Mode → List Mode
+let-go [] = []
+let-go (mode ∷ modes) = released mode ∷ let-go modes
+
+-- the coordinates with those in hold replaced by the nearest end knot where they lie outside
+abbrev pub replaced : Grid → List Mode → List Float → List Float
+replaced g modes coordinates = table (length coordinates) (placed-on g modes (at coordinates))

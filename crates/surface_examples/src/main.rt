@@ -8,10 +8,12 @@ use example_lines::print_refusal;
 use example_lines::print_scratch;
 use rules::Axis;
 use rules::Condition;
+use rules::Mode;
 use surface_lines::grids;
 use surface_lines::print_build;
 use surface_lines::print_change;
 use surface_lines::print_query;
+use surface_lines::print_query_in_mode;
 
 // A build on a grid near the limit, with its first numbers.
 fn print_large_build(
@@ -80,6 +82,42 @@ fn labels() {
     print_query(b"knots 0 1 2 at NaN", 1, all, &knots, &tensor, &[0.0 / 0.0]);
 }
 
+// The points -1, 0, 2 and 3 beside the knots 0 1 2 in one mode.
+fn in_mode(mode: Mode, below: &[u8], first: &[u8], last: &[u8], above: &[u8]) {
+    let all = grids::one(3, Condition::natural());
+    let knots = [0.0, 1.0, 2.0];
+    let tensor = [0.0, 1.5, 1.0, 0.0, 0.0, -1.5];
+    print_query_in_mode(below, 1, all, mode, &knots, &tensor, &[-1.0]);
+    print_query_in_mode(first, 1, all, mode, &knots, &tensor, &[0.0]);
+    print_query_in_mode(last, 1, all, mode, &knots, &tensor, &[2.0]);
+    print_query_in_mode(above, 1, all, mode, &knots, &tensor, &[3.0]);
+}
+
+// The same points in each mode.
+fn modes() {
+    in_mode(
+        Mode::Extend,
+        b"extend at -1",
+        b"extend at 0",
+        b"extend at 2",
+        b"extend at 3",
+    );
+    in_mode(
+        Mode::Hold,
+        b"hold at -1",
+        b"hold at 0",
+        b"hold at 2",
+        b"hold at 3",
+    );
+    in_mode(
+        Mode::Refuse,
+        b"refuse at -1",
+        b"refuse at 0",
+        b"refuse at 2",
+        b"refuse at 3",
+    );
+}
+
 // 32 by 32 points make 4,096 numbers, the most that a tensor holds.
 fn largest() {
     let natural = grids::axis(32, Condition::natural());
@@ -130,6 +168,7 @@ fn axes() {
 fn main() {
     square();
     labels();
+    modes();
     largest();
     too_large();
     axes();

@@ -1,7 +1,7 @@
 //! The lines of the table: what we measure, and what it is held against. Each
 //! side keeps its buffers from call to call, and nothing is cleared between.
 
-use crate::hullashlar::{self, BUFFER, SCRATCH};
+use crate::hullashlar::{self, BUFFER, EXTEND, SCRATCH};
 use crate::inputs::{Inputs, Surface, CHANGED};
 use ninterp_quick::{
     compute_corner_cache, compute_m, evaluate_spline_corner_cached, evaluate_spline_from_m,
@@ -105,7 +105,7 @@ fn our_query(surface: &Surface) -> Work<'_> {
     let tensor: Vec<f64> = surface.tensor().iter().copied().collect();
     let point = surface.middle_point();
     Box::new(move || {
-        let answer = hullashlar::query(&surface.axes, &surface.knots, &tensor, &point);
+        let answer = hullashlar::query(&surface.axes, EXTEND, &surface.knots, &tensor, &point);
         answer.expect(ACCEPTED).0
     })
 }
@@ -135,7 +135,8 @@ fn our_quick_query(surface: &Surface) -> Work<'_> {
     let tensor: Vec<f64> = surface.tensor().iter().copied().collect();
     let point = surface.middle_point();
     Box::new(move || {
-        let answer = hullashlar::quick_query(&surface.axes, &surface.knots, &tensor, &point);
+        let answer =
+            hullashlar::quick_query(&surface.axes, EXTEND, &surface.knots, &tensor, &point);
         answer.expect(ACCEPTED).0
     })
 }

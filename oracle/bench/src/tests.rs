@@ -40,6 +40,7 @@ fn simple_value(surface: &Surface, tensor: &[f64]) -> f64 {
     let refusal = reading::query(
         axes.count,
         &axes.points,
+        &[reading::EXTEND; 4],
         knots,
         tensor,
         &point,

@@ -1,6 +1,7 @@
 //! Knots that a full query refuses: they fall, repeat, are no numbers, or lie too far apart.
 
 use crate::grid::Grid;
+use crate::lending::Point;
 use crate::numbers::{any_finite, not_finite, ordinary};
 use crate::random::Random;
 
@@ -22,8 +23,8 @@ const DISTURBANCES: [Disturbance; 10] = [
 
 /// Disturbs the knots of some axes, and gives a point there: one of the grid as it was, or one
 /// at a disturbed knot or beside it.
-pub fn disturb(random: &mut Random, grid: &mut Grid) -> Vec<f64> {
-    let mut coordinates = grid.coordinates(random);
+pub fn disturb(random: &mut Random, grid: &mut Grid) -> Point {
+    let mut point = Point::generate(random, grid);
     let certain = random.below(grid.axes);
     let mut rest = grid.knots.as_mut_slice();
     for axis in 0..grid.axes {
@@ -32,11 +33,12 @@ pub fn disturb(random: &mut Random, grid: &mut Grid) -> Vec<f64> {
             random.pick(&DISTURBANCES)(random, knots);
         }
         if random.percent(30) {
-            coordinates[axis] = at_or_beside(random, knots).unwrap_or(coordinates[axis]);
+            let coordinate = &mut point.coordinates[axis];
+            *coordinate = at_or_beside(random, knots).unwrap_or(*coordinate);
         }
         rest = behind;
     }
-    coordinates
+    point
 }
 
 /// A knot that is a finite number, or its neighbour on either side.

@@ -35,6 +35,7 @@ impl Call {
             Call::Query | Call::QuickQuery => &[
                 "axes",
                 "points",
+                "modes",
                 "knots",
                 "tensor",
                 "coordinates",

@@ -2,10 +2,11 @@
 
 use crate::case::{Argument, Calls, Case};
 use crate::grid::Grid;
-use crate::lending;
+use crate::lending::{self, Point};
 use crate::random::Random;
 use crate::reading_calls::Reading;
 use crate::sheet::example_sheet;
+use reading::{EXTEND, HOLD, REFUSE};
 
 const NOT_A_KNOT: u8 = 0;
 const FIRST: u8 = 1;
@@ -33,6 +34,7 @@ pub fn examples() -> Vec<Case> {
         lending::sheet_tensor(random, &[], 4),
     ]);
     cases.extend(quick_queries(random));
+    cases.extend(outside(random));
     cases
 }
 
@@ -55,6 +57,14 @@ fn grid(knots: &[&[f64]], kinds: [u8; 2]) -> Grid {
         grid.kinds[2 * axis..2 * axis + 2].copy_from_slice(&kinds);
     }
     grid
+}
+
+/// A point on axes that all are extended.
+fn extended(coordinates: &[f64]) -> Point {
+    Point {
+        modes: [EXTEND; 4],
+        coordinates: coordinates.to_vec(),
+    }
 }
 
 /// What the reading leaves in a slice of a case.
@@ -106,8 +116,8 @@ fn square(random: &mut Random) -> Vec<Case> {
     let square = grid(&[&[0.0, 1.0], &[0.0, 1.0]], [SECOND; 2]);
     let build = lending::build(random, &square, &[0.0, 0.0, 0.0, 1.0]);
     let tensor = left_in(&build, "tensor");
-    let query = lending::query(random, &square, &tensor, &[0.5, 0.5]);
-    let nowhere = lending::query(random, &square, &tensor, &[0.5, f64::NAN]);
+    let query = lending::query(random, &square, &tensor, &extended(&[0.5, 0.5]));
+    let nowhere = lending::query(random, &square, &tensor, &extended(&[0.5, f64::NAN]));
     let change = lending::change(random, &square, &tensor, [0, 1, 0, 0], 2.0);
     vec![build, query, nowhere, change]
 }
@@ -115,7 +125,7 @@ fn square(random: &mut Random) -> Vec<Case> {
 fn labels(random: &mut Random) -> Vec<Case> {
     let line = line(&[0.0, 1.0, 2.0], [SECOND; 2]);
     let tensor = [0.0, 1.5, 1.0, 0.0, 0.0, -1.5];
-    let mut at = |point: f64| lending::query(random, &line, &tensor, &[point]);
+    let mut at = |point: f64| lending::query(random, &line, &tensor, &extended(&[point]));
     vec![at(1.0), at(2.0), at(-1.0)]
 }
 
@@ -129,7 +139,7 @@ fn quick_queries(random: &mut Random) -> Vec<Case> {
     let mut at = |knots: &[f64], point: f64| {
         let line = line(knots, [SECOND; 2]);
         let tensor: Vec<f64> = (0..2 * knots.len()).map(|at| at as f64).collect();
-        lending::quick_query(random, &line, &tensor, &[point])
+        lending::quick_query(random, &line, &tensor, &extended(&[point]))
     };
     vec![
         at(&rising, 1.0),
@@ -142,6 +152,25 @@ fn quick_queries(random: &mut Random) -> Vec<Case> {
         at(&last_no_number, 1.5),
         at(&[-1e308, 1e308], 0.0),
     ]
+}
+
+/// Both queries below, at and above the ends of three knots, in each mode; past the axis
+/// in use stands no mode at all.
+fn outside(random: &mut Random) -> Vec<Case> {
+    let line = line(&[0.0, 1.0, 2.0], [SECOND; 2]);
+    let tensor = [0.0, 1.5, 1.0, 0.0, 0.0, -1.5];
+    let mut cases = Vec::new();
+    for mode in [EXTEND, HOLD, REFUSE] {
+        for coordinate in [-1.0, 0.0, 2.0, 3.0] {
+            let point = Point {
+                modes: [mode, 3, 3, 3],
+                coordinates: vec![coordinate],
+            };
+            cases.push(lending::query(random, &line, &tensor, &point));
+            cases.push(lending::quick_query(random, &line, &tensor, &point));
+        }
+    }
+    cases
 }
 
 /// NotAKnot with one point too few, and with just enough.

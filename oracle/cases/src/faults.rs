@@ -70,6 +70,7 @@ const OF_QUERY: &[Fault] = &[
     points_off,
     shape_too_large,
     length_off,
+    mode_off,
     number_not_finite,
     knots_not_rising,
     step_overflowing,
@@ -82,6 +83,7 @@ const OF_QUICK_QUERY: &[Fault] = &[
     points_off,
     shape_too_large,
     length_off,
+    mode_off,
     coordinate_not_finite,
     overflow,
 ];
@@ -171,7 +173,7 @@ fn length_off(random: &mut Random, case: &mut Case) {
 
 fn fixed_length_off(random: &mut Random, case: &mut Case) {
     let names = [
-        "axes", "points", "kinds", "values", "place", "value", "labels", "lanes", "length",
+        "axes", "points", "kinds", "values", "modes", "place", "value", "labels", "lanes", "length",
     ];
     let mut fixed = present(case, &names);
     fixed.retain(|name| !matches!(case.argument(name), Argument::Number(_)));
@@ -296,4 +298,12 @@ fn kind_off(random: &mut Random, case: &mut Case) {
     let kinds = case.argument_mut("kinds").bytes_mut();
     let pair = random.pick(&[[3, 0], [1, 3], [2, 3], [4, 0], [0, 4], [255, 255], [4, 4]]);
     kinds[2 * axis..2 * axis + 2].copy_from_slice(&pair);
+}
+
+fn mode_off(random: &mut Random, case: &mut Case) {
+    let axes = axes_in_use(case);
+    if axes > 0 {
+        let mode = random.pick(&[3, 3, 4, 255]);
+        case.argument_mut("modes").bytes_mut()[random.below(axes)] = mode;
+    }
 }

@@ -4,7 +4,7 @@ use crate::any_knots::disturb;
 use crate::case::Case;
 use crate::faults::spoil;
 use crate::grid::Grid;
-use crate::lending;
+use crate::lending::{self, Point};
 use crate::numbers::list;
 use crate::overflow::take_an_end_to_the_edge;
 use crate::random::Random;
@@ -97,7 +97,7 @@ const FAULTY_TO_BUILD: usize = 30;
 
 /// On knots of any sort many a cell is refused without another fault; on knots that
 /// a full query accepts the two are to be compared, and not their refusals.
-const FAULTY_QUICK: usize = 7;
+const FAULTY_QUICK: usize = 4;
 const FAULTY_BESIDE: usize = 4;
 
 /// The case of a kind that is a single call, by its number.
@@ -172,21 +172,21 @@ pub fn change_of(random: &mut Random, grid: &Grid, tensor: &[f64]) -> Case {
 fn query(random: &mut Random) -> Case {
     let grid = Grid::generate(random);
     let tensor = tensor(random, &grid);
-    let coordinates = grid.coordinates(random);
-    let case = lending::query(random, &grid, &tensor, &coordinates);
+    let point = Point::generate(random, &grid);
+    let case = lending::query(random, &grid, &tensor, &point);
     altered_at_times(random, case)
 }
 
 /// A quick query, most often on knots that a full one refuses.
 fn quick_query(random: &mut Random) -> Case {
     let mut grid = searched_grid(random);
-    let coordinates = if random.percent(75) {
+    let point = if random.percent(75) {
         disturb(random, &mut grid)
     } else {
-        grid.coordinates(random)
+        Point::generate(random, &grid)
     };
     let tensor = list(random, grid.tensor());
-    let mut case = lending::quick_query(random, &grid, &tensor, &coordinates);
+    let mut case = lending::quick_query(random, &grid, &tensor, &point);
     if random.percent(FAULTY_QUICK) {
         spoil(random, &mut case);
     }
@@ -207,8 +207,8 @@ fn searched_grid(random: &mut Random) -> Grid {
 pub fn quick_beside_full(random: &mut Random) -> Case {
     let grid = Grid::generate(random);
     let tensor = tensor(random, &grid);
-    let coordinates = grid.coordinates(random);
-    let mut case = lending::quick_query(random, &grid, &tensor, &coordinates);
+    let point = Point::generate(random, &grid);
+    let mut case = lending::quick_query(random, &grid, &tensor, &point);
     if random.percent(FAULTY_BESIDE) {
         spoil(random, &mut case);
     }

@@ -3,7 +3,7 @@
 use crate::numbers::{edge, far_below_zero, huge, not_finite, ordinary, subnormal};
 use crate::overflow::largest_upper_knot;
 use crate::random::Random;
-use reading::LONGEST_TENSOR;
+use reading::{EXTEND, HOLD, LONGEST_TENSOR, REFUSE};
 
 /// Shapes whose tensor has 4,096 numbers or an axis of 256 points.
 const LARGE: [&[usize]; 12] = [
@@ -102,6 +102,17 @@ impl Grid {
         coordinates
     }
 
+    /// A mode for every axis; past the axes in use stands anything.
+    pub fn modes(&self, random: &mut Random) -> [u8; 4] {
+        let mut modes = [0; 4].map(|_| random.pick(&[0, 1, 2, 3, 255]));
+        let same = random.percent(30);
+        let of_all = mode(random);
+        for slot in &mut modes[..self.axes] {
+            *slot = if same { of_all } else { mode(random) };
+        }
+        modes
+    }
+
     /// A place on the grid; what stands past the axes in use is not read.
     pub fn place(&self, random: &mut Random) -> [usize; 4] {
         let mut place = [usize::MAX; 4];
@@ -170,17 +181,23 @@ fn nearly_full(random: &mut Random) -> Vec<usize> {
     shape
 }
 
+/// A mode of an axis: refused less often, so that most calls are accepted.
+fn mode(random: &mut Random) -> u8 {
+    random.pick(&[EXTEND, EXTEND, HOLD, HOLD, REFUSE])
+}
+
 /// A point of one axis.
 fn coordinate(random: &mut Random, knots: &[f64]) -> f64 {
     let lower = random.below(knots.len() - 1);
     let step = knots[lower + 1] - knots[lower];
-    match random.below(11) {
+    match random.below(12) {
         0..=2 => random.pick(knots),
         3 => beside(random, knots),
-        4 => knots[0] - step * random.between(1, 3) as f64,
-        5 => knots[knots.len() - 1] + step * random.between(1, 3) as f64,
-        6 if random.percent(20) => edge(random),
-        6 => ordinary(random),
+        4 => at_an_end(random, knots),
+        5 => knots[0] - step * random.between(1, 3) as f64,
+        6 => knots[knots.len() - 1] + step * random.between(1, 3) as f64,
+        7 if random.percent(20) => edge(random),
+        7 => ordinary(random),
         _ => knots[lower] + step * (random.between(1, 15) as f64 / 16.0),
     }
 }
@@ -189,6 +206,13 @@ fn coordinate(random: &mut Random, knots: &[f64]) -> f64 {
 fn beside(random: &mut Random, knots: &[f64]) -> f64 {
     let knot = random.pick(knots);
     random.pick(&[knot.next_down(), knot.next_up()])
+}
+
+/// An end knot, its neighbour on either side, or the same with its sign changed: a zero is
+/// still at the knot then.
+fn at_an_end(random: &mut Random, knots: &[f64]) -> f64 {
+    let end = random.pick(&[knots[0], knots[knots.len() - 1]]);
+    random.pick(&[end, end.next_down(), end.next_up(), -end])
 }
 
 /// Knots that rise strictly, by finite steps.

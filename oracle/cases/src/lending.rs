@@ -105,15 +105,31 @@ pub fn change(
     Case::new(Call::Change, arguments)
 }
 
+/// Where a tensor is asked: a coordinate for each axis in use, and a mode for each of four.
+pub struct Point {
+    pub modes: [u8; 4],
+    pub coordinates: Vec<f64>,
+}
+
+impl Point {
+    /// A generated point of a grid.
+    pub fn generate(random: &mut Random, grid: &Grid) -> Self {
+        Self {
+            coordinates: grid.coordinates(random),
+            modes: grid.modes(random),
+        }
+    }
+}
+
 /// A query of a tensor on a grid.
-pub fn query(random: &mut Random, grid: &Grid, tensor: &[f64], coordinates: &[f64]) -> Case {
-    let arguments = query_arguments(random, grid, tensor, coordinates);
+pub fn query(random: &mut Random, grid: &Grid, tensor: &[f64], point: &Point) -> Case {
+    let arguments = query_arguments(random, grid, tensor, point);
     Case::new(Call::Query, arguments)
 }
 
 /// A quick query of a tensor on a grid.
-pub fn quick_query(random: &mut Random, grid: &Grid, tensor: &[f64], coordinates: &[f64]) -> Case {
-    let arguments = query_arguments(random, grid, tensor, coordinates);
+pub fn quick_query(random: &mut Random, grid: &Grid, tensor: &[f64], point: &Point) -> Case {
+    let arguments = query_arguments(random, grid, tensor, point);
     Case::new(Call::QuickQuery, arguments)
 }
 
@@ -122,14 +138,15 @@ fn query_arguments(
     random: &mut Random,
     grid: &Grid,
     tensor: &[f64],
-    coordinates: &[f64],
+    point: &Point,
 ) -> Vec<Argument> {
     vec![
         Argument::Number(grid.axes),
         Argument::of_numbers(&grid.points),
+        Argument::of_bytes(&point.modes),
         Argument::of_floats(&grid.knots),
         Argument::of_floats(tensor),
-        Argument::of_floats(coordinates),
+        Argument::of_floats(&point.coordinates),
         room(random, 1),
         room_of_axes(),
     ]

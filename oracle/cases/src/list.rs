@@ -21,6 +21,7 @@ use crate::examples::examples;
 use crate::generator::{single, Kind, KINDS};
 use crate::random::Random;
 use crate::reading_calls::Reading;
+use crate::report::NUMBERS;
 
 /// The calls in the order of their numbers.
 pub const CALLS: [Call; 9] = [
@@ -65,7 +66,7 @@ pub fn list() -> Vec<u64> {
 /// Cases of a kind, with enough of every refusal. They are taken from the last on:
 /// the first sheets that are read are all one sheet with its damages.
 fn chosen(kind: Kind) -> Vec<Vec<u64>> {
-    let mut wanted = [REFUSED; 15];
+    let mut wanted = [REFUSED; NUMBERS];
     wanted[0] = ACCEPTED;
     let mut chosen = Vec::new();
     for number in (0..LOOKED_AT).rev() {

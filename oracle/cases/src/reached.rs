@@ -3,6 +3,7 @@
 use crate::case::{Call, Case};
 use crate::overflow::{numbered_ends, refusal_with};
 use ninterp_unchanged::locate_lower_index;
+use reading::{EXTEND, HOLD, REFUSE};
 
 /// An edge in words, and whether a case with its refusal reaches it.
 struct Edge {
@@ -11,7 +12,7 @@ struct Edge {
 }
 
 /// How many edges there are.
-const COUNT: usize = 17;
+const COUNT: usize = 28;
 
 const EDGES: [Edge; COUNT] = [
     Edge {
@@ -84,7 +85,94 @@ const EDGES: [Edge; COUNT] = [
         name: "a search that ends past the last cell",
         is_reached: |case, refusal| is_searched(case, refusal) && is_held(case),
     },
+    Edge {
+        name: "in extend a coordinate at an end knot",
+        is_reached: |case, refusal| refusal == 0 && in_mode(case, EXTEND, at_an_end),
+    },
+    Edge {
+        name: "in extend a coordinate one unit inside an end knot",
+        is_reached: |case, refusal| refusal == 0 && in_mode(case, EXTEND, just_inside),
+    },
+    Edge {
+        name: "in extend a coordinate one unit outside an end knot",
+        is_reached: |case, refusal| refusal == 0 && in_mode(case, EXTEND, just_outside),
+    },
+    Edge {
+        name: "in hold a coordinate at an end knot",
+        is_reached: |case, refusal| refusal == 0 && in_mode(case, HOLD, at_an_end),
+    },
+    Edge {
+        name: "in hold a coordinate one unit inside an end knot",
+        is_reached: |case, refusal| refusal == 0 && in_mode(case, HOLD, just_inside),
+    },
+    Edge {
+        name: "in hold a coordinate one unit outside an end knot",
+        is_reached: |case, refusal| refusal == 0 && in_mode(case, HOLD, just_outside),
+    },
+    Edge {
+        name: "in refuse a coordinate at an end knot",
+        is_reached: |case, refusal| refusal == 0 && in_mode(case, REFUSE, at_an_end),
+    },
+    Edge {
+        name: "in refuse a coordinate one unit inside an end knot",
+        is_reached: |case, refusal| refusal == 0 && in_mode(case, REFUSE, just_inside),
+    },
+    Edge {
+        name: "in refuse a coordinate one unit outside an end knot",
+        is_reached: |case, refusal| refusal == 18 && in_mode(case, REFUSE, just_outside),
+    },
+    Edge {
+        name: "in refuse a zero at an end knot that is the zero of the other sign",
+        is_reached: |case, refusal| refusal == 0 && in_mode(case, REFUSE, at_the_other_zero),
+    },
+    Edge {
+        name: "in hold a coordinate below the first knot and above the last",
+        is_reached: |case, refusal| refusal == 0 && in_mode(case, HOLD, below_and_above),
+    },
 ];
+
+/// Whether a query has on some axis this mode, and a coordinate that stands so to the knots.
+fn in_mode(case: &Case, mode: u8, stands: fn(&[f64], f64) -> bool) -> bool {
+    if !matches!(case.call, Call::Query | Call::QuickQuery) {
+        return false;
+    }
+    let modes = case.argument("modes").bytes();
+    let coordinates = coordinates(case);
+    let axes = knots_by_axis(case).into_iter().zip(coordinates).zip(modes);
+    let mut in_mode = axes.filter(|(_, own)| **own == mode);
+    in_mode.any(|((knots, point), _)| stands(knots, point))
+}
+
+/// The first and the last knot.
+fn ends(knots: &[f64]) -> (f64, f64) {
+    (knots[0], knots[knots.len() - 1])
+}
+
+fn at_an_end(knots: &[f64], point: f64) -> bool {
+    let (first, last) = ends(knots);
+    point == first || point == last
+}
+
+fn just_inside(knots: &[f64], point: f64) -> bool {
+    let (first, last) = ends(knots);
+    point == first.next_up() || point == last.next_down()
+}
+
+fn just_outside(knots: &[f64], point: f64) -> bool {
+    let (first, last) = ends(knots);
+    point == first.next_down() || point == last.next_up()
+}
+
+fn at_the_other_zero(knots: &[f64], point: f64) -> bool {
+    let (first, last) = ends(knots);
+    let mut ends = [first, last].into_iter();
+    ends.any(|end| point == end && point.to_bits() != end.to_bits())
+}
+
+fn below_and_above(knots: &[f64], point: f64) -> bool {
+    let (first, last) = ends(knots);
+    point < first && point > last
+}
 
 fn is_quick(case: &Case) -> bool {
     case.call == Call::QuickQuery
@@ -92,7 +180,7 @@ fn is_quick(case: &Case) -> bool {
 
 /// Whether a quick query went as far as its knots.
 fn is_searched(case: &Case, refusal: usize) -> bool {
-    is_quick(case) && matches!(refusal, 0 | 8 | 10)
+    is_quick(case) && matches!(refusal, 0 | 8 | 10 | 18)
 }
 
 fn knots_finite(case: &Case) -> bool {
@@ -138,10 +226,11 @@ impl Reached {
 }
 
 /// The slices of a fixed length in a call with axes.
-const FIXED: [(&str, usize); 7] = [
+const FIXED: [(&str, usize); 8] = [
     ("points", 4),
     ("kinds", 8),
     ("values", 8),
+    ("modes", 4),
     ("place", 4),
     ("value", 1),
     ("labels", 4),

@@ -62,12 +62,12 @@ fn on_a_grid(call: Call, arguments: &mut [Argument]) -> usize {
 
 #[rustfmt::skip]
 fn of_a_tensor(call: Call, arguments: &mut [Argument]) -> usize {
-    let [axes, points, knots, tensor, coordinates, value, labels] = arguments else {
+    let [axes, points, modes, knots, tensor, coordinates, value, labels] = arguments else {
         panic!("a case has the arguments of its call")
     };
     let query = if call == Call::Query { reading::query } else { reading::quick_query };
     query(
-        axes.number(), points.numbers(), knots.floats(), tensor.floats(),
+        axes.number(), points.numbers(), modes.bytes(), knots.floats(), tensor.floats(),
         coordinates.floats(), value.floats_mut(), labels.numbers_mut(),
     )
 }

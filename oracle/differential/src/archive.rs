@@ -139,10 +139,11 @@ fn change(arguments: &mut [Argument]) -> usize {
 
 #[rustfmt::skip]
 fn query(arguments: &mut [Argument]) -> usize {
-    let [axes, points, knots, tensor, coordinates, value, labels] = arguments else {
+    let [axes, points, modes, knots, tensor, coordinates, value, labels] = arguments else {
         panic!("a case has the arguments of its call")
     };
     let points = lent(points.numbers());
+    let modes = lent(modes.bytes());
     let knots = lent(knots.floats());
     let tensor = lent(tensor.floats());
     let coordinates = lent(coordinates.floats());
@@ -151,18 +152,20 @@ fn query(arguments: &mut [Argument]) -> usize {
     // SAFETY: each pair is a live slice; no two of them overlap.
     unsafe {
         hullashlar_query(
-            axes.number(), points.0, points.1, knots.0, knots.1, tensor.0, tensor.1,
-            coordinates.0, coordinates.1, value.0, value.1, labels.0, labels.1,
+            axes.number(), points.0, points.1, modes.0, modes.1, knots.0, knots.1,
+            tensor.0, tensor.1, coordinates.0, coordinates.1, value.0, value.1,
+            labels.0, labels.1,
         )
     }
 }
 
 #[rustfmt::skip]
 fn quick_query(arguments: &mut [Argument]) -> usize {
-    let [axes, points, knots, tensor, coordinates, value, labels] = arguments else {
+    let [axes, points, modes, knots, tensor, coordinates, value, labels] = arguments else {
         panic!("a case has the arguments of its call")
     };
     let points = lent(points.numbers());
+    let modes = lent(modes.bytes());
     let knots = lent(knots.floats());
     let tensor = lent(tensor.floats());
     let coordinates = lent(coordinates.floats());
@@ -171,8 +174,9 @@ fn quick_query(arguments: &mut [Argument]) -> usize {
     // SAFETY: each pair is a live slice; no two of them overlap.
     unsafe {
         hullashlar_quick_query(
-            axes.number(), points.0, points.1, knots.0, knots.1, tensor.0, tensor.1,
-            coordinates.0, coordinates.1, value.0, value.1, labels.0, labels.1,
+            axes.number(), points.0, points.1, modes.0, modes.1, knots.0, knots.1,
+            tensor.0, tensor.1, coordinates.0, coordinates.1, value.0, value.1,
+            labels.0, labels.1,
         )
     }
 }

@@ -1,7 +1,7 @@
 //! What the example hosts print of the sheet of a gain surface.
 
 use crate::grid::Grid;
-use reading::{BUFFER, CURVE_SCRATCH};
+use reading::{BUFFER, CURVE_SCRATCH, HOLD};
 
 /// The gain at a frequency and a level, the changed sample, and the gain after it.
 pub fn host(sheet: &[u8]) -> String {
@@ -24,7 +24,7 @@ pub fn host(sheet: &[u8]) -> String {
 
     let (length, old) = (tensor.len(), samples[2 * columns + 2]);
     let after = gain(&grid, &tensor);
-    let (refusal, _, _) = grid.query(&tensor, &[1.5, f64::NAN]);
+    let (refusal, _, _) = grid.query(HOLD, &tensor, &[1.5, f64::NAN]);
     format!(
         "sheet of {} axes, {rows} and {columns} points; tensor of {length} numbers\n\
          {before}\
@@ -62,7 +62,7 @@ fn read(sheet: &[u8]) -> (Grid, Vec<f64>) {
 }
 
 fn gain(grid: &Grid, tensor: &[f64]) -> String {
-    let (refusal, gain, cell) = grid.query(tensor, &[1.5, 60.0]);
+    let (refusal, gain, cell) = grid.query(HOLD, tensor, &[1.5, 60.0]);
     accepted(refusal);
     format!(
         "gain at 1.5 kHz and 60.0 dB: {gain:.6} dB, in cell {}, {}\n",

@@ -2,6 +2,7 @@
 
 use crate::grid::{Ends, Grid};
 use crate::line::{counts, output, patterns, scratch, BEFORE};
+use reading::{EXTEND, HOLD, REFUSE};
 
 /// Scratch for every tensor of these examples but the large ones.
 pub const SCRATCH: usize = 2500;
@@ -27,9 +28,14 @@ pub fn change(name: &str, grid: &Grid, tensor: &mut [f64], (place, sample): Chan
     format!("{name}: change {refusal} lanes {lanes}{numbers}{scratch}")
 }
 
-/// The line of a query.
+/// The line of a query that extends every axis.
 pub fn query(name: &str, grid: &Grid, tensor: &[f64], coordinates: &[f64]) -> String {
-    let (refusal, value, labels) = grid.query(tensor, coordinates);
+    query_in_mode(name, grid, EXTEND, tensor, coordinates)
+}
+
+/// The line of a query with one mode for every axis.
+fn query_in_mode(name: &str, grid: &Grid, mode: u8, tensor: &[f64], coordinates: &[f64]) -> String {
+    let (refusal, value, labels) = grid.query(mode, tensor, coordinates);
     let (value, labels) = (patterns(&[value]), counts(&labels));
     format!("{name}: query {refusal}{value} labels{labels}\n")
 }
@@ -67,6 +73,19 @@ fn labels() -> String {
     .concat()
 }
 
+fn modes() -> String {
+    let grid = Grid::new(&[(Ends::NATURAL, &[0.0, 1.0, 2.0])]);
+    let (_, tensor) = build("knots 0 1 2", &grid, &[0.0, 1.0, 0.0], 6);
+    let mut lines = String::new();
+    for (word, mode) in [("extend", EXTEND), ("hold", HOLD), ("refuse", REFUSE)] {
+        for point in [-1.0, 0.0, 2.0, 3.0] {
+            let name = format!("{word} at {point}");
+            lines += &query_in_mode(&name, &grid, mode, &tensor, &[point]);
+        }
+    }
+    lines
+}
+
 /// The line of a build on two natural axes near the limit, with its first numbers.
 fn large(name: &str, points: [usize; 2], samples: &[f64]) -> String {
     let knots = points.map(|count| (0..count).map(|knot| knot as f64).collect::<Vec<f64>>());
@@ -91,6 +110,7 @@ pub fn examples() -> String {
     [
         square(),
         labels(),
+        modes(),
         large("32 by 32 points", [32, 32], &sawtooth(1024)),
         large("25 by 41 points", [25, 41], &[0.0; 1025]),
         of_axes("five axes", 5),

@@ -7,6 +7,7 @@
 mod bits;
 mod curve;
 mod ends;
+mod modes;
 mod query;
 mod refusals;
 mod shape;
@@ -15,6 +16,7 @@ mod tensor;
 
 pub use curve::{curve, moments, slopes};
 pub use ends::{conditions, Condition};
+pub use modes::{EXTEND, HOLD, REFUSE};
 pub use query::{query, quick_query};
 pub use refusals::CURVE_SCRATCH;
 pub use shape::{Shape, LONGEST_TENSOR};

@@ -1,40 +1,58 @@
 //! The calls that ask a tensor for its value at a point.
 
+use crate::modes::{evaluated, modes_stand};
 use crate::refusals::{all_finite, knots_rise, require, Refusal};
 use crate::shape::{views, Shape};
 use ninterp_unchanged::{evaluate_spline_corner_cached, locate_lower_index, ArrayD, IxDyn};
 
 /// The tensor's value at a point, and of every axis the cell that the unchanged search
 /// finds, which is the label.
+#[allow(clippy::too_many_arguments)]
 pub fn query(
     axes: usize,
     points: &[usize],
+    modes: &[u8],
     knots: &[f64],
     tensor: &[f64],
     coordinates: &[f64],
     value: &mut [f64],
     labels: &mut [usize],
 ) -> Refusal {
-    let slots_stand = value.len() == 1 && labels.len() == 4;
-    let asked = Asked::checked(axes, points, slots_stand, knots, tensor, coordinates);
+    let slots_stand = slots_stand(value, labels);
+    let shape = checked_shape(axes, points, slots_stand);
+    let asked = shape.and_then(|shape| Asked::checked(shape, modes, knots, tensor, coordinates));
     let answer = asked.and_then(|asked| asked.answer());
     hand_over(answer, slots_stand, value, labels)
 }
 
 /// The same, with no look at knots but those that the search visits and those of the cell.
+#[allow(clippy::too_many_arguments)]
 pub fn quick_query(
     axes: usize,
     points: &[usize],
+    modes: &[u8],
     knots: &[f64],
     tensor: &[f64],
     coordinates: &[f64],
     value: &mut [f64],
     labels: &mut [usize],
 ) -> Refusal {
-    let slots_stand = value.len() == 1 && labels.len() == 4;
-    let asked = Asked::checked(axes, points, slots_stand, knots, tensor, coordinates);
+    let slots_stand = slots_stand(value, labels);
+    let shape = checked_shape(axes, points, slots_stand);
+    let asked = shape.and_then(|shape| Asked::checked(shape, modes, knots, tensor, coordinates));
     let answer = asked.and_then(|asked| asked.quick_answer());
     hand_over(answer, slots_stand, value, labels)
+}
+
+/// Whether the slots of an answer have their lengths.
+fn slots_stand(value: &[f64], labels: &[usize]) -> bool {
+    value.len() == 1 && labels.len() == 4
+}
+
+/// 1, 4 for points that are not four, 2, 3, and 4 for the slots.
+fn checked_shape(axes: usize, points: &[usize], slots_stand: bool) -> Result<Shape<'_>, Refusal> {
+    let shape = Shape::checked(axes, points)?;
+    require(slots_stand, 4).map(|()| shape)
 }
 
 /// The value, and the cells of the axes in use.
@@ -60,41 +78,43 @@ fn hand_over(
 /// What a query is given, once everything has its length.
 struct Asked<'a> {
     shape: Shape<'a>,
+    modes: &'a [u8],
     knots: Vec<&'a [f64]>,
     tensor: &'a [f64],
     coordinates: &'a [f64],
 }
 
 impl<'a> Asked<'a> {
-    /// 1 to 4.
+    /// 4 for every other slice, and 22.
     fn checked(
-        axes: usize,
-        points: &'a [usize],
-        slots_stand: bool,
+        shape: Shape<'a>,
+        modes: &'a [u8],
         knots: &'a [f64],
         tensor: &'a [f64],
         coordinates: &'a [f64],
     ) -> Result<Self, Refusal> {
-        let shape = Shape::checked(axes, points)?;
-        require(slots_stand, 4)?;
+        require(modes.len() == 4, 4)?;
         require(knots.len() == shape.knots_length(), 4)?;
         require(tensor.len() == shape.tensor_length(), 4)?;
         require(coordinates.len() == shape.axes(), 4)?;
+        let modes = &modes[..shape.axes()];
+        modes_stand(modes)?;
         Ok(Self {
             shape,
+            modes,
             knots: shape.knots_by_axis(knots),
             tensor,
             coordinates,
         })
     }
 
-    /// The answer on knots that all are looked at.
+    /// The answer on knots that all are looked at: the Rust's own at the point that is evaluated.
     fn answer(&self) -> Result<Answer, Refusal> {
         let finite = self.knots.iter().all(|knots| all_finite(knots));
         require(finite && all_finite(self.coordinates), 7)?;
         require(self.knots.iter().all(|knots| knots_rise(knots)), 8)?;
-        let points = self.shape.points();
-        let value = value_at(points, &self.knots, self.tensor, self.coordinates);
+        let point = evaluated(self.modes, &self.knots, self.coordinates)?;
+        let value = value_at(self.shape.points(), &self.knots, self.tensor, &point);
         require(value.is_finite(), 10)?;
         Ok((value, self.cells()))
     }
@@ -108,13 +128,15 @@ impl<'a> Asked<'a> {
         let ends: Vec<&[f64]> = ends.map(|(knots, cell)| &knots[*cell..cell + 2]).collect();
         let good = |ends: &&[f64]| all_finite(ends) && knots_rise(ends);
         require(ends.iter().all(good), 8)?;
+        let point = evaluated(self.modes, &self.knots, self.coordinates)?;
         let corners = self.corners(&cells);
-        let value = value_at(&vec![2; cells.len()], &ends, &corners, self.coordinates);
+        let value = value_at(&vec![2; cells.len()], &ends, &corners, &point);
         require(value.is_finite(), 10)?;
         Ok((value, cells))
     }
 
-    /// The cell that the unchanged search finds on each axis, held to the last one.
+    /// The cell that the unchanged search finds on each axis for the point as it is given, held
+    /// to the last one.
     fn cells(&self) -> Vec<usize> {
         let axes = self.knots.iter().zip(self.coordinates);
         axes.map(|(knots, point)| {

@@ -121,6 +121,7 @@ fn natural_on_two_axes() {
     let refusal = query(
         2,
         &SQUARE,
+        &[EXTEND; 4],
         &SQUARE_KNOTS,
         &tensor,
         &point,
@@ -192,6 +193,7 @@ fn cells_and_labels_on_three_knots() {
         let refusal = query(
             1,
             &points,
+            &[EXTEND; 4],
             &knots,
             &[0.0; 6],
             &[point],
@@ -232,6 +234,7 @@ fn a_point_that_is_no_number() {
     let refusal = query(
         1,
         &points,
+        &[EXTEND; 4],
         &line,
         &[0.0; 4],
         &point,

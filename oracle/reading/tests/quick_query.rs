@@ -1,9 +1,9 @@
 //! The quick query: the cell of the unchanged search on any knots, and nothing else looked at.
 
-use reading::{query, quick_query};
+use reading::{query, quick_query, EXTEND};
 
 /// A query, full or quick.
-type Query = fn(usize, &[usize], &[f64], &[f64], &[f64], &mut [f64], &mut [usize]) -> usize;
+type Query = fn(usize, &[usize], &[u8], &[f64], &[f64], &[f64], &mut [f64], &mut [usize]) -> usize;
 
 /// The refusal, the bits of the value, and the labels.
 type Whole = (usize, u64, [usize; 4]);
@@ -17,6 +17,7 @@ fn asked(query: Query, knots: &[&[f64]], tensor: &[f64], coordinates: &[f64]) ->
     let refusal = query(
         knots.len(),
         &points,
+        &[EXTEND; 4],
         &knots.concat(),
         tensor,
         coordinates,
@@ -151,6 +152,7 @@ fn lengths_are_refused_as_in_the_full_query() {
         let refusal = quick_query(
             1,
             &[2, 0, 0, 0],
+            &[EXTEND; 4],
             &knots,
             &tensor,
             &[f64::NAN],
@@ -163,6 +165,7 @@ fn lengths_are_refused_as_in_the_full_query() {
     let refusal = quick_query(
         1,
         &[2, 0, 0, 0],
+        &[EXTEND; 4],
         &knots,
         &tensor,
         &[0.5],
@@ -173,6 +176,7 @@ fn lengths_are_refused_as_in_the_full_query() {
     let of_five = quick_query(
         5,
         &[2; 3],
+        &[EXTEND; 4],
         &knots,
         &tensor,
         &[0.5],

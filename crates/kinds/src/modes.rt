@@ -1,0 +1,25 @@
+// The modes of the axes, by their numbers.
+ghost use mathlib.Core.Path.{_≡_};
+ghost use Rattle.kinds.specs.Modes.{unknown-mode, mode-of-number};
+use rules::Mode;
+
+// Whether there is no such mode: it refuses nothing.
+pub fn is_unknown_mode(number: u64) -> bool
+    ensures { λ r. ⌜ r ≡ unknown-mode number ⌝ }
+{
+    match number {
+        0..=2 => false,
+        _ => true,
+    }
+}
+
+// The mode of a number: it refuses nothing, and takes any other number for Extend.
+pub fn mode_of_number(number: u64) -> Mode
+    ensures { λ r. ⌜ r ≡ mode-of-number number ⌝ }
+{
+    match number {
+        1 => Mode::Hold,
+        2 => Mode::Refuse,
+        _ => Mode::Extend,
+    }
+}
