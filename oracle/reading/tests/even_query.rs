@@ -138,9 +138,9 @@ fn the_tolerance_is_1024_units_of_the_step() {
 /// would be zero, and these knots uneven.
 #[test]
 fn the_doublings_come_first() {
-    let step = 2f64.powi(-1030);
+    // The step is 2^-1030 and the tolerance 2^-1072, four times the least number of the format.
+    let (step, tolerance) = (f64::from_bits(1 << 44), f64::from_bits(4));
     assert_eq!(step * f64::EPSILON, 0.0);
-    let tolerance = 2f64.powi(-1072);
     let knots = [0.0, step, 2.0 * step + tolerance];
     assert_eq!(on_a_line(EXTEND, &knots, step / 2.0).0, 0);
     let next = [0.0, step, knots[2].next_up()];
