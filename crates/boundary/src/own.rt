@@ -218,7 +218,16 @@ pub fn query_own_refusal(
     if refusal != 0 {
         return refusal;
     }
-    query_later_refusal(axes, points, modes, knots, tensor, coordinates, value, labels)
+    query_later_refusal(
+        axes,
+        points,
+        modes,
+        knots,
+        tensor,
+        coordinates,
+        value,
+        labels,
+    )
 }
 
 // Of the query of even axes: the same, and 4 for the slot of an axis that is not even.
@@ -242,7 +251,16 @@ pub fn even_query_own_refusal(
     if lengths::length_refused(uneven.len(), 2) {
         return 4;
     }
-    query_later_refusal(axes, points, modes, knots, tensor, coordinates, value, labels)
+    query_later_refusal(
+        axes,
+        points,
+        modes,
+        knots,
+        tensor,
+        coordinates,
+        value,
+        labels,
+    )
 }
 
 // Whether the slot of the number of a sheet's axes, or a slice of what is found of them, is of another length.
