@@ -13,6 +13,7 @@ use replay_sheets::read;
 use replay_sheets::sheet_tensor;
 use replay_surfaces::build;
 use replay_surfaces::change;
+use replay_surfaces::even_query;
 use replay_surfaces::query;
 use replay_surfaces::quick_query;
 
@@ -29,6 +30,7 @@ fn case_at(list: &[u8], place: usize) -> Replayed {
         6 => read(list, begin),
         7 => sheet_tensor(list, begin),
         8 => quick_query(list, begin),
+        9 => even_query(list, begin),
         _ => Replayed {
             same: false,
             next: begin,
