@@ -28,7 +28,7 @@ either-set zero (suc low) = rw (ne-eqb (suc low) 0 (omega arith), ne-eqb (0 * 2 
 either-set (suc high) low = rw (ne-eqb (suc high) 0 (omega arith), ne-eqb (suc high * 2 + low) 0 (omega arith))
 
 -- a run has a bit that is not zero where its number is not
-bits-set : (bytes : List ℕ) (at n : ℕ) → any (λ k. not (eqb (bit bytes (at + k)) 0)) n ≡ not (eqb (field bytes at n) 0)
+pub bits-set : (bytes : List ℕ) (at n : ℕ) → any (λ k. not (eqb (bit bytes (at + k)) 0)) n ≡ not (eqb (field bytes at n) 0)
 unfolding any field
 bits-set bytes at zero = refl
 bits-set bytes at (suc n) = rw (bits-set bytes at n) (either-set (field bytes at n) (bit bytes (at + n)))
