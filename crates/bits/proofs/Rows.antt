@@ -132,13 +132,13 @@ none-agree s d = record { same = λ i l. absurd (omega (arith, l)) }
 fewer-agree : (s d : List ℕ) (m n : ℕ) → m ≤ n → Agree s d n → Agree s d m
 fewer-agree s d m n h a = record { same = λ i l. a .same i (omega arith) }
 
--- a row that fills whole bytes leaves in any bytes the same: those of its own, and behind them what was there
-module _ (fields : List Field) (n : ℕ) (whole : bits-in fields ≡ 8 * n) (z : Sized fields) where
+module _ (fields : List Field) (n : ℕ) (whole : bits-in fields ≡ 8 * n) where
   own-length : length (packed fields) ≡ n
   own-length = packed-length fields ∙ rw whole (omega arith)
 
-  pub over-any : (bytes : List ℕ) → Bytes bytes → n ≤ length bytes → with-fields bytes 0 fields ≡ packed fields ++ drop (length (packed fields)) bytes
-  over-any bytes all h =
+  -- a row that fills whole bytes leaves in any bytes the same: those of its own, and behind them what was there
+  pub over-any : Sized fields → (bytes : List ℕ) → Bytes bytes → n ≤ length bytes → with-fields bytes 0 fields ≡ packed fields ++ drop (length (packed fields)) bytes
+  over-any z bytes all h =
       let d = with-fields bytes 0 fields in
       let l : n ≤ length d = rw (fields-length bytes 0 fields) h in
       let a = fields-agree (packed fields) bytes 0 fields (omega arith) (packed-stand fields z) (none-agree (packed fields) bytes) in

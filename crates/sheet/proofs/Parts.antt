@@ -42,7 +42,7 @@ module _ (bytes : List ℕ) (ok : Accepted bytes) where
   enough-points i l =
       rw (size-is i l) (faultless-axis bytes (axis-begin bytes i) (each-faultless bytes n i (ok .faultless) l) .0)
 
-  knots-sum : (i : ℕ) → i ≤ n → length (knots-below bytes i) ≡ sum-below sizes i
+  pub knots-sum : (i : ℕ) → i ≤ n → length (knots-below bytes i) ≡ sum-below sizes i
   unfolding sum-below
   knots-sum zero l = knots-none bytes
   knots-sum (suc i) l =

@@ -48,7 +48,7 @@ module _ (bytes : List ℕ) (at : ℕ) where
 -- ---- after the last axis
 
 -- a product of numbers that are not zero is not
-product-least : (sizes : ℕ → ℕ) (n : ℕ) → ((k : ℕ) → k < n → 2 ≤ sizes k) → 0 < product-below sizes n
+pub product-least : (sizes : ℕ → ℕ) (n : ℕ) → ((k : ℕ) → k < n → 2 ≤ sizes k) → 0 < product-below sizes n
 unfolding product-below
 product-least sizes zero least = omega arith
 product-least sizes (suc n) least =

@@ -1,0 +1,6 @@
+pub mod Ends
+pub mod Lengths
+pub mod Reading
+pub mod Parts
+pub mod Axes
+pub mod Sheets
