@@ -49,7 +49,7 @@ in-use g = table most-axes (λ i. cond (ltb i (g .axes)) (entry g i) unused-axis
 
 -- ---- the fields of the first axes
 
-axes-append : (g : Grid) (i : ℕ) → axes-fields g (suc i) ≡ axes-fields g i ++ axis-fields (entry g i) (knots g i)
+pub axes-append : (g : Grid) (i : ℕ) → axes-fields g (suc i) ≡ axes-fields g i ++ axis-fields (entry g i) (knots g i)
 unfolding axes-fields
 axes-append g i = refl
 

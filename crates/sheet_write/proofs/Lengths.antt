@@ -13,11 +13,8 @@ use Rattle.bits.specs.Written.{bits-in, number-fields, filler, bytes-for}
 use Rattle.bits.proofs.Rows.{bits-in-append, packed-length}
 use Rattle.bits.proofs.Numbers.{numbers-bits}
 use Rattle.sheet_write.specs.SheetOf.{ends-fields, axis-fields, axes-fields, part-fields, sheet-fields, sheet-of}
+use Rattle.sheet_write.specs.Within.{values}
 use Rattle.sheet_write.proofs.Ends.{ends-bits}
-
--- how many of the two ends have a number
-abbrev pub values : Condition → ℕ
-values c = values-of-kind (lower-kind-of c) + values-of-kind (upper-kind-of c)
 
 pub axis-bits : (axis : Axis) (x : List Float) → bits-in (axis-fields axis x) ≡ 12 + 64 * values (axis .condition) + 64 * length x
 unfolding axis-fields bits-in

@@ -3,4 +3,5 @@ pub mod Lengths
 pub mod Reading
 pub mod Parts
 pub mod Axes
+pub mod Puts
 pub mod Sheets
