@@ -57,6 +57,16 @@ unfolding with-field
 field-length bytes at zero v = refl
 field-length bytes at (suc k) v = bit-length (with-field bytes at k (v / 2)) (at + k) (v % 2) ∙ field-length bytes at k (v / 2)
 
+-- only the lowest bits of a number are written
+pub lowest-written : (bytes : List ℕ) (at k v : ℕ) → with-field bytes at k v ≡ with-field bytes at k (v % 2 ^ k)
+unfolding with-field
+lowest-written bytes at zero v = refl
+lowest-written bytes at (suc k) v =
+    let h = halves v k in
+    let first : v % 2 ^ suc k / 2 ≡ v / 2 % 2 ^ k = omega arith in
+    let last : v % 2 ^ suc k % 2 ≡ v % 2 = omega arith in
+    rw (first, last, ← lowest-written bytes at k (v / 2))
+
 -- a bit that is not written stays
 other-bit : (bytes : List ℕ) (at k v j : ℕ) → at + k ≤ 8 * length bytes → ((i : ℕ) → i < k → j ≡ at + i → ⊥) → bit (with-field bytes at k v) j ≡ bit bytes j
 unfolding with-field

@@ -4,4 +4,6 @@ pub mod Reading
 pub mod Parts
 pub mod Axes
 pub mod Puts
+pub mod Largest
+pub mod Promises
 pub mod Sheets

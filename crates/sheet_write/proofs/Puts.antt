@@ -23,7 +23,7 @@ use Rattle.bits.proofs.Numbers.{numbers-bits}
 use Rattle.sheet_write.specs.SheetOf.{ends-fields, axis-fields, axes-fields, part-fields, sheet-fields}
 use Rattle.sheet_write.specs.Within.{AxisGiven, FieldsGiven, AxesGiven}
 use Rattle.sheet_write.proofs.Ends.{ends-bits}
-use Rattle.sheet_write.proofs.Lengths.{axis-bits, axes-next, axes-none}
+use Rattle.sheet_write.proofs.Lengths.{axis-bits, axes-next, part-bits}
 use Rattle.sheet_write.proofs.Axes.{entry, axes-append, first-bits}
 
 -- ---- room
@@ -160,3 +160,69 @@ module _ (b : List ℕ) (g : Grid) (bytes : List ℕ) (p from i : ℕ) (t : Turn
 
 pub turn-last : (b : List ℕ) (g : Grid) (bytes : List ℕ) (p from i : ℕ) → Turn b g bytes p from i → g .axes ≤ i → (p ≡ 7 + bits-in (axes-fields g (g .axes))) × (bytes ≡ with-fields b 7 (axes-fields g (g .axes)))
 turn-last b g bytes p from i t ge = let e : i ≡ g .axes = omega (arith, t .most) in (rw e at (t .place), rw e at (t .done))
+
+-- ---- all of a sheet
+
+module _ (b : List ℕ) (g : Grid) (samples : List Float) where
+  last-bits : (n : ℕ) → bits-in (filler n ∷ []) ≡ (8 - n % 8) % 8
+  unfolding bits-in
+  last-bits n = omega arith
+
+  -- where the axes end, where the samples end, and the last byte
+  pub record Ends : Type 0 where
+    pub axes-end : 7 + bits-in (axes-fields g (g .axes)) + 64 * length samples ≡ bits-in (part-fields g samples)
+    pub last : bits-in (part-fields g samples) + (8 - bits-in (part-fields g samples) % 8) % 8 ≡ bits-in (sheet-fields g samples)
+
+  pub ends : Ends
+  unfolding sheet-fields
+  ends = record {
+    axes-end = sym (part-bits g samples);
+    last =
+        let two = bits-in-append (part-fields g samples) (filler (bits-in (part-fields g samples)) ∷ []) in
+        let one = last-bits (bits-in (part-fields g samples)) in omega arith;
+  }
+
+  -- there is room for what fills the last byte
+  pub last-within : (d : List ℕ) (next : ℕ) → length d ≡ length b → next ≡ 7 + bits-in (axes-fields g (g .axes)) → Within b 0 (bits-in (sheet-fields g samples))
+      → Within d (next + 64 * length samples) ((8 - (next + 64 * length samples) % 8) % 8)
+  last-within d next same n w =
+      let here : next + 64 * length samples ≡ bits-in (part-fields g samples) = rw n (ends .axes-end) in
+      rw here (part-within b d 0 (bits-in (sheet-fields g samples)) (bits-in (part-fields g samples)) _ w same (let e = ends .last in omega arith))
+
+  with-last : (d : List ℕ) (p : ℕ) (f : Field) → with-fields d p (f ∷ []) ≡ with-field d p (f .width) (f .value)
+  unfolding with-fields
+  with-last d p f = refl
+
+  parts-put :
+      (b1 b2 b3 b4 : List ℕ) (next : ℕ)
+      → b1 ≡ with-field b 0 4 1
+      → b2 ≡ with-field b1 4 3 (g .axes)
+      → next ≡ 7 + bits-in (axes-fields g (g .axes))
+      → b3 ≡ with-fields b2 7 (axes-fields g (g .axes))
+      → b4 ≡ with-fields b3 next (number-fields samples)
+      → b4 ≡ with-fields b 0 (part-fields g samples)
+  unfolding part-fields with-fields
+  parts-put b1 b2 b3 b4 next e1 e2 n e3 e4 =
+      let start : b2 ≡ with-field (with-field b 0 4 1) 4 3 (g .axes) = rw (← e1) e2 in
+      let row : List Field = axes-fields g (g .axes) ++ number-fields samples in
+      let rest : b4 ≡ with-fields b2 7 row = e4 ∙ rw (with-fields-append b2 7 (axes-fields g (g .axes)) (number-fields samples), ← e3, ← n) in
+      rest ∙ ap (λ (d : List ℕ). with-fields d 7 row) start
+
+  pub sheet-put :
+      (b1 b2 b3 b4 later : List ℕ) (next end : ℕ)
+      → b1 ≡ with-field b 0 4 1
+      → b2 ≡ with-field b1 4 3 (g .axes)
+      → next ≡ 7 + bits-in (axes-fields g (g .axes))
+      → b3 ≡ with-fields b2 7 (axes-fields g (g .axes))
+      → b4 ≡ with-fields b3 next (number-fields samples)
+      → end ≡ next + 64 * length samples
+      → later ≡ with-field b4 end ((8 - end % 8) % 8) 0
+      → later ≡ with-fields b 0 (sheet-fields g samples)
+  unfolding sheet-fields
+  sheet-put b1 b2 b3 b4 later next end e1 e2 n e3 e4 e e5 =
+      let parts = part-fields g samples in
+      let here : end ≡ bits-in parts = e ∙ rw n (ends .axes-end) in
+      let place : 0 + bits-in parts ≡ bits-in parts = omega arith in
+      rw here at e5
+      ∙ sym (with-last b4 (bits-in parts) (filler (bits-in parts)))
+      ∙ rw (with-fields-append b 0 parts (filler (bits-in parts) ∷ []), place, ← parts-put b1 b2 b3 b4 next e1 e2 n e3 e4)

@@ -41,5 +41,7 @@ pub fn part_bits(axes: usize, all: [Axis; 4]) -> usize
     requires { ⌜ InRange axes (points-of all) ⌝ }
     ensures { λ r. ⌜ r ≡ parts-bits axes all ⌝ }
 {
-    7 + 12 * axes + 64 * (all_values(axes, all) + knots_length(axes, all) + samples_length(axes, all))
+    7
+        + 12 * axes
+        + 64 * (all_values(axes, all) + knots_length(axes, all) + samples_length(axes, all))
 }

@@ -84,13 +84,7 @@ fn put_axes(bytes: &mut [u8], axes: usize, all: [Axis; 4], knots: &[f64]) -> usi
 }
 
 // All of a sheet: edition 1, the number of axes, the axes in use, the samples, and zeros up to a whole byte.
-pub fn put_sheet(
-    bytes: &mut [u8],
-    axes: usize,
-    all: [Axis; 4],
-    knots: &[f64],
-    samples: &[f64],
-)
+pub fn put_sheet(bytes: &mut [u8], axes: usize, all: [Axis; 4], knots: &[f64], samples: &[f64])
     requires { ⌜ SheetGiven (now bytes) (grid axes all (now knots)) (now samples) ⌝ }
     ensures { λ _. ⌜ now (bytes .exit) ≡ with-fields (now (bytes .entry)) 0 (sheet-fields (grid axes all (now (knots .entry))) (now (samples .entry))) ⌝ }
 {

@@ -2,8 +2,8 @@
 ghost use mathlib.Core.Path.{_≡_};
 ghost use Rattle.grid.specs.Given.{grid};
 ghost use Rattle.sheet_write.specs.Write.{no-sheet-refusal, WritePromise};
-use crate::fields::put_sheet;
 use crate::counts::part_bits;
+use crate::fields::put_sheet;
 use checks::build_refusal;
 use checks::sizes::sizes_refusal;
 use grid::tensor_length;

@@ -1,5 +1,3 @@
-use mathlib.Core.Path.{_∙_}
-use Rattle.rules.specs.Sizes.{tensor-length}
 use Rattle.grid.specs.Given.{grid}
 use Rattle.checks.proofs.Rows.{sizes-passed, sizes-stop}
 use Rattle.sheet_write.specs.Write.{no-sheet-refusal}
@@ -18,8 +16,7 @@ tensor-length-requires c κs = sizes-passed _ _ (c .before .sizes-refusal .ensur
 returns-2 : tie.Need-returns-2
 returns-2 c =
     let args = c .before .before .before .before .before .before .args in
-    c .build-refusal .ensures
-    ∙ rw (c .before .tensor-length .ensures .0) (as-the-build (grid (args .axes) (args .all) (args .knots .now)) (args .samples .now))
+    rw (c .build-refusal .ensures, c .before .tensor-length .ensures .0) (as-the-build (grid (args .axes) (args .all) (args .knots .now)) (args .samples .now))
 
 pub no-sheet-refusal-spec : {M : Type 1} → statement M
 no-sheet-refusal-spec =

@@ -71,8 +71,8 @@ returns c =
     let ends = c .before .before .before .before .before .before .put-ends .ensures in
     axis-put (args .bytes .now) (args .at) (args .axis) (args .knots .now) _ _ _ _ _ _
     (c .before .before .before .before .before .before .before .before .before .before .before .before .before .before .before .before .before .before .before .before .before .before .put-field .ensures)
-    (lower .put-field2 .ensures ∙ rw (lower .before .wide .ensures, lower .before .before .lower-kind .ensures))
-    (upper .put-field3 .ensures ∙ rw (upper .before .wide2 .ensures, upper .before .before .upper-kind .ensures))
+    (rw (lower .before .wide .ensures, lower .before .before .lower-kind .ensures) at (lower .put-field2 .ensures))
+    (rw (upper .before .wide2 .ensures, upper .before .before .upper-kind .ensures) at (upper .put-field3 .ensures))
     (ends .0)
     (ends .1)
     (c .before .before .put-numbers .ensures)
