@@ -6,4 +6,6 @@ pub mod Axes
 pub mod Puts
 pub mod Largest
 pub mod Promises
+pub mod Unique
+pub mod Examples
 pub mod Sheets
