@@ -19,6 +19,8 @@ use Rattle.sheet.specs.Read.{over, read-refusal, answer-of as read-answer-of}
 use Rattle.sheet.specs.declared.ReadAnswer.{ReadAnswer}
 use Rattle.sheet_build.specs.SheetTensor.{answer-of, reading-refusal, sheet-tensor-refusal}
 use Rattle.sheet_build.specs.declared.SheetAnswer.{SheetAnswer}
+use Rattle.sheet_write.specs.SheetOf.{sheet-of}
+use Rattle.sheet_write.specs.Write.{write-refusal, write-answer}
 use Rattle.kinds.specs.Kinds.{kinds-refused}
 use Rattle.plain_axes.specs.Axes.{two-ends, eight-ends, lower-kind, upper-kind, condition-given, some-kinds-refused, grid-given, grid-without-ends, points-found, kinds-found, values-found}
 
@@ -198,6 +200,48 @@ module _ (axes : ℕ) (points kinds : List ℕ) (values knots tensor-lent scratc
         ≡ in-slot lanes-lent
         (counted change-own
         (change-answer (grid-given axes points kinds values knots) tensor-lent scratch-lent (place-of place) sample .lanes))
+
+-- ---- the writer
+
+module _ (axes : ℕ) (points kinds : List ℕ) (values knots samples : List Float) (length-lent : List ℕ) where
+  -- 4 for the ends, the slot of the length and for the call's own slices
+  abbrev pub write-own-rows : List Refusal
+  write-own-rows =
+      axes-rows axes points ++ (
+      row 4 (
+      eight-ends-refused kinds values || length-refused (length length-lent) 1
+      || (
+      length-refused (length knots) (knots-length (sizes-given axes points))
+      || length-refused (length samples) (samples-length (sizes-given axes points))
+      )
+      )
+      ∷ row 13 (some-kinds-refused axes kinds)
+      ∷ []
+      )
+
+  unfoldable pub write-own-refusal : ℕ
+  write-own-refusal = lowest write-own-rows 0
+
+module _ (axes : ℕ) (points kinds : List ℕ) (values knots samples : List Float) (bytes-lent length-lent : List ℕ) where
+  -- what the call refuses of what was given
+  abbrev given-write-refusal : ℕ
+  given-write-refusal = write-refusal (grid-given axes points kinds values knots) samples bytes-lent
+
+  -- the host's own refusal of what was given
+  abbrev write-own : ℕ
+  write-own = write-own-refusal axes points kinds values knots samples length-lent
+
+  -- what is promised: the refusal, the bytes, and the length in its slot
+  pub record WriteExport (refusal : ℕ) (bytes-later length-later : List ℕ) : Type 0 where
+    pub answer : refusal ≡ or-else write-own given-write-refusal
+    pub output :
+        bytes-later
+        ≡ stored write-own bytes-lent
+        (stored given-write-refusal bytes-lent (over (sheet-of (grid-given axes points kinds values knots) samples) bytes-lent))
+    pub slot :
+        length-later
+        ≡ in-slot length-lent
+        (counted write-own (write-answer (grid-given axes points kinds values knots) samples bytes-lent .length))
 
 -- ---- the query
 

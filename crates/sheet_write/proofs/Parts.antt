@@ -1,6 +1,6 @@
 -- Parts that have a sheet are those that a build with a tensor and scratch of the right lengths does not refuse before it works; and none of their numbers is the nan.
 use mathlib.Core.Path.{_≡_, refl, ap, _∙_}
-use mathlib.Core.Bool.{Bool, true, false, not, _||_}
+use mathlib.Core.Bool.{false, or-false}
 use mathlib.Core.List.{List}
 use Prim.Native.Nat.{ℕ, _+_, _<_, _≤_}
 use native.Mathlib.Nat.{le-refl}
@@ -24,10 +24,6 @@ use Rattle.checks.proofs.Accepted.{build-given}
 use Rattle.bits.proofs.Numbers.{NoNan, each-at, each-take, each-drop}
 use Rattle.sheet_write.specs.Write.{no-sheet-refusal}
 use Rattle.sheet_write.proofs.Ends.{EndNoNan, EndsNoNan}
-
-or-false : (a : Bool) → (a || false) ≡ a
-or-false true = refl
-or-false false = refl
 
 -- the tests of the parts are the build's
 pub as-the-build : (g : Grid) (samples : List Float) → build-check g samples (tensor-length g) (scratch-length g) ≡ no-sheet-refusal g samples
