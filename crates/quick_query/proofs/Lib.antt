@@ -1,3 +1,4 @@
 mod FoundCells
 pub mod Answers
 pub mod QuickIsFull
+pub mod HoldIsExtend

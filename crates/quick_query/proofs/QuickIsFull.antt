@@ -5,7 +5,7 @@ use mathlib.Core.Bool.{Bool, true, false, not, cond, _||_}
 use mathlib.Core.List.{List, [], _∷_, _++_}
 use Prim.Native.Nat.{ℕ, zero, suc, _+_, _-_, _<_, _≤_}
 use lib.Dec.{T, ltb}
-use lib.ListN.{length, drop, List·getD-eq-default}
+use lib.ListN.{length, drop, length-take, List·getD-eq-default}
 use lib.Seq.{getD-take, getD-drop}
 use lib.Ieee.{Float, nan, binary64, fits}
 use lib.Ieee.Scale.{finite}
@@ -23,7 +23,6 @@ use Rattle.rules.proofs.Halving.{quick-cell-inside}
 use Rattle.base.proofs.Scan.{neither, any-at, any-never}
 use Rattle.floats.specs.Place.{AllFit}
 use Rattle.grid.specs.Given.{InRange}
-use Rattle.grid.proofs.Knots.{knots-of-axis}
 use Rattle.checks.specs.Check.{sizes-rows}
 use Rattle.checks.specs.Tables.{Refusal, row, lowest}
 use Rattle.checks.proofs.Rows.{rows-then, none-applies, axes-few, in-range, exact-3}
@@ -31,23 +30,37 @@ use Rattle.locate.specs.Answers.{Rising}
 use Rattle.locate.proofs.Among.{lower-index-is-locate}
 use Rattle.cell.proofs.Accepted.{rising-on-axis}
 
+-- the knots of each axis fit
+pub axis-fits : (g : Grid) → AllFit (g .flat-knots) → (i : ℕ) → AllFit (knots g i)
+unfolding fits
+axis-fits g knots-fit i k = go (ltb k (points g i)) refl
+  where
+    go : (b : Bool) → ltb k (points g i) ≡ b → T (fits binary64 (at (knots g i) k))
+    go true e =
+        subst (λ (v : Float). T (fits binary64 v))
+        (sym (getD-take (points g i) (drop (sum-below (points g) i) (g .flat-knots)) k nan (ltb-true k (points g i) e) ∙ getD-drop (sum-below (points g) i) (g .flat-knots) k nan))
+        (knots-fit (sum-below (points g) i + k))
+    go false e =
+        subst (λ (v : Float). T (fits binary64 v))
+        (sym (List·getD-eq-default (knots g i) nan {n = k} (omega (arith, ltb-false k (points g i) e, length-take (points g i) (drop (sum-below (points g) i) (g .flat-knots)))))) tt
+
 -- a refusal leaves nothing of the value and the labels
-refused-alike : {r r′ n : ℕ} (v v′ : Float) (l l′ : List ℕ) → r ≡ suc n → r′ ≡ suc n → answer-of r v l ≡ answer-of r′ v′ l′
+pub refused-alike : {r r′ n : ℕ} (v v′ : Float) (l l′ : List ℕ) → r ≡ suc n → r′ ≡ suc n → answer-of r v l ≡ answer-of r′ v′ l′
 refused-alike v v′ l l′ e f = rw (e, f) refl
 
 module _ (g : Grid) (modes : List Mode) (tensor coordinates : List Float) (knots-fit : AllFit (g .flat-knots)) (coordinates-fit : AllFit coordinates) where
   -- the rows that both have first
-  abbrev first-rows : List Refusal
+  abbrev pub first-rows : List Refusal
   first-rows =
       sizes-rows g ++ (
       row 4 (length-refused (length (g .flat-knots)) (knots-length g) || length-refused (length tensor) (tensor-length g) || length-refused (length coordinates) (g .axes))
       ∷ []
       )
 
-  abbrev early : ℕ
+  abbrev pub early : ℕ
   early = lowest first-rows 0
 
-  abbrev full-later : ℕ
+  abbrev pub full-later : ℕ
   full-later =
       cond (some-number-refused (g .flat-knots) || some-number-refused coordinates) 7
       (cond (some-knots-refused g) 8
@@ -59,7 +72,7 @@ module _ (g : Grid) (modes : List Mode) (tensor coordinates : List Float) (knots
       (cond (some-found-cell-refused g (quick-cell-of g (at coordinates))) 8
       (cond (some-outside-refused g modes (at coordinates)) 18 (cond (answer-refused (quick-query-in-modes g modes tensor (at coordinates))) 10 0)))
 
-  full-is : query-refusal g modes tensor coordinates ≡ or-else early full-later
+  pub full-is : query-refusal g modes tensor coordinates ≡ or-else early full-later
   unfolding query-refusal
   full-is = rows-then first-rows full-later tt
 
@@ -76,13 +89,13 @@ module _ (g : Grid) (modes : List Mode) (tensor coordinates : List Float) (knots
   -- ---- they do not
 
   module _ (none : early ≡ 0) (numbers : some-number-refused (g .flat-knots) ≡ false) (rise : some-knots-refused g ≡ false) where
-    range : InRange (g .axes) (points g)
+    pub range : InRange (g .axes) (points g)
     range =
         let rows = none-applies first-rows tt none in
         let count = axes-few {axes = g .axes} (rows .0) in
         in-range (count .0) (count .1) (rows .1 .0)
 
-    lengths : (length (g .flat-knots) ≡ knots-length g) × (length tensor ≡ tensor-length g) × (length coordinates ≡ g .axes)
+    pub lengths : (length (g .flat-knots) ≡ knots-length g) × (length tensor ≡ tensor-length g) × (length coordinates ≡ g .axes)
     lengths = exact-3 (length (g .flat-knots)) (knots-length g) (length tensor) (tensor-length g) (length coordinates) (g .axes) (none-applies first-rows tt none .1 .1 .1 .0)
 
     both-7 : some-number-refused coordinates ≡ true → quick-query-answer g modes tensor coordinates ≡ query-answer g modes tensor coordinates
@@ -91,29 +104,16 @@ module _ (g : Grid) (modes : List Mode) (tensor coordinates : List Float) (knots
 
     module _ (finite-point : some-number-refused coordinates ≡ false) where
       module _ (i : ℕ) (lt : i < g .axes) where
-        rising : Rising (knots g i) (points g i)
+        pub rising : Rising (knots g i) (points g i)
         rising = rising-on-axis g (lengths .0) numbers i lt (any-at (λ j. knots-refused (knots g j) (points g j)) (g .axes) rise i lt)
 
-        axis-fits : AllFit (knots g i)
-        unfolding fits
-        axis-fits k = go (ltb k (points g i)) refl
-          where
-            go : (b : Bool) → ltb k (points g i) ≡ b → T (fits binary64 (at (knots g i) k))
-            go true e =
-                subst (λ (v : Float). T (fits binary64 v))
-                (sym (getD-take (points g i) (drop (sum-below (points g) i) (g .flat-knots)) k nan (ltb-true k (points g i) e) ∙ getD-drop (sum-below (points g) i) (g .flat-knots) k nan))
-                (knots-fit (sum-below (points g) i + k))
-            go false e =
-                subst (λ (v : Float). T (fits binary64 v))
-                (sym (List·getD-eq-default (knots g i) nan {n = k} (omega (arith, ltb-false k (points g i) e, knots-of-axis g (lengths .0) i lt)))) tt
-
-        point-finite : finite (at coordinates i) ≡ true
+        pub point-finite : finite (at coordinates i) ≡ true
         point-finite = not-false _ (any-at (λ j. number-refused (at coordinates j)) (length coordinates) finite-point i (omega (arith, lengths .2)))
 
         cell-same : quick-cell-of g (at coordinates) i ≡ cell-of g (at coordinates) i
         unfolding quick-cell-of cell-of
         cell-same =
-            lower-index-is-locate (knots g i) (at coordinates i) (points g i) rising axis-fits
+            lower-index-is-locate (knots g i) (at coordinates i) (points g i) rising (axis-fits g knots-fit i)
             (record { fits = coordinates-fit i; finite = point-finite })
             (range .some-points i lt) (range .few-points i lt)
 

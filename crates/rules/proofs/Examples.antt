@@ -17,11 +17,11 @@ use Rattle.rules.specs.Change.{changed-tensor, build-lanes, change-lanes
 use Rattle.rules.specs.Outside.{side, placed}
 use Rattle.rules.specs.Query.{query}
 use Rattle.rules.specs.Refusals.{step-refused, found-cell-refused}
-use Rattle.rules.specs.Calls.{moments-refusal, labels, quick-query-refusal}
+use Rattle.rules.specs.Calls.{moments-refusal, labels, query-refusal, quick-query-refusal}
 use Rattle.rules.specs.declared.Condition.{Condition}
 use Rattle.rules.specs.declared.Condition.the-variants.{Endpoints}
 use Rattle.rules.specs.declared.End.the-variants.{NotAKnot, FirstDerivative, SecondDerivative}
-use Rattle.rules.specs.declared.Mode.the-variants.{Extend, Hold}
+use Rattle.rules.specs.declared.Mode.the-variants.{Extend, Hold, Refuse}
 use Rattle.rules.specs.declared.Side.the-variants.{Below, Inside, Above}
 
 -- the float of a bit pattern
@@ -116,6 +116,13 @@ quick-refusal-of x point =
 abbrev refusal-of : ℕ → List Float → Condition → ℕ
 refusal-of n x c = moments-refusal n x (zeros n) c (zeros n) (zeros 2048)
 
+-- the refusal of the query in mode refuse at the point 3, on one axis of two knots
+abbrev refusal-at-3 : List Float → List Float → ℕ
+refusal-at-3 x t =
+    query-refusal
+    (record { axes = 1; entries = record { points = 2; condition = natural } ∷ unused-axis ∷ unused-axis ∷ unused-axis ∷ []; flat-knots = x })
+    (Refuse ∷ []) t (3′ ∷ [])
+
 pub record Examples : Type 0 where
   -- natural, three knots, up by 1 and down again: in the middle the moment is −3; the slopes are 1.5, 0 and −1.5; at 0.5 stands 0.6875
   pub natural-moments : moments knots-3 2 natural (0′ ∷ 1′ ∷ 0′ ∷ []) ≡ 0′ ∷ pattern 0xC008_0000_0000_0000 ∷ 0′ ∷ []
@@ -169,6 +176,9 @@ pub record Examples : Type 0 where
   pub falling-cell : quick-refusal-of (1′ ∷ 0′ ∷ []) ½ ≡ 8
   pub point-before-the-cell : quick-refusal-of (1′ ∷ 0′ ∷ []) Ieee.nan ≡ 7
   pub cell-of-a-NaN : quick-refusal-of (0′ ∷ 1′ ∷ Ieee.nan ∷ []) 2′ ≡ 8
+  -- 18 comes after 8, so on knots that do not rise, and before 10, so where the value would be infinite
+  pub outside-of-falling-knots : refusal-at-3 (1′ ∷ 0′ ∷ []) (zeros 4) ≡ 8
+  pub outside-with-an-infinite-value : refusal-at-3 knots-2 (pattern 0x7FF0_0000_0000_0000 ∷ zeros 3) ≡ 18
   -- one point too few for NotAKnot, and just enough: at both ends, at the lower, at the upper
   pub both-ends-3 : refusal-of 3 knots-3 not-a-knot ≡ 9
   pub both-ends-4 : refusal-of 4 knots-4 not-a-knot ≡ 0
@@ -194,7 +204,7 @@ pub record Examples : Type 0 where
   pub rounded-twice : spline knots-3 2 natural (0′ ∷ 1′ ∷ 5′ ∷ []) (pattern 0x3FD0_0000_0000_0000) ≡ pattern 0x3FB3_0000_0000_0000
 
 pub examples : Examples
-unfolding any sum-below product-below locate lower-index visited side labels moments curve knot-slopes tensor changed-tensor change-lanes lane-sum query step-refused moments-refusal Ieee.add Ieee.sub Ieee.mul Ieee.div Ieee.neg Ieee.lt Ieee.le Ieee.ofBits found-cell-refused quick-query-refusal
+unfolding any sum-below product-below locate lower-index visited side labels moments curve knot-slopes tensor changed-tensor change-lanes lane-sum query step-refused moments-refusal Ieee.add Ieee.sub Ieee.mul Ieee.div Ieee.neg Ieee.lt Ieee.le Ieee.ofBits found-cell-refused quick-query-refusal query-refusal
 examples = record {
   natural-moments = refl;
   natural-slopes = refl;
@@ -236,6 +246,8 @@ examples = record {
   falling-cell = refl;
   point-before-the-cell = refl;
   cell-of-a-NaN = refl;
+  outside-of-falling-knots = refl;
+  outside-with-an-infinite-value = refl;
   both-ends-3 = refl;
   both-ends-4 = refl;
   lower-end-2 = refl;

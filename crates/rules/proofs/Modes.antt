@@ -10,7 +10,7 @@ use Rattle.rules.specs.Sizes.{Grid, knots}
 use Rattle.rules.specs.Refusals.{axes-refused, some-points-refused, tensor-refused, some-number-refused, some-knots-refused, some-found-cell-refused, answer-refused}
 use Rattle.rules.specs.Outside.{mode-at, side, nearest, placed, placed-on, outside-refused, some-outside-refused}
 use Rattle.rules.specs.Query.{cell-of, query, quick-cell-of, quick-query, query-in-modes, quick-query-in-modes}
-use Rattle.rules.specs.Calls.{answer-of, labels, quick-labels, query-lengths-refused, query-refusal, query-answer, quick-query-refusal, quick-query-answer}
+use Rattle.rules.specs.Calls.{answer-of, labels, quick-labels, query-lengths-refused, refusal-in-order, query-refusal, query-answer, quick-query-refusal, quick-query-answer}
 use Rattle.rules.specs.Extended.{extended-query-refusal, extended-query-answer, extended-quick-refusal, extended-quick-answer}
 use Rattle.rules.specs.declared.Mode.{Mode}
 use Rattle.rules.specs.declared.Mode.the-variants.{Extend, Hold, Refuse}
@@ -125,19 +125,7 @@ module _ (g : Grid) (modes : List Mode) (tensor coordinates : List Float) (numbe
     pub cells-pass : cells-refused ≡ false
     pub outside : some-outside-refused g modes (at coordinates) ≡ true
 
-  -- the order of both queries
-  abbrev in-order : Bool → ℕ
-  in-order beyond =
-      cond (axes-refused g) 1
-      (cond (some-points-refused g) 2
-      (cond (tensor-refused g) 3
-      (cond (query-lengths-refused g tensor coordinates) 4
-      (cond numbers-refused 7
-      (cond cells-refused 8
-      (cond (some-outside-refused g modes (at coordinates)) 18
-      (cond beyond 10 0)))))))
-
-  only-outside : (beyond : Bool) → in-order beyond ≡ 18 → OnlyOutside
+  only-outside : (beyond : Bool) → refusal-in-order g modes tensor coordinates numbers-refused cells-refused beyond ≡ 18 → OnlyOutside
   only-outside beyond e =
       let after-1 = passed (axes-refused g) 1 (λ z. omega (arith, z)) e in
       let after-2 = passed (some-points-refused g) 2 (λ z. omega (arith, z)) (after-1 .1) in
@@ -155,7 +143,7 @@ module _ (g : Grid) (modes : List Mode) (tensor coordinates : List Float) (numbe
         outside = met-18 (some-outside-refused g modes (at coordinates)) beyond _ refl (after-8 .1);
       }
 
-  outside-only : (beyond : Bool) → OnlyOutside → in-order beyond ≡ 18
+  outside-only : (beyond : Bool) → OnlyOutside → refusal-in-order g modes tensor coordinates numbers-refused cells-refused beyond ≡ 18
   outside-only beyond only =
       rw (only .axes-pass, only .points-pass, only .size-passes, only .lengths-pass, only .numbers-pass, only .cells-pass, only .outside) refl
 

@@ -195,18 +195,25 @@ unfolding quick-cell-of
 quick-labels g coordinates = labels-of g (quick-cell-of g (at coordinates))
 
 module _ (g : Grid) (modes : List Mode) (tensor-lent coordinates : List Float) where
-  -- the query's refusal, the first of 1 2 3 4 7 8 18 10 that applies
-  unfoldable pub query-refusal : ℕ
-  unfolding query-in-modes
-  query-refusal =
+  -- the refusal of both queries, the first of 1 2 3 4 7 8 18 10 that applies; of 7, 8 and 10 each has its own tests
+  abbrev pub refusal-in-order : Bool → Bool → Bool → ℕ
+  refusal-in-order numbers-refused cells-refused value-refused =
       cond (axes-refused g) 1
       (cond (some-points-refused g) 2
       (cond (tensor-refused g) 3
       (cond (query-lengths-refused g tensor-lent coordinates) 4
-      (cond (some-number-refused (g .flat-knots) || some-number-refused coordinates) 7
-      (cond (some-knots-refused g) 8
+      (cond numbers-refused 7
+      (cond cells-refused 8
       (cond (some-outside-refused g modes (at coordinates)) 18
-      (cond (answer-refused (query-in-modes g modes tensor-lent (at coordinates))) 10 0)))))))
+      (cond value-refused 10 0)))))))
+
+  -- the query's refusal
+  unfoldable pub query-refusal : ℕ
+  unfolding query-in-modes
+  query-refusal =
+      refusal-in-order (some-number-refused (g .flat-knots) || some-number-refused coordinates)
+      (some-knots-refused g)
+      (answer-refused (query-in-modes g modes tensor-lent (at coordinates)))
 
   -- its answer: the refusal, the value at the coordinates, and the labels
   unfoldable pub query-answer : QueryAnswer
@@ -217,18 +224,13 @@ module _ (g : Grid) (modes : List Mode) (tensor-lent coordinates : List Float) w
   pub record QueryPromise (given : QueryAnswer) : Type 0 where
     pub answer : given ≡ query-answer
 
-  -- the quick query's refusal, the first of 1 2 3 4 7 8 18 10 that applies: 7 of the coordinates and 8 of the found cells alone
+  -- the quick query's refusal: 7 of the coordinates and 8 of the found cells alone
   unfoldable pub quick-query-refusal : ℕ
   unfolding quick-cell-of quick-query-in-modes
   quick-query-refusal =
-      cond (axes-refused g) 1
-      (cond (some-points-refused g) 2
-      (cond (tensor-refused g) 3
-      (cond (query-lengths-refused g tensor-lent coordinates) 4
-      (cond (some-number-refused coordinates) 7
-      (cond (some-found-cell-refused g (quick-cell-of g (at coordinates))) 8
-      (cond (some-outside-refused g modes (at coordinates)) 18
-      (cond (answer-refused (quick-query-in-modes g modes tensor-lent (at coordinates))) 10 0)))))))
+      refusal-in-order (some-number-refused coordinates)
+      (some-found-cell-refused g (quick-cell-of g (at coordinates)))
+      (answer-refused (quick-query-in-modes g modes tensor-lent (at coordinates)))
 
   -- its answer: the refusal, the value at the coordinates, and the labels
   unfoldable pub quick-query-answer : QueryAnswer
