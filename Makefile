@@ -44,14 +44,17 @@ archive:
 bench: archive
 	cd oracle && cargo run --offline --release -p bench
 
-# The two example hosts on one sheet, each held against the output that is kept beside them.
+# The two example hosts on one sheet, each held against the output and against the changed sheet that are kept beside them.
 examples: archive
 	mkdir -p target/examples
 	python3 examples/gain_sheet.py | cmp - examples/gain.sheet
+	python3 examples/gain_sheet.py changed | cmp - examples/changed.sheet
 	gcc -std=c11 -Wall -Wextra -Werror -O2 -Iinclude examples/host.c target/staticlib/libhost.a -o target/examples/host_in_c
 	rustc --edition 2021 -O examples/host.rs -L native=target/staticlib -l static=host -o target/examples/host_in_rust
-	target/examples/host_in_c examples/gain.sheet | diff examples/expected.txt -
-	target/examples/host_in_rust examples/gain.sheet | diff examples/expected.txt -
+	target/examples/host_in_c examples/gain.sheet target/examples/c.sheet | diff examples/expected.txt -
+	target/examples/host_in_rust examples/gain.sheet target/examples/rust.sheet | diff examples/expected.txt -
+	cmp examples/changed.sheet target/examples/c.sheet
+	cmp examples/changed.sheet target/examples/rust.sheet
 
 # Draws the picture of README.md anew, from numbers that the library computes.
 picture: archive
