@@ -247,6 +247,36 @@ pub fn quick_query(
     outcome(refusal, (value[0], labels))
 }
 
+/// The same where every axis is even, the cells found by division. A refusal comes with the axis and the interval that
+/// are told after 21, and with zeros else.
+#[rustfmt::skip]
+pub fn even_query(
+    axes: &Axes,
+    modes: [u8; 4],
+    knots: &[f64],
+    tensor: &[f64],
+    coordinates: &[f64],
+) -> Result<(f64, [usize; 4]), (Refusal, [usize; 2])> {
+    let mut value = [0.0];
+    let mut labels = [0; 4];
+    let mut uneven = [0; 2];
+    // SAFETY: each pointer goes with the length of a live slice, and no two slices overlap.
+    let refusal = unsafe {
+        hullashlar_even_query(
+            axes.count,
+            axes.points.as_ptr(), axes.points.len(),
+            modes.as_ptr(), modes.len(),
+            knots.as_ptr(), knots.len(),
+            tensor.as_ptr(), tensor.len(),
+            coordinates.as_ptr(), coordinates.len(),
+            value.as_mut_ptr(), value.len(),
+            labels.as_mut_ptr(), labels.len(),
+            uneven.as_mut_ptr(), uneven.len(),
+        )
+    };
+    outcome(refusal, (value[0], labels)).map_err(|number| (number, uneven))
+}
+
 /// The axes of a packed sheet, once its knots and samples stand in the lent buffers.
 #[rustfmt::skip]
 pub fn read(

@@ -30,15 +30,16 @@
  *   - With axes: 1 by their number alone; 4 for points that are not four; 2; 3; 4 for every other slice and slot; 13
  *     for kinds of an axis in use that are none, or Periodic at one end only; 22 for a mode of an axis in use that is
  *     none; then the rest of the call's list, 5 and on, in the list's order. That is not always the order of the
- *     numbers: 18 stands before 10.
+ *     numbers: 21 and 18 stand before 10.
  *   - On one axis: 2; 4; 13; then the rest of the list.
  *   - Of a sheet: 4; then the faults of the sheet, the first that is met on the way through it; then, where its tensor
  *     is built, 5, 7, 8, 9, 10.
  *
- * Outputs. After a refusal every output is as it was but the slots of the answer: value, labels and lanes, and of a
- * sheet axes, points, kinds, values and length. These are then 0 or +0.0, where all slots of the call have their
- * lengths; where one has another length, none of them is written. Where a sheet is read and only its build is refused,
- * its knots, samples, axes, points, kinds and values are handed over, as after a read, and the length alone is 0.
+ * Outputs. After a refusal every output is as it was but the slots of the answer: value, labels, lanes and uneven, and
+ * of a sheet axes, points, kinds, values and length. These are then 0 or +0.0, but for uneven after 21, where all slots
+ * of the call have their lengths; where one has another length, none of them is written. Where a sheet is read and only
+ * its build is refused, its knots, samples, axes, points, kinds and values are handed over, as after a read, and the
+ * length alone is 0.
  * All of scratch is +0.0 after success and after 10, and else as it was.
  */
 #ifndef HULLASHLAR_H
@@ -73,6 +74,7 @@ enum hullashlar_refusal {
     HULLASHLAR_REFUSED_TAIL = 14,    /* a sheet goes on after its fields, by a byte or by a bit that is set */
     HULLASHLAR_REFUSED_BUFFER = 15,  /* fewer bytes than the sheet to be written has */
     HULLASHLAR_REFUSED_OUTSIDE = 18, /* a coordinate outside the knots of an axis whose mode refuses it */
+    HULLASHLAR_REFUSED_UNEVEN = 21,  /* the knots of an axis are not evenly spaced */
     HULLASHLAR_REFUSED_MODE = 22     /* no mode at all */
 };
 
@@ -193,6 +195,25 @@ size_t hullashlar_quick_query(size_t axes,
                               const double *coordinates, size_t coordinates_length,
                               double *value, size_t value_length,
                               size_t *labels, size_t labels_length);
+
+/* The surface's value at the coordinates where every axis is even: no interval between neighbouring knots differs from
+ * the first one of its axis by more than 1,024 units of the format in one, times that first interval. The cell is then
+ * found by a division: at a knot between two cells it is the upper one, and so far above the knots that the distance is
+ * 2^64 of the first interval or more it is cell 0. In hold it is the cell of the end knot. The value is that of the
+ * cubic in that cell, the labels are its numbers, and where these are the cells that hullashlar_query labels, so is the
+ * value. After 21 uneven has the lowest axis that is not even and the number of the lower knot of its first interval
+ * that differs by more, both counted from 0; else it has 0 and 0.
+ * Lengths: as of hullashlar_query; uneven 2.
+ * Written: value, labels, uneven. Refuses by 1, 2, 3, 4, 22, 7, 8, 21, 18, 10. */
+size_t hullashlar_even_query(size_t axes,
+                             const size_t *points, size_t points_length,
+                             const uint8_t *modes, size_t modes_length,
+                             const double *knots, size_t knots_length,
+                             const double *tensor, size_t tensor_length,
+                             const double *coordinates, size_t coordinates_length,
+                             double *value, size_t value_length,
+                             size_t *labels, size_t labels_length,
+                             size_t *uneven, size_t uneven_length);
 
 /* The parts of a packed sheet: knots and samples in the first places of their buffers, whose other places are as they
  * were; how many axes there are; and of each axis the points, and the kinds and values of its ends, as the calls above

@@ -32,6 +32,7 @@ ERRORS = [
     "cell/label_of_the_next_cell",
     "host/full_query_for_the_quick_one",
     "locate/end_knot_taken_as_outside",
+    "even/cell_before_the_knot",
 ]
 
 # What `rt try` says of a compiled run that wrote the counts where nothing is expected.

@@ -141,10 +141,9 @@ abbrev pub modes-or-slots-refused : List ℕ → List Float → List ℕ → Boo
 modes-or-slots-refused modes value labels = length-refused (length modes) most-axes || query-slots-refused value labels
 
 module _ (axes : ℕ) (points modes : List ℕ) (knots tensor coordinates value : List Float) (labels : List ℕ) where
-  -- 4 for the modes, the slots and for the call's own slices
-  abbrev pub query-own-rows : List Refusal
-  query-own-rows =
-      axes-rows axes points ++ (
+  -- what a query meets after its axes: 4 for the modes, the slots and for the call's own slices, and 22
+  abbrev pub query-later-rows : List Refusal
+  query-later-rows =
       row 4 (
       modes-or-slots-refused modes value labels
       || (
@@ -155,10 +154,21 @@ module _ (axes : ℕ) (points modes : List ℕ) (knots tensor coordinates value 
       )
       ∷ row 22 (some-modes-refused axes modes)
       ∷ []
-      )
+
+  abbrev pub query-own-rows : List Refusal
+  query-own-rows = axes-rows axes points ++ query-later-rows
 
   unfoldable pub query-own-refusal : ℕ
   query-own-refusal = lowest query-own-rows 0
+
+  -- ---- the query of even axes
+
+  -- 4 for its third slot, too, of what is told of an axis that is not even
+  abbrev pub even-query-own-rows : List ℕ → List Refusal
+  even-query-own-rows uneven = axes-rows axes points ++ (row 4 (length-refused (length uneven) 2) ∷ query-later-rows)
+
+  unfoldable pub even-query-own-refusal : List ℕ → ℕ
+  even-query-own-refusal uneven = lowest (even-query-own-rows uneven) 0
 
 -- ---- the sheet
 

@@ -4,7 +4,8 @@ ghost use mathlib.Core.Bool.{_||_};
 ghost use Rattle.rules.specs.Sizes.{knots-length, samples-length};
 ghost use Rattle.rules.specs.Refusals.{length-refused};
 ghost use Rattle.grid.specs.Given.{sizes-of, points-of, InRange};
-ghost use Rattle.boundary.specs.OwnRefusals.{two-ends-refused, eight-ends-refused, place-or-lanes-refused, query-slots-refused, modes-or-slots-refused, found-slots-refused, moments-own-refusal, curve-own-refusal, axes-own-refusal, build-own-refusal, change-own-refusal, write-own-refusal, query-own-refusal, read-own-refusal, sheet-tensor-own-refusal};
+ghost use Rattle.boundary.specs.OwnRefusals.{two-ends-refused, eight-ends-refused, place-or-lanes-refused, query-slots-refused, modes-or-slots-refused, found-slots-refused, moments-own-refusal, curve-own-refusal, axes-own-refusal, build-own-refusal, change-own-refusal, write-own-refusal, query-own-refusal, read-own-refusal, sheet-tensor-own-refusal, query-later-rows, even-query-own-refusal};
+ghost use Rattle.checks.specs.Tables.{lowest};
 use checks::lengths;
 use checks::sizes;
 use kinds::ends::kinds_refused;
@@ -219,7 +220,34 @@ fn modes_or_slots_refused(modes: &[u8], value: &[f64], labels: &[usize]) -> bool
     query_slots_refused(value, labels)
 }
 
-// Of a query: the modes, the slots of its answer, and the call's own slices, which 22 comes after.
+// What a query meets after its axes: 4 for the modes, the slots of its answer and the call's own slices, which 22 comes after. Not public: what is met before is required to be nothing.
+fn query_later_refusal(
+    axes: usize,
+    points: &[usize],
+    modes: &[u8],
+    knots: &[f64],
+    tensor: &[f64],
+    coordinates: &[f64],
+    value: &[f64],
+    labels: &[usize],
+) -> usize
+    requires { ⌜ axes-own-refusal axes (now points) ≡ 0 ⌝ }
+    ensures { λ r. ⌜ r ≡ lowest (query-later-rows axes (now (points .entry)) (now (modes .entry)) (now (knots .entry)) (now (tensor .entry)) (now (coordinates .entry)) (now (value .entry)) (now (labels .entry))) 0 ⌝ }
+{
+    if modes_or_slots_refused(modes, value, labels) {
+        return 4;
+    }
+    let all = axes_without_ends(axes, points);
+    if lengths::query_refused(axes, all, knots.len(), tensor.len(), coordinates.len()) {
+        return 4;
+    }
+    if some_modes_refused(axes, modes) {
+        return 22;
+    }
+    0
+}
+
+// Of a query: its axes, and then these.
 pub fn query_own_refusal(
     axes: usize,
     points: &[usize],
@@ -236,17 +264,49 @@ pub fn query_own_refusal(
     if refusal != 0 {
         return refusal;
     }
-    if modes_or_slots_refused(modes, value, labels) {
+    query_later_refusal(
+        axes,
+        points,
+        modes,
+        knots,
+        tensor,
+        coordinates,
+        value,
+        labels,
+    )
+}
+
+// Of the query of even axes: the same, and 4 for the slot of an axis that is not even.
+pub fn even_query_own_refusal(
+    axes: usize,
+    points: &[usize],
+    modes: &[u8],
+    knots: &[f64],
+    tensor: &[f64],
+    coordinates: &[f64],
+    value: &[f64],
+    labels: &[usize],
+    uneven: &[usize],
+) -> usize
+    ensures { λ r. ⌜ r ≡ even-query-own-refusal axes (now (points .entry)) (now (modes .entry)) (now (knots .entry)) (now (tensor .entry)) (now (coordinates .entry)) (now (value .entry)) (now (labels .entry)) (now (uneven .entry)) ⌝ }
+{
+    let refusal = axes_own_refusal(axes, points);
+    if refusal != 0 {
+        return refusal;
+    }
+    if lengths::length_refused(uneven.len(), 2) {
         return 4;
     }
-    let all = axes_without_ends(axes, points);
-    if lengths::query_refused(axes, all, knots.len(), tensor.len(), coordinates.len()) {
-        return 4;
-    }
-    if some_modes_refused(axes, modes) {
-        return 22;
-    }
-    0
+    query_later_refusal(
+        axes,
+        points,
+        modes,
+        knots,
+        tensor,
+        coordinates,
+        value,
+        labels,
+    )
 }
 
 // Whether the slot of the number of a sheet's axes, or a slice of what is found of them, is of another length.

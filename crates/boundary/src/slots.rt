@@ -1,7 +1,7 @@
 // The slots of an answer: written where all of them have their lengths, and else left as they were.
 ghost use mathlib.Core.Path.{_≡_};
 ghost use lib.ListN.{length};
-ghost use Rattle.boundary.specs.Slots.{in-slot, QueryStored};
+ghost use Rattle.boundary.specs.Slots.{in-slot, QueryStored, EvenStored};
 use crate::own;
 
 // A value goes to its slot.
@@ -44,4 +44,27 @@ pub fn store_query(value: &mut [f64], labels: &mut [usize], number: f64, found: 
     }
     value[0] = number;
     store_labels(labels, found);
+}
+
+// The value and the labels of a query of even axes, and the axis and the interval that it tells, go to their slots.
+pub fn store_even_query(
+    value: &mut [f64],
+    labels: &mut [usize],
+    uneven: &mut [usize],
+    number: f64,
+    found: [usize; 4],
+    axis: usize,
+    interval: usize,
+)
+    ensures { λ _. ⌜ EvenStored (now (value .entry)) (now (labels .entry)) (now (uneven .entry)) number found axis interval (now (value .exit)) (now (labels .exit)) (now (uneven .exit)) ⌝ }
+{
+    if own::query_slots_refused(value, labels) {
+        return;
+    }
+    if uneven.len() != 2 {
+        return;
+    }
+    uneven[0] = axis;
+    uneven[1] = interval;
+    store_query(value, labels, number, found);
 }

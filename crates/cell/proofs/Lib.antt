@@ -1,5 +1,6 @@
 pub mod Gathering
 pub mod Accepted
+pub mod Finding
 mod Searching
 mod Lying
 pub mod Answering

@@ -1,4 +1,4 @@
--- What a search of the axes is given, and what it finds.
+-- What is given where a point is looked for on the axes, and what is found, by the search or otherwise.
 use mathlib.Core.Path.{_≡_}
 use mathlib.Core.Bool.{true}
 use mathlib.Core.List.{List}
@@ -7,7 +7,7 @@ use lib.ListN.{length}
 use lib.Ieee.{Float}
 use lib.Ieee.Scale.{finite}
 use Rattle.rules.specs.Numbers.{at, any}
-use Rattle.rules.specs.Sizes.{most-axes, Grid, points, knots-length, knots, place-of}
+use Rattle.rules.specs.Sizes.{most-axes, Grid, points, knots-length, knots, Place, place-of}
 use Rattle.rules.specs.Outside.{mode-at, side, placed-on, outside-refused}
 use Rattle.rules.specs.Query.{cell-of, quick-cell-of}
 use Rattle.rules.specs.declared.Mode.{Mode}
@@ -21,13 +21,17 @@ pub record SearchGiven (g : Grid) (coordinates : List Float) : Type 0 where
   pub knots-exact : length (g .flat-knots) ≡ knots-length g
   pub coordinates-exact : length coordinates ≡ g .axes
 
--- the lower knots of the cell on the first i axes, and 0 past them; on rising knots the cell is that of the rules' scan. The coordinates that the modes make of the point there, and whether one of them refuses it
-pub record Searched (g : Grid) (modes : List Mode) (coordinates : List Float) (i : ℕ) (r : Found) : Type 0 where
+-- what is found on the first i axes, where these are the cells of the point: their lower knots, and 0 past them, the coordinates that the modes make of the point, and whether one of them refuses it
+pub record FoundOn (g : Grid) (modes : List Mode) (coordinates : List Float) (cells : Place) (i : ℕ) (r : Found) : Type 0 where
   pub four : length (r .lower) ≡ most-axes
-  pub found : (j : ℕ) → j < i → place-of (r .lower) j ≡ quick-cell-of g (at coordinates) j
+  pub found : (j : ℕ) → j < i → place-of (r .lower) j ≡ cells j
   pub inside : (j : ℕ) → j < i → place-of (r .lower) j + 1 < points g j
-  pub rising : (j : ℕ) → j < i → Rising (knots g j) (points g j) → finite (at coordinates j) ≡ true → place-of (r .lower) j ≡ cell-of g (at coordinates) j
   pub unused : (j : ℕ) → i ≤ j → j < most-axes → place-of (r .lower) j ≡ 0
   pub placed-four : length (r .placed) ≡ most-axes
   pub placed : (j : ℕ) → j < i → at (r .placed) j ≡ placed-on g modes (at coordinates) j
   pub refused : r .refused ≡ any (λ j. outside-refused (mode-at modes j) (side (knots g j) (at coordinates j))) i
+
+-- by the search: the cells may be those of any knots, and on rising ones they are those of the rules' scan
+pub record Searched (g : Grid) (modes : List Mode) (coordinates : List Float) (i : ℕ) (r : Found) : Type 0 where
+  pub found-on : FoundOn g modes coordinates (quick-cell-of g (at coordinates)) i r
+  pub rising : (j : ℕ) → j < i → Rising (knots g j) (points g j) → finite (at coordinates j) ≡ true → place-of (r .lower) j ≡ cell-of g (at coordinates) j

@@ -7,10 +7,12 @@ use lib.Ieee.{Float}
 use Rattle.rules.specs.Numbers.{plus-zero, table}
 use Rattle.rules.specs.Sizes.{most-axes, place-of}
 use Rattle.rules.specs.Calls.{or-else, stored, answered, counted, labelled, MomentsPromise, CurvePromise, BuildPromise, change-answer, ChangePromise, QueryPromise, QuickQueryPromise}
+use Rattle.rules.specs.EvenCalls.{even-query-answer, EvenQueryPromise}
 use Rattle.rules.specs.declared.Condition.{Condition}
 use Rattle.rules.specs.declared.CurveAnswer.{CurveAnswer}
 use Rattle.rules.specs.declared.ChangeAnswer.{ChangeAnswer}
 use Rattle.rules.specs.declared.QueryAnswer.{QueryAnswer}
+use Rattle.rules.specs.declared.EvenAnswer.{EvenAnswer}
 use Rattle.rules.specs.declared.Axis.{Axis}
 use Rattle.rules.specs.declared.Mode.{Mode}
 use Rattle.rules.proofs.Refused.{or-else-met, unchanged}
@@ -23,10 +25,10 @@ use Rattle.sheet_build.specs.declared.SheetAnswer.{SheetAnswer}
 use Rattle.sheet_build.proofs.Builds.{answered-refusal}
 use Rattle.sheet_write.specs.Write.{write-refusal, write-answer, WritePromise}
 use Rattle.sheet_write.specs.declared.WriteAnswer.{WriteAnswer}
-use Rattle.plain_axes.specs.Axes.{condition-given, axes-given, axes-without-ends, modes-given, AxesStored}
-use Rattle.boundary.specs.OwnRefusals.{moments-own-refusal, curve-own-refusal, build-own-refusal, change-own-refusal, write-own-refusal, query-own-refusal, read-own-refusal, sheet-tensor-own-refusal}
-use Rattle.boundary.specs.Slots.{in-slot, QueryStored}
-use Rattle.host.specs.Exports.{FoundStored, MomentsExport, CurveExport, BuildExport, ChangeExport, AnswerExport, QueryExport, QuickQueryExport, ReadExport, SheetTensorExport, WriteExport}
+use Rattle.plain_axes.specs.Axes.{condition-given, axes-given, axes-without-ends, modes-given, AxesStored, grid-without-ends}
+use Rattle.boundary.specs.OwnRefusals.{moments-own-refusal, curve-own-refusal, build-own-refusal, change-own-refusal, write-own-refusal, query-own-refusal, read-own-refusal, sheet-tensor-own-refusal, even-query-own-refusal}
+use Rattle.boundary.specs.Slots.{in-slot, QueryStored, EvenStored}
+use Rattle.host.specs.Exports.{FoundStored, MomentsExport, CurveExport, BuildExport, ChangeExport, AnswerExport, QueryExport, QuickQueryExport, ReadExport, SheetTensorExport, WriteExport, EvenQueryExport}
 use Rattle.boundary.proofs.Lengths.{read-lengths, sheet-tensor-lengths}
 use Rattle.plain_axes.proofs.Slots.{one-stored}
 
@@ -217,6 +219,34 @@ module _ (axes : ℕ) (points modes : List ℕ) (knots tensor-lent coordinates v
         → QueryStored value-lent labels-lent (a .value) (a .labels) v l
         → QuickQueryExport axes points modes knots tensor-lent coordinates value-lent labels-lent (a .refusal) v l
     quick-query-called p = answer-given _ _ value-lent labels-lent e none a ((rw (given, modes-are) at p) .answer)
+
+-- ---- the query of even axes
+
+module _ (axes : ℕ) (points modes : List ℕ) (knots tensor-lent coordinates value-lent : List Float) (labels-lent uneven-lent : List ℕ) {r : ℕ} (e : r ≡ even-query-own-refusal axes points modes knots tensor-lent coordinates value-lent labels-lent uneven-lent) where
+  abbrev given-answer : EvenAnswer
+  given-answer = even-query-answer (grid-without-ends axes points knots) (modes-given axes modes) tensor-lent coordinates
+
+  pub even-query-refused :
+      (r ≡ 0 → ⊥) → {v : List Float} {l u : List ℕ} → EvenStored value-lent labels-lent uneven-lent plus-zero (table most-axes (λ i. 0)) 0 0 v l u
+      → EvenQueryExport axes points modes knots tensor-lent coordinates value-lent labels-lent uneven-lent r v l u
+  even-query-refused some in-place = record {
+    answer = own-answer _ _ e some;
+    answer-stored =
+        rw (← no-value _ (given-answer .value) e some, ← no-labels _ (given-answer .labels) e some, ← no-count _ (given-answer .axis) e some, ← no-count _ (given-answer .interval) e some)
+        in-place;
+  }
+
+  pub even-query-called :
+      r ≡ 0 → (all : List Axis) → all ≡ axes-without-ends axes points → (chosen : List Mode) → chosen ≡ modes-given axes modes → (a : EvenAnswer) {v : List Float} {l u : List ℕ}
+      → EvenQueryPromise (record { axes = axes; entries = all; flat-knots = knots }) chosen tensor-lent coordinates a
+      → EvenStored value-lent labels-lent uneven-lent (a .value) (a .labels) (a .axis) (a .interval) v l u
+      → EvenQueryExport axes points modes knots tensor-lent coordinates value-lent labels-lent uneven-lent (a .refusal) v l u
+  even-query-called none all given chosen modes-are a p in-place =
+      let is = (rw (given, modes-are) at p) .answer in
+      record {
+        answer = call-answer _ e none (ap (λ (b : EvenAnswer). b .refusal) is);
+        answer-stored = rw (sym e ∙ none) (rw is at in-place);
+      }
 
 -- ---- the sheet
 

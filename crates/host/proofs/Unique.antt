@@ -5,7 +5,7 @@ use Prim.Native.Nat.{ℕ}
 use lib.Ieee.{Float}
 use Rattle.rules.specs.declared.Axis.{Axis}
 use Rattle.rules.specs.declared.QueryAnswer.{QueryAnswer}
-use Rattle.host.specs.Exports.{FoundStored, MomentsExport, CurveExport, BuildExport, ChangeExport, AnswerExport, QueryExport, QuickQueryExport, ReadExport, SheetTensorExport, WriteExport}
+use Rattle.host.specs.Exports.{FoundStored, MomentsExport, CurveExport, BuildExport, ChangeExport, AnswerExport, QueryExport, QuickQueryExport, ReadExport, SheetTensorExport, WriteExport, EvenQueryExport}
 
 -- two things that equal a third
 same : {A : Type 0} {a b c : A} → a ≡ c → b ≡ c → a ≡ b
@@ -69,6 +69,19 @@ pub quick-query-unique :
     → QuickQueryExport axes points modes knots tensor-lent coordinates value-lent labels-lent r′ v′ l′
     → (r ≡ r′) × (v ≡ v′) × (l ≡ l′)
 quick-query-unique axes points modes knots tensor-lent coordinates value-lent labels-lent = same-answer _ _ value-lent labels-lent
+
+pub even-query-unique :
+    (axes : ℕ) (points modes : List ℕ) (knots tensor-lent coordinates value-lent : List Float) (labels-lent uneven-lent : List ℕ)
+    (r r′ : ℕ) (v v′ : List Float) (l l′ u u′ : List ℕ)
+    → EvenQueryExport axes points modes knots tensor-lent coordinates value-lent labels-lent uneven-lent r v l u
+    → EvenQueryExport axes points modes knots tensor-lent coordinates value-lent labels-lent uneven-lent r′ v′ l′ u′
+    → (r ≡ r′) × (v ≡ v′) × (l ≡ l′) × (u ≡ u′)
+even-query-unique axes points modes knots tensor-lent coordinates value-lent labels-lent uneven-lent r r′ v v′ l l′ u u′ p q = (
+  same (p .answer) (q .answer),
+  same (p .answer-stored .slot) (q .answer-stored .slot),
+  same (p .answer-stored .slots) (q .answer-stored .slots),
+  same (p .answer-stored .told) (q .answer-stored .told),
+)
 
 same-found :
     (own axes : ℕ) (all : List Axis) (axes-lent points-lent kinds-lent : List ℕ) (values-lent : List Float) (a a′ p p′ n n′ : List ℕ) (v v′ : List Float)

@@ -9,7 +9,9 @@ use Rattle.rules.specs.Moments.{moments}
 use Rattle.rules.specs.Tensor.{tensor}
 use Rattle.rules.specs.Change.{changed-tensor}
 use Rattle.rules.specs.Calls.{or-else, stored, scratch-after, answered, counted, labelled, moments-refusal, curve-answer, build-refusal, change-refusal, change-answer, query-answer, quick-query-answer}
+use Rattle.rules.specs.EvenCalls.{even-query-answer}
 use Rattle.rules.specs.declared.Axis.{Axis}
+use Rattle.rules.specs.declared.EvenAnswer.{EvenAnswer}
 use Rattle.rules.specs.declared.QueryAnswer.{QueryAnswer}
 use Rattle.sheet.specs.Fields.{axes as axes-said, entries, knots-below, sheet-grid, sheet-samples}
 use Rattle.sheet.specs.Read.{over, read-refusal, answer-of as read-answer-of}
@@ -19,8 +21,8 @@ use Rattle.sheet_build.specs.declared.SheetAnswer.{SheetAnswer}
 use Rattle.sheet_write.specs.SheetOf.{sheet-of}
 use Rattle.sheet_write.specs.Write.{write-refusal, write-answer}
 use Rattle.plain_axes.specs.Axes.{condition-given, grid-given, grid-without-ends, modes-given, points-found, kinds-found, values-found}
-use Rattle.boundary.specs.OwnRefusals.{moments-own-refusal, curve-own-refusal, build-own-refusal, change-own-refusal, write-own-refusal, query-own-refusal, read-own-refusal, sheet-tensor-own-refusal}
-use Rattle.boundary.specs.Slots.{in-slot, QueryStored}
+use Rattle.boundary.specs.OwnRefusals.{moments-own-refusal, curve-own-refusal, build-own-refusal, change-own-refusal, write-own-refusal, query-own-refusal, read-own-refusal, sheet-tensor-own-refusal, even-query-own-refusal}
+use Rattle.boundary.specs.Slots.{in-slot, QueryStored, EvenStored}
 
 -- ---- the curve's moments
 
@@ -154,6 +156,26 @@ module _ (axes : ℕ) (points modes : List ℕ) (knots tensor-lent coordinates v
 
   abbrev pub QuickQueryExport : ℕ → List Float → List ℕ → Type 0
   QuickQueryExport = AnswerExport query-own given-quick-query-answer value-lent labels-lent
+
+-- ---- the query of even axes
+
+module _ (axes : ℕ) (points modes : List ℕ) (knots tensor-lent coordinates value-lent : List Float) (labels-lent uneven-lent : List ℕ) where
+  -- what the call answers of what was given
+  abbrev given-even-answer : EvenAnswer
+  given-even-answer = even-query-answer (grid-without-ends axes points knots) (modes-given axes modes) tensor-lent coordinates
+
+  -- the host's own refusal of what was given
+  abbrev even-own : ℕ
+  even-own = even-query-own-refusal axes points modes knots tensor-lent coordinates value-lent labels-lent uneven-lent
+
+  -- what is promised: the refusal, the value in its slot, the labels, and the axis that is not even with its interval
+  pub record EvenQueryExport (refusal : ℕ) (value-later : List Float) (labels-later uneven-later : List ℕ) : Type 0 where
+    pub answer : refusal ≡ or-else even-own (given-even-answer .refusal)
+    pub answer-stored :
+        EvenStored value-lent labels-lent uneven-lent
+        (answered even-own (given-even-answer .value)) (labelled even-own (given-even-answer .labels))
+        (counted even-own (given-even-answer .axis)) (counted even-own (given-even-answer .interval))
+        value-later labels-later uneven-later
 
 -- ---- the sheet
 

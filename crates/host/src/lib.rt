@@ -1,6 +1,6 @@
 // Every public call exported for C, over numbers and plain slices. Each returns its refusal's number, 0 for none, in the one order that boundary::own says.
 ghost use Rattle.rules.specs.Calls.{SlopesPromise};
-ghost use Rattle.host.specs.Exports.{MomentsExport, CurveExport, BuildExport, ChangeExport, QueryExport, QuickQueryExport, ReadExport, SheetTensorExport, WriteExport};
+ghost use Rattle.host.specs.Exports.{MomentsExport, CurveExport, BuildExport, ChangeExport, QueryExport, QuickQueryExport, ReadExport, SheetTensorExport, WriteExport, EvenQueryExport};
 use boundary::own;
 use boundary::slots;
 
@@ -180,6 +180,52 @@ pub extern "C" fn hullashlar_quick_query(
     let answer = quick_query::quick_query(axes, all, chosen, knots, tensor, coordinates);
     let found = answer.labels;
     slots::store_query(value, labels, answer.value, found);
+    answer.refusal
+}
+
+// The surface's value at the coordinates and the labels, as of the query, on axes that are even, in the cell that one division finds on each; hold moves a coordinate before its cell is found. Refuses 1 2 3 4 7 8 21 18 10, in this order, and then value and labels are 0; and 4 and 22 of its own. After 21 uneven has the lowest axis that is not even and its first interval that fails, both counted from 0; after all else it has 0 twice.
+#[no_mangle]
+pub extern "C" fn hullashlar_even_query(
+    axes: usize,
+    points: &[usize],
+    modes: &[u8],
+    knots: &[f64],
+    tensor: &[f64],
+    coordinates: &[f64],
+    value: &mut [f64],
+    labels: &mut [usize],
+    uneven: &mut [usize],
+) -> usize
+    ensures { λ r. ⌜ EvenQueryExport axes (now (points .entry)) (now (modes .entry)) (now (knots .entry)) (now (tensor .entry)) (now (coordinates .entry)) (now (value .entry)) (now (labels .entry)) (now (uneven .entry)) r (now (value .exit)) (now (labels .exit)) (now (uneven .exit)) ⌝ }
+{
+    let refusal = own::even_query_own_refusal(
+        axes,
+        points,
+        modes,
+        knots,
+        tensor,
+        coordinates,
+        value,
+        labels,
+        uneven,
+    );
+    if refusal != 0 {
+        slots::store_even_query(value, labels, uneven, 0.0, [0; 4], 0, 0);
+        return refusal;
+    }
+    let all = plain_axes::axes_without_ends(axes, points);
+    let chosen = plain_axes::modes_given(axes, modes);
+    let answer = even_query::even_query(axes, all, chosen, knots, tensor, coordinates);
+    let found = answer.labels;
+    slots::store_even_query(
+        value,
+        labels,
+        uneven,
+        answer.value,
+        found,
+        answer.axis,
+        answer.interval,
+    );
     answer.refusal
 }
 

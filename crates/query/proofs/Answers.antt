@@ -28,6 +28,7 @@ use Rattle.cell.specs.Searched.{SearchGiven, Searched}
 use Rattle.cell.specs.declared.searched.Found.{Found}
 use Rattle.cell.specs.Answers.{CellGiven, refused-with, answer-in}
 use Rattle.cell.proofs.Accepted.{rising-on-axis}
+use Rattle.cell.proofs.Finding as finding
 use Rattle.cell.proofs.Answering.{refused-is, answer-is}
 
 -- ---- what the check lets pass
@@ -52,19 +53,7 @@ module _ (g : Grid) (modes : List Mode) (tensor-given : ℕ) (coordinates : List
 
   module _ (found : Found) (searched : Searched g modes coordinates (g .axes) found) where
     pub cell-given : CellGiven g (place-of (found .lower)) (found .placed) × (tensor-given ≡ tensor-length g)
-    cell-given = (
-      record {
-        inside = record {
-          some-axes = on-grid .in-range .some-axes;
-          few-axes = on-grid .in-range .few-axes;
-          small = on-grid .small;
-          upper = searched .inside;
-        };
-        knots-exact = on-grid .knots-exact;
-        coordinates-enough = omega (arith, searched .placed-four, on-grid .in-range .few-axes);
-      },
-      on-grid .tensor-exact,
-    )
+    cell-given = (finding.cell-given g modes coordinates _ found (searched .found-on) search-given (on-grid .small), on-grid .tensor-exact)
 
     pub cell-found : (i : ℕ) → i < g .axes → place-of (found .lower) i ≡ cell-of g (at coordinates) i
     cell-found i lt = searched .rising i lt (rising i lt) (point-finite i lt)
@@ -97,7 +86,7 @@ module _ (g : Grid) (modes : List Mode) (tensor coordinates : List Float) where
 
     module _ (none : check ≡ 0) (found : Found) (searched : Searched g modes coordinates (g .axes) found) where
       later-is : query-refusal g modes tensor coordinates ≡ cond (found .refused) 18 (cond value-refused 10 0)
-      later-is = refusal-is ∙ rw (← checked, none, searched .refused) refl
+      later-is = refusal-is ∙ rw (← checked, none, searched .found-on .refused) refl
 
       -- a mode refuses
       pub mode-refuses : found .refused ≡ true → (r : QueryAnswer) → r ≡ refused-with 18 → QueryPromise g modes tensor coordinates r
@@ -108,7 +97,7 @@ module _ (g : Grid) (modes : List Mode) (tensor coordinates : List Float) where
       unfolding query-answer query-in-modes labels
       cell-answers e r is = record {
         answer = is
-            ∙ answer-is g tensor (at (found .placed)) (placed-on g modes (at coordinates)) (searched .placed) (found .lower) (cell-of g (at coordinates))
-            (searched .four) (cell-found g modes (length tensor) coordinates (check-passes none) found searched) (searched .unused)
+            ∙ answer-is g tensor (at (found .placed)) (placed-on g modes (at coordinates)) (searched .found-on .placed) (found .lower) (cell-of g (at coordinates))
+            (searched .found-on .four) (cell-found g modes (length tensor) coordinates (check-passes none) found searched) (searched .found-on .unused)
             (query-refusal g modes tensor coordinates) (later-is ∙ ap (λ (b : Bool). cond b 18 (cond value-refused 10 0)) e);
       }

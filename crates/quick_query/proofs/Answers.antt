@@ -21,6 +21,7 @@ use Rattle.checks.proofs.Rows.{rows-then, none-applies, axes-few, in-range, exa
 use Rattle.cell.specs.Searched.{SearchGiven, Searched}
 use Rattle.cell.specs.declared.searched.Found.{Found}
 use Rattle.cell.specs.Answers.{CellGiven, refused-with, answer-in}
+use Rattle.cell.proofs.Finding as finding
 use Rattle.cell.proofs.Answering.{refused-is, answer-is}
 use Rattle.quick_query.specs.Check.{quick-query-rows, quick-query-check, QuickQueryGiven}
 
@@ -51,19 +52,7 @@ module _ (g : Grid) (modes : List Mode) (tensor-given : ℕ) (coordinates : List
     }
 
     pub cell-given : (found : Found) → Searched g modes coordinates (g .axes) found → CellGiven g (place-of (found .lower)) (found .placed) × (tensor-given ≡ tensor-length g)
-    cell-given found searched = (
-      record {
-        inside = record {
-          some-axes = given .in-range .some-axes;
-          few-axes = given .in-range .few-axes;
-          small = given .small;
-          upper = searched .inside;
-        };
-        knots-exact = given .knots-exact;
-        coordinates-enough = omega (arith, searched .placed-four, given .in-range .few-axes);
-      },
-      given .tensor-exact,
-    )
+    cell-given found searched = (finding.cell-given g modes coordinates _ found (searched .found-on) search-given (given .small), given .tensor-exact)
 
 -- ---- the answers
 
@@ -103,10 +92,10 @@ module _ (g : Grid) (modes : List Mode) (tensor coordinates : List Float) where
       cells-are =
           is-found
           ∙ any-ext (λ i. found-cell-refused (knots g i) (place-of (found .lower) i)) (λ i. found-cell-refused (knots g i) (quick-cell-of g (at coordinates) i)) (g .axes)
-          (λ i l. ap (found-cell-refused (knots g i)) (searched .found i l))
+          (λ i l. ap (found-cell-refused (knots g i)) (searched .found-on .found i l))
 
       later-is : quick-query-refusal g modes tensor coordinates ≡ later cells (found .refused)
-      later-is = refusal-is ∙ rw (← checked, none, cells-are, searched .refused) refl
+      later-is = refusal-is ∙ rw (← checked, none, cells-are, searched .found-on .refused) refl
 
       -- a found cell is refused
       pub cell-refused : cells ≡ true → (r : QueryAnswer) → r ≡ refused-with 8 → QuickQueryPromise g modes tensor coordinates r
@@ -122,7 +111,7 @@ module _ (g : Grid) (modes : List Mode) (tensor coordinates : List Float) where
         unfolding quick-query-answer quick-query-in-modes quick-labels
         cell-answers e r is = record {
           answer = is
-              ∙ answer-is g tensor (at (found .placed)) (placed-on g modes (at coordinates)) (searched .placed) (found .lower) (quick-cell-of g (at coordinates))
-              (searched .four) (searched .found) (searched .unused)
+              ∙ answer-is g tensor (at (found .placed)) (placed-on g modes (at coordinates)) (searched .found-on .placed) (found .lower) (quick-cell-of g (at coordinates))
+              (searched .found-on .four) (searched .found-on .found) (searched .found-on .unused)
               (quick-query-refusal g modes tensor coordinates) (later-is ∙ rw (cells-pass, e) refl);
         }

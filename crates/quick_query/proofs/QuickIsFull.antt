@@ -16,9 +16,8 @@ use Rattle.rules.specs.Refusals.{length-refused, number-refused, some-number-re
 use Rattle.rules.specs.Outside.{placed-on, some-outside-refused}
 use Rattle.rules.specs.Query.{cell-of, quick-cell-of, query-in-modes, quick-query-in-modes}
 use Rattle.rules.specs.declared.Mode.{Mode}
-use Rattle.rules.specs.Calls.{or-else, labels-of, answer-of, query-refusal, labels, query-answer, quick-query-refusal, quick-labels, quick-query-answer}
-use Rattle.rules.proofs.Tables.{table-ext}
-use Rattle.rules.proofs.Cells.{value-in-ext}
+use Rattle.rules.specs.Calls.{or-else, answer-of, query-refusal, labels, query-answer, quick-query-refusal, quick-labels, quick-query-answer}
+use Rattle.rules.proofs.Cells.{value-in-ext, labels-ext}
 use Rattle.rules.proofs.Halving.{quick-cell-inside}
 use Rattle.base.proofs.Scan.{neither, any-at, any-never}
 use Rattle.floats.specs.Place.{AllFit}
@@ -137,11 +136,7 @@ module _ (g : Grid) (modes : List Mode) (tensor coordinates : List Float) (knots
 
       labels-same : quick-labels g coordinates ≡ labels g coordinates
       unfolding quick-labels labels
-      labels-same = table-ext 4 _ _ (λ i h. go i (ltb i (g .axes)) refl)
-        where
-          go : (i : ℕ) (b : Bool) → ltb i (g .axes) ≡ b → cond b (quick-cell-of g (at coordinates) i) 0 ≡ cond b (cell-of g (at coordinates) i) 0
-          go i true e = cell-same i (ltb-true i (g .axes) e)
-          go i false e = refl
+      labels-same = labels-ext g (quick-cell-of g (at coordinates)) (cell-of g (at coordinates)) cell-same
 
       refusal-same : quick-query-refusal g modes tensor coordinates ≡ query-refusal g modes tensor coordinates
       refusal-same = rw (quick-is, full-is, none, finite-point, none-found, value-same, numbers, rise) refl

@@ -1,15 +1,20 @@
--- What a value in a cell sees: the two knots of the cell on each axis in use, the point there, and the numbers of the cell.
+-- What a value in a cell sees: the two knots of the cell on each axis in use, the point there, and the numbers of the cell. And what labels see: the cell on the axes in use.
 use native.Mathlib.Omega.{arith}
 use mathlib.Core.Path.{_≡_, refl, ap, _∙_}
+use mathlib.Core.Bool.{Bool, true, false, cond}
 use mathlib.Core.List.{List}
 use Prim.Native.Nat.{ℕ, zero, suc, _+_, _-_, _*_, _/_, _%_, _^_, _<_, _≤_}
 use native.Mathlib.Nat.{pow-suc}
+use lib.Dec.{ltb}
 use lib.Ieee.{Float}
+use borrow.Author.Tests.{ltb-true}
 use Rattle.rules.specs.Numbers.{at}
-use Rattle.rules.specs.Sizes.{Grid, points, knots, masks, Place}
+use Rattle.rules.specs.Sizes.{most-axes, Grid, points, knots, masks, Place}
 use Rattle.rules.specs.Steps.{h}
 use Rattle.rules.specs.Query.{without-lowest, blend, corner, cell, fraction, value-in}
+use Rattle.rules.specs.Calls.{labels-of}
 use Rattle.rules.proofs.Places.{One, flat-ext}
+use Rattle.rules.proofs.Tables.{table-ext}
 
 without-lowest-ext :
     (size : ℕ) {width width′ t t′ : Float} (cell cell′ : ℕ → Float) → width ≡ width′ → t ≡ t′
@@ -70,3 +75,11 @@ value-in-ext g tensor cells cells′ point same =
     (λ i a b. ap (h (knots g i)) (same i (omega arith)))
     (λ i a b. ap (λ (l : ℕ). fraction (knots g i) l (point i)) (same i (omega arith)))
     (λ e b. cell-ext g tensor cells cells′ same e)
+
+-- one list of labels for two cells with the same lower indices
+pub labels-ext : (g : Grid) (cells cells′ : Place) → One (g .axes) cells cells′ → labels-of g cells ≡ labels-of g cells′
+labels-ext g cells cells′ same = table-ext most-axes _ _ (λ i l. go i (ltb i (g .axes)) refl)
+  where
+    go : (i : ℕ) (b : Bool) → ltb i (g .axes) ≡ b → cond b (cells i) 0 ≡ cond b (cells′ i) 0
+    go i true e = same i (ltb-true i (g .axes) e)
+    go i false e = refl

@@ -12,5 +12,7 @@ pub mod Refused
 pub mod QuickReads
 pub mod Modes
 pub mod BranchNeverReached
+pub mod EvenAxes
+pub mod EvenIsQuery
 pub mod Unique
 pub mod Examples

@@ -5,10 +5,12 @@ use Prim.Native.Nat.{ℕ}
 use lib.Ieee.{Float}
 use Rattle.rules.specs.Sizes.{Grid, Place}
 use Rattle.rules.specs.Calls.{MomentsPromise, CurvePromise, SlopesPromise, BuildPromise, ChangePromise, QueryPromise, QuickQueryPromise}
+use Rattle.rules.specs.EvenCalls.{EvenQueryPromise}
 use Rattle.rules.specs.declared.Condition.{Condition}
 use Rattle.rules.specs.declared.CurveAnswer.{CurveAnswer}
 use Rattle.rules.specs.declared.ChangeAnswer.{ChangeAnswer}
 use Rattle.rules.specs.declared.QueryAnswer.{QueryAnswer}
+use Rattle.rules.specs.declared.EvenAnswer.{EvenAnswer}
 use Rattle.rules.specs.declared.Mode.{Mode}
 
 -- two things that equal a third
@@ -67,3 +69,10 @@ pub quick-query-unique :
     → QuickQueryPromise g modes tensor-lent coordinates a′
     → a ≡ a′
 quick-query-unique g modes tensor-lent coordinates a a′ p q = same (p .answer) (q .answer)
+
+pub even-query-unique :
+    (g : Grid) (modes : List Mode) (tensor-lent coordinates : List Float) (a a′ : EvenAnswer)
+    → EvenQueryPromise g modes tensor-lent coordinates a
+    → EvenQueryPromise g modes tensor-lent coordinates a′
+    → a ≡ a′
+even-query-unique g modes tensor-lent coordinates a a′ p q = same (p .answer) (q .answer)

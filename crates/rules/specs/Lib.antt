@@ -6,6 +6,7 @@ pub mod Refusals
 pub mod Locate
 pub mod Search
 pub mod Outside
+pub mod Even
 pub mod Solve
 pub mod Moments
 pub mod Curve
@@ -14,3 +15,4 @@ pub mod Change
 pub mod Query
 pub mod Calls
 pub mod Extended
+pub mod EvenCalls

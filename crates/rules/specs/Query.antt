@@ -8,6 +8,7 @@ use Rattle.rules.specs.Steps.{h}
 use Rattle.rules.specs.Locate.{locate}
 use Rattle.rules.specs.Search.{lower-index}
 use Rattle.rules.specs.Outside.{placed-on}
+use Rattle.rules.specs.Even.{direct-cell-of}
 use Rattle.rules.specs.declared.Mode.{Mode}
 
 -- the blend of two knots with values p0, p1 and slopes m0, m1, at the fraction t of their width; with the names of the Rust in `evaluate_hermite_1d`
@@ -85,3 +86,13 @@ query-in-modes g modes tensor point = value-in g tensor (cell-of g point) (place
 unfoldable pub quick-query-in-modes : Grid → List Mode → List Float → (ℕ → Float) → Float
 unfolding value-in quick-cell-of
 quick-query-in-modes g modes tensor point = value-in g tensor (quick-cell-of g point) (placed-on g modes point)
+
+-- the cell on even axes: the direct cell of the point where the modes place it, so hold moves the point before the cell is found
+unfoldable pub even-cell-of : Grid → List Mode → (ℕ → Float) → Place
+unfolding direct-cell-of
+even-cell-of g modes point = direct-cell-of g (placed-on g modes point)
+
+-- the value there, in that cell
+unfoldable pub even-query : Grid → List Mode → List Float → (ℕ → Float) → Float
+unfolding value-in even-cell-of
+even-query g modes tensor point = value-in g tensor (even-cell-of g modes point) (placed-on g modes point)

@@ -61,6 +61,15 @@ pub struct QueryAnswer {
     pub labels: [usize; 4],
 }
 
+// What a query of even axes answers: the same, and after 21 the lowest axis that is not even and its first interval that fails, both 0 else.
+pub struct EvenAnswer {
+    pub refusal: usize,
+    pub value: f64,
+    pub labels: [usize; 4],
+    pub axis: usize,
+    pub interval: usize,
+}
+
 impl End {
     // The end that a spline through derivatives takes: of the same kind, with +0.0 for its number.
     pub fn zero_valued(self) -> End

@@ -71,6 +71,15 @@ impl Surface {
         }
     }
 
+    /// The same surface over even knots, in steps of three quarters.
+    fn even(&self) -> Self {
+        let mut even = self.clone();
+        let points = self.points().iter();
+        let knots = points.flat_map(|count| (0..*count).map(|index| 0.75 * index as f64));
+        even.knots = knots.collect();
+        even
+    }
+
     /// The knots of each axis in the Rust's form.
     pub fn knots_by_axis(&self) -> Vec<ArrayView1<'_, f64>> {
         let mut rest = self.knots.as_slice();
@@ -166,25 +175,49 @@ pub struct Inputs {
     pub periodic_line: Surface,
     pub four_axes_not_a_knot: Surface,
     pub four_axes_periodic: Surface,
+    pub even_line_of_16: Surface,
+    pub even_line_of_256: Surface,
+    pub even_two_axes: Surface,
+    pub even_three_axes: Surface,
+    pub even_four_axes: Surface,
 }
 
 impl Inputs {
     pub fn new() -> Self {
         let two_axes = Surface::new(&[16, 16], Ends::Natural);
         let four_axes = Surface::new(&[4, 4, 4, 4], Ends::Natural);
+        let line_of_16 = Surface::new(&[16], Ends::Natural);
+        let line_of_256 = Surface::new(&[256], Ends::Natural);
+        let three_axes = Surface::new(&[6, 6, 6], Ends::NotAKnot);
         Self {
             line_of_2: Surface::new(&[2], Ends::Natural),
-            line_of_16: Surface::new(&[16], Ends::Natural),
-            line_of_256: Surface::new(&[256], Ends::Natural),
-            three_axes: Surface::new(&[6, 6, 6], Ends::NotAKnot),
             two_axes_changed: two_axes.changed(),
             four_axes_changed: four_axes.changed(),
             periodic_line: Surface::new(&[256], Ends::Periodic),
             four_axes_not_a_knot: Surface::new(&[4, 4, 4, 4], Ends::NotAKnot),
             four_axes_periodic: Surface::new(&[4, 4, 4, 4], Ends::Periodic),
+            even_line_of_16: line_of_16.even(),
+            even_line_of_256: line_of_256.even(),
+            even_two_axes: two_axes.even(),
+            even_three_axes: three_axes.even(),
+            even_four_axes: four_axes.even(),
+            line_of_16,
+            line_of_256,
             two_axes,
+            three_axes,
             four_axes,
         }
+    }
+
+    /// Surfaces of one to four axes whose knots are even.
+    pub fn even_surfaces(&self) -> [&Surface; 5] {
+        [
+            &self.even_line_of_16,
+            &self.even_line_of_256,
+            &self.even_two_axes,
+            &self.even_three_axes,
+            &self.even_four_axes,
+        ]
     }
 
     /// Surfaces of one to four axes, and of four axes with all the ends.

@@ -34,6 +34,7 @@ pub fn lines(inputs: &Inputs) -> Vec<Line<'_>> {
     lines.extend(builds(inputs));
     lines.extend(queries(inputs));
     lines.extend(quick_queries(inputs));
+    lines.extend(even_queries(inputs));
     lines.extend(changes(inputs));
     lines.extend([
         moments(&inputs.line_of_256),
@@ -137,6 +138,34 @@ fn our_quick_query(surface: &Surface) -> Work<'_> {
     Box::new(move || {
         let answer =
             hullashlar::quick_query(&surface.axes, EXTEND, &surface.knots, &tensor, &point);
+        answer.expect(ACCEPTED).0
+    })
+}
+
+/// Each beside our query on the same even knots; the point lies within a cell, so that both
+/// find the same one.
+fn even_queries(inputs: &Inputs) -> [Line<'_>; 5] {
+    let names = [
+        "even query, 16",
+        "even query, one axis of 256",
+        "even query, 16×16",
+        "even query, 6×6×6",
+        "even query, 4×4×4×4",
+    ];
+    let mut names = names.into_iter();
+    inputs.even_surfaces().map(|surface| Line {
+        name: names.next().expect("every even surface has a name"),
+        held_against: OUR_QUERY,
+        ours: our_even_query(surface),
+        other: our_query(surface),
+    })
+}
+
+fn our_even_query(surface: &Surface) -> Work<'_> {
+    let tensor: Vec<f64> = surface.tensor().iter().copied().collect();
+    let point = surface.middle_point();
+    Box::new(move || {
+        let answer = hullashlar::even_query(&surface.axes, EXTEND, &surface.knots, &tensor, &point);
         answer.expect(ACCEPTED).0
     })
 }

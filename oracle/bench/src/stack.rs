@@ -13,14 +13,16 @@ pub struct Stack {
 }
 
 /// The stack of every exported call.
-pub fn stacks(inputs: &Inputs) -> [Stack; 9] {
+pub fn stacks(inputs: &Inputs) -> [Stack; 10] {
     let surfaces = inputs.surfaces();
+    let even_surfaces = inputs.even_surfaces();
     let lines = [&inputs.line_of_256, &inputs.periodic_line];
     [
         deepest("hullashlar_build", &surfaces.map(build)),
         deepest("hullashlar_change", &surfaces.map(change)),
         deepest("hullashlar_query", &surfaces.map(query)),
         deepest("hullashlar_quick_query", &surfaces.map(quick_query)),
+        deepest("hullashlar_even_query", &even_surfaces.map(even_query)),
         deepest("hullashlar_read", &surfaces.map(read)),
         deepest("hullashlar_sheet_tensor", &surfaces.map(sheet_tensor)),
         deepest("hullashlar_moments", &lines.map(moments)),
@@ -66,6 +68,14 @@ fn quick_query(surface: &Surface) -> usize {
     let point = surface.middle_point();
     bytes_of(|| {
         hullashlar::quick_query(&surface.axes, EXTEND, &surface.knots, &tensor, &point).is_ok()
+    })
+}
+
+fn even_query(surface: &Surface) -> usize {
+    let tensor: Vec<f64> = surface.tensor().iter().copied().collect();
+    let point = surface.middle_point();
+    bytes_of(|| {
+        hullashlar::even_query(&surface.axes, EXTEND, &surface.knots, &tensor, &point).is_ok()
     })
 }
 

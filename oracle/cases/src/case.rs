@@ -14,6 +14,7 @@ pub enum Call {
     Read,
     SheetTensor,
     QuickQuery,
+    EvenQuery,
 }
 
 impl Call {
@@ -42,6 +43,17 @@ impl Call {
                 "value",
                 "labels",
             ],
+            Call::EvenQuery => &[
+                "axes",
+                "points",
+                "modes",
+                "knots",
+                "tensor",
+                "coordinates",
+                "value",
+                "labels",
+                "uneven",
+            ],
             Call::Read => &[
                 "bytes", "knots", "samples", "axes", "points", "kinds", "values",
             ],
@@ -61,12 +73,18 @@ impl Call {
             Call::Build => &["tensor", "scratch"],
             Call::Change => &["tensor", "scratch", "lanes"],
             Call::Query | Call::QuickQuery => &["value", "labels"],
+            Call::EvenQuery => &["value", "labels", "uneven"],
             Call::Read => &["knots", "samples", "axes", "points", "kinds", "values"],
             Call::SheetTensor => &[
                 "knots", "samples", "axes", "points", "kinds", "values", "tensor", "scratch",
                 "length",
             ],
         }
+    }
+
+    /// Whether a tensor is asked at a point.
+    pub fn is_query(self) -> bool {
+        matches!(self, Call::Query | Call::QuickQuery | Call::EvenQuery)
     }
 
     /// Whether floats come from patterns, of which a NaN keeps no payload.

@@ -3,6 +3,7 @@
 use crate::case::{Argument, Calls, Case};
 use crate::grid::Grid;
 use crate::lending::{self, Point};
+use crate::numbers::power_of_two;
 use crate::random::Random;
 use crate::reading_calls::Reading;
 use crate::sheet::example_sheet;
@@ -35,6 +36,7 @@ pub fn examples() -> Vec<Case> {
     ]);
     cases.extend(quick_queries(random));
     cases.extend(outside(random));
+    cases.extend(even_queries(random));
     cases
 }
 
@@ -170,6 +172,39 @@ fn outside(random: &mut Random) -> Vec<Case> {
             cases.push(lending::quick_query(random, &line, &tensor, &point));
         }
     }
+    cases
+}
+
+/// Queries in the profile: at an interior knot, past what a whole number holds, held there, at
+/// the tolerance and past it, with a tiny step, out of reach, and uneven on the second axis.
+fn even_queries(random: &mut Random) -> Vec<Case> {
+    let far = 18_446_744_073_709_551_616.0;
+    let (last_even, tiny) = (2.0 + power_of_two(-42), power_of_two(-1030));
+    let least = power_of_two(-1072);
+    let mut at = |mode: u8, knots: &[f64], coordinate: f64| {
+        let tensor: Vec<f64> = (0..2 * knots.len()).map(|at| at as f64).collect();
+        let point = Point {
+            modes: [mode, 3, 3, 3],
+            coordinates: vec![coordinate],
+        };
+        lending::even_query(random, &line(knots, [SECOND; 2]), &tensor, &point)
+    };
+    let mut cases = vec![
+        at(EXTEND, &[0.0, 1.0, 2.0], 1.0),
+        at(EXTEND, &[0.0, 1.0, 2.0], far),
+        at(EXTEND, &[0.0, 1.0, 2.0], f64::next_down(far)),
+        at(HOLD, &[0.0, 1.0, 2.0], far),
+        at(REFUSE, &[0.0, 1.0, 2.0], far),
+        at(EXTEND, &[0.0, 1.0, last_even], 0.5),
+        at(EXTEND, &[0.0, 1.0, last_even.next_up()], 0.5),
+        at(EXTEND, &[0.0, tiny, 2.0 * tiny + least], tiny),
+        at(EXTEND, &[0.0, tiny, (2.0 * tiny + least).next_up()], tiny),
+        at(EXTEND, &[-1e308, 0.0, 1e308], 1e308),
+        at(REFUSE, &[0.0, 1.0, 3.0, 4.0], far),
+    ];
+    let axes = grid(&[&[0.0, 1.0], &[0.0, 1.0, 2.0, 4.0]], [SECOND; 2]);
+    let point = extended(&[0.5, 0.5]);
+    cases.push(lending::even_query(random, &axes, &[1.0; 32], &point));
     cases
 }
 

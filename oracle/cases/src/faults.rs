@@ -64,7 +64,7 @@ const OF_TENSOR: &[Fault] = &[
     overflow,
 ];
 
-/// The faults of a query.
+/// The faults of a query that looks at all knots.
 const OF_QUERY: &[Fault] = &[
     axes_off,
     points_off,
@@ -96,6 +96,7 @@ fn faults_of(call: Call) -> &'static [Fault] {
         Call::Build | Call::Change => OF_TENSOR,
         Call::Query => OF_QUERY,
         Call::QuickQuery => OF_QUICK_QUERY,
+        Call::EvenQuery => OF_QUERY,
         Call::Read => &[length_off],
         Call::SheetTensor => &[length_off, scratch_short],
     }
@@ -173,7 +174,8 @@ fn length_off(random: &mut Random, case: &mut Case) {
 
 fn fixed_length_off(random: &mut Random, case: &mut Case) {
     let names = [
-        "axes", "points", "kinds", "values", "modes", "place", "value", "labels", "lanes", "length",
+        "axes", "points", "kinds", "values", "modes", "place", "value", "labels", "lanes",
+        "length", "uneven",
     ];
     let mut fixed = present(case, &names);
     fixed.retain(|name| !matches!(case.argument(name), Argument::Number(_)));

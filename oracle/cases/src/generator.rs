@@ -2,6 +2,7 @@
 
 use crate::any_knots::disturb;
 use crate::case::Case;
+use crate::even_knots::{far, make_even};
 use crate::faults::spoil;
 use crate::grid::Grid;
 use crate::lending::{self, Point};
@@ -30,10 +31,11 @@ pub enum Kind {
     EitherOrder,
     QuickQuery,
     QuickBesideFull,
+    EvenQuery,
 }
 
 /// Every kind, in the order of the report.
-pub const KINDS: [Kind; 14] = [
+pub const KINDS: [Kind; 15] = [
     Kind::Example,
     Kind::Moments,
     Kind::Curve,
@@ -48,6 +50,7 @@ pub const KINDS: [Kind; 14] = [
     Kind::EitherOrder,
     Kind::QuickQuery,
     Kind::QuickBesideFull,
+    Kind::EvenQuery,
 ];
 
 impl Kind {
@@ -68,6 +71,7 @@ impl Kind {
             Kind::EitherOrder => "either_order",
             Kind::QuickQuery => "quick_query",
             Kind::QuickBesideFull => "quick_beside_full",
+            Kind::EvenQuery => "even_query",
         }
     }
 
@@ -100,6 +104,9 @@ const FAULTY_TO_BUILD: usize = 30;
 const FAULTY_QUICK: usize = 4;
 const FAULTY_BESIDE: usize = 4;
 
+/// Axes that are not even are refused without another fault.
+const FAULTY_EVEN: usize = 18;
+
 /// The case of a kind that is a single call, by its number.
 pub fn single(kind: Kind, number: usize, random: &mut Random) -> Case {
     match kind {
@@ -112,6 +119,7 @@ pub fn single(kind: Kind, number: usize, random: &mut Random) -> Case {
         Kind::Read => read(random, number),
         Kind::SheetTensor => sheet_tensor(random, number),
         Kind::QuickQuery => quick_query(random),
+        Kind::EvenQuery => even_query(random),
         Kind::Example
         | Kind::ChangeList
         | Kind::ShortSheet
@@ -210,6 +218,24 @@ pub fn quick_beside_full(random: &mut Random) -> Case {
     let point = Point::generate(random, &grid);
     let mut case = lending::quick_query(random, &grid, &tensor, &point);
     if random.percent(FAULTY_BESIDE) {
+        spoil(random, &mut case);
+    }
+    case
+}
+
+/// A query on axes of which most are even.
+fn even_query(random: &mut Random) -> Case {
+    let mut grid = Grid::generate(random);
+    make_even(random, &mut grid);
+    let tensor = tensor(random, &grid);
+    let mut point = Point::generate(random, &grid);
+    if random.percent(8) {
+        let first = &grid.knots[..grid.points[0]];
+        let coordinate = &mut point.coordinates[0];
+        *coordinate = far(random, first).unwrap_or(*coordinate);
+    }
+    let mut case = lending::even_query(random, &grid, &tensor, &point);
+    if random.percent(FAULTY_EVEN) {
         spoil(random, &mut case);
     }
     case

@@ -133,7 +133,14 @@ pub fn quick_query(random: &mut Random, grid: &Grid, tensor: &[f64], point: &Poi
     Case::new(Call::QuickQuery, arguments)
 }
 
-/// What both queries are given.
+/// A query of a tensor on a grid in the profile of even axes.
+pub fn even_query(random: &mut Random, grid: &Grid, tensor: &[f64], point: &Point) -> Case {
+    let mut arguments = query_arguments(random, grid, tensor, point);
+    arguments.push(Argument::of_numbers(&[75, 76]));
+    Case::new(Call::EvenQuery, arguments)
+}
+
+/// What every query is given.
 fn query_arguments(
     random: &mut Random,
     grid: &Grid,

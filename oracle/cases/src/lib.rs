@@ -3,6 +3,7 @@
 mod any_knots;
 mod case;
 mod comparison;
+mod even_knots;
 mod examples;
 mod faults;
 mod generator;

@@ -24,7 +24,7 @@ use crate::reading_calls::Reading;
 use crate::report::NUMBERS;
 
 /// The calls in the order of their numbers.
-pub const CALLS: [Call; 9] = [
+pub const CALLS: [Call; 10] = [
     Call::Moments,
     Call::Curve,
     Call::Slopes,
@@ -34,13 +34,14 @@ pub const CALLS: [Call; 9] = [
     Call::Read,
     Call::SheetTensor,
     Call::QuickQuery,
+    Call::EvenQuery,
 ];
 
 /// The seed of the list; another one makes another list.
 const SEED: u64 = 1;
 
 /// How many accepted cases of each call the list has.
-const ACCEPTED: usize = 48;
+const ACCEPTED: usize = 40;
 
 /// How many cases of each refusal of each call.
 const REFUSED: usize = 3;

@@ -16,6 +16,16 @@ const EDGES: [f64; 10] = [
     f64::EPSILON,
 ];
 
+/// A power of two that is a number of the format, down to the least one.
+pub fn power_of_two(exponent: i32) -> f64 {
+    let pattern = match exponent {
+        -1074..=-1023 => 1 << (exponent + 1074),
+        -1022..=1023 => ((exponent + 1023) as u64) << 52,
+        _ => panic!("two to the {exponent} is no number of the format"),
+    };
+    f64::from_bits(pattern)
+}
+
 /// A number between -1 and 1 with all its digits.
 fn within_one(random: &mut Random) -> f64 {
     let digits = random.word() >> 11;

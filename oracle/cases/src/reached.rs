@@ -2,7 +2,9 @@
 
 use crate::case::{Call, Case};
 use crate::overflow::{numbered_ends, refusal_with};
-use ninterp_unchanged::locate_lower_index;
+use ninterp_unchanged::{
+    locate_lower_index, locate_lower_index_uniform, validate_uniform_grid_epsilon,
+};
 use reading::{EXTEND, HOLD, REFUSE};
 
 /// An edge in words, and whether a case with its refusal reaches it.
@@ -12,7 +14,7 @@ struct Edge {
 }
 
 /// How many edges there are.
-const COUNT: usize = 28;
+const COUNT: usize = 32;
 
 const EDGES: [Edge; COUNT] = [
     Edge {
@@ -129,11 +131,64 @@ const EDGES: [Edge; COUNT] = [
         name: "in hold a coordinate below the first knot and above the last",
         is_reached: |case, refusal| refusal == 0 && in_mode(case, HOLD, below_and_above),
     },
+    Edge {
+        name: "an even query in another cell than the search finds",
+        is_reached: |case, refusal| is_even(case) && refusal == 0 && in_another_cell(case),
+    },
+    Edge {
+        name: "an even query whose quotient does not fit into a whole number",
+        is_reached: |case, refusal| is_even(case) && refusal == 0 && far_above(case),
+    },
+    Edge {
+        name: "even knots that are not with an upper knot one unit off",
+        is_reached: |case, refusal| is_even(case) && refusal == 0 && at_the_tolerance(case, true),
+    },
+    Edge {
+        name: "uneven knots that are even with an upper knot one unit off",
+        is_reached: |case, refusal| is_even(case) && refusal == 21 && at_the_tolerance(case, false),
+    },
 ];
+
+fn is_even(case: &Case) -> bool {
+    case.call == Call::EvenQuery
+}
+
+/// Whether in extend direct arithmetic finds another cell on some axis than the search.
+fn in_another_cell(case: &Case) -> bool {
+    in_mode(case, EXTEND, |knots, point| {
+        let step = knots[1] - knots[0];
+        let direct = locate_lower_index_uniform(knots[0], step, knots.len(), point);
+        direct != locate_lower_index(knots.into(), &point)
+    })
+}
+
+/// Whether in extend a coordinate of an accepted query is 2^64 steps or more from the first knot.
+fn far_above(case: &Case) -> bool {
+    in_mode(case, EXTEND, |knots, point| {
+        let quotient = (point - knots[0]) / (knots[1] - knots[0]);
+        quotient >= 18_446_744_073_709_551_616.0
+    })
+}
+
+/// Whether an axis is even, or is not, and no longer so with one of its knots moved by one unit.
+fn at_the_tolerance(case: &Case, even: bool) -> bool {
+    let is_even = |knots: &[f64]| validate_uniform_grid_epsilon(knots.into(), 0, None).is_ok();
+    let mut axes = knots_by_axis(case).into_iter();
+    axes.any(|knots| {
+        let moved = |at: usize, knot: f64| {
+            let mut moved = knots.to_vec();
+            moved[at] = knot;
+            is_even(&moved) != even
+        };
+        let mut upper = 2..knots.len().min(9);
+        is_even(knots) == even
+            && upper.any(|at| moved(at, knots[at].next_up()) || moved(at, knots[at].next_down()))
+    })
+}
 
 /// Whether a query has on some axis this mode, and a coordinate that stands so to the knots.
 fn in_mode(case: &Case, mode: u8, stands: fn(&[f64], f64) -> bool) -> bool {
-    if !matches!(case.call, Call::Query | Call::QuickQuery) {
+    if !case.call.is_query() {
         return false;
     }
     let modes = case.argument("modes").bytes();
@@ -226,7 +281,7 @@ impl Reached {
 }
 
 /// The slices of a fixed length in a call with axes.
-const FIXED: [(&str, usize); 8] = [
+const FIXED: [(&str, usize); 9] = [
     ("points", 4),
     ("kinds", 8),
     ("values", 8),
@@ -235,6 +290,7 @@ const FIXED: [(&str, usize); 8] = [
     ("value", 1),
     ("labels", 4),
     ("lanes", 1),
+    ("uneven", 2),
 ];
 
 fn a_fixed_length_off(case: &Case) -> bool {
@@ -280,7 +336,7 @@ fn knots_by_axis(case: &Case) -> Vec<&[f64]> {
 fn coordinates(case: &Case) -> Vec<f64> {
     match case.call {
         Call::Curve => vec![case.argument("point").float()],
-        Call::Query | Call::QuickQuery => case.argument("coordinates").floats().to_vec(),
+        call if call.is_query() => case.argument("coordinates").floats().to_vec(),
         _ => Vec::new(),
     }
 }

@@ -12,6 +12,7 @@ impl Calls for Reading {
             Call::Moments | Call::Curve | Call::Slopes => on_a_line(case.call, arguments),
             Call::Build | Call::Change => on_a_grid(case.call, arguments),
             Call::Query | Call::QuickQuery => of_a_tensor(case.call, arguments),
+            Call::EvenQuery => on_even_axes(arguments),
             Call::Read | Call::SheetTensor => on_a_sheet(case.call, arguments),
         };
         Some(refusal)
@@ -69,6 +70,17 @@ fn of_a_tensor(call: Call, arguments: &mut [Argument]) -> usize {
     query(
         axes.number(), points.numbers(), modes.bytes(), knots.floats(), tensor.floats(),
         coordinates.floats(), value.floats_mut(), labels.numbers_mut(),
+    )
+}
+
+#[rustfmt::skip]
+fn on_even_axes(arguments: &mut [Argument]) -> usize {
+    let [axes, points, modes, knots, tensor, coordinates, value, labels, uneven] = arguments else {
+        panic!("a case has the arguments of its call")
+    };
+    reading::even_query(
+        axes.number(), points.numbers(), modes.bytes(), knots.floats(), tensor.floats(),
+        coordinates.floats(), value.floats_mut(), labels.numbers_mut(), uneven.numbers_mut(),
     )
 }
 

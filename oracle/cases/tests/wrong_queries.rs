@@ -3,9 +3,10 @@
 
 mod altered;
 
-use altered::{differences, shape};
+use altered::differences;
+use altered::queries::{evaluated, Given};
 use cases::{Call, Calls, Case, Kind, Reading};
-use reading::{Shape, EXTEND, HOLD, REFUSE};
+use reading::{EXTEND, HOLD, REFUSE};
 
 /// A query that is written anew over flat places. Left open are its search, its test of a cell,
 /// the coordinate that is evaluated, or none where the one that is given is refused, and the
@@ -59,44 +60,6 @@ fn rises(knots: &[f64], cell: usize) -> bool {
     lower.is_finite() && upper.is_finite() && lower < upper && (upper - lower).is_finite()
 }
 
-fn evaluated(mode: u8, knots: &[f64], point: f64) -> Option<f64> {
-    let (first, last) = (knots[0], knots[knots.len() - 1]);
-    let nearest = if point < first {
-        first
-    } else if point > last {
-        last
-    } else {
-        return Some(point);
-    };
-    match mode {
-        EXTEND => Some(point),
-        HOLD => Some(nearest),
-        _ => None,
-    }
-}
-
-/// What a query is given, on all axes in use.
-struct Given<'a> {
-    shape: Shape<'a>,
-    modes: &'a [u8],
-    knots: Vec<&'a [f64]>,
-    tensor: &'a [f64],
-    coordinates: &'a [f64],
-}
-
-impl<'a> Given<'a> {
-    fn of(case: &'a Case) -> Self {
-        let shape = shape(case);
-        Self {
-            shape,
-            modes: &case.argument("modes").bytes()[..shape.axes()],
-            knots: shape.knots_by_axis(case.argument("knots").floats()),
-            tensor: case.argument("tensor").floats(),
-            coordinates: case.argument("coordinates").floats(),
-        }
-    }
-}
-
 impl Anew {
     /// The refusal, the value and the labels where the lengths and the modes are right.
     fn answer(&self, given: &Given) -> (usize, f64, [usize; 4]) {
@@ -131,43 +94,8 @@ impl Anew {
     /// The value in a cell; where a coordinate is refused, that of the point as it is given.
     fn value(&self, given: &Given, cells: &[usize]) -> f64 {
         let point = self.point(given).unwrap_or(given.coordinates.to_vec());
-        let axes = given.knots.iter().zip(cells).zip(point);
-        let within = axes.map(|((knots, cell), point)| {
-            let width = knots[cell + 1] - knots[*cell];
-            (*cell, width, (point - knots[*cell]) / width)
-        });
-        let within: Vec<(usize, f64, f64)> = within.collect();
-        entry(&given.shape, given.tensor, &within, cells.len(), [0; 4], 0)
+        given.value_in(cells, &point)
     }
-}
-
-/// The entry of a mask at a corner of the cell once so many axes are removed.
-fn entry(
-    shape: &Shape,
-    tensor: &[f64],
-    cells: &[(usize, f64, f64)],
-    removed: usize,
-    corner: [usize; 4],
-    mask: usize,
-) -> f64 {
-    if removed == 0 {
-        let axes = cells.iter().zip(corner);
-        let place: Vec<usize> = axes.map(|((cell, ..), side)| cell + side).collect();
-        return tensor[shape.position(&place, mask)];
-    }
-    let axis = removed - 1;
-    let below = |side: usize, slope: usize| {
-        let mut corner = corner;
-        corner[axis] = side;
-        entry(shape, tensor, cells, axis, corner, mask | slope << axis)
-    };
-    let (_, h, t) = cells[axis];
-    let (p0, m0, p1, m1) = (below(0, 0), below(0, 1), below(1, 0), below(1, 1));
-    let t2 = t * t;
-    let t3 = t2 * t;
-    let (h00, h10) = (2.0 * t3 - 3.0 * t2 + 1.0, t3 - 2.0 * t2 + t);
-    let (h01, h11) = (-2.0 * t3 + 3.0 * t2, t3 - t2);
-    h00 * p0 + h10 * h * m0 + h01 * p1 + h11 * h * m1
 }
 
 impl Calls for Anew {

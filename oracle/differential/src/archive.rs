@@ -30,6 +30,7 @@ impl Calls for Archive {
             Call::Change => change(arguments),
             Call::Query => query(arguments),
             Call::QuickQuery => quick_query(arguments),
+            Call::EvenQuery => even_query(arguments),
             Call::Read => read(arguments),
             Call::SheetTensor => sheet_tensor(arguments),
         };
@@ -177,6 +178,29 @@ fn quick_query(arguments: &mut [Argument]) -> usize {
             axes.number(), points.0, points.1, modes.0, modes.1, knots.0, knots.1,
             tensor.0, tensor.1, coordinates.0, coordinates.1, value.0, value.1,
             labels.0, labels.1,
+        )
+    }
+}
+
+#[rustfmt::skip]
+fn even_query(arguments: &mut [Argument]) -> usize {
+    let [axes, points, modes, knots, tensor, coordinates, value, labels, uneven] = arguments else {
+        panic!("a case has the arguments of its call")
+    };
+    let points = lent(points.numbers());
+    let modes = lent(modes.bytes());
+    let knots = lent(knots.floats());
+    let tensor = lent(tensor.floats());
+    let coordinates = lent(coordinates.floats());
+    let value = lent_mut(value.floats_mut());
+    let labels = lent_mut(labels.numbers_mut());
+    let uneven = lent_mut(uneven.numbers_mut());
+    // SAFETY: each pair is a live slice; no two of them overlap.
+    unsafe {
+        hullashlar_even_query(
+            axes.number(), points.0, points.1, modes.0, modes.1, knots.0, knots.1,
+            tensor.0, tensor.1, coordinates.0, coordinates.1, value.0, value.1,
+            labels.0, labels.1, uneven.0, uneven.1,
         )
     }
 }

@@ -7,6 +7,7 @@
 mod bits;
 mod curve;
 mod ends;
+mod even;
 mod modes;
 mod query;
 mod refusals;
@@ -17,7 +18,7 @@ mod tensor;
 pub use curve::{curve, moments, slopes};
 pub use ends::{conditions, Condition};
 pub use modes::{EXTEND, HOLD, REFUSE};
-pub use query::{query, quick_query};
+pub use query::{even_query, query, quick_query};
 pub use refusals::CURVE_SCRATCH;
 pub use shape::{Shape, LONGEST_TENSOR};
 pub use sheet::{read, sheet_tensor, BUFFER};

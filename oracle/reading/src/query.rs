@@ -1,5 +1,6 @@
 //! The calls that ask a tensor for its value at a point.
 
+use crate::even::{direct_cell, first_uneven};
 use crate::modes::{evaluated, modes_stand};
 use crate::refusals::{all_finite, knots_rise, require, Refusal};
 use crate::shape::{views, Shape};
@@ -41,6 +42,35 @@ pub fn quick_query(
     let shape = checked_shape(axes, points, slots_stand);
     let asked = shape.and_then(|shape| Asked::checked(shape, modes, knots, tensor, coordinates));
     let answer = asked.and_then(|asked| asked.quick_answer());
+    hand_over(answer, slots_stand, value, labels)
+}
+
+/// The same on even axes, in the cells that direct arithmetic finds. Where an axis is not even,
+/// the lowest such axis and its first interval that is off go to a slot of two.
+#[allow(clippy::too_many_arguments)]
+pub fn even_query(
+    axes: usize,
+    points: &[usize],
+    modes: &[u8],
+    knots: &[f64],
+    tensor: &[f64],
+    coordinates: &[f64],
+    value: &mut [f64],
+    labels: &mut [usize],
+    uneven: &mut [usize],
+) -> Refusal {
+    let slots_stand = slots_stand(value, labels) && uneven.len() == 2;
+    let shape = checked_shape(axes, points, slots_stand);
+    let asked = shape.and_then(|shape| Asked::checked(shape, modes, knots, tensor, coordinates));
+    let answer = asked.as_ref().map_err(|refusal| *refusal);
+    let answer = answer.and_then(|asked| asked.even_answer());
+    if slots_stand {
+        let found = match (&asked, &answer) {
+            (Ok(asked), Err(21)) => first_uneven(&asked.knots),
+            _ => None,
+        };
+        uneven.copy_from_slice(&found.unwrap_or_default());
+    }
     hand_over(answer, slots_stand, value, labels)
 }
 
@@ -108,31 +138,55 @@ impl<'a> Asked<'a> {
         })
     }
 
-    /// The answer on knots that all are looked at: the Rust's own at the point that is evaluated.
-    fn answer(&self) -> Result<Answer, Refusal> {
+    /// 7 and 8 where all knots are looked at.
+    fn check_numbers(&self) -> Result<(), Refusal> {
         let finite = self.knots.iter().all(|knots| all_finite(knots));
         require(finite && all_finite(self.coordinates), 7)?;
-        require(self.knots.iter().all(|knots| knots_rise(knots)), 8)?;
+        require(self.knots.iter().all(|knots| knots_rise(knots)), 8)
+    }
+
+    /// The answer on knots that all are looked at: the Rust's own at the point that is evaluated.
+    fn answer(&self) -> Result<Answer, Refusal> {
+        self.check_numbers()?;
         let point = evaluated(self.modes, &self.knots, self.coordinates)?;
         let value = value_at(self.shape.points(), &self.knots, self.tensor, &point);
         require(value.is_finite(), 10)?;
         Ok((value, self.cells()))
     }
 
-    /// The answer on any knots. The blend is handed the cell alone: on knots that do not rise
-    /// the whole grid would be searched for another one.
+    /// The answer on any knots. On those that do not rise the Rust would find another cell if it
+    /// were handed the whole grid.
     fn quick_answer(&self) -> Result<Answer, Refusal> {
         require(all_finite(self.coordinates), 7)?;
         let cells = self.cells();
-        let ends = self.knots.iter().zip(&cells);
-        let ends: Vec<&[f64]> = ends.map(|(knots, cell)| &knots[*cell..cell + 2]).collect();
         let good = |ends: &&[f64]| all_finite(ends) && knots_rise(ends);
-        require(ends.iter().all(good), 8)?;
+        require(self.ends(&cells).iter().all(good), 8)?;
         let point = evaluated(self.modes, &self.knots, self.coordinates)?;
-        let corners = self.corners(&cells);
-        let value = value_at(&vec![2; cells.len()], &ends, &corners, &point);
+        self.answer_in(cells, &point)
+    }
+
+    /// The answer on even axes, with the cells of the point that is evaluated.
+    fn even_answer(&self) -> Result<Answer, Refusal> {
+        self.check_numbers()?;
+        require(first_uneven(&self.knots).is_none(), 21)?;
+        let point = evaluated(self.modes, &self.knots, self.coordinates)?;
+        let axes = self.knots.iter().zip(&point);
+        let cells = axes.map(|(knots, point)| direct_cell(knots, *point));
+        self.answer_in(cells.collect(), &point)
+    }
+
+    /// The answer at a point of the cubic in given cells, which is all that the blend is handed.
+    fn answer_in(&self, cells: Vec<usize>, point: &[f64]) -> Result<Answer, Refusal> {
+        let (ends, corners) = (self.ends(&cells), self.corners(&cells));
+        let value = value_at(&vec![2; cells.len()], &ends, &corners, point);
         require(value.is_finite(), 10)?;
         Ok((value, cells))
+    }
+
+    /// The lower and the upper knot of a cell on each axis.
+    fn ends(&self, cells: &[usize]) -> Vec<&[f64]> {
+        let axes = self.knots.iter().zip(cells);
+        axes.map(|(knots, cell)| &knots[*cell..cell + 2]).collect()
     }
 
     /// The cell that the unchanged search finds on each axis for the point as it is given, held

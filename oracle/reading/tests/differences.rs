@@ -37,6 +37,35 @@ fn a_point_that_is_no_number_lies_past_the_last_cell() {
     assert_eq!(locate_lower_index(knots.as_slice().into(), &f64::NAN), 1);
 }
 
+/// The comment calls the direct locate equivalent to the search.
+#[test]
+fn an_interior_knot_lies_in_another_cell_by_direct_arithmetic() {
+    let knots = [0.0, 1.0, 2.0];
+    assert_eq!(locate_lower_index_uniform(0.0, 1.0, 3, 1.0), 1);
+    assert_eq!(locate_lower_index(knots.as_slice().into(), &1.0), 0);
+}
+
+/// What does not fit into a whole number is taken for zero, as far above the knots as it is.
+#[test]
+fn a_quotient_that_does_not_fit_gives_the_first_cell() {
+    let direct = |point: f64| locate_lower_index_uniform(0.0, 1.0, 3, point);
+    let limit = 18_446_744_073_709_551_616.0f64;
+    assert_eq!([direct(limit.next_down()), direct(limit)], [1, 0]);
+    assert_eq!([direct(f64::INFINITY), direct(f64::NAN)], [0, 0]);
+    let knots = [0.0, 1.0, 2.0];
+    assert_eq!(locate_lower_index(knots.as_slice().into(), &limit), 1);
+}
+
+/// The same comment as of the interior knot, at a knot whose difference from the first overflows.
+#[test]
+fn the_last_knot_of_a_wide_even_axis_lies_in_the_first_direct_cell() {
+    let knots = [-1e308, 0.0, 1e308];
+    assert!(validate_uniform_grid_epsilon(knots.as_slice().into(), 0, None).is_ok());
+    assert_eq!(locate_lower_index_uniform(knots[0], 1e308, 3, knots[2]), 0);
+    assert_eq!(locate_lower_index(knots.as_slice().into(), &knots[2]), 1);
+    assert_eq!((knots[2] - knots[0]) / (knots[1] - knots[0]), f64::INFINITY);
+}
+
 /// The comment has the curve pass through its samples exactly.
 #[test]
 fn a_periodic_curve_misses_a_sample() {

@@ -3,6 +3,8 @@
 // Each file of tests uses its own part of this.
 #![allow(dead_code)]
 
+pub mod queries;
+
 use cases::{compare_all, Call, Calls, Case, Kind, Plan, Reading};
 use reading::{Condition, Shape};
 

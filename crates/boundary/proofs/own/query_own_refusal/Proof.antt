@@ -1,71 +1,20 @@
-use mathlib.Core.Path.{refl, sym, _∙_}
-use mathlib.Core.List.{List}
-use Rattle.grid.specs.Given.{points-of, InRange}
-use Rattle.checks.specs.Tables.{Refusal}
-use Rattle.checks.proofs.Rows.{first, second, stop, pass, Past}
-use Rattle.plain_axes.specs.Axes.{axes-without-ends}
-use Rattle.boundary.specs.OwnRefusals.{query-own-rows, query-own-refusal}
-use Rattle.boundary.proofs.Rows.{axes-stop, axes-pass, points-four, points-in-range}
-use Rattle.boundary.proofs.Lengths.{mode-lengths}
+use mathlib.Core.Path.{sym, _∙_}
+use Rattle.boundary.specs.OwnRefusals.{query-own-refusal}
+use Rattle.boundary.proofs.Rows.{axes-stop, axes-pass}
 use borrow.Author.Needs.{needs}
 use Rattle.boundary.proofs.own.query_own_refusal.Statement.{statement}
 use Rattle.boundary.proofs.own.query_own_refusal.Tie as tie
-
-abbrev rows : tie.Start → List Refusal
-rows s = query-own-rows (s .args .axes) (s .args .points .now) (s .args .modes .now) (s .args .knots .now) (s .args .tensor .now) (s .args .coordinates .now) (s .args .value .now) (s .args .labels .now)
-
-abbrev start : tie.Else1 → tie.Start
-start c = c .before .before .before .before .before .before .before .before .before
-
-past-axes : (c : tie.Else1) → Past (rows (start c)) 4
-past-axes c answer e = axes-pass _ _ (c .before .axes-own-refusal .ensures) _ (c .if1 .left) e
-
-range : (c : tie.Else1) → InRange (start c .args .axes) (points-of (axes-without-ends (start c .args .axes) (start c .args .points .now)))
-range c = points-in-range _ _ (c .before .axes-own-refusal .ensures) (c .if1 .left)
-
-past-lengths : (c : tie.Else3) → Past (rows (start (c .before .before .before .before .before))) 5
-past-lengths c answer e =
-    past-axes (c .before .before .before .before .before) _
-    (pass _ (second
-    (c .before .before .before .before .modes-or-slots-refused .ensures) (c .before .before .before .if2 .left)
-    (rw (c .before .before .axes-without-ends .ensures) at (c .before .query-refused .ensures)))
-    (c .if3 .left) e)
 
 returns : tie.Need-returns
 unfolding query-own-refusal
 returns c = axes-stop _ _ (c .before .axes-own-refusal .ensures) _ (c .if1 .taken)
 
+query-later-refusal-requires : tie.Need-query-later-refusal-requires
+query-later-refusal-requires c κs = sym (c .before .axes-own-refusal .ensures) ∙ c .if1 .left
+
 returns-2 : tie.Need-returns-2
 unfolding query-own-refusal
-returns-2 c = past-axes (c .before .before) _ (stop _ (first _ (c .before .modes-or-slots-refused .ensures) (c .if2 .taken)) refl)
-
-axes-without-ends-requires : tie.Need-axes-without-ends-requires
-axes-without-ends-requires c κs = points-four _ _ (c .before .before .before .axes-own-refusal .ensures) (c .before .before .if1 .left)
-
-query-refused-requires : tie.Need-query-refused-requires
-query-refused-requires c κs = rw (c .axes-without-ends .ensures) (range (c .before .before .before))
-
-returns-3 : tie.Need-returns-3
-unfolding query-own-refusal
-returns-3 c =
-    past-axes (c .before .before .before .before .before) _
-    (stop _ (second
-    (c .before .before .before .before .modes-or-slots-refused .ensures) (c .before .before .before .if2 .left)
-    (rw (c .before .before .axes-without-ends .ensures) at (c .before .query-refused .ensures)))
-    (c .if3 .taken))
-
-some-modes-refused-requires : tie.Need-some-modes-refused-requires
-some-modes-refused-requires c κs =
-    let s = start (c .before .before .before .before .before) in
-    (range (c .before .before .before .before .before) .few-axes, mode-lengths (s .args .modes .now) (s .args .value .now) (s .args .labels .now) (sym (c .before .before .before .before .modes-or-slots-refused .ensures) ∙ c .before .before .before .if2 .left))
-
-returns-4 : tie.Need-returns-4
-unfolding query-own-refusal
-returns-4 c = past-lengths (c .before .before) _ (stop _ (c .before .some-modes-refused .ensures) (c .if4 .taken))
-
-returns-5 : tie.Need-returns-5
-unfolding query-own-refusal
-returns-5 c = past-lengths (c .before .before) _ (pass _ (c .before .some-modes-refused .ensures) (c .if4 .left) refl)
+returns-2 c = axes-pass _ _ (c .before .before .axes-own-refusal .ensures) _ (c .before .if1 .left) (c .query-later-refusal .ensures)
 
 pub query-own-refusal-spec : {M : Type 1} → statement M
 query-own-refusal-spec =
@@ -73,11 +22,5 @@ query-own-refusal-spec =
     (tie.spec
     (λ c κs. search needs)
     returns
-    (λ c κs. search needs)
-    returns-2
-    axes-without-ends-requires
-    query-refused-requires
-    returns-3
-    some-modes-refused-requires
-    returns-4
-    returns-5)
+    query-later-refusal-requires
+    returns-2)

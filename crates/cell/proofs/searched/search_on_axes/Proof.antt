@@ -3,7 +3,8 @@ use native.Mathlib.Omega.{arith}
 use mathlib.Core.Path.{refl}
 use Prim.Native.Nat.{_-_}
 use Rattle.grid.specs.Given.{grid}
-use Rattle.cell.proofs.Searching.{Turn, turn-first, end-within, size-given, some-knot, turn-next, turn-last}
+use Rattle.cell.proofs.Finding.{end-within, size-given, some-knot}
+use Rattle.cell.proofs.Searching.{Turn, turn-first, turn-next, turn-last}
 use Rattle.cell.proofs.searched.search_on_axes.Statement.{statement}
 use Rattle.cell.proofs.searched.search_on_axes.Tie as tie
 
@@ -20,12 +21,12 @@ loop-holds c = turn-first _ _ _ (c .before .before .pre)
 locate-lower-index-requires : tie.Need-locate-lower-index-requires Inv-loop μ-loop
 locate-lower-index-requires c κs =
     let turn = c .before .before in
-    size-given _ _ _ _ _ _ (turn .before .loop .inv) (turn .loop-test .taken)
+    size-given _ _ _ _ _ _ _ (turn .before .loop .inv .finds) (turn .loop-test .taken)
 
 place-on-axis-requires : tie.Need-place-on-axis-requires Inv-loop μ-loop
 place-on-axis-requires c κs =
     let turn = c .before .before .before .before .before .before in
-    some-knot _ _ _ _ _ _ (turn .before .loop .inv) (turn .loop-test .taken)
+    some-knot _ _ _ _ _ _ _ (turn .before .loop .inv .finds) (turn .loop-test .taken)
 
 loop-again : tie.Need-loop-again Inv-loop μ-loop
 loop-again c =
@@ -45,21 +46,21 @@ search-on-axes-spec =
     loop-holds
     (λ c. search needs)
     (λ c. search needs)
-    (λ c. omega (arith, end-within _ _ _ _ _ _ (c .before .loop .inv) (c .loop-test .taken)))
-    (λ c. omega (arith, end-within _ _ _ _ _ _ (c .before .loop .inv) (c .loop-test .taken)))
-    (λ c. omega (arith, end-within _ _ _ _ _ _ (c .before .loop .inv) (c .loop-test .taken)))
-    (λ c. omega (arith, end-within _ _ _ _ _ _ (c .before .loop .inv) (c .loop-test .taken)))
-    (λ c. omega (arith, end-within _ _ _ _ _ _ (c .before .loop .inv) (c .loop-test .taken)))
+    (λ c. omega (arith, end-within _ _ _ _ _ _ _ (c .before .loop .inv .finds) (c .loop-test .taken)))
+    (λ c. omega (arith, end-within _ _ _ _ _ _ _ (c .before .loop .inv .finds) (c .loop-test .taken)))
+    (λ c. omega (arith, end-within _ _ _ _ _ _ _ (c .before .loop .inv .finds) (c .loop-test .taken)))
+    (λ c. omega (arith, end-within _ _ _ _ _ _ _ (c .before .loop .inv .finds) (c .loop-test .taken)))
+    (λ c. omega (arith, end-within _ _ _ _ _ _ _ (c .before .loop .inv .finds) (c .loop-test .taken)))
     (λ c. search needs)
     (λ c. search needs)
     locate-lower-index-requires
     (λ c. search needs)
     (λ c. search needs)
     (λ c. search needs)
-    (λ c. let turn = c .before .before .before .before in omega (arith, end-within _ _ _ _ _ _ (turn .before .loop .inv) (turn .loop-test .taken)))
-    (λ c. let turn = c .before .before .before .before in omega (arith, end-within _ _ _ _ _ _ (turn .before .loop .inv) (turn .loop-test .taken)))
-    (λ c. let turn = c .before .before .before .before in omega (arith, end-within _ _ _ _ _ _ (turn .before .loop .inv) (turn .loop-test .taken)))
-    (λ c. let turn = c .before .before .before .before in omega (arith, end-within _ _ _ _ _ _ (turn .before .loop .inv) (turn .loop-test .taken)))
+    (λ c. let turn = c .before .before .before .before in omega (arith, end-within _ _ _ _ _ _ _ (turn .before .loop .inv .finds) (turn .loop-test .taken)))
+    (λ c. let turn = c .before .before .before .before in omega (arith, end-within _ _ _ _ _ _ _ (turn .before .loop .inv .finds) (turn .loop-test .taken)))
+    (λ c. let turn = c .before .before .before .before in omega (arith, end-within _ _ _ _ _ _ _ (turn .before .loop .inv .finds) (turn .loop-test .taken)))
+    (λ c. let turn = c .before .before .before .before in omega (arith, end-within _ _ _ _ _ _ _ (turn .before .loop .inv .finds) (turn .loop-test .taken)))
     (λ c. search needs)
     (λ c. search needs)
     place-on-axis-requires

@@ -1,0 +1,117 @@
+-- The turns of a loop that finds the cells of a point from axis to axis, on plain lists, whatever cells they are; and what is known of the cell in the end.
+use native.Mathlib.Omega.{arith}
+use mathlib.Core.Path.{_≡_, refl, _∙_}
+use mathlib.Core.Bool.{Bool, false, _||_}
+use mathlib.Core.List.{List}
+use Prim.Native.Nat.{ℕ, _+_, _<_, _≤_}
+use native.Mathlib.Numerals.{add-one}
+use lib.ListN.{length, set, replicate, length-set, getD-replicate}
+use lib.Seq.{getD-set-same, getD-set-other}
+use lib.Ieee.{Float, nan}
+use borrow.Author.Count.{below-more}
+use Rattle.rules.specs.Numbers.{plus-zero, at, any}
+use Rattle.rules.specs.Sizes.{most-in-a-tensor, Grid, points, knots, sum-below, tensor-length, Place, place-of}
+use Rattle.rules.specs.Outside.{mode-at, side, placed-on, outside-refused}
+use Rattle.rules.specs.declared.Mode.{Mode}
+use Rattle.grid.proofs.Products.{sum-more}
+use Rattle.grid.proofs.Knots as of-axis
+use Rattle.locate.specs.Answers.{Placed}
+use Rattle.locate.specs.declared.outside.PlacedPoint.{PlacedPoint}
+use Rattle.cell.specs.Searched.{SearchGiven, FoundOn}
+use Rattle.cell.specs.Answers.{CellGiven}
+use Rattle.cell.specs.declared.searched.Found.{Found}
+
+-- the cells of the first i axes are found, and the knots of the next begin at `begin`
+pub record Turn (g : Grid) (modes : List Mode) (coordinates : List Float) (cells : Place) (r : Found) (begin i : ℕ) : Type 0 where
+  pub given : SearchGiven g coordinates
+  pub most : i ≤ g .axes
+  pub begun : begin ≡ sum-below (points g) i
+  pub found-on : FoundOn g modes coordinates cells i r
+
+module _ (g : Grid) (modes : List Mode) (coordinates : List Float) (cells : Place) where
+  pub turn-first : SearchGiven g coordinates → Turn g modes coordinates cells (record { lower = replicate 4 0; placed = replicate 4 plus-zero; refused = false }) 0 0
+  unfolding sum-below any
+  turn-first given = record {
+    given = given;
+    most = omega arith;
+    begun = refl;
+    found-on = record {
+      four = refl;
+      found = λ j h. absurd (omega arith);
+      inside = λ j h. absurd (omega arith);
+      unused = λ j h l. getD-replicate 4 j 0 0 l;
+      placed-four = refl;
+      placed = λ j h. absurd (omega arith);
+      refused = refl;
+    };
+  }
+
+  module _ (r : Found) (begin i : ℕ) (turn : Turn g modes coordinates cells r begin i) where
+    -- the knots that it lends on axis i
+    abbrev pub part : List Float
+    part = of-axis.part g begin i (turn .begun)
+
+    pub part-is : part ≡ knots g i
+    part-is = of-axis.part-is g begin i (turn .begun)
+
+    pub end-within : i < g .axes → begin + points g i ≤ length (g .flat-knots)
+    end-within = of-axis.part-within g begin i (turn .begun) (turn .given .knots-exact)
+
+    module _ (lt : i < g .axes) where
+      pub exact : length part ≡ points g i
+      exact = of-axis.part-length g begin i (turn .begun) (turn .given .knots-exact) lt
+
+      pub size-given : (2 ≤ length part) × (length part ≤ 256)
+      size-given = (
+        omega (arith, exact, turn .given .in-range .some-points i lt),
+        omega (arith, exact, turn .given .in-range .few-points i lt),
+      )
+
+      pub some-knot : 1 ≤ length part
+      some-knot = omega (arith, size-given .0)
+
+      module _ (cell : ℕ) where
+        pub stored : place-of (set (r .lower) i cell) i ≡ cell
+        stored = getD-set-same (r .lower) i cell 0 (omega (arith, turn .found-on .four, turn .given .in-range .few-axes))
+
+        pub other : (j : ℕ) → (j ≡ i → ⊥) → place-of (set (r .lower) i cell) j ≡ place-of (r .lower) j
+        other j ne = getD-set-other (r .lower) i j cell 0 ne
+
+        module _ (point : PlacedPoint) (stands : Placed (mode-at modes i) part (at coordinates i) point) where
+          pub turn-next : cell ≡ cells i → cell + 1 < points g i → (refused : Bool) → refused ≡ (r .refused || point .refused) → Turn g modes coordinates cells (record { lower = set (r .lower) i cell; placed = set (r .placed) i (point .coordinate); refused = refused }) (begin + points g i) (i + 1)
+          unfolding any
+          turn-next is-cell inside refused either = record {
+            given = turn .given;
+            most = omega arith;
+            begun = rw (sum-more, turn .begun) refl;
+            found-on = record {
+              four = simp length-set (turn .found-on .four);
+              found = below-more _ i (λ j h. other j (omega arith) ∙ turn .found-on .found j h) (stored ∙ is-cell);
+              inside = below-more _ i (λ j h. rw (other j (omega arith)) (turn .found-on .inside j h)) (rw stored inside);
+              unused = λ j h l. other j (omega arith) ∙ turn .found-on .unused j (omega arith) l;
+              placed-four = simp length-set (turn .found-on .placed-four);
+              placed = below-more _ i
+                  (λ j h. getD-set-other (r .placed) i j (point .coordinate) nan (omega arith) ∙ turn .found-on .placed j h)
+                  (getD-set-same (r .placed) i (point .coordinate) nan (omega (arith, turn .found-on .placed-four, turn .given .in-range .few-axes)) ∙ stands .coordinate ∙ rw part-is refl);
+              refused = either ∙ rw (add-one, turn .found-on .refused, stands .refused, part-is) refl;
+            };
+          }
+
+    pub all-axes : g .axes ≤ i → i ≡ g .axes
+    all-axes h = omega (arith, turn .most)
+
+    pub turn-last : g .axes ≤ i → FoundOn g modes coordinates cells (g .axes) r
+    turn-last h = rw (all-axes h) at (turn .found-on)
+
+  -- what is found on all axes is a cell of the grid, and can be evaluated
+  pub cell-given : (r : Found) → FoundOn g modes coordinates cells (g .axes) r → SearchGiven g coordinates → tensor-length g ≤ most-in-a-tensor → CellGiven g (place-of (r .lower)) (r .placed)
+  cell-given r found given small = record {
+    inside = record {
+      some-axes = given .in-range .some-axes;
+      few-axes = given .in-range .few-axes;
+      small = small;
+      upper = found .inside;
+    };
+    knots-exact = given .knots-exact;
+    coordinates-enough = omega (arith, found .placed-four, given .in-range .few-axes);
+  }

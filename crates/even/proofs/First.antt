@@ -1,0 +1,45 @@
+-- The laws of `first-that`: what a loop knows that looks for the first number of which a test holds.
+use mathlib.Core.Path.{_≡_, refl, sym, ap, _∙_}
+use mathlib.Core.Bool.{Bool, true, false}
+use Prim.Native.Nat.{ℕ, zero, suc, _+_, _-_, _<_, _≤_}
+use native.Mathlib.Omega.{arith}
+use native.Mathlib.Numerals.{add-one}
+use Rattle.rules.specs.Even.{first-that}
+
+module _ (test : ℕ → Bool) where
+  that-holds : (d k : ℕ) → 0 < d → test k ≡ true → first-that test d k ≡ k
+  unfolding first-that
+  that-holds zero k some e = absurd (omega arith)
+  that-holds (suc d) k some e = ap (λ (t : Bool). elim t [ true ↦ k | false ↦ first-that test d (suc k) ]) e
+
+  that-fails : (d k : ℕ) → test k ≡ false → first-that test (suc d) k ≡ first-that test d (suc k)
+  unfolding first-that
+  that-fails d k e = ap (λ (t : Bool). elim t [ true ↦ k | false ↦ first-that test d (suc k) ]) e
+
+  -- what a loop over the numbers from `from` up to `to` keeps at i: what is looked for is not before i
+  pub record Turn (from to i : ℕ) : Type 0 where
+    pub least : from ≤ i
+    pub most : i ≤ to
+    pub same : first-that test (to - from) from ≡ first-that test (to - i) i
+
+  pub turn-first : (from to : ℕ) → from ≤ to → Turn from to from
+  turn-first from to order = record { least = omega arith; most = order; same = refl }
+
+  module _ (from to i : ℕ) (t : Turn from to i) where
+    pub turn-next : i < to → test i ≡ false → Turn from to (i + 1)
+    turn-next l e = record {
+      least = (let h = t .least in omega arith);
+      most = omega arith;
+      same =
+          t .same
+          ∙ ap (λ (d : ℕ). first-that test d i) (let z : to - i ≡ suc (to - (i + 1)) = omega arith in z)
+          ∙ that-fails (to - (i + 1)) i e
+          ∙ ap (first-that test (to - (i + 1))) (sym (add-one i));
+    }
+
+    pub turn-found : i < to → test i ≡ true → i ≡ first-that test (to - from) from
+    turn-found l e = sym (t .same ∙ that-holds (to - i) i (omega arith) e)
+
+    pub turn-last : to ≤ i → 0 ≡ first-that test (to - from) from
+    unfolding first-that
+    turn-last l = sym (t .same ∙ ap (λ (d : ℕ). first-that test d i) (let z : to - i ≡ 0 = omega arith in z))

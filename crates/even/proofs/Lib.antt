@@ -1,0 +1,3 @@
+mod Spacing
+pub mod First
+mod Direct

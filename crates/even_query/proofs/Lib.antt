@@ -1,0 +1,3 @@
+mod FirstAxis
+mod DirectCells
+mod Answers

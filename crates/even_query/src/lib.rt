@@ -1,0 +1,69 @@
+// The query of a tensor on even axes: a point located by one division on each axis, and the blend of the cell that is found.
+ghost use mathlib.Core.Path.{_≡_};
+ghost use Rattle.rules.specs.EvenCalls.{nothing-told, EvenQueryPromise};
+ghost use Rattle.grid.specs.Given.{grid};
+ghost use Rattle.even_query.specs.Uneven.{refused-uneven};
+use rules::Axis;
+use rules::EvenAnswer;
+use rules::Mode;
+use rules::QueryAnswer;
+
+mod direct; // direct.rt: the cell by one division on each axis
+mod uneven; // uneven.rt: the lowest axis that is not even
+
+// What a query answers, with axis and interval 0.
+fn nothing_told(answer: QueryAnswer) -> EvenAnswer
+    ensures { λ r. ⌜ r ≡ nothing-told answer ⌝ }
+{
+    let labels = answer.labels;
+    EvenAnswer {
+        refusal: answer.refusal,
+        value: answer.value,
+        labels,
+        axis: 0,
+        interval: 0,
+    }
+}
+
+// 21, with the axis that is not even and its interval.
+fn refused_uneven(axis: usize, interval: usize) -> EvenAnswer
+    ensures { λ r. ⌜ r ≡ refused-uneven axis interval ⌝ }
+{
+    EvenAnswer {
+        refusal: 21,
+        value: 0.0,
+        labels: [0; 4],
+        axis,
+        interval,
+    }
+}
+
+// PUBLIC. The surface's value at a point on axes that are even, with a mode for each axis as in the query, of which hold moves the point before its cell is found by one division; and for
+// each axis the label, which is the cell that was evaluated, 0 past those in use. Refuses 1 2 3 4 7 8 21 18 10, in this order; then the value is +0.0 and every label 0. After 21 axis and
+// interval are the lowest axis that is not even and its first interval that fails, both counted from 0; they are 0 in every other answer.
+pub fn even_query(
+    axes: usize,
+    all: [Axis; 4],
+    modes: [Mode; 4],
+    knots: &[f64],
+    tensor: &[f64],
+    coordinates: &[f64],
+) -> EvenAnswer
+    ensures { λ r. ⌜ EvenQueryPromise (grid axes all (now (knots .entry))) modes (now (tensor .entry)) (now (coordinates .entry)) r ⌝ }
+{
+    let refusal = checks::query_refusal(axes, all, knots, tensor.len(), coordinates);
+    if refusal != 0 {
+        return nothing_told(cell::refused(refusal));
+    }
+    let first = uneven::first_uneven(axes, all, knots);
+    if first.interval != 0 {
+        return refused_uneven(first.axis, first.interval);
+    }
+    let found = direct::locate_on_axes(axes, all, modes, knots, coordinates);
+    if found.refused {
+        return nothing_told(cell::refused(18));
+    }
+    let lower = found.lower;
+    let placed = found.placed;
+    nothing_told(cell::answer_in(axes, all, knots, tensor, lower, &placed))
+}
