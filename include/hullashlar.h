@@ -36,7 +36,7 @@
  *     is built, 5, 7, 8, 9, 10.
  *
  * Outputs. After a refusal every output is as it was but the slots of the answer: value, labels, lanes and uneven, and
- * of a sheet axes, points, kinds, values and length, written or read. These are then 0 or +0.0, but for uneven after 21, where all slots
+ * of a sheet axes, points, kinds, values and length. These are then 0 or +0.0, but for uneven after 21, where all slots
  * of the call have their lengths; where one has another length, none of them is written. Where a sheet is read and only
  * its build is refused, its knots, samples, axes, points, kinds and values are handed over, as after a read, and the
  * length alone is 0.
@@ -248,8 +248,8 @@ size_t hullashlar_sheet_tensor(const uint8_t *bytes, size_t bytes_length,
                                double *scratch, size_t scratch_length,
                                size_t *length, size_t length_length);
 
-/* The packed sheet of axes, knots and samples, written to the first of the bytes, and how many it has; the others are as
- * they were. A read of the sheet hands the same parts over, and a sheet that a read accepts and whose parts a write
+/* The packed sheet of axes, knots and samples, written to the first of the bytes, and how many it has; the others are
+ * as they were. A read of the sheet hands the same parts over, and a sheet that a read accepts and whose parts a write
  * does not refuse is written again as it was, byte for byte.
  * Lengths: points 4; kinds and values 8; knots as many as the points of all axes together; samples one for each place
  * of the grid; bytes any, of which 10,308 are enough for every sheet; length 1.
