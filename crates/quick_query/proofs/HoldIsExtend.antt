@@ -1,7 +1,7 @@
 -- Hold is extend at the nearest end knot: on knots that the query accepts and finite coordinates the whole answer with hold on some axes, labels too, is the one with extend there and the coordinates outside replaced. So for the quick query.
 use native.Mathlib.Omega.{arith}
 use mathlib.Core.Path.{_≡_, refl, sym, ap, subst, _∙_}
-use mathlib.Core.Bool.{Bool, true, false, not, cond}
+use mathlib.Core.Bool.{Bool, true, false, not}
 use mathlib.Core.List.{List, [], _∷_}
 use Prim.Native.Nat.{ℕ, zero, suc, _-_, _<_, _≤_}
 use lib.Dec.{T, ltb}
@@ -20,8 +20,8 @@ use Rattle.rules.specs.declared.Mode.{Mode}
 use Rattle.rules.specs.declared.Mode.the-variants.{Extend, Hold, Refuse}
 use Rattle.rules.specs.declared.Side.{Side}
 use Rattle.rules.specs.declared.Side.the-variants.{Below, Inside, Above}
-use Rattle.rules.proofs.Tables.{length-table, at-table, table-ext}
-use Rattle.rules.proofs.Cells.{value-in-ext, value-at-ext}
+use Rattle.rules.proofs.Tables.{length-table, at-table}
+use Rattle.rules.proofs.Cells.{value-in-ext, value-at-ext, labels-ext}
 use Rattle.rules.proofs.Refused.{any-ext}
 use Rattle.base.proofs.Scan.{any-never}
 use Rattle.floats.specs.Place.{AllFit}
@@ -175,11 +175,7 @@ module _ (g : Grid) (modes : List Mode) (tensor coordinates : List Float) (knots
 
     same-labels : labels g coordinates ≡ labels g stand-in
     unfolding labels
-    same-labels = table-ext 4 _ _ (λ i h. go i (ltb i (g .axes)) refl)
-      where
-        go : (i : ℕ) (b : Bool) → ltb i (g .axes) ≡ b → cond b (cell-of g (at coordinates) i) 0 ≡ cond b (cell-of g (at stand-in) i) 0
-        go i true e = same-cell i (ltb-true i (g .axes) e)
-        go i false e = refl
+    same-labels = labels-ext g (cell-of g (at coordinates)) (cell-of g (at stand-in)) same-cell
 
     same-refusal : query-refusal g modes tensor coordinates ≡ query-refusal g (let-go modes) tensor stand-in
     same-refusal = rw (refusal-here, refusal-there, numbers, finite-point, none-infinite, same-18, same-value) refl

@@ -14,6 +14,7 @@ use replay_sheets::sheet_tensor;
 use replay_sheets::write;
 use replay_surfaces::build;
 use replay_surfaces::change;
+use replay_surfaces::even_query;
 use replay_surfaces::query;
 use replay_surfaces::quick_query;
 
@@ -30,6 +31,7 @@ fn case_at(list: &[u8], place: usize) -> Replayed {
         6 => read(list, begin),
         7 => sheet_tensor(list, begin),
         8 => quick_query(list, begin),
+        9 => even_query(list, begin),
         10 => write(list, begin),
         _ => Replayed {
             same: false,

@@ -13,6 +13,8 @@ use replay_items::items::numbers_left;
 use replay_items::words::after;
 use replay_items::words::word;
 
+mod even; // even.rt: the query of even axes
+
 // The call on what the list gives, where the arguments end at `answer` and the written slices are given at the places named so.
 fn build_answered(
     list: &[u8],
@@ -289,6 +291,31 @@ fn queried(
     }
 }
 
+// Whether a query answered and left its slots as the list says from `answer` on.
+fn query_left(
+    list: &[u8],
+    answer: usize,
+    refusal: usize,
+    given_value: usize,
+    given_labels: usize,
+    value: &[f64],
+    labels: &[usize],
+) -> Replayed {
+    let left_value = after(answer, 1);
+    let left_labels = after_left(list, left_value);
+    let next = after_left(list, left_labels);
+    if refusal as u64 != word(list, answer) {
+        return Replayed { same: false, next };
+    }
+    if !floats_left(list, given_value, left_value, value) {
+        return Replayed { same: false, next };
+    }
+    Replayed {
+        same: numbers_left(list, given_labels, left_labels, labels),
+        next,
+    }
+}
+
 // The call on what the list gives, where the arguments end at `answer` and the written slices are given at the places named so.
 fn query_answered(
     quick: bool,
@@ -316,19 +343,15 @@ fn query_answered(
         value,
         labels,
     );
-    let left_value = after(answer, 1);
-    let left_labels = after_left(list, left_value);
-    let next = after_left(list, left_labels);
-    if refusal as u64 != word(list, answer) {
-        return Replayed { same: false, next };
-    }
-    if !floats_left(list, given_value, left_value, value) {
-        return Replayed { same: false, next };
-    }
-    Replayed {
-        same: numbers_left(list, given_labels, left_labels, labels),
-        next,
-    }
+    query_left(
+        list,
+        answer,
+        refusal,
+        given_value,
+        given_labels,
+        value,
+        labels,
+    )
 }
 
 // A case of either query, whose arguments begin at a place.
@@ -381,4 +404,9 @@ pub fn query(list: &[u8], begin: usize) -> Replayed {
 // A case of a quick query, likewise.
 pub fn quick_query(list: &[u8], begin: usize) -> Replayed {
     query_case(true, list, begin)
+}
+
+// A case of a query of even axes, likewise.
+pub fn even_query(list: &[u8], begin: usize) -> Replayed {
+    even::even_query_case(list, begin)
 }
