@@ -1,0 +1,4 @@
+mod Texts
+mod Told
+pub mod Promises
+pub mod Unique
