@@ -193,3 +193,17 @@ module _ (bytes : List ℕ) where
             scratch = rw none (rw whole at (p .scratch));
             text = rw none (done .0);
           }
+
+-- ---- what a caller knows of the answer
+
+counted-most : (refusal : ℕ) {count most : ℕ} → count ≤ most → counted refusal count ≤ most
+counted-most zero h = h
+counted-most (suc refusal) h = omega arith
+
+-- the text has no more bytes than the length that is asked for
+pub length-most :
+    (bytes : List ℕ) (knots samples lent-tensor scratch : List Float) (text : List ℕ) (given : TextAnswer) (k s t w : List Float) (later : List ℕ)
+    → TextPromise bytes knots samples lent-tensor scratch text given k s t w later → given .length ≤ text-length
+unfolding text-answer
+length-most bytes knots samples lent-tensor scratch text given k s t w later p =
+    rw (p .answer) (counted-most (text-refusal bytes knots samples lent-tensor scratch text) (text-fits bytes))
