@@ -1,3 +1,4 @@
+mod Examples
 mod Texts
 mod Told
 pub mod Promises

@@ -11,7 +11,7 @@ use Rattle.text.proofs.Puts.{put-none, put-more}
 pub length-hex-digits : (k n : ℕ) → length (hex-digits k n) ≡ k
 unfolding hex-digits
 length-hex-digits zero n = refl
-length-hex-digits (suc k) n = length-append (hex-digits k (n / 16)) _ ∙ rw (length-hex-digits k (n / 16)) (omega arith)
+length-hex-digits (suc k) n = simp (length-append, length-hex-digits k (n / 16)) (omega arith)
 
 pub length-hex-line : (pattern : ℕ) → length (hex-line pattern) ≡ 17
 unfolding hex-line

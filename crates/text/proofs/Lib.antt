@@ -1,6 +1,6 @@
+mod Examples
 mod Patterns
 pub mod Puts
 pub mod Decimals
 pub mod HexDigits
-mod Examples
 mod ReadBack

@@ -100,8 +100,8 @@ pub fn put_word_line(word: &[u8], number: u64, text: &mut [u8], at: usize) -> us
     ensures { λ r. ⌜ Put (word-line (now (word .entry)) number) (now (text .entry)) at (now (text .exit)) r ⌝ }
 {
     let word_end = put_word(word, text, at);
-    let end = put_decimal(number, text, word_end);
-    put_byte(10, text, end)
+    let number_end = put_decimal(number, text, word_end);
+    put_byte(10, text, number_end)
 }
 
 // The line `refused K`.

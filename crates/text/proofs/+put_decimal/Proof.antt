@@ -38,25 +38,25 @@ pub +put-decimal-spec : {M : Type 1} → statement M
     (λ c. search needs)
     (λ c κs.
     let s = c .before .before .before in
-    let one = decimal-short (s .args .number) (c .before .if1 .taken) in
+    let one = decimal-short (s .args .number) (omega arith) in
     omega (arith, s .pre .1, ap (λ (l : List ℕ). length l) one))
     (λ c. search needs)
     (λ c.
     let s = c .before .before .before .before .before .before in
-    rw (decimal-short (s .args .number) (c .before .before .before .before .if1 .taken)) (c .before .before .put-byte .ensures))
+    rw (decimal-short (s .args .number) (omega arith)) (c .before .before .put-byte .ensures))
     (λ c κs.
     let s = c .before .before .before in
-    let n = one-digit-more (s .args .number) (c .before .if1 .left) (omega arith) in
+    let n = one-digit-more (s .args .number) (omega arith) (omega arith) in
     (omega arith, omega (arith, s .pre .1)))
     (λ c. search needs)
     (λ c. search needs)
     (λ c κs.
     let r = c .before .before .before in
     let s = r .before .before .before .before in
-    let n = one-digit-more (s .args .number) (r .before .before .if1 .left) (omega arith) in
+    let n = one-digit-more (s .args .number) (omega arith) (omega arith) in
     omega (arith, s .pre .1, r .put-decimal .ensures .end, put-length (r .put-decimal .ensures)))
     (λ c. search needs)
     (λ c.
     let r = c .before .before .before .before .before .before in
     let s = r .before .before .before .before in
-    rw (decimal-long (s .args .number) (r .before .before .if1 .left) (omega arith)) (put-more (r .put-decimal .ensures) (c .before .before .put-byte2 .ensures)))
+    rw (decimal-long (s .args .number) (omega arith) (omega arith)) (put-more (r .put-decimal .ensures) (c .before .before .put-byte2 .ensures)))
