@@ -1,5 +1,3 @@
-mod Examples
-mod Texts
 mod Told
 pub mod Promises
 pub mod Unique

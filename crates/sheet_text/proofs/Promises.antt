@@ -25,10 +25,10 @@ use Rattle.sheet_build.proofs.Builds.{answered-refusal, length-tensor}
 use Rattle.text.specs.Lines.{written}
 use Rattle.text.specs.Answers.{Put}
 use Rattle.text.proofs.Puts.{put-written}
-use Rattle.sheet_text.specs.SheetText.{tensor-text, text-of, printed-refusal, sheet-text, text-length, lent-refusal, text-refusal, text-answer, TextPromise}
+use Rattle.sheet_text.specs.SheetText.{text-of, printed-refusal, sheet-text, text-length, lent-refusal, text-refusal, text-answer, TextPromise}
 use Rattle.sheet_text.specs.declared.TextAnswer.{TextAnswer}
-use Rattle.sheet_text.proofs.Texts.{length-tensor-text, length-refused}
-use Rattle.sheet_text.proofs.Told.{few-numbers, few-of-build}
+use Rattle.tensor_text.proofs.Texts.{length-most as tensor-text-most}
+use Rattle.sheet_text.proofs.Told.{few-numbers, few-of-build, length-refused-line}
 
 -- what no refusal says of the lengths
 pub record Lent (k s t w x : ℕ) : Type 0 where
@@ -130,8 +130,8 @@ module _ (bytes : List ℕ) where
   text-fits = go (printed-refusal bytes) refl
     where
       go : (number : ℕ) → printed-refusal bytes ≡ number → length (text-of (printed-refusal bytes) (tensor g y)) ≤ text-length
-      go zero e = rw e (length-tensor-text (tensor g y) (omega (arith, length-tensor g y, few (read e))))
-      go (suc number) e = rw e (let most = length-refused (suc number) (omega (arith, few-printed, e)) in omega arith)
+      go zero e = rw e (tensor-text-most (tensor g y) (omega (arith, length-tensor g y, few (read e))))
+      go (suc number) e = rw e (let most = length-refused-line (suc number) (omega (arith, few-printed, e)) in omega arith)
 
   -- ---- the two ways to end
 

@@ -1,4 +1,4 @@
--- What the class of a refusal tells of the text: a tensor's text where it is None, and else the line of the refusal.
+-- What the class of a refusal tells of the text: a tensor's text where it is None, and else the line of the refusal. Refusals are few, and their lines short.
 use mathlib.Core.Path.{_≡_, refl, sym, ap, _∙_}
 use mathlib.Core.Logic.{_⊎_, inl, inr}
 use mathlib.Core.Bool.{Bool, true, false, cond, _||_}
@@ -20,7 +20,9 @@ use Rattle.kinds.proofs.Among.{above}
 use Rattle.kinds.proofs.Apart.{none-not-reading, none-not-building}
 use Rattle.sheet_build.proofs.Faults.{Of}
 use Rattle.text.specs.Lines.{refused-line}
-use Rattle.sheet_text.specs.SheetText.{tensor-text, text-of}
+use Rattle.text.proofs.Decimals.{decimal-length, length-word-line}
+use Rattle.tensor_text.specs.TensorText.{tensor-text}
+use Rattle.sheet_text.specs.SheetText.{text-of}
 
 abbrev place : Class → ℕ
 place None = 0
@@ -87,3 +89,10 @@ few-of-build g samples lent scratch =
     (at-most (some-knots-refused g) (omega arith)
     (at-most (some-fewness-refused g) (omega arith)
     (at-most (outcome-refused (tensor g samples)) (omega arith) (omega arith)))))))))
+
+-- the line of a refusal, whatever 64-bit number it is
+pub length-refused-line : (refusal : ℕ) → refusal < 18446744073709551616 → length (refused-line refusal) ≤ 29
+unfolding refused-line
+length-refused-line refusal h =
+    let digits = decimal-length 19 refusal (omega arith) (omega arith) in
+    rw (length-word-line _ refusal) (omega arith)

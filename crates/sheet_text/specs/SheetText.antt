@@ -1,11 +1,11 @@
 -- The chapter SheetText of docs/RULES.md: all that the sheet program prints of a sheet, and the public call `sheet_text`, which writes it to a text that it is lent.
 use mathlib.Core.Path.{_≡_}
 use mathlib.Core.Bool.{Bool, cond, _||_}
-use mathlib.Core.List.{List, [], _∷_, _++_}
+use mathlib.Core.List.{List}
 use Prim.Native.Nat.{ℕ, zero, suc, _+_, _*_}
 use lib.Dec.{ltb}
 use lib.ListN.{length}
-use lib.Ieee.{Float, binary64, toBits}
+use lib.Ieee.{Float}
 use Rattle.rules.specs.Numbers.{zeros}
 use Rattle.rules.specs.Sizes.{most-in-a-tensor, scratch-of-rows, Grid, tensor-length, scratch-length}
 use Rattle.rules.specs.Refusals.{length-refused, scratch-refused}
@@ -14,23 +14,11 @@ use Rattle.rules.specs.Calls.{or-else, stored, counted, scratch-after, build-re
 use Rattle.sheet.specs.Fields.{sheet-grid, sheet-samples}
 use Rattle.sheet.specs.Faults.{sheet-refusal}
 use Rattle.sheet.specs.Read.{buffer-length, over}
-use Rattle.text.specs.Lines.{hex-line, word-line, refused-line, written}
+use Rattle.text.specs.Lines.{refused-line, written}
+use Rattle.tensor_text.specs.TensorText.{tensor-text}
 use Rattle.sheet_text.specs.declared.TextAnswer.{TextAnswer}
 
 -- ---- the text
-
--- "tensor " and how many numbers follow
-unfoldable pub tensor-line : ℕ → List ℕ
-tensor-line count = word-line (116 ∷ 101 ∷ 110 ∷ 115 ∷ 111 ∷ 114 ∷ 32 ∷ []) count
-
--- a line for each number: its pattern
-unfoldable pub number-lines : List Float → List ℕ
-number-lines [] = []
-number-lines (number ∷ more) = hex-line (toBits binary64 number) ++ number-lines more
-
--- the text of a tensor
-unfoldable pub tensor-text : List Float → List ℕ
-tensor-text numbers = tensor-line (length numbers) ++ number-lines numbers
 
 -- the text of a refusal, or where it is 0 of the tensor
 abbrev pub text-of : ℕ → List Float → List ℕ

@@ -1,9 +1,9 @@
 // All that the sheet program prints of a sheet, written to a text that the caller lends.
 ghost use mathlib.Core.Path.{_≡_};
-ghost use Prim.Native.Nat.{_+_, _*_, _≤_};
+ghost use Prim.Native.Nat.{_≤_};
 ghost use lib.ListN.{length};
 ghost use Rattle.text.specs.Answers.{Put};
-ghost use Rattle.sheet_text.specs.SheetText.{text-length, tensor-line, number-lines, tensor-text, text-of, lent-refusal, TextPromise};
+ghost use Rattle.sheet_text.specs.SheetText.{text-length, text-of, lent-refusal, TextPromise};
 use kinds::classes::Class;
 use kinds::classes::class_of;
 
@@ -13,38 +13,13 @@ pub struct TextAnswer {
     pub length: usize,
 }
 
-// A line for each number. Not public: that there is room is required.
-fn put_numbers(numbers: &[f64], text: &mut [u8], at: usize) -> usize
-    requires { ⌜ at + 17 * length (now numbers) ≤ length (now text) ⌝ }
-    ensures { λ r. ⌜ Put (number-lines (now (numbers .entry))) (now (text .entry)) at (now (text .exit)) r ⌝ }
-{
-    let mut end = at;
-    let mut i = 0;
-    while i < numbers.len() {
-        let pattern = text::pattern(numbers[i]);
-        end = text::put_hex_line(pattern, text, end);
-        i += 1;
-    }
-    end
-}
-
-// The text of a tensor. Not public: few numbers and room are required.
-fn put_tensor(numbers: &[f64], text: &mut [u8]) -> usize
-    requires { ⌜ (length (now numbers) ≤ 4096) × (text-length ≤ length (now text)) ⌝ }
-    ensures { λ r. ⌜ Put (tensor-text (now (numbers .entry))) (now (text .entry)) 0 (now (text .exit)) r ⌝ }
-{
-    let count = numbers.len() as u64;
-    let end = text::put_word_line(b"tensor ", count, text, 0);
-    put_numbers(numbers, text, end)
-}
-
 // The text of a refusal, 0 for none, and of the numbers of a tensor. Not public: few numbers and room are required.
 fn put_text(refusal: usize, numbers: &[f64], text: &mut [u8]) -> usize
     requires { ⌜ (length (now numbers) ≤ 4096) × (text-length ≤ length (now text)) ⌝ }
     ensures { λ r. ⌜ Put (text-of refusal (now (numbers .entry))) (now (text .entry)) 0 (now (text .exit)) r ⌝ }
 {
     match class_of(refusal) {
-        Class::None => put_tensor(numbers, text),
+        Class::None => tensor_text::put_tensor(numbers, text, 0),
         Class::Reading | Class::Building | Class::Unknown => {
             text::put_refused_line(refusal as u64, text, 0)
         }

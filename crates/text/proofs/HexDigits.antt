@@ -1,10 +1,10 @@
 -- The hex digits of a number by its last digit: how many there are, and how they are put.
-use mathlib.Core.Path.{_≡_, refl, ap, _∙_}
+use mathlib.Core.Path.{_≡_, refl}
 use mathlib.Core.List.{List, [], _∷_}
 use Prim.Native.Nat.{ℕ, zero, suc, _+_, _-_, _/_, _%_}
 use native.Mathlib.Omega.{arith}
 use lib.ListN.{length, length-append}
-use Rattle.text.specs.Lines.{hex-digit, line-end, hex-digits, hex-line}
+use Rattle.text.specs.Lines.{hex-digit, hex-digits}
 use Rattle.text.specs.Answers.{Put}
 use Rattle.text.proofs.Puts.{put-none, put-more}
 
@@ -12,10 +12,6 @@ pub length-hex-digits : (k n : ℕ) → length (hex-digits k n) ≡ k
 unfolding hex-digits
 length-hex-digits zero n = refl
 length-hex-digits (suc k) n = simp (length-append, length-hex-digits k (n / 16)) (omega arith)
-
-pub length-hex-line : (pattern : ℕ) → length (hex-line pattern) ≡ 17
-unfolding hex-line
-length-hex-line pattern = length-append (hex-digits 16 pattern) line-end ∙ ap (λ (k : ℕ). k + 1) (length-hex-digits 16 pattern)
 
 pub no-digits : (k n : ℕ) (text : List ℕ) (at : ℕ) → k ≡ 0 → Put (hex-digits k n) text at text at
 unfolding hex-digits

@@ -22,11 +22,6 @@ unfoldable pub hex-digits : ℕ → ℕ → List ℕ
 hex-digits zero n = []
 hex-digits (suc k) n = hex-digits k (n / 16) ++ (hex-digit (n % 16) ∷ [])
 
--- a 64-bit pattern: 16 capital hex digits and LF
-unfoldable pub hex-line : ℕ → List ℕ
-unfolding hex-digits
-hex-line pattern = hex-digits 16 pattern ++ line-end
-
 -- the decimal digits, without leading zeros, of a number that has at most k of them
 unfoldable pub decimal-digits : ℕ → ℕ → List ℕ
 decimal-digits zero n = []

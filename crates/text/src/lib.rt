@@ -4,7 +4,7 @@ ghost use mathlib.Core.List.{[], _∷_};
 ghost use Prim.Native.Nat.{_+_, _<_, _≤_};
 ghost use lib.ListN.{length};
 ghost use lib.Ieee.{binary64, toBits};
-ghost use Rattle.text.specs.Lines.{hex-digit, hex-digits, hex-line, decimal, word-line, refused-line};
+ghost use Rattle.text.specs.Lines.{hex-digit, hex-digits, decimal, word-line, refused-line};
 ghost use Rattle.text.specs.Answers.{Put};
 
 // One byte. Not public, as none of those below: that there is room is required.
@@ -54,8 +54,8 @@ fn hex_digit(digit: u64) -> u8
     }
 }
 
-// The last so many hex digits of a number, the most significant first.
-fn put_hex_digits(count: usize, number: u64, text: &mut [u8], at: usize) -> usize
+// The last so many hex digits of a number, capitals, the most significant first.
+pub fn put_hex_digits(count: usize, number: u64, text: &mut [u8], at: usize) -> usize
     requires { ⌜ at + count ≤ length (now text) ⌝ }
     ensures { λ r. ⌜ Put (hex-digits count number) (now (text .entry)) at (now (text .exit)) r ⌝ }
 {
@@ -64,14 +64,6 @@ fn put_hex_digits(count: usize, number: u64, text: &mut [u8], at: usize) -> usiz
     }
     let end = put_hex_digits(count - 1, number / 16, text, at);
     put_byte(hex_digit(number % 16), text, end)
-}
-
-// A 64-bit pattern as 16 capital hex digits.
-pub fn put_hex(pattern: u64, text: &mut [u8], at: usize) -> usize
-    requires { ⌜ at + 16 ≤ length (now text) ⌝ }
-    ensures { λ r. ⌜ Put (hex-digits 16 pattern) (now (text .entry)) at (now (text .exit)) r ⌝ }
-{
-    put_hex_digits(16, pattern, text, at)
 }
 
 // The pattern of any number; the one NaN has the pattern that IEEE 754 calls quiet and positive. It refuses nothing.
@@ -83,15 +75,6 @@ pub fn pattern(number: f64) -> u64
     } else {
         f64::to_bits(number)
     }
-}
-
-// The line of a 64-bit pattern.
-pub fn put_hex_line(pattern: u64, text: &mut [u8], at: usize) -> usize
-    requires { ⌜ at + 17 ≤ length (now text) ⌝ }
-    ensures { λ r. ⌜ Put (hex-line pattern) (now (text .entry)) at (now (text .exit)) r ⌝ }
-{
-    let end = put_hex(pattern, text, at);
-    put_byte(10, text, end)
 }
 
 // The line of a word, which brings its space, and a number.

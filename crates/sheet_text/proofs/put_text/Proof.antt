@@ -2,8 +2,8 @@ use mathlib.Core.Path.{refl}
 use native.Mathlib.Omega.{arith}
 use lib.ListN.{length}
 use Rattle.kinds.specs.Classes.{class}
-use Rattle.sheet_text.proofs.Texts.{length-refused}
-use Rattle.sheet_text.proofs.Told.{told-none, other-tag, tensor-told, refused-told}
+use Rattle.tensor_text.proofs.Texts.{length-most}
+use Rattle.sheet_text.proofs.Told.{told-none, other-tag, tensor-told, refused-told, length-refused-line}
 use borrow.Author.Needs.{needs}
 use Rattle.sheet_text.proofs.put_text.Statement.{statement}
 use Rattle.sheet_text.proofs.put_text.Tie as tie
@@ -11,7 +11,12 @@ use Rattle.sheet_text.proofs.put_text.Tie as tie
 put-refused-line-requires : tie.Need-put-refused-line-requires
 put-refused-line-requires c κs =
     let s = c .before .before .before .before .before in
-    omega (arith, s .pre .1, length-refused (s .args .refusal) (omega arith))
+    omega (arith, s .pre .1, length-refused-line (s .args .refusal) (omega arith))
+
+put-tensor-requires : tie.Need-put-tensor-requires
+put-tensor-requires c κs =
+    let s = c .before .before .before .before .before .before in
+    omega (arith, s .pre .0, s .pre .1, length-most (s .args .numbers .now) (s .pre .0))
 
 returns : tie.Need-returns
 returns c =
@@ -34,7 +39,7 @@ put-text-spec =
     (tie.spec
     (λ c κs. search needs)
     (λ c. search needs)
-    (λ c κs. search needs)
+    put-tensor-requires
     put-refused-line-requires
     (λ c. search needs)
     returns

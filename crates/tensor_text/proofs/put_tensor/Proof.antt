@@ -1,24 +1,22 @@
 use native.Mathlib.Omega.{arith}
-use lib.ListN.{length}
 use Rattle.text.proofs.Puts.{put-more, put-length}
-use Rattle.sheet_text.specs.SheetText.{tensor-line, tensor-text}
-use Rattle.sheet_text.proofs.Texts.{length-tensor-line}
+use Rattle.text.proofs.Decimals.{length-word-line}
+use Rattle.tensor_text.specs.TensorText.{tensor-line, tensor-text}
+use Rattle.tensor_text.proofs.Texts.{length-text}
 use borrow.Author.Needs.{needs}
-use Rattle.sheet_text.proofs.put_tensor.Statement.{statement}
-use Rattle.sheet_text.proofs.put_tensor.Tie as tie
+use Rattle.tensor_text.proofs.put_tensor.Statement.{statement}
+use Rattle.tensor_text.proofs.put_tensor.Tie as tie
 
 put-word-line-requires : tie.Need-put-word-line-requires
-unfolding tensor-line
 put-word-line-requires c κs =
     let s = c .before .before .before .before in
-    omega (arith, s .pre .0, s .pre .1, length-tensor-line (length (s .args .numbers .now)) (s .pre .0))
+    rw length-word-line (omega (arith, s .pre, length-text (s .args .numbers .now)))
 
 put-numbers-requires : tie.Need-put-numbers-requires
-unfolding tensor-line
 put-numbers-requires c κs =
     let w = c .before .before .before in
     let s = w .before .before .before .before .before in
-    omega (arith, s .pre .0, s .pre .1, length-tensor-line (length (s .args .numbers .now)) (s .pre .0), w .put-word-line .ensures .end, put-length (w .put-word-line .ensures))
+    omega (arith, s .pre, length-text (s .args .numbers .now), rw length-word-line at (w .put-word-line .ensures .end), put-length (w .put-word-line .ensures))
 
 returns : tie.Need-returns
 unfolding tensor-line tensor-text
