@@ -1,28 +1,27 @@
 -- The promise of the call, for each way that it ends: what it is lent is refused, or the sheet's text is written. No text is longer than the length that is asked for.
 use mathlib.Core.Path.{_≡_, refl, sym, ap, _∙_}
 use mathlib.Core.List.{List}
-use Prim.Native.Nat.{ℕ, zero, suc, _+_, _-_, _<_, _≤_}
+use Prim.Native.Nat.{ℕ, zero, suc, _-_, _≤_}
 use native.Mathlib.Nat.{sub-zero}
 use native.Mathlib.Omega.{arith}
 use borrow.Author.Tests.{eq-eqb, le-ltb, ltb-false}
-use lib.ListN.{length, take, length-take, length-append, length-replicate}
+use lib.ListN.{length, take, length-take, length-replicate}
 use lib.Ieee.{Float}
 use Rattle.rules.specs.Numbers.{plus-zero, zeros}
 use Rattle.rules.specs.Sizes.{Grid, tensor-length, scratch-length}
 use Rattle.rules.specs.Tensor.{tensor}
-use Rattle.rules.specs.Calls.{or-else, stored, counted, scratch-after, build-refusal}
-use Rattle.rules.proofs.Refused.{or-else-met, or-else-passed, unchanged}
+use Rattle.rules.specs.Calls.{or-else, stored, counted, build-refusal}
+use Rattle.rules.proofs.Refused.{or-else-passed, unchanged}
 use Rattle.checks.proofs.Rows.{exact-3}
 use Rattle.sheet.specs.Fields.{sheet-grid, sheet-samples}
 use Rattle.sheet.specs.Faults.{sheet-refusal}
 use Rattle.sheet.specs.Read.{over, read-refusal}
 use Rattle.sheet.proofs.Walks.{passed as no-test}
 use Rattle.sheet.proofs.Parts.{parts, take-over}
-use Rattle.sheet_build.specs.SheetTensor.{answer-of, read-answer, parts-refusal, reading-refusal, sheet-tensor-refusal, SheetPromise}
+use Rattle.sheet_build.specs.SheetTensor.{answer-of, parts-refusal, reading-refusal, sheet-tensor-refusal, SheetPromise}
 use Rattle.sheet_build.specs.declared.SheetAnswer.{SheetAnswer}
 use Rattle.sheet_build.proofs.Faults.{reading-of-reading}
 use Rattle.sheet_build.proofs.Builds.{answered-refusal, length-tensor}
-use Rattle.text.specs.Lines.{written}
 use Rattle.text.specs.Answers.{Put}
 use Rattle.text.proofs.Puts.{put-written}
 use Rattle.sheet_text.specs.SheetText.{text-of, printed-refusal, sheet-text, text-length, lent-refusal, text-refusal, text-answer, TextPromise}

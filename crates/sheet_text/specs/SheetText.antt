@@ -7,7 +7,7 @@ use lib.Dec.{ltb}
 use lib.ListN.{length}
 use lib.Ieee.{Float}
 use Rattle.rules.specs.Numbers.{zeros}
-use Rattle.rules.specs.Sizes.{most-in-a-tensor, scratch-of-rows, Grid, tensor-length, scratch-length}
+use Rattle.rules.specs.Sizes.{most-in-a-tensor, scratch-of-rows, tensor-length, scratch-length}
 use Rattle.rules.specs.Refusals.{length-refused, scratch-refused}
 use Rattle.rules.specs.Tensor.{tensor}
 use Rattle.rules.specs.Calls.{or-else, stored, counted, scratch-after, build-refusal}
@@ -52,6 +52,7 @@ lent-refusal knots samples tensor scratch text =
     (cond (scratch-refused scratch (most-in-a-tensor + scratch-of-rows)) 5 (cond (text-refused text) 15 0))
 
 module _ (bytes : List ℕ) (knots-lent samples-lent tensor-lent scratch-lent : List Float) (text-lent : List ℕ) where
+  -- the same, of the slices
   abbrev pub text-refusal : ℕ
   text-refusal = lent-refusal (length knots-lent) (length samples-lent) (length tensor-lent) (length scratch-lent) (length text-lent)
 

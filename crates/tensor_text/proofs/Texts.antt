@@ -7,7 +7,7 @@ use native.Mathlib.Omega.{arith}
 use lib.ListN.{length, getD, take, length-append}
 use lib.Seq.{length-take-le, take-suc, take-all}
 use lib.Ieee.{Float, nan, binary64, toBits}
-use Rattle.text.specs.Lines.{line-end, hex-digits, decimal}
+use Rattle.text.specs.Lines.{decimal}
 use Rattle.text.specs.Answers.{Put}
 use Rattle.text.proofs.Puts.{put-none, put-more, put-length}
 use Rattle.text.proofs.HexDigits.{length-hex-digits}

@@ -5,7 +5,7 @@ use Prim.Native.Nat.{ℕ, suc, _+_, _<_, _≤_}
 use native.Mathlib.Nat.{add-zero, add-suc, suc-add, zero-add}
 use native.Mathlib.Numerals.{add-one}
 use native.Mathlib.Omega.{arith}
-use lib.ListN.{length, take, getD, set, length-append, length-set}
+use lib.ListN.{length, take, getD, set, length-append}
 use lib.Seq.{sets, sets-eq, length-sets, length-take-le, take-suc, take-all}
 use Rattle.text.specs.Lines.{written}
 use Rattle.text.specs.Answers.{Put}
@@ -19,10 +19,6 @@ sets-more (x ∷ xs) ys l i =
 -- nothing
 pub put-none : (text : List ℕ) (at : ℕ) → Put [] text at text at
 put-none text at = record { stands = refl; end = sym (add-zero at) }
-
--- one byte
-pub put-one : (text : List ℕ) (at byte : ℕ) → Put (byte ∷ []) text at (set text at byte) (at + 1)
-put-one text at byte = record { stands = refl; end = refl }
 
 module _ {first more before between after : List ℕ} {at middle end : ℕ} where
   pub put-more : Put first before at between middle → Put more between middle after end → Put (first ++ more) before at after end

@@ -1,5 +1,4 @@
 use borrow.Author.Tests.{eq-eqb, ne-eqb, lt-ltb, le-ltb}
-use borrow.Author.Needs.{needs}
 use Rattle.sheet_text.proofs.lent_refusal.Statement.{statement}
 use Rattle.sheet_text.proofs.lent_refusal.Tie as tie
 

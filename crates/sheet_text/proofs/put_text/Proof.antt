@@ -1,6 +1,5 @@
 use mathlib.Core.Path.{refl}
 use native.Mathlib.Omega.{arith}
-use lib.ListN.{length}
 use Rattle.kinds.specs.Classes.{class}
 use Rattle.tensor_text.proofs.Texts.{length-most}
 use Rattle.sheet_text.proofs.Told.{told-none, other-tag, tensor-told, refused-told, length-refused-line}
