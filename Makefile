@@ -1,4 +1,4 @@
-.PHONY: run test differential deliberate-errors sheet-by-hand rules-page oracle-test expected archive bench examples picture
+.PHONY: run test differential deliberate-errors sheet-by-hand streams-fail rules-page oracle-test expected archive bench examples picture
 
 # Prints the tensor of the example sheet, which docs/RULES.md takes apart bit by bit.
 run:
@@ -28,6 +28,11 @@ sheet-by-hand:
 	rt check sheet_tensor
 	python3 tests/sheet_by_hand/sheet.py | cmp - tests/sheet_by_hand/two_axes.sheet
 	target/bin/sheet_tensor < tests/sheet_by_hand/two_axes.sheet | diff tests/sheet_by_hand/expected.txt -
+
+# Runs the sheet program where its input or its output fails, and sees what it says; with strace also by how many calls it prints.
+streams-fail:
+	rt check sheet_tensor
+	python3 tests/streams_fail.py
 
 # Holds docs/RULES.md against the definitions: each definition is named in its chapter.
 rules-page:

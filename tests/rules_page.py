@@ -9,7 +9,7 @@ import sys
 from pathlib import Path
 
 ROOT = Path(__file__).resolve().parent.parent
-CRATES = ["rules", "grid", "checks", "bits", "kinds", "sheet", "sheet_build", "sheet_write", "text", "plain_axes", "boundary", "host"]
+CRATES = ["rules", "grid", "checks", "bits", "kinds", "sheet", "sheet_build", "sheet_write", "text", "tensor_text", "sheet_text", "plain_axes", "boundary", "host"]
 
 # Files that say what functions need from each other and no promise of a public call, and chapters about no file.
 NOT_RULES = {"checks/Given", "checks/Check", "bits/Within", "sheet/Within", "sheet_write/Within", "text/Answers"}

@@ -50,9 +50,10 @@ pub fn print_count(count: usize) {
 
 // A space and the 16 hex digits of a number's pattern.
 pub fn print_number(number: f64) {
-    let line = text::number_line(number);
+    let mut digits = [0u8; 16];
+    text::put_hex_digits(16, text::pattern(number), &mut digits, 0);
     print(b" ");
-    print(&line[0..16]);
+    print(&digits);
 }
 
 pub fn print_numbers(numbers: &[f64]) {

@@ -1,9 +1,8 @@
-// Reads a list of sheets, each after its length in two bytes, the higher first, and prints the tensor of each. The list: every cut of
+// Reads a list of sheets, each after its length in two bytes, the higher first, and prints the text of each. The list: every cut of
 // the example sheet, from no bytes to all 51; each fault of the reader, 12 1 2 13 3 11 14, and of the build, 7 8 9 10; sheets with
 // two faults, of which the first in reading order counts; and sheets of one to four axes with every kind of end.
 ghost use Prim.Native.Nat.{_+_, _<_, _≤_};
 ghost use lib.ListN.{length};
-use libc::STDIN_FILENO;
 
 fn wide(byte: u8) -> usize
     ensures { λ r. ⌜ r < 256 ⌝ }
@@ -18,7 +17,7 @@ fn length_at(list: &[u8], at: usize) -> usize
     256 * wide(list[at]) + wide(list[at + 1])
 }
 
-fn print_tensors(list: &[u8]) {
+fn print_texts(list: &[u8]) {
     let mut at = 0;
     while 2 <= list.len() - at {
         let length = length_at(list, at);
@@ -27,13 +26,17 @@ fn print_tensors(list: &[u8]) {
             return;
         }
         let end = start + length;
-        sheet_print::print_tensor(&list[start..end]);
+        sheet_print::print_text(&list[start..end]);
         at = end;
     }
 }
 
 fn main() {
     let mut buffer = [0u8; 65536];
-    let length = io::read_full(STDIN_FILENO, &mut buffer);
-    print_tensors(&buffer[..length]);
+    let input = streams::read_input(&mut buffer);
+    if input.failed {
+        return;
+    }
+    let length = input.length;
+    print_texts(&buffer[0..length]);
 }

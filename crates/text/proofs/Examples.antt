@@ -1,16 +1,14 @@
--- Three lines that docs/RULES.md shows, byte by byte.
+-- A pattern's digits and a line that docs/RULES.md shows, byte by byte.
 use mathlib.Core.Path.{_≡_, refl}
 use mathlib.Core.List.{[], _∷_}
-use Rattle.text.specs.Lines.{hex-line, tensor-line, refused-line}
+use Rattle.text.specs.Lines.{hex-digits, refused-line}
 
 pub record Shown : Type 0 where
-  -- tensor 4
-  pub tensor : tensor-line 4 ≡ 116 ∷ 101 ∷ 110 ∷ 115 ∷ 111 ∷ 114 ∷ 32 ∷ 52 ∷ 10 ∷ []
   -- 3FF0000000000000
-  pub number : hex-line 0x3FF0_0000_0000_0000 ≡ 51 ∷ 70 ∷ 70 ∷ 48 ∷ 48 ∷ 48 ∷ 48 ∷ 48 ∷ 48 ∷ 48 ∷ 48 ∷ 48 ∷ 48 ∷ 48 ∷ 48 ∷ 48 ∷ 10 ∷ []
+  pub number : hex-digits 16 0x3FF0_0000_0000_0000 ≡ 51 ∷ 70 ∷ 70 ∷ 48 ∷ 48 ∷ 48 ∷ 48 ∷ 48 ∷ 48 ∷ 48 ∷ 48 ∷ 48 ∷ 48 ∷ 48 ∷ 48 ∷ 48 ∷ []
   -- refused 11
   pub refused : refused-line 11 ≡ 114 ∷ 101 ∷ 102 ∷ 117 ∷ 115 ∷ 101 ∷ 100 ∷ 32 ∷ 49 ∷ 49 ∷ 10 ∷ []
 
 pub shown : Shown
-unfolding tensor-line hex-line refused-line
-shown = record { tensor = refl; number = refl; refused = refl }
+unfolding hex-digits refused-line
+shown = record { number = refl; refused = refl }

@@ -1,36 +1,27 @@
--- The loop of `hex_line`: the digits that are left, and the line from place i on, are the whole line.
-use mathlib.Core.Path.{_≡_, sym, _∙_}
-use mathlib.Core.List.{List, _++_, append-assoc}
-use Prim.Native.Nat.{ℕ, zero, suc, _-_, _/_, _%_, _<_, _≤_}
+-- The hex digits of a number by its last digit: how many there are, and how they are put.
+use mathlib.Core.Path.{_≡_, refl}
+use mathlib.Core.List.{List, [], _∷_}
+use Prim.Native.Nat.{ℕ, zero, suc, _-_, _/_, _%_}
 use native.Mathlib.Omega.{arith}
-use lib.ListN.{length, length-set, drop, set}
-use Rattle.text.specs.Lines.{hex-digit, hex-digits, hex-line, line-end}
-use Rattle.text.proofs.Stored.{stored}
+use lib.ListN.{length, length-append}
+use Rattle.text.specs.Lines.{hex-digit, hex-digits}
+use Rattle.text.specs.Answers.{Put}
+use Rattle.text.proofs.Puts.{put-none, put-more}
 
-pub record Turn (pattern : ℕ) (line : List ℕ) (rest i : ℕ) : Type 0 where
-  pub within : i ≤ 16
-  pub room : length line ≡ 17
-  pub whole : hex-line pattern ≡ hex-digits i rest ++ drop i line
+pub length-hex-digits : (k n : ℕ) → length (hex-digits k n) ≡ k
+unfolding hex-digits
+length-hex-digits zero n = refl
+length-hex-digits (suc k) n = simp (length-append, length-hex-digits k (n / 16)) (omega arith)
 
-pub turn-first : (pattern : ℕ) (line : List ℕ) → length line ≡ 17 → drop 16 line ≡ line-end → Turn pattern line pattern 16
-unfolding hex-line
-turn-first pattern line room last = record { within = omega arith; room = room; whole = rw last }
+pub no-digits : (k n : ℕ) (text : List ℕ) (at : ℕ) → k ≡ 0 → Put (hex-digits k n) text at text at
+unfolding hex-digits
+no-digits k n text at e = rw e (put-none text at)
 
 one-less : (n : ℕ) → suc n - 1 ≡ n
 one-less n = omega arith
 
-pub turn-next : (pattern rest i byte : ℕ) (line : List ℕ) → Turn pattern line rest i → 0 < i → byte ≡ hex-digit (rest % 16)
-    → Turn pattern (set line (i - 1) byte) (rest / 16) (i - 1)
+pub one-digit-more : (k n byte : ℕ) {before between after : List ℕ} {at middle end : ℕ} → (k ≡ 0 → ⊥) → byte ≡ hex-digit (n % 16)
+    → Put (hex-digits (k - 1) (n / 16)) before at between middle → Put (byte ∷ []) between middle after end → Put (hex-digits k n) before at after end
 unfolding hex-digits
-turn-next pattern rest zero byte line t more e = let z : ⊥ = omega arith in absurd z
-turn-next pattern rest (suc i) byte line t more e = record {
-  within = let w = t .within in omega arith;
-  room = simp length-set (t .room);
-  whole =
-      let inside : i < length line = let w = t .within in let r = t .room in omega arith in
-      t .whole ∙ rw (one-less, stored line i byte inside, e, append-assoc);
-}
-
-pub turn-last : (pattern rest i : ℕ) (line : List ℕ) → Turn pattern line rest i → i ≡ 0 → line ≡ hex-line pattern
-unfolding hex-digits
-turn-last pattern rest i line t e = sym (rw e at (t .whole))
+one-digit-more zero n byte some e p q = absurd (some refl)
+one-digit-more (suc k) n byte some e p q = put-more (rw (one-less k) at p) (rw e at q)

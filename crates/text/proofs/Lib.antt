@@ -1,7 +1,6 @@
-mod Stored
-mod Patterns
-mod HexDigits
-mod DecimalDigits
-mod Words
 mod Examples
+mod Patterns
+pub mod Puts
+pub mod Decimals
+pub mod HexDigits
 mod ReadBack

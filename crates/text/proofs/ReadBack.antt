@@ -3,12 +3,12 @@ use mathlib.Core.Path.{_≡_, refl}
 use mathlib.Core.Bool.{Bool, true, false}
 use mathlib.Core.List.{List, [], _∷_, _++_}
 use Prim.Native.Nat.{ℕ, zero, suc, _+_, _-_, _*_, _/_, _%_, _^_, _<_, _≤_}
-use native.Mathlib.Nat.{pow-suc}
 use native.Mathlib.Omega.{arith}
 use borrow.Author.Tests.{ltb-false}
 use lib.Dec.{ltb}
 use lib.ListN.{getD}
 use Rattle.text.specs.Lines.{decimal-digit, decimal-digits, decimal}
+use Rattle.text.proofs.Decimals.{fewer-places}
 
 -- what digits say, after digits that said a number
 pub read-after : ℕ → List ℕ → ℕ
@@ -23,9 +23,6 @@ read-one-more said (first ∷ rest) digit = read-one-more (said * 10 + (first - 
 first-of-more : (digits more : List ℕ) → 48 < getD digits 0 0 → 48 < getD (digits ++ more) 0 0
 first-of-more [] more h = let z : ⊥ = omega arith in absurd z
 first-of-more (first ∷ rest) more h = h
-
-fewer-places : (k n : ℕ) → n < 10 ^ suc k → n / 10 < 10 ^ k
-fewer-places k n h = let f : n < 10 ^ k * 10 = rw (pow-suc 10 k) at h in omega arith
 
 read-places : (k n : ℕ) (short : Bool) → ltb n 10 ≡ short → n < 10 ^ suc k → read-after 0 (decimal-digits (suc k) n) ≡ n
 unfolding decimal-digits read-after

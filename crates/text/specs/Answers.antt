@@ -1,15 +1,11 @@
--- What a line of text holds.
+-- What stands in a text after something was put into it.
 use mathlib.Core.Path.{_≡_}
 use mathlib.Core.List.{List}
-use Prim.Native.Nat.{ℕ, _≤_}
-use lib.ListN.{length, drop}
-use Rattle.text.specs.declared.Line.{Line}
+use Prim.Native.Nat.{ℕ, _+_}
+use lib.ListN.{length}
+use lib.Seq.{sets}
 
--- the text of a line: its bytes from `start` on
-abbrev pub text : Line → List ℕ
-text line = drop (line .start) (line .bytes)
-
-pub record Holds (line : Line) (expected : List ℕ) : Type 0 where
-  pub text : text line ≡ expected
-  pub room : length (line .bytes) ≡ 29
-  pub inside : line .start ≤ 29
+-- the bytes stand from a place on, all others are as they were, and `behind` is the place where they end
+pub record Put (bytes before : List ℕ) (at : ℕ) (after : List ℕ) (behind : ℕ) : Type 0 where
+  pub stands : after ≡ sets before at bytes
+  pub end : behind ≡ at + length bytes

@@ -3,6 +3,7 @@ use mathlib.Core.Bool.{cond}
 use mathlib.Core.List.{List, [], _∷_, _++_}
 use Prim.Native.Nat.{ℕ, zero, suc, _+_, _/_, _%_}
 use lib.Dec.{ltb}
+use lib.ListN.{length, drop}
 
 -- the byte of a decimal digit: "0" is 48
 abbrev pub decimal-digit : ℕ → ℕ
@@ -21,11 +22,6 @@ unfoldable pub hex-digits : ℕ → ℕ → List ℕ
 hex-digits zero n = []
 hex-digits (suc k) n = hex-digits k (n / 16) ++ (hex-digit (n % 16) ∷ [])
 
--- a 64-bit pattern: 16 capital hex digits and LF
-unfoldable pub hex-line : ℕ → List ℕ
-unfolding hex-digits
-hex-line pattern = hex-digits 16 pattern ++ line-end
-
 -- the decimal digits, without leading zeros, of a number that has at most k of them
 unfoldable pub decimal-digits : ℕ → ℕ → List ℕ
 decimal-digits zero n = []
@@ -36,12 +32,16 @@ unfoldable pub decimal : ℕ → List ℕ
 unfolding decimal-digits
 decimal n = decimal-digits 20 n
 
--- "tensor " and the number of its numbers
-unfoldable pub tensor-line : ℕ → List ℕ
+-- a word, which brings its space, and a number
+unfoldable pub word-line : List ℕ → ℕ → List ℕ
 unfolding decimal
-tensor-line count = (116 ∷ 101 ∷ 110 ∷ 115 ∷ 111 ∷ 114 ∷ 32 ∷ []) ++ (decimal count ++ line-end)
+word-line word number = word ++ (decimal number ++ line-end)
 
 -- "refused " and the refusal's number
 unfoldable pub refused-line : ℕ → List ℕ
-unfolding decimal
-refused-line number = (114 ∷ 101 ∷ 102 ∷ 117 ∷ 115 ∷ 101 ∷ 100 ∷ 32 ∷ []) ++ (decimal number ++ line-end)
+unfolding word-line
+refused-line number = word-line (114 ∷ 101 ∷ 102 ∷ 117 ∷ 115 ∷ 101 ∷ 100 ∷ 32 ∷ []) number
+
+-- a buffer with a text at its front; behind the text it is as it was
+abbrev pub written : List ℕ → List ℕ → List ℕ
+written text buffer = text ++ drop (length text) buffer

@@ -1,16 +1,45 @@
-// The lines that the programs print, as bytes.
+// What all programs print by: bytes, words and numbers, put into a lent text at a place. Each function answers the place behind what it has put.
 ghost use mathlib.Core.Path.{_≡_};
-ghost use mathlib.Core.List.{_∷_, _++_};
+ghost use mathlib.Core.List.{[], _∷_};
 ghost use Prim.Native.Nat.{_+_, _<_, _≤_};
 ghost use lib.ListN.{length};
 ghost use lib.Ieee.{binary64, toBits};
-ghost use Rattle.text.specs.Lines.{hex-digit, hex-line, decimal, line-end, tensor-line, refused-line};
-ghost use Rattle.text.specs.Answers.{text, Holds};
+ghost use Rattle.text.specs.Lines.{hex-digit, hex-digits, decimal, word-line, refused-line};
+ghost use Rattle.text.specs.Answers.{Put};
 
-// A line of text: the bytes from start on.
-pub struct Line {
-    pub bytes: [u8; 29],
-    pub start: usize,
+// One byte. Not public, as none of those below: that there is room is required.
+pub fn put_byte(byte: u8, text: &mut [u8], at: usize) -> usize
+    requires { ⌜ at < length (now text) ⌝ }
+    ensures { λ r. ⌜ Put (byte ∷ []) (now (text .entry)) at (now (text .exit)) r ⌝ }
+{
+    text[at] = byte;
+    at + 1
+}
+
+// The bytes of a word.
+pub fn put_word(word: &[u8], text: &mut [u8], at: usize) -> usize
+    requires { ⌜ at + length (now word) ≤ length (now text) ⌝ }
+    ensures { λ r. ⌜ Put (now (word .entry)) (now (text .entry)) at (now (text .exit)) r ⌝ }
+{
+    let mut end = at;
+    let mut i = 0;
+    while i < word.len() {
+        end = put_byte(word[i], text, end);
+        i += 1;
+    }
+    end
+}
+
+// The decimal digits of a number, without leading zeros.
+pub fn put_decimal(number: u64, text: &mut [u8], at: usize) -> usize
+    requires { ⌜ at + length (decimal number) ≤ length (now text) ⌝ }
+    ensures { λ r. ⌜ Put (decimal number) (now (text .entry)) at (now (text .exit)) r ⌝ }
+{
+    if number < 10 {
+        return put_byte(48 + number as u8, text, at);
+    }
+    let end = put_decimal(number / 10, text, at);
+    put_byte(48 + (number % 10) as u8, text, end)
 }
 
 // The byte of a capital hex digit.
@@ -25,22 +54,19 @@ fn hex_digit(digit: u64) -> u8
     }
 }
 
-// PUBLIC. A 64-bit pattern as 16 capital hex digits, the most significant first, and LF.
-pub fn hex_line(pattern: u64) -> [u8; 17]
-    ensures { λ r. ⌜ r ≡ hex-line pattern ⌝ }
+// The last so many hex digits of a number, capitals, the most significant first.
+pub fn put_hex_digits(count: usize, number: u64, text: &mut [u8], at: usize) -> usize
+    requires { ⌜ at + count ≤ length (now text) ⌝ }
+    ensures { λ r. ⌜ Put (hex-digits count number) (now (text .entry)) at (now (text .exit)) r ⌝ }
 {
-    let mut line = [10u8; 17];
-    let mut rest = pattern;
-    let mut i = 16;
-    while 0 < i {
-        i -= 1;
-        line[i] = hex_digit(rest % 16);
-        rest = rest / 16;
+    if count == 0 {
+        return at;
     }
-    line
+    let end = put_hex_digits(count - 1, number / 16, text, at);
+    put_byte(hex_digit(number % 16), text, end)
 }
 
-// PUBLIC. The pattern of any number; the one NaN has the pattern that IEEE 754 calls quiet and positive.
+// The pattern of any number; the one NaN has the pattern that IEEE 754 calls quiet and positive. It refuses nothing.
 pub fn pattern(number: f64) -> u64
     ensures { λ r. ⌜ r ≡ toBits binary64 number ⌝ }
 {
@@ -51,67 +77,20 @@ pub fn pattern(number: f64) -> u64
     }
 }
 
-// PUBLIC. The pattern of a number as a hex line.
-pub fn number_line(number: f64) -> [u8; 17]
-    ensures { λ r. ⌜ r ≡ hex-line (toBits binary64 number) ⌝ }
+// The line of a word, which brings its space, and a number.
+pub fn put_word_line(word: &[u8], number: u64, text: &mut [u8], at: usize) -> usize
+    requires { ⌜ at + length (word-line (now word) number) ≤ length (now text) ⌝ }
+    ensures { λ r. ⌜ Put (word-line (now (word .entry)) number) (now (text .entry)) at (now (text .exit)) r ⌝ }
 {
-    hex_line(pattern(number))
+    let word_end = put_word(word, text, at);
+    let number_end = put_decimal(number, text, word_end);
+    put_byte(10, text, number_end)
 }
 
-// A line with one byte more before its text. Not public: that there is room is required.
-fn preceded_by(line: Line, byte: u8) -> Line
-    requires { ⌜ (0 < line .start) × (line .start ≤ 29) × (length (line .bytes) ≡ 29) ⌝ }
-    ensures { λ r. ⌜ Holds r (byte ∷ text line) × (r .start + 1 ≡ line .start) ⌝ }
+// The line `refused K`.
+pub fn put_refused_line(number: u64, text: &mut [u8], at: usize) -> usize
+    requires { ⌜ at + length (refused-line number) ≤ length (now text) ⌝ }
+    ensures { λ r. ⌜ Put (refused-line number) (now (text .entry)) at (now (text .exit)) r ⌝ }
 {
-    let mut bytes = line.bytes;
-    let start = line.start - 1;
-    bytes[start] = byte;
-    Line {
-        bytes: bytes,
-        start: start,
-    }
-}
-
-// The decimal digits of a number and LF, with room before them for a word of 8 bytes.
-fn decimal_line(number: usize) -> Line
-    ensures { λ r. ⌜ Holds r (decimal number ++ line-end) × (8 ≤ r .start) ⌝ }
-{
-    let mut line = Line {
-        bytes: [10u8; 29],
-        start: 28,
-    };
-    let mut rest = number;
-    while 10 <= rest {
-        line = preceded_by(line, 48 + (rest % 10) as u8);
-        rest = rest / 10;
-    }
-    preceded_by(line, 48 + rest as u8)
-}
-
-// A line with a word before its text. Not public: that there is room is required.
-fn with_word(word: &[u8], line: Line) -> Line
-    requires { ⌜ (length (now word) ≤ line .start) × (line .start ≤ 29) × (length (line .bytes) ≡ 29) ⌝ }
-    ensures { λ r. ⌜ Holds r (now (word .entry) ++ text line) ⌝ }
-{
-    let mut longer = line;
-    let mut i = word.len();
-    while 0 < i {
-        i -= 1;
-        longer = preceded_by(longer, word[i]);
-    }
-    longer
-}
-
-// PUBLIC. The line `tensor N`, of a tensor of N numbers.
-pub fn tensor_line(count: usize) -> Line
-    ensures { λ r. ⌜ Holds r (tensor-line count) ⌝ }
-{
-    with_word(b"tensor ", decimal_line(count))
-}
-
-// PUBLIC. The line `refused K`.
-pub fn refused_line(number: usize) -> Line
-    ensures { λ r. ⌜ Holds r (refused-line number) ⌝ }
-{
-    with_word(b"refused ", decimal_line(number))
+    put_word_line(b"refused ", number, text, at)
 }

@@ -1,0 +1,3 @@
+mod Told
+pub mod Promises
+pub mod Unique

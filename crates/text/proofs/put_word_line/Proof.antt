@@ -1,0 +1,34 @@
+use native.Mathlib.Omega.{arith}
+use Rattle.text.proofs.Puts.{put-length}
+use Rattle.text.proofs.Decimals.{length-word-line, line-put}
+use borrow.Author.Needs.{needs}
+use Rattle.text.proofs.put_word_line.Statement.{statement}
+use Rattle.text.proofs.put_word_line.Tie as tie
+
+put-word-requires : tie.Need-put-word-requires
+put-word-requires c κs =
+    let s = c .before .before .before in
+    omega (arith, s .pre, length-word-line (s .args .word .now) (s .args .number))
+
+put-decimal-requires : tie.Need-put-decimal-requires
+put-decimal-requires c κs =
+    let w = c .before .before .before in
+    let s = w .before .before .before .before in
+    omega (arith, s .pre, length-word-line (s .args .word .now) (s .args .number), w .put-word .ensures .end, put-length (w .put-word .ensures))
+
+put-byte-requires : tie.Need-put-byte-requires
+put-byte-requires c κs =
+    let d = c .before .before .before in
+    let w = d .before .before .before .before in
+    let s = w .before .before .before .before in
+    omega (arith, s .pre, length-word-line (s .args .word .now) (s .args .number), w .put-word .ensures .end, put-length (w .put-word .ensures), d .put-decimal .ensures .end, put-length (d .put-decimal .ensures))
+
+returns : tie.Need-returns
+returns c =
+    let d = c .before .before .before .before .before .before in
+    let w = d .before .before .before .before in
+    line-put _ _ (w .put-word .ensures) (d .put-decimal .ensures) (c .before .before .put-byte .ensures)
+
+pub put-word-line-spec : {M : Type 1} → statement M
+put-word-line-spec =
+    tie.close (tie.spec put-word-requires put-decimal-requires put-byte-requires (λ c. search needs) returns)
