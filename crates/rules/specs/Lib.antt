@@ -10,4 +10,6 @@ pub mod Curve
 pub mod Tensor
 pub mod Change
 pub mod Query
+pub mod Step
 pub mod Calls
+pub mod StepCalls
