@@ -1,1 +1,4 @@
-mod Among
+mod Found
+mod Answers
+mod Positions
+pub mod Meaning

@@ -46,7 +46,7 @@ module _ (x : List Float) (n : ℕ) (point : Float) (R : Rising x n) (F : AllFit
   last = n - 1
 
   -- the knots from `above` on are at or above the point, those before `below` at or below it
-  among : Among x point (suc last)
+  pub among : Among x point (suc last)
   among = placed x point n R F P some
 
   abbrev pub above : ℕ
@@ -89,7 +89,7 @@ module _ (x : List Float) (n : ℕ) (point : Float) (R : Rising x n) (F : AllFit
 
   -- ---- the step downward
 
-  lower-by : ℕ → ℕ → ℕ → ℕ
+  abbrev lower-by : ℕ → ℕ → ℕ → ℕ
   lower-by a b m = cond (leb a last && ltb last b) last (cond (leb a (m + 1) && ltb (m + 1) b) (m + 1) m)
 
   lower-step-by : lower-step x last point ≡ lower-by above below cell
