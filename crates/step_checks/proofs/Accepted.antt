@@ -77,10 +77,12 @@ module _ (g : Grid) (samples coordinates : List Float) where
       let numbers = neither (some-number-refused (g .flat-knots)) (some-number-refused samples) (three .0) in
       let given = grid-known g (tensor-length g) (none .0) (none .1 .0) (none .1 .1 .0) (lengths .0) refl (numbers .0) (later .1 .1 .0) in
       record {
-        in-range = given .in-range;
-        small = given .small;
-        knots-exact = lengths .0;
+        axes-given = record {
+          in-range = given .in-range;
+          small = given .small;
+          knots-exact = lengths .0;
+          coordinates-exact = lengths .2;
+          on-axis = on-axis given (any-at (λ i. points-refused (points g i)) (g .axes) (none .1 .0)) (lengths .2) (three .1);
+        };
         samples-exact = lengths .1;
-        coordinates-exact = lengths .2;
-        on-axis = on-axis given (any-at (λ i. points-refused (points g i)) (g .axes) (none .1 .0)) (lengths .2) (three .1);
       }

@@ -23,11 +23,15 @@ pub record ExactGiven (n : ℕ) (x : List Float) (lower : ℕ) (point : Float) :
   pub point-given : PointGiven n x point
   pub next-knot : lower + 1 < n
 
--- of a grid, samples and coordinates
-pub record SteppedGiven (g : Grid) (samples coordinates : List Float) : Type 0 where
+-- of a grid and coordinates
+pub record AxesGiven (g : Grid) (coordinates : List Float) : Type 0 where
   pub in-range : InRange (g .axes) (points g)
   pub small : tensor-length g ≤ most-in-a-tensor
   pub knots-exact : length (g .flat-knots) ≡ knots-length g
-  pub samples-exact : length samples ≡ samples-length g
   pub coordinates-exact : length coordinates ≡ g .axes
   pub on-axis : (i : ℕ) → i < g .axes → PointGiven (points g i) (knots g i) (at coordinates i)
+
+-- of these and samples
+pub record SteppedGiven (g : Grid) (samples coordinates : List Float) : Type 0 where
+  pub axes-given : AxesGiven g coordinates
+  pub samples-exact : length samples ≡ samples-length g
