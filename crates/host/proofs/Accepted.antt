@@ -16,7 +16,8 @@ use Rattle.checks.specs.Tables.{Refusal, lowest}
 use Rattle.checks.proofs.Rows.{NoneApplies, none-applies}
 use Rattle.tensor.proofs.Demand3.{Sound}
 use Rattle.plain_axes.specs.Axes.{condition-given, axis-given, axes-given, axis-without-ends, axes-without-ends, some-kinds-refused, grid-given}
-use Rattle.host.specs.Exports.{sizes-given, axes-rows, eight-ends-refused, build-own-rows, build-own-refusal, change-own-rows, change-own-refusal}
+use Rattle.exports.specs.Slots.{sizes-given, axes-rows}
+use Rattle.host.specs.Exports.{eight-ends-refused, build-own-rows, build-own-refusal, change-own-rows, change-own-refusal}
 use Rattle.host.proofs.Lengths.{build-lengths}
 
 -- no row applies, so the table gives no number

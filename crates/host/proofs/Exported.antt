@@ -21,37 +21,11 @@ use Rattle.sheet_build.specs.SheetTensor.{reading-refusal, sheet-tensor-refusal
 use Rattle.sheet_build.specs.declared.SheetAnswer.{SheetAnswer}
 use Rattle.sheet_build.proofs.Builds.{answered-refusal}
 use Rattle.plain_axes.specs.Axes.{condition-given, axes-given, axes-without-ends, AxesStored}
-use Rattle.host.specs.Exports.{moments-own-refusal, curve-own-refusal, build-own-refusal, change-own-refusal, query-own-refusal, read-own-refusal, sheet-tensor-own-refusal, in-slot, QueryStored, FoundStored, MomentsExport, CurveExport, BuildExport, ChangeExport, QueryExport, ReadExport, SheetTensorExport}
+use Rattle.exports.specs.Slots.{in-slot, QueryStored}
+use Rattle.exports.proofs.Exported.{own-answer, untouched, no-value, no-count, no-labels, call-answer, left}
+use Rattle.host.specs.Exports.{moments-own-refusal, curve-own-refusal, build-own-refusal, change-own-refusal, query-own-refusal, read-own-refusal, sheet-tensor-own-refusal, FoundStored, MomentsExport, CurveExport, BuildExport, ChangeExport, QueryExport, ReadExport, SheetTensorExport}
 use Rattle.host.proofs.Lengths.{read-lengths, sheet-tensor-lengths}
 use Rattle.plain_axes.proofs.Slots.{one-stored}
-
--- ---- the host refuses: its number is the answer, each slice is as it was, and slots say that nothing was answered
-
-own-answer : (own later : ℕ) {r : ℕ} → r ≡ own → (r ≡ 0 → ⊥) → r ≡ or-else own later
-own-answer own later e some = e ∙ sym (or-else-met own later (λ z. some (e ∙ z)))
-
-untouched : {A : Type 0} (own : ℕ) (lent later : List A) {r : ℕ} → r ≡ own → (r ≡ 0 → ⊥) → lent ≡ stored own lent later
-untouched own lent later e some = unchanged own lent later (λ z. some (e ∙ z))
-
-no-value : (own : ℕ) (value : Float) {r : ℕ} → r ≡ own → (r ≡ 0 → ⊥) → plus-zero ≡ answered own value
-no-value zero value e some = absurd (some e)
-no-value (suc own) value e some = refl
-
-no-count : (own count : ℕ) {r : ℕ} → r ≡ own → (r ≡ 0 → ⊥) → 0 ≡ counted own count
-no-count zero count e some = absurd (some e)
-no-count (suc own) count e some = refl
-
-no-labels : (own : ℕ) (labels : List ℕ) {r : ℕ} → r ≡ own → (r ≡ 0 → ⊥) → table most-axes (λ i. 0) ≡ labelled own labels
-no-labels zero labels e some = absurd (some e)
-no-labels (suc own) labels e some = refl
-
--- ---- it does not: the call's number, and what the call leaves
-
-call-answer : (own : ℕ) {later r a : ℕ} → r ≡ own → r ≡ 0 → a ≡ later → a ≡ or-else own later
-call-answer own e none answers = rw (sym e ∙ none) answers
-
-left : {A : Type 0} (own : ℕ) (lent : List A) {later l : List A} {r : ℕ} → r ≡ own → r ≡ 0 → l ≡ later → l ≡ stored own lent later
-left own lent e none leaves = rw (sym e ∙ none) leaves
 
 -- ---- the curve's moments
 

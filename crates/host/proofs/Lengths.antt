@@ -10,7 +10,8 @@ use Rattle.rules.specs.Sizes.{most-axes, knots-length, samples-length, tensor-l
 use Rattle.rules.specs.Refusals.{length-refused}
 use Rattle.base.proofs.Scan.{neither}
 use Rattle.checks.proofs.Rows.{none-applies, exact, exact-2}
-use Rattle.host.specs.Exports.{sizes-given, two-ends-refused, eight-ends-refused, place-or-lanes-refused, query-slots-refused, found-slots-refused, moments-own-rows, moments-own-refusal, build-own-rows, build-own-refusal, change-own-rows, change-own-refusal, query-own-rows, query-own-refusal, read-own-refusal, sheet-tensor-own-refusal}
+use Rattle.exports.specs.Slots.{sizes-given}
+use Rattle.host.specs.Exports.{two-ends-refused, eight-ends-refused, place-or-lanes-refused, found-slots-refused, moments-own-rows, moments-own-refusal, build-own-rows, build-own-refusal, change-own-rows, change-own-refusal, query-own-rows, query-own-refusal, read-own-refusal, sheet-tensor-own-refusal}
 
 -- one row that does not apply
 not-the-first : (applies : Bool) (number : ℕ) → cond applies (suc number) 0 ≡ 0 → applies ≡ false
@@ -22,9 +23,6 @@ two-lengths kinds values none = exact-2 (length kinds) 2 (length values) 2 none
 
 pub eight-lengths : (kinds : List ℕ) (values : List Float) → eight-ends-refused kinds values ≡ false → (length kinds ≡ 8) × (length values ≡ 8)
 eight-lengths kinds values none = exact-2 (length kinds) 8 (length values) 8 none
-
-pub slot-lengths : (value : List Float) (labels : List ℕ) → query-slots-refused value labels ≡ false → (length value ≡ 1) × (length labels ≡ 4)
-slot-lengths value labels none = exact-2 (length value) 1 (length labels) 4 none
 
 module _ (n : ℕ) (knots samples : List Float) (kinds : List ℕ) (values moments : List Float) where
   pub moments-lengths : moments-own-refusal n knots samples kinds values moments ≡ 0 → (length kinds ≡ 2) × (length values ≡ 2)

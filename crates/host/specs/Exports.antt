@@ -6,7 +6,7 @@ use Prim.Native.Nat.{ℕ, _-_}
 use lib.ListN.{length}
 use lib.Ieee.{Float}
 use Rattle.rules.specs.Sizes.{most-axes, Grid, knots-length, samples-length, tensor-length, place-of}
-use Rattle.rules.specs.Refusals.{axes-refused, points-refused, some-points-refused, tensor-refused, length-refused}
+use Rattle.rules.specs.Refusals.{points-refused, length-refused}
 use Rattle.rules.specs.Moments.{moments}
 use Rattle.rules.specs.Tensor.{tensor}
 use Rattle.rules.specs.Change.{changed-tensor}
@@ -20,11 +20,8 @@ use Rattle.sheet.specs.declared.ReadAnswer.{ReadAnswer}
 use Rattle.sheet_build.specs.SheetTensor.{answer-of, reading-refusal, sheet-tensor-refusal}
 use Rattle.sheet_build.specs.declared.SheetAnswer.{SheetAnswer}
 use Rattle.kinds.specs.Kinds.{kinds-refused}
+use Rattle.exports.specs.Slots.{in-slot, sizes-given, axes-rows, query-slots-refused, QueryStored}
 use Rattle.plain_axes.specs.Axes.{two-ends, eight-ends, lower-kind, upper-kind, condition-given, some-kinds-refused, grid-given, grid-without-ends, points-found, kinds-found, values-found}
-
--- an answer in a slot of one, which is left as it was where it is another slice
-abbrev pub in-slot : {A : Type 0} → List A → A → List A
-in-slot lent answer = cond (length-refused (length lent) 1) lent (answer ∷ [])
 
 -- ---- the curve's moments
 
@@ -88,22 +85,6 @@ module _ (n : ℕ) (knots samples moments-in : List Float) (point : Float) (valu
 -- The knot slopes have no refusal of the host's own: their record is that of `rules`.
 
 -- ---- the calls with axes
-
--- the sizes that are given: ends play no part in them
-abbrev pub sizes-given : ℕ → List ℕ → Grid
-sizes-given axes points = grid-without-ends axes points []
-
--- what every one of them meets first
-abbrev pub axes-rows : ℕ → List ℕ → List Refusal
-axes-rows axes points =
-    row 1 (axes-refused (sizes-given axes points))
-    ∷ row 4 (length-refused (length points) most-axes)
-    ∷ row 2 (some-points-refused (sizes-given axes points))
-    ∷ row 3 (tensor-refused (sizes-given axes points))
-    ∷ []
-
-unfoldable pub axes-own-refusal : ℕ → List ℕ → ℕ
-axes-own-refusal axes points = lowest (axes-rows axes points) 0
 
 -- 4 for the kinds and the values of the ends of four axes
 abbrev pub eight-ends-refused : List ℕ → List Float → Bool
@@ -200,15 +181,6 @@ module _ (axes : ℕ) (points kinds : List ℕ) (values knots tensor-lent scratc
         (change-answer (grid-given axes points kinds values knots) tensor-lent scratch-lent (place-of place) sample .lanes))
 
 -- ---- the query
-
--- 4 for the slots of value and labels
-abbrev pub query-slots-refused : List Float → List ℕ → Bool
-query-slots-refused value labels = length-refused (length value) 1 || length-refused (length labels) most-axes
-
--- a value and labels in these slots, which are both left as they were where one is another slice
-pub record QueryStored (value-lent : List Float) (labels-lent : List ℕ) (value : Float) (labels : List ℕ) (value-later : List Float) (labels-later : List ℕ) : Type 0 where
-  pub slot : value-later ≡ cond (query-slots-refused value-lent labels-lent) value-lent (value ∷ [])
-  pub slots : labels-later ≡ cond (query-slots-refused value-lent labels-lent) labels-lent labels
 
 abbrev pub query-own-rows : ℕ → List ℕ → List Float → List ℕ → List Refusal
 query-own-rows axes points value labels = axes-rows axes points ++ (row 4 (query-slots-refused value labels) ∷ [])

@@ -1,9 +1,9 @@
 // Every public call exported for C, over numbers and plain slices. Each returns its refusal's number, 0 for none, in the one order that own.rt says.
 ghost use Rattle.rules.specs.Calls.{SlopesPromise};
 ghost use Rattle.host.specs.Exports.{MomentsExport, CurveExport, BuildExport, ChangeExport, QueryExport, ReadExport, SheetTensorExport};
+use exports::slots;
 
 pub mod own; // own.rt: the host's own refusals, before the call's
-pub mod slots; // slots.rt: the slots that answers go to
 
 // The moments of the curve through the samples, one for each point, under the two ends given. Refuses 2 4 5 7 8 9 10, and 4 and 13 of its own.
 #[no_mangle]

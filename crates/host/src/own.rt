@@ -1,8 +1,10 @@
 // The host's own refusals, in the one order of every export: with axes 1, 4 for the points, 2, 3, 4 for every other slice and slot, and 13 for the kinds; on one axis 2, 4 and 13. Each is 0 where none applies, and then the call's own follow.
 ghost use mathlib.Core.Path.{_≡_};
-ghost use Rattle.host.specs.Exports.{two-ends-refused, eight-ends-refused, place-or-lanes-refused, query-slots-refused, found-slots-refused, moments-own-refusal, curve-own-refusal, axes-own-refusal, build-own-refusal, change-own-refusal, query-own-refusal, read-own-refusal, sheet-tensor-own-refusal};
+ghost use Rattle.host.specs.Exports.{two-ends-refused, eight-ends-refused, place-or-lanes-refused, found-slots-refused, moments-own-refusal, curve-own-refusal, build-own-refusal, change-own-refusal, query-own-refusal, read-own-refusal, sheet-tensor-own-refusal};
 use checks::lengths;
 use checks::sizes;
+use exports::axes_own_refusal;
+use exports::slots::query_slots_refused;
 use kinds::ends::kinds_refused;
 use kinds::ends::wide;
 use plain_axes::axes_without_ends;
@@ -55,19 +57,6 @@ pub fn curve_own_refusal(points: usize, value: &[f64]) -> usize
         return 4;
     }
     0
-}
-
-// What every call with axes meets first: 1 for their number alone, 4 for points that are not four, 2, 3, or 0.
-fn axes_own_refusal(axes: usize, points: &[usize]) -> usize
-    ensures { λ r. ⌜ r ≡ axes-own-refusal axes (now (points .entry)) ⌝ }
-{
-    if sizes::axes_refused(axes) {
-        return 1;
-    }
-    if lengths::length_refused(points.len(), 4) {
-        return 4;
-    }
-    sizes::sizes_refusal(axes, axes_without_ends(axes, points))
 }
 
 // Whether kinds or values are not those of the eight ends of four axes.
@@ -150,16 +139,6 @@ pub fn change_own_refusal(
         return 13;
     }
     0
-}
-
-// Whether a slot of a query's answer is of another length.
-pub fn query_slots_refused(value: &[f64], labels: &[usize]) -> bool
-    ensures { λ r. ⌜ r ≡ query-slots-refused (now (value .entry)) (now (labels .entry)) ⌝ }
-{
-    if lengths::length_refused(value.len(), 1) {
-        return true;
-    }
-    lengths::length_refused(labels.len(), 4)
 }
 
 // Of a query: the slots of its answer.

@@ -5,7 +5,7 @@ use Rattle.checks.specs.Tables.{Refusal}
 use Rattle.checks.proofs.Rows.{first, second, stop, pass, Past}
 use Rattle.plain_axes.specs.Axes.{axes-without-ends}
 use Rattle.host.specs.Exports.{change-own-rows, change-own-refusal}
-use Rattle.host.proofs.Rows.{axes-stop, axes-pass, points-four, points-in-range}
+use Rattle.exports.proofs.Rows.{axes-stop, axes-pass, points-four, points-in-range}
 use Rattle.host.proofs.Lengths.{eight-lengths}
 use borrow.Author.Needs.{needs}
 use Rattle.host.proofs.own.change_own_refusal.Statement.{statement}

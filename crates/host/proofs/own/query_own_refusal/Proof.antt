@@ -1,7 +1,7 @@
 use mathlib.Core.Path.{refl}
 use Rattle.checks.proofs.Rows.{stop, pass}
 use Rattle.host.specs.Exports.{query-own-refusal}
-use Rattle.host.proofs.Rows.{axes-stop, axes-pass}
+use Rattle.exports.proofs.Rows.{axes-stop, axes-pass}
 use borrow.Author.Needs.{needs}
 use Rattle.host.proofs.own.query_own_refusal.Statement.{statement}
 use Rattle.host.proofs.own.query_own_refusal.Tie as tie

@@ -1,7 +1,7 @@
 use Rattle.checks.proofs.Rows.{first, second}
 use borrow.Author.Needs.{needs}
-use Rattle.host.proofs.own.query_slots_refused.Statement.{statement}
-use Rattle.host.proofs.own.query_slots_refused.Tie as tie
+use Rattle.exports.proofs.slots.query_slots_refused.Statement.{statement}
+use Rattle.exports.proofs.slots.query_slots_refused.Tie as tie
 
 returns : tie.Need-returns
 returns c = first _ (c .before .length-refused .ensures) (c .if1 .taken)

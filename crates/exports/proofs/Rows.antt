@@ -11,7 +11,7 @@ use Rattle.checks.specs.Check.{sizes-check}
 use Rattle.checks.specs.Tables.{lowest}
 use Rattle.checks.proofs.Rows.{none-applies, rows-stop, rows-pass, axes-few, in-range, exact}
 use Rattle.plain_axes.specs.Axes.{axes-without-ends}
-use Rattle.host.specs.Exports.{sizes-given, axes-rows, axes-own-refusal}
+use Rattle.exports.specs.Slots.{sizes-given, axes-rows, axes-own-refusal}
 
 module _ (axes : ℕ) (points : List ℕ) {number : ℕ} (e : number ≡ axes-own-refusal axes points) where
   pub axes-stop : (later : ℕ) → (number ≡ 0 → ⊥) → number ≡ lowest (axes-rows axes points) later

@@ -1,10 +1,10 @@
 use mathlib.Core.Path.{sym, _∙_}
 use native.Mathlib.Omega.{arith}
-use Rattle.host.proofs.Lengths.{slot-lengths}
+use Rattle.exports.proofs.Lengths.{slot-lengths}
 use Rattle.plain_axes.proofs.Slots.{one-stored}
 use borrow.Author.Needs.{needs}
-use Rattle.host.proofs.slots.store_query.Statement.{statement}
-use Rattle.host.proofs.slots.store_query.Tie as tie
+use Rattle.exports.proofs.slots.store_query.Statement.{statement}
+use Rattle.exports.proofs.slots.store_query.Tie as tie
 
 returns : tie.Need-returns
 returns c =

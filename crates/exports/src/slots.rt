@@ -1,8 +1,8 @@
 // The slots of an answer: written where all of them have their lengths, and else left as they were.
 ghost use mathlib.Core.Path.{_≡_};
 ghost use lib.ListN.{length};
-ghost use Rattle.host.specs.Exports.{in-slot, QueryStored};
-use crate::own;
+ghost use Rattle.exports.specs.Slots.{in-slot, query-slots-refused, QueryStored};
+use checks::lengths;
 
 // A value goes to its slot.
 pub fn store_value(slot: &mut [f64], value: f64)
@@ -35,11 +35,21 @@ fn store_labels(labels: &mut [usize], found: [usize; 4])
     labels[3] = found[3];
 }
 
+// Whether a slot of a query's answer is of another length.
+pub fn query_slots_refused(value: &[f64], labels: &[usize]) -> bool
+    ensures { λ r. ⌜ r ≡ query-slots-refused (now (value .entry)) (now (labels .entry)) ⌝ }
+{
+    if lengths::length_refused(value.len(), 1) {
+        return true;
+    }
+    lengths::length_refused(labels.len(), 4)
+}
+
 // The value and the labels of a query go to their slots.
 pub fn store_query(value: &mut [f64], labels: &mut [usize], number: f64, found: [usize; 4])
     ensures { λ _. ⌜ QueryStored (now (value .entry)) (now (labels .entry)) number found (now (value .exit)) (now (labels .exit)) ⌝ }
 {
-    if own::query_slots_refused(value, labels) {
+    if query_slots_refused(value, labels) {
         return;
     }
     value[0] = number;

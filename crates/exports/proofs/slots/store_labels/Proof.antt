@@ -1,8 +1,8 @@
 use mathlib.Core.Path.{_∙_}
 use Rattle.plain_axes.proofs.Slots.{four-stored, four-read}
 use borrow.Author.Needs.{needs}
-use Rattle.host.proofs.slots.store_labels.Statement.{statement}
-use Rattle.host.proofs.slots.store_labels.Tie as tie
+use Rattle.exports.proofs.slots.store_labels.Statement.{statement}
+use Rattle.exports.proofs.slots.store_labels.Tie as tie
 
 returns : tie.Need-returns
 returns c = four-stored (c .args .labels .now) _ _ _ _ (c .pre) ∙ four-read (c .args .t2) 0 (search needs)

@@ -1,10 +1,10 @@
 use mathlib.Core.Path.{sym, _∙_}
 use Rattle.checks.proofs.Rows.{stop, pass, exact}
-use Rattle.host.specs.Exports.{axes-own-refusal}
-use Rattle.host.proofs.Rows.{sizes-after-axes}
+use Rattle.exports.specs.Slots.{axes-own-refusal}
+use Rattle.exports.proofs.Rows.{sizes-after-axes}
 use borrow.Author.Needs.{needs}
-use Rattle.host.proofs.own.axes_own_refusal.Statement.{statement}
-use Rattle.host.proofs.own.axes_own_refusal.Tie as tie
+use Rattle.exports.proofs.axes_own_refusal.Statement.{statement}
+use Rattle.exports.proofs.axes_own_refusal.Tie as tie
 
 returns : tie.Need-returns
 unfolding axes-own-refusal

@@ -1,8 +1,8 @@
 use borrow.Author.Tests.{eq-eqb, ne-eqb}
 use Rattle.plain_axes.proofs.Slots.{one-stored}
 use borrow.Author.Needs.{needs}
-use Rattle.host.proofs.slots.store_value.Statement.{statement}
-use Rattle.host.proofs.slots.store_value.Tie as tie
+use Rattle.exports.proofs.slots.store_count.Statement.{statement}
+use Rattle.exports.proofs.slots.store_count.Tie as tie
 
 returns : tie.Need-returns
 returns c = simp (ne-eqb _ _ (c .if1 .taken))
@@ -10,8 +10,8 @@ returns c = simp (ne-eqb _ _ (c .if1 .taken))
 returns-2 : tie.Need-returns-2
 returns-2 c = rw (eq-eqb _ _ (c .if1 .left)) (one-stored (c .before .args .slot .now) _ (c .if1 .left))
 
-pub store-value-spec : {M : Type 1} → statement M
-store-value-spec =
+pub store-count-spec : {M : Type 1} → statement M
+store-count-spec =
     tie.close
     (tie.spec
     returns
