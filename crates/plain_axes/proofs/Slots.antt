@@ -1,4 +1,4 @@
--- Slices of one, of four and of eight numbers, stored to the last: what stands in them.
+-- Slices of one, of two, of four and of eight numbers, stored to the last: what stands in them.
 use mathlib.Core.Path.{_≡_, refl, ap}
 use mathlib.Core.List.{List, [], _∷_}
 use native.Mathlib.Omega.{arith}
@@ -9,6 +9,12 @@ module _ {A : Type 0} where
   one-stored [] a e = absurd (omega arith)
   one-stored (x ∷ []) a e = refl
   one-stored (x ∷ y ∷ l) a e = absurd (omega arith)
+
+  pub two-stored : (l : List A) (a b : A) → length l ≡ 2 → set (set l 0 a) 1 b ≡ a ∷ b ∷ []
+  two-stored [] a b e = absurd (omega arith)
+  two-stored (x ∷ []) a b e = absurd (omega arith)
+  two-stored (x ∷ y ∷ []) a b e = refl
+  two-stored (x ∷ y ∷ z ∷ l) a b e = absurd (omega arith)
 
   pub four-stored : (l : List A) (a b c d : A) → length l ≡ 4 → set (set (set (set l 0 a) 1 b) 2 c) 3 d ≡ a ∷ b ∷ c ∷ d ∷ []
   four-stored [] a b c d e = absurd (omega arith)

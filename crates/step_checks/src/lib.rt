@@ -69,7 +69,7 @@ pub fn exact_refusal(points: usize, knots: &[f64], lower: usize, point: f64) -> 
 }
 
 // Whether knots, samples or coordinates are not as long as a stepped surface asks for. Not public: what refusals 1 and 2 leave is required.
-fn stepped_lengths_refused(
+pub fn stepped_lengths_refused(
     axes: usize,
     all: [Axis; 4],
     knots: usize,
