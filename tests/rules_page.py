@@ -9,10 +9,10 @@ import sys
 from pathlib import Path
 
 ROOT = Path(__file__).resolve().parent.parent
-CRATES = ["rules", "grid", "checks", "bits", "kinds", "sheet", "sheet_build", "text", "plain_axes", "host"]
+CRATES = ["rules", "grid", "checks", "step", "stepped", "bits", "kinds", "sheet", "sheet_build", "text", "plain_axes", "exports", "host", "step_exports"]
 
 # Files that say what functions need from each other and no promise of a public call, and chapters about no file.
-NOT_RULES = {"checks/Given", "checks/Check", "bits/Within", "sheet/Within", "text/Answers"}
+NOT_RULES = {"checks/Given", "checks/Check", "step/Within", "stepped/Indices", "bits/Within", "sheet/Within", "text/Answers"}
 PROSE = {"Surface", "Program"}
 
 MODULE = re.compile(r"pub mod (\w+)")
