@@ -5,7 +5,9 @@ mod strategy;
 
 pub use ndarray::{ArrayD, ArrayView1, ArrayViewD, IxDyn};
 pub use strategy::cubic::{CubicC2BoundaryConditions, CubicC2Endpoint};
-pub use strategy::grid::locate_lower_index;
+pub use strategy::grid::{
+    exact_index, locate_axis, locate_lower_index, locate_step_index, AxisLocation,
+};
 pub use strategy::{Broadcastable, InterpolateError, StepDirection, ValidateError};
 
 use strategy::cubic;
