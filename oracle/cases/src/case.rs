@@ -13,6 +13,10 @@ pub enum Call {
     Query,
     Read,
     SheetTensor,
+    ExactIndex,
+    LocateAxis,
+    LocateStepIndex,
+    Stepped,
 }
 
 impl Call {
@@ -47,6 +51,19 @@ impl Call {
                 "bytes", "knots", "samples", "axes", "points", "kinds", "values", "tensor",
                 "scratch", "length",
             ],
+            Call::ExactIndex => &["points", "knots", "lower", "point", "found"],
+            Call::LocateAxis => &["points", "knots", "point", "location", "fraction"],
+            Call::LocateStepIndex => &["points", "knots", "direction", "point", "index"],
+            Call::Stepped => &[
+                "axes",
+                "points",
+                "directions",
+                "knots",
+                "samples",
+                "coordinates",
+                "value",
+                "indices",
+            ],
         }
     }
 
@@ -64,6 +81,10 @@ impl Call {
                 "knots", "samples", "axes", "points", "kinds", "values", "tensor", "scratch",
                 "length",
             ],
+            Call::ExactIndex => &["found"],
+            Call::LocateAxis => &["location", "fraction"],
+            Call::LocateStepIndex => &["index"],
+            Call::Stepped => &["value", "indices"],
         }
     }
 

@@ -26,10 +26,14 @@ pub enum Kind {
     SheetTensor,
     ShortSheet,
     EitherOrder,
+    ExactIndex,
+    LocateAxis,
+    LocateStepIndex,
+    Stepped,
 }
 
 /// Every kind, in the order of the report.
-pub const KINDS: [Kind; 12] = [
+pub const KINDS: [Kind; 16] = [
     Kind::Example,
     Kind::Moments,
     Kind::Curve,
@@ -42,6 +46,10 @@ pub const KINDS: [Kind; 12] = [
     Kind::SheetTensor,
     Kind::ShortSheet,
     Kind::EitherOrder,
+    Kind::ExactIndex,
+    Kind::LocateAxis,
+    Kind::LocateStepIndex,
+    Kind::Stepped,
 ];
 
 impl Kind {
@@ -60,6 +68,10 @@ impl Kind {
             Kind::SheetTensor => "sheet_tensor",
             Kind::ShortSheet => "short_sheet",
             Kind::EitherOrder => "either_order",
+            Kind::ExactIndex => "exact_index",
+            Kind::LocateAxis => "locate_axis",
+            Kind::LocateStepIndex => "locate_step_index",
+            Kind::Stepped => "stepped",
         }
     }
 
@@ -94,6 +106,10 @@ pub fn single(kind: Kind, number: usize, random: &mut Random) -> Case {
         Kind::Query => query(random),
         Kind::Read => read(random, number),
         Kind::SheetTensor => sheet_tensor(random, number),
+        Kind::ExactIndex => exact_index(random),
+        Kind::LocateAxis => locate_axis(random),
+        Kind::LocateStepIndex => locate_step_index(random),
+        Kind::Stepped => stepped(random),
         Kind::Example | Kind::ChangeList | Kind::ShortSheet | Kind::EitherOrder => {
             panic!("more than one call: {}", kind.name())
         }
@@ -152,6 +168,45 @@ fn query(random: &mut Random) -> Case {
     let tensor = tensor(random, &grid);
     let coordinates = grid.coordinates(random);
     let case = lending::query(random, &grid, &tensor, &coordinates);
+    altered_at_times(random, case)
+}
+
+/// Two neighbouring knots and a point, which is often one of them.
+fn exact_index(random: &mut Random) -> Case {
+    let line = Grid::line(random);
+    let lower = random.below(line.points[0] - 1);
+    let elsewhere = line.coordinates(random)[0];
+    let point = random.pick(&[line.knots[lower], line.knots[lower + 1], elsewhere]);
+    let case = lending::exact_index(&line.knots, lower, point);
+    altered_at_times(random, case)
+}
+
+/// Where a generated point lies.
+fn locate_axis(random: &mut Random) -> Case {
+    let line = Grid::line(random);
+    let point = line.coordinates(random)[0];
+    let case = lending::locate_axis(random, &line.knots, point);
+    altered_at_times(random, case)
+}
+
+/// The knot that a generated point steps to.
+fn locate_step_index(random: &mut Random) -> Case {
+    let line = Grid::line(random);
+    let point = line.coordinates(random)[0];
+    let case = lending::locate_step_index(&line.knots, random.below(2), point);
+    altered_at_times(random, case)
+}
+
+/// The sample that generated coordinates step to. What stands past the axes in use is not read.
+fn stepped(random: &mut Random) -> Case {
+    let grid = Grid::generate(random);
+    let mut directions = [2, 255, 3, 4];
+    for direction in &mut directions[..grid.axes] {
+        *direction = random.below(2) as u8;
+    }
+    let samples = list(random, grid.samples());
+    let coordinates = grid.coordinates(random);
+    let case = lending::stepped(random, &grid, directions, &samples, &coordinates);
     altered_at_times(random, case)
 }
 

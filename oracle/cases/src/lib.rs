@@ -23,5 +23,5 @@ pub use generator::{Kind, KINDS};
 pub use lent::Lent;
 pub use list::{list, CALLS};
 pub use reading_calls::Reading;
-pub use report::{Counts, Report};
+pub use report::{Counts, Report, NUMBERS};
 pub use sheet::SHORT_SHEETS;

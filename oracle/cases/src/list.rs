@@ -21,9 +21,10 @@ use crate::examples::examples;
 use crate::generator::{single, Kind, KINDS};
 use crate::random::Random;
 use crate::reading_calls::Reading;
+use crate::report::NUMBERS;
 
 /// The calls in the order of their numbers.
-pub const CALLS: [Call; 8] = [
+pub const CALLS: [Call; 12] = [
     Call::Moments,
     Call::Curve,
     Call::Slopes,
@@ -32,13 +33,17 @@ pub const CALLS: [Call; 8] = [
     Call::Query,
     Call::Read,
     Call::SheetTensor,
+    Call::ExactIndex,
+    Call::LocateAxis,
+    Call::LocateStepIndex,
+    Call::Stepped,
 ];
 
 /// The seed of the list; another one makes another list.
 const SEED: u64 = 1;
 
 /// How many accepted cases of each call the list has.
-const ACCEPTED: usize = 60;
+const ACCEPTED: usize = 40;
 
 /// How many cases of each refusal of each call.
 const REFUSED: usize = 3;
@@ -64,7 +69,7 @@ pub fn list() -> Vec<u64> {
 /// Cases of a kind, with enough of every refusal. They are taken from the last on:
 /// the first sheets that are read are all one sheet with its damages.
 fn chosen(kind: Kind) -> Vec<Vec<u64>> {
-    let mut wanted = [REFUSED; 15];
+    let mut wanted = [REFUSED; NUMBERS];
     wanted[0] = ACCEPTED;
     let mut chosen = Vec::new();
     for number in (0..LOOKED_AT).rev() {

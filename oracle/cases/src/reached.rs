@@ -10,7 +10,7 @@ struct Edge {
 }
 
 /// How many edges there are.
-const COUNT: usize = 12;
+const COUNT: usize = 17;
 
 const EDGES: [Edge; COUNT] = [
     Edge {
@@ -61,6 +61,26 @@ const EDGES: [Edge; COUNT] = [
         name: "kinds that are refused beside knots of another length",
         is_reached: |case, refusal| refusal == 4 && no_kinds_beside_a_length_off(case),
     },
+    Edge {
+        name: "a step upward from below all knots",
+        is_reached: |case, refusal| refusal == 0 && a_step(case, 1, |knots, p| p < knots[0]),
+    },
+    Edge {
+        name: "a step upward from the first knot",
+        is_reached: |case, refusal| refusal == 0 && a_step(case, 1, |knots, p| p == knots[0]),
+    },
+    Edge {
+        name: "a step downward from above all knots",
+        is_reached: |case, refusal| refusal == 0 && a_step(case, 0, |knots, p| p > last(knots)),
+    },
+    Edge {
+        name: "a step downward from the last knot",
+        is_reached: |case, refusal| refusal == 0 && a_step(case, 0, |knots, p| p == last(knots)),
+    },
+    Edge {
+        name: "a direction that is none beside a slice of another length",
+        is_reached: |case, refusal| refusal == 4 && no_direction(case),
+    },
 ];
 
 /// How many cases have reached each edge.
@@ -88,7 +108,7 @@ impl Reached {
 }
 
 /// The slices of a fixed length in a call with axes.
-const FIXED: [(&str, usize); 7] = [
+const FIXED: [(&str, usize); 9] = [
     ("points", 4),
     ("kinds", 8),
     ("values", 8),
@@ -96,6 +116,8 @@ const FIXED: [(&str, usize); 7] = [
     ("value", 1),
     ("labels", 4),
     ("lanes", 1),
+    ("directions", 4),
+    ("indices", 4),
 ];
 
 fn a_fixed_length_off(case: &Case) -> bool {
@@ -140,8 +162,10 @@ fn knots_by_axis(case: &Case) -> Vec<&[f64]> {
 
 fn coordinates(case: &Case) -> Vec<f64> {
     match case.call {
-        Call::Curve => vec![case.argument("point").float()],
-        Call::Query => case.argument("coordinates").floats().to_vec(),
+        Call::Curve | Call::LocateAxis | Call::LocateStepIndex => {
+            vec![case.argument("point").float()]
+        }
+        Call::Query | Call::Stepped => case.argument("coordinates").floats().to_vec(),
         _ => Vec::new(),
     }
 }
@@ -203,4 +227,33 @@ fn a_step_past_the_edge(case: &Case) -> bool {
 
 fn a_long_tensor(case: &Case) -> bool {
     case.has("tensor") && case.argument("tensor").length() > 3900
+}
+
+/// Whether a point steps in a direction on some axis, and lies so among the knots there.
+fn a_step(case: &Case, direction: u8, lies: fn(&[f64], f64) -> bool) -> bool {
+    let directions = match case.call {
+        Call::LocateStepIndex => vec![case.argument("direction").number() as u8],
+        Call::Stepped => case.argument("directions").bytes().to_vec(),
+        _ => return false,
+    };
+    let coordinates = coordinates(case).into_iter().zip(directions);
+    let mut axes = knots_by_axis(case).into_iter().zip(coordinates);
+    axes.any(|(knots, (point, given))| given == direction && lies(knots, point))
+}
+
+fn last(knots: &[f64]) -> f64 {
+    knots[knots.len() - 1]
+}
+
+/// Whether a case of steps has a number that is no direction.
+fn no_direction(case: &Case) -> bool {
+    match case.call {
+        Call::LocateStepIndex => case.argument("direction").number() > 1,
+        Call::Stepped => {
+            let axes = case.argument("axes").number();
+            let directions = case.argument("directions").bytes();
+            directions.iter().take(axes).any(|number| *number > 1)
+        }
+        _ => false,
+    }
 }

@@ -12,6 +12,9 @@ impl Calls for Reading {
             Call::Moments | Call::Curve | Call::Slopes => on_a_line(case.call, arguments),
             Call::Build | Call::Change | Call::Query => on_a_grid(case.call, arguments),
             Call::Read | Call::SheetTensor => on_a_sheet(case.call, arguments),
+            Call::ExactIndex | Call::LocateAxis | Call::LocateStepIndex | Call::Stepped => {
+                by_steps(case.call, arguments)
+            }
         };
         Some(refusal)
     }
@@ -79,6 +82,34 @@ fn on_a_sheet(call: Call, arguments: &mut [Argument]) -> usize {
             bytes.bytes(), knots.floats_mut(), samples.floats_mut(), axes.numbers_mut(),
             points.numbers_mut(), kinds.bytes_mut(), values.floats_mut(), tensor.floats_mut(),
             scratch.floats_mut(), length.numbers_mut(),
+        ),
+        _ => panic!("a case has the arguments of its call"),
+    }
+}
+
+#[rustfmt::skip]
+fn by_steps(call: Call, arguments: &mut [Argument]) -> usize {
+    match (call, arguments) {
+        (Call::ExactIndex, [points, knots, lower, point, found]) => reading::exact_index(
+            points.number(), knots.floats(), lower.number(), point.float(),
+            found.numbers_mut(),
+        ),
+        (Call::LocateAxis, [points, knots, point, location, fraction]) => reading::locate_axis(
+            points.number(), knots.floats(), point.float(), location.numbers_mut(),
+            fraction.floats_mut(),
+        ),
+        (Call::LocateStepIndex, [points, knots, direction, point, index]) => {
+            reading::locate_step_index(
+                points.number(), knots.floats(), direction.number() as u8, point.float(),
+                index.numbers_mut(),
+            )
+        }
+        (
+            Call::Stepped,
+            [axes, points, directions, knots, samples, coordinates, value, indices],
+        ) => reading::stepped(
+            axes.number(), points.numbers(), directions.bytes(), knots.floats(),
+            samples.floats(), coordinates.floats(), value.floats_mut(), indices.numbers_mut(),
         ),
         _ => panic!("a case has the arguments of its call"),
     }

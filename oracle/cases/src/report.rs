@@ -14,6 +14,9 @@ const PRINTED: u64 = 2;
 /// has no rows to solve, and of two, the fewest that have.
 pub const PERIODIC_POINTS: [usize; 2] = [2, 3];
 
+/// One more than the greatest refusal.
+pub const NUMBERS: usize = 23;
+
 /// What was seen of one kind of case.
 #[derive(Debug, Clone, Default)]
 pub struct Counts {
@@ -22,7 +25,7 @@ pub struct Counts {
     /// Calls whose answer was compared.
     pub compared: u64,
     /// How often each refusal was given; number 0 is acceptance.
-    pub refusals: [u64; 15],
+    pub refusals: [u64; NUMBERS],
     /// Periodic axes of accepted calls, by their points.
     pub periodic: [u64; PERIODIC_POINTS.len()],
     /// Compared calls that were not the same.

@@ -1,6 +1,6 @@
 //! The generated cases reach every refusal, and most are accepted.
 
-use cases::{compare_all, Calls, Case, Kind, Plan, Reading, KINDS, SHORT_SHEETS};
+use cases::{compare_all, Calls, Case, Kind, Plan, Reading, KINDS, NUMBERS, SHORT_SHEETS};
 
 /// Answers no call: the generator alone runs.
 struct Nobody;
@@ -14,7 +14,7 @@ impl Calls for Nobody {
 /// The refusals that the calls of a kind have.
 fn refusals(kind: Kind) -> &'static [usize] {
     match kind {
-        Kind::Example => &[1, 3, 7, 8, 9, 10, 11],
+        Kind::Example => &[1, 3, 6, 7, 8, 9, 10, 11],
         Kind::Moments => &[2, 4, 5, 7, 8, 9, 10, 13],
         Kind::Curve | Kind::Slopes => &[2, 4, 7, 8, 10],
         Kind::Build => &[1, 2, 3, 4, 5, 7, 8, 9, 10, 13],
@@ -23,6 +23,10 @@ fn refusals(kind: Kind) -> &'static [usize] {
         Kind::Read => &[1, 2, 3, 4, 11, 12, 13, 14],
         Kind::SheetTensor => &[1, 2, 3, 4, 5, 7, 8, 9, 10, 11, 12, 13, 14],
         Kind::ShortSheet => &[1, 11, 12],
+        Kind::ExactIndex => &[2, 4, 6, 7, 8],
+        Kind::LocateAxis => &[2, 4, 7, 8, 10],
+        Kind::LocateStepIndex => &[2, 4, 7, 8, 22],
+        Kind::Stepped => &[1, 2, 3, 4, 7, 8, 22],
     }
 }
 
@@ -73,7 +77,7 @@ fn periodic_axes_of_one_interval_and_of_two_are_among_them() {
 fn every_sheet_of_up_to_two_bytes_is_there() {
     let plan = Plan::of_kind(5, Kind::ShortSheet, SHORT_SHEETS);
     let seen = compare_all(&Nobody, &plan).total().refusals;
-    let mut expected = [0; 15];
+    let mut expected = [0; NUMBERS];
     expected[1] = 2 * (8 + 2048);
     expected[2] = 2 * (4 * 2);
     expected[11] = 2 * (1 + 8 + 2048 - 4 * 2);
