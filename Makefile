@@ -10,7 +10,8 @@ test:
 
 # How many cases of each kind are compared with the Rust; of a kind that is not named here there are 10,000.
 CASES = --moments 60000 --curve 60000 --slopes 60000 --build 50000 --change 50000 \
-    --change_list 20000 --either_order 60000 --query 400000 --read 60000 --sheet_tensor 60000 --short_sheet 65793
+    --change_list 20000 --either_order 60000 --query 400000 --read 60000 --sheet_tensor 60000 --short_sheet 65793 \
+    --exact_index 60000 --locate_axis 60000 --locate_step_index 100000 --stepped 100000
 SEED = 20240917
 
 # Holds the exported calls against the Rust, bit for bit; fails where there is a difference, or nothing was compared of a kind.

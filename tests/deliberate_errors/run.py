@@ -30,6 +30,7 @@ ERRORS = [
     "locate/cell_k_at_interior_knot_k",
     "query/reciprocal_of_the_width",
     "query/label_of_the_next_cell",
+    "step/upward_corner_mended",
 ]
 
 # What `rt try` says of a compiled run that wrote the counts where nothing is expected.

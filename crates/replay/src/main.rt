@@ -11,6 +11,10 @@ use replay_items::words::held;
 use replay_items::words::word;
 use replay_sheets::read;
 use replay_sheets::sheet_tensor;
+use replay_steps::exact_index;
+use replay_steps::locate_axis;
+use replay_steps::locate_step_index;
+use replay_steps::stepped;
 use replay_surfaces::build;
 use replay_surfaces::change;
 use replay_surfaces::query;
@@ -27,6 +31,10 @@ fn case_at(list: &[u8], place: usize) -> Replayed {
         5 => query(list, begin),
         6 => read(list, begin),
         7 => sheet_tensor(list, begin),
+        8 => exact_index(list, begin),
+        9 => locate_axis(list, begin),
+        10 => locate_step_index(list, begin),
+        11 => stepped(list, begin),
         _ => Replayed {
             same: false,
             next: begin,

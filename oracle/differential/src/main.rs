@@ -19,7 +19,8 @@ const USAGE: &str = "differential [--seed N] [--cases N] [--KIND N]...
   --seed N   the seed of the generated cases
   --cases N  about how many calls of each kind
   --KIND N   how many cases of one kind: moments, curve, slopes, build, change,
-             change_list, query, read, sheet_tensor, short_sheet, either_order;
+             change_list, query, read, sheet_tensor, short_sheet, either_order,
+             exact_index, locate_axis, locate_step_index, stepped;
              or how often the worked examples are run: example
 Fails where there is a difference, or nothing was compared of a kind whose number is not 0.";
 
