@@ -1,18 +1,17 @@
 -- Each export refuses as the host's own refusal says, or answers as `rules` promises for what was given.
-use mathlib.Core.Path.{_≡_, refl, sym, ap, _∙_}
+use mathlib.Core.Path.{_≡_, sym, ap, _∙_}
 use mathlib.Core.List.{List, [], _∷_}
-use Prim.Native.Nat.{ℕ, zero, suc}
+use Prim.Native.Nat.{ℕ}
 use lib.ListN.{set}
 use lib.Ieee.{Float}
 use Rattle.rules.specs.Numbers.{plus-zero, table}
 use Rattle.rules.specs.Sizes.{most-axes, place-of}
-use Rattle.rules.specs.Calls.{or-else, stored, answered, counted, labelled, MomentsPromise, CurvePromise, BuildPromise, change-answer, ChangePromise, query-answer, QueryPromise}
+use Rattle.rules.specs.Calls.{MomentsPromise, CurvePromise, BuildPromise, change-answer, ChangePromise, query-answer, QueryPromise}
 use Rattle.rules.specs.declared.Condition.{Condition}
 use Rattle.rules.specs.declared.CurveAnswer.{CurveAnswer}
 use Rattle.rules.specs.declared.ChangeAnswer.{ChangeAnswer}
 use Rattle.rules.specs.declared.QueryAnswer.{QueryAnswer}
 use Rattle.rules.specs.declared.Axis.{Axis}
-use Rattle.rules.proofs.Refused.{or-else-met, unchanged}
 use Rattle.sheet.specs.Fields.{sheet-grid}
 use Rattle.sheet.specs.Read.{ReadPromise}
 use Rattle.sheet.specs.declared.ReadAnswer.{ReadAnswer}

@@ -5,7 +5,7 @@ use mathlib.Core.List.{List, [], _∷_, _++_}
 use Prim.Native.Nat.{ℕ, _-_}
 use lib.ListN.{length}
 use lib.Ieee.{Float}
-use Rattle.rules.specs.Sizes.{most-axes, Grid, knots-length, samples-length, tensor-length, place-of}
+use Rattle.rules.specs.Sizes.{most-axes, knots-length, samples-length, tensor-length, place-of}
 use Rattle.rules.specs.Refusals.{points-refused, length-refused}
 use Rattle.rules.specs.Moments.{moments}
 use Rattle.rules.specs.Tensor.{tensor}

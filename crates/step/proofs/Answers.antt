@@ -21,7 +21,7 @@ use Rattle.rules.specs.declared.StepAnswer.{StepAnswer}
 use Rattle.rules.proofs.Refused.{or-else-passed}
 use Rattle.checks.proofs.ThenOutcome.{ThenOutcome, then-outcome, refused, outcome-bad, outcome-good}
 use Rattle.step_checks.specs.Check.{exact-check, point-rows, point-check}
-use Rattle.step_checks.specs.Given.{PointGiven, ExactGiven}
+use Rattle.step_checks.specs.Given.{PointGiven}
 use Rattle.step_checks.proofs.Accepted.{exact-given, point-given}
 use Rattle.step.specs.Within.{AxisLocated, Stepped}
 

@@ -2,26 +2,24 @@
 use mathlib.Core.Path.{_≡_, refl, sym, ap, _∙_}
 use mathlib.Core.Bool.{Bool, true, false, not, cond, _&&_}
 use mathlib.Core.List.{List}
-use Prim.Native.Nat.{ℕ, suc, _+_, _-_, min, _<_, _≤_}
+use Prim.Native.Nat.{ℕ, _+_, _-_, _<_, _≤_}
 use native.Mathlib.Omega.{arith}
 use lib.Dec.{T, ltb, leb}
-use lib.ListN.{length}
 use borrow.Author.Tests.{ltb-true, ltb-false, leb-true, leb-false, lt-ltb, le-ltb, le-leb, lt-leb, not-false}
-use lib.Ieee.{Float, binary64, fits, lt, le, eq}
+use lib.Ieee.{Float, binary64, fits, lt, eq}
 use Rattle.rules.specs.Numbers.{at}
 use Rattle.rules.specs.Steps.{h}
 use Rattle.rules.specs.Query.{fraction}
-use Rattle.rules.specs.Step.{exact-index, location, locate-axis, lower-step, upper-step, step-index}
+use Rattle.rules.specs.Step.{exact-index, location, locate-axis, lower-step, upper-step}
 use Rattle.rules.specs.StepCalls.{step-refusal, step-answer, axis-refusal, axis-answer}
 use Rattle.rules.specs.declared.StepDirection.the-variants.{Lower, Upper}
 use Rattle.rules.specs.declared.ExactIndex.the-variants.{Found, NotFound}
-use Rattle.rules.specs.declared.AxisLocation.the-variants.{Exact, Between}
 use Rattle.rules.proofs.Cases.{not-both}
 use Rattle.floats.specs.Place.{Real, AllFit}
 use Rattle.locate.specs.Answers.{Rising}
 use Rattle.step_checks.specs.Check.{point-check}
 use Rattle.step_checks.proofs.Accepted.{point-given}
-use Rattle.step.specs.Meaning.{not-below-all, not-above-all, Downward, Upward, OnKnot, BetweenKnots, Says}
+use Rattle.step.specs.Meaning.{not-below-all, not-above-all, Downward, Upward, BetweenKnots, Says}
 use Rattle.step.proofs.Answers.{step-check, axis-checked}
 use Rattle.step.proofs.Positions.{above, below, close, cell, cell-is, at-or-above, at-or-below, before, after, knot-is-point, lower-step-inside, lower-step-above, upper-step-inside, upper-step-below}
 

@@ -1,16 +1,15 @@
 -- A check of steps that gives no number: what is then known of all that the call was given.
 use mathlib.Core.Path.{_≡_, refl, sym, ap, _∙_}
-use mathlib.Core.Bool.{Bool, false, not, _||_}
+use mathlib.Core.Bool.{false, _||_}
 use mathlib.Core.List.{List}
 use Prim.Native.Nat.{ℕ, _-_, _<_}
 use native.Mathlib.Omega.{arith}
-use lib.Dec.{ltb}
 use lib.ListN.{length}
 use lib.Ieee.{Float}
 use lib.Ieee.Scale.{finite}
 use borrow.Author.Tests.{ltb-false, not-false}
 use Rattle.rules.specs.Numbers.{at}
-use Rattle.rules.specs.Sizes.{most-in-a-tensor, Grid, points, knots-length, knots, samples-length, tensor-length}
+use Rattle.rules.specs.Sizes.{Grid, points, knots-length, knots, samples-length, tensor-length}
 use Rattle.rules.specs.Refusals.{points-refused, number-refused, some-number-refused, knots-refused}
 use Rattle.base.proofs.Scan.{neither, any-at}
 use Rattle.checks.specs.Given.{GridGiven}

@@ -11,7 +11,7 @@ use lib.Pow.{pow-pos}
 use lib.Ieee.{Float}
 use borrow.Author.Tests.{ltb-true, ltb-false}
 use Rattle.rules.specs.Numbers.{plus-zero, at, table}
-use Rattle.rules.specs.Sizes.{most-axes, Grid, points, knots, product-below, Place, place-of, flat}
+use Rattle.rules.specs.Sizes.{most-axes, Grid, points, knots, product-below, place-of, flat}
 use Rattle.rules.specs.Step.{step-index, stepped-place, stepped}
 use Rattle.rules.specs.Calls.{answered, labelled}
 use Rattle.rules.specs.StepCalls.{direction, stepped-refusal, step-indices, stepped-answer, SteppedPromise}

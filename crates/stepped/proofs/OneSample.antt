@@ -1,15 +1,12 @@
 -- Changing one sample changes no answer but those that step to its place.
 use mathlib.Core.Path.{_≡_, refl, sym, ap, _∙_}
-use mathlib.Core.Bool.{Bool, true, false, cond, _||_}
+use mathlib.Core.Bool.{Bool, true, false, cond}
 use mathlib.Core.List.{List}
 use Prim.Native.Nat.{ℕ, zero, suc, _+_, _-_, _<_, _≤_}
 use native.Mathlib.Omega.{arith}
-use lib.Dec.{ltb}
-use lib.ListN.{length}
 use lib.Ieee.{Float, lt, le, eq}
 use Rattle.rules.specs.Numbers.{at}
-use Rattle.rules.specs.Sizes.{Grid, points, knots, samples-length, Place, flat}
-use Rattle.rules.specs.Refusals.{some-number-refused}
+use Rattle.rules.specs.Sizes.{Grid, points, knots, Place, flat}
 use Rattle.rules.specs.Locate.{first-at-or-above, locate}
 use Rattle.rules.specs.Step.{lower-step, upper-step, step-index, stepped-place, stepped}
 use Rattle.rules.specs.Calls.{answered, labelled}
@@ -19,7 +16,6 @@ use Rattle.rules.specs.declared.StepDirection.the-variants.{Lower, Upper}
 use Rattle.rules.specs.declared.SteppedAnswer.{SteppedAnswer}
 use Rattle.rules.proofs.Places.{flat-below, flat-one}
 use Rattle.grid.specs.Given.{InRange, On}
-use Rattle.step_checks.specs.Check.{stepped-check}
 use Rattle.step_checks.proofs.Accepted.{stepped-given}
 use Rattle.stepped.specs.OneSample.{AllButOne, OneSample}
 use Rattle.stepped.proofs.Answers.{stepped-checked}

@@ -5,7 +5,7 @@ use Prim.Native.Nat.{ℕ, _-_, _<_, _≤_}
 use lib.ListN.{length}
 use lib.Ieee.{Float}
 use Rattle.rules.specs.Numbers.{at}
-use Rattle.rules.specs.Sizes.{most-axes, Grid, points, knots, Place, place-of}
+use Rattle.rules.specs.Sizes.{most-axes, Grid, points, knots, place-of}
 use Rattle.rules.specs.Step.{step-index}
 use Rattle.rules.specs.StepCalls.{direction}
 use Rattle.rules.specs.declared.StepDirection.{StepDirection}

@@ -1,5 +1,4 @@
 // The stepped surface: a point steps to a knot on each axis, and the sample there is the answer.
-ghost use mathlib.Core.Path.{_≡_};
 ghost use Rattle.rules.specs.StepCalls.{SteppedPromise};
 ghost use Rattle.grid.specs.Given.{grid};
 ghost use Rattle.step_checks.specs.Given.{AxesGiven};

@@ -1,4 +1,4 @@
-use mathlib.Core.Path.{_≡_, sym, _∙_}
+use mathlib.Core.Path.{sym, _∙_}
 use Rattle.checks.proofs.Rows.{exact}
 use borrow.Author.Needs.{needs}
 use Rattle.step_exports.proofs.slots.store_exact.Statement.{statement}

@@ -1,4 +1,4 @@
-use mathlib.Core.Path.{_≡_, sym, _∙_}
+use mathlib.Core.Path.{sym, _∙_}
 use native.Mathlib.Omega.{arith}
 use Rattle.plain_axes.proofs.Slots.{one-stored}
 use Rattle.step_exports.proofs.Lengths.{location-lengths}
