@@ -24,7 +24,8 @@ bit-length bytes i b = length-set bytes (i / 8) _
 bit-written : (bytes : List ℕ) (i b : ℕ) → i < 8 * length bytes → b < 2 → bit (with-bit bytes i b) i ≡ b
 unfolding with-bit bit
 bit-written bytes i b h hb =
-    rw (getD-set-same bytes (i / 8) (patch (getD bytes (i / 8) 0) (7 - i % 8) 1 b) 0 (omega arith)) (bit-here (getD bytes (i / 8) 0) (7 - i % 8) b hb)
+    ap (λ (byte : ℕ). byte / 2 ^ (7 - i % 8) % 2) (getD-set-same bytes (i / 8) (patch (getD bytes (i / 8) 0) (7 - i % 8) 1 b) 0 (omega arith))
+    ∙ bit-here (getD bytes (i / 8) 0) (7 - i % 8) b hb
 
 bit-stays : (bytes : List ℕ) (i j b : ℕ) → i < 8 * length bytes → b < 2 → (j ≡ i → ⊥) → bit (with-bit bytes i b) j ≡ bit bytes j
 unfolding with-bit bit

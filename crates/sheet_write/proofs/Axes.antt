@@ -12,11 +12,11 @@ use lib.ListN.{length, getD, take, drop}
 use lib.Seq.{take-add, take-at, drop-at}
 use lib.Ieee.{Float, binary64, fits, isNan}
 use Rattle.rules.specs.Numbers.{table}
-use Rattle.rules.specs.Sizes.{most-axes, unused-axis, Grid, points, condition, sum-below, knots, tensor-length}
+use Rattle.rules.specs.Sizes.{most-axes, unused-axis, Grid, points, condition, sum-below, knots}
 use Rattle.rules.specs.Calls.{or-else}
 use Rattle.rules.specs.declared.Axis.{Axis}
 use Rattle.rules.proofs.Tables.{table-ext}
-use Rattle.checks.proofs.Accepted.{knots-of-axis}
+use Rattle.grid.proofs.Knots.{knots-of-axis}
 use Rattle.bits.specs.Written.{bits-in}
 use Rattle.bits.proofs.Rows.{Stand, stand-first, stand-second, stand-append}
 use Rattle.bits.proofs.Numbers.{Held, NoNan, each-take, each-drop}
@@ -100,7 +100,7 @@ module _ (g : Grid) (samples : List Float) (k : Known g samples) (held : PartsHe
   found-at i l =
       axis-found bytes (begin i) (entry g i) (knots g i)
       (let two = k .grid-given .in-range .some-points i l in omega arith)
-      (knots-of-axis g (tensor-length g) (k .grid-given) i l)
+      (knots-of-axis g (k .grid-given .knots-exact) i l)
       (held .ends-held i l)
       (each-take _ (points g i) (drop (sum-below (points g) i) (g .flat-knots)) (each-drop _ (sum-below (points g) i) (g .flat-knots) (held .knots-held)))
       (here-stands i l)
@@ -122,7 +122,7 @@ module _ (g : Grid) (samples : List Float) (k : Known g samples) (held : PartsHe
       let here = begin-is i (omega arith) in
       fault-next bytes i (no-fault room i (omega arith))
       (found-faultless bytes (axis-begin bytes i) (entry g i) (knots g i) (found i l) (range .some-points i l) (range .few-points i l)
-      (knots-of-axis g (tensor-length g) (k .grid-given) i l) (omega arith))
+      (knots-of-axis g (k .grid-given .knots-exact) i l) (omega arith))
 
   pub entries-found : entries bytes (g .axes) ≡ in-use g
   unfolding entries

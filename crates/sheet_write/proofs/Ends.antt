@@ -31,27 +31,6 @@ end-bits NotAKnot = refl
 end-bits (FirstDerivative value) = refl
 end-bits (SecondDerivative value) = refl
 
-no-bits : bits-in [] ≡ 64 * (values-of-kind 3 + values-of-kind 3)
-unfolding bits-in values-of-kind
-no-bits = refl
-
-pub ends-bits : (c : Condition) → bits-in (ends-fields c) ≡ 64 * (values-of-kind (lower-kind-of c) + values-of-kind (upper-kind-of c))
-ends-bits (Endpoints lower upper) = let a = end-bits lower in let b = end-bits upper in bits-in-append (end-fields lower) (end-fields upper) ∙ omega arith
-ends-bits Periodic = no-bits
-
-kind-most : (e : End) → kind-of-end e < 3
-kind-most NotAKnot = lit< tt
-kind-most (FirstDerivative value) = lit< tt
-kind-most (SecondDerivative value) = lit< tt
-
-pub lower-kind-most : (c : Condition) → lower-kind-of c < 4
-lower-kind-most (Endpoints lower upper) = let h = kind-most lower in omega arith
-lower-kind-most Periodic = lit< tt
-
-pub upper-kind-most : (c : Condition) → upper-kind-of c < 4
-upper-kind-most (Endpoints lower upper) = let h = kind-most upper in omega arith
-upper-kind-most Periodic = lit< tt
-
 -- ---- ends whose numbers binary64 holds, as every number of a slice is
 
 abbrev pub EndHeld : End → Type 0
@@ -62,17 +41,6 @@ EndHeld (SecondDerivative value) = T (fits binary64 value)
 abbrev pub EndsHeld : Condition → Type 0
 EndsHeld (Endpoints lower upper) = EndHeld lower × EndHeld upper
 EndsHeld Periodic = Unit {0}
-
-end-sized : (e : End) → EndHeld e → Sized (end-fields e)
-unfolding Sized
-end-sized NotAKnot held = tt
-end-sized (FirstDerivative value) held = (toBits-lt binary64 value held, tt)
-end-sized (SecondDerivative value) held = (toBits-lt binary64 value held, tt)
-
-pub ends-sized : (c : Condition) → EndsHeld c → Sized (ends-fields c)
-unfolding Sized
-ends-sized (Endpoints lower upper) held = sized-append (end-fields lower) (end-fields upper) (end-sized lower (held .0)) (end-sized upper (held .1))
-ends-sized Periodic held = tt
 
 -- ---- where they stand they are read
 
@@ -103,6 +71,40 @@ condition-read bytes at (Endpoints lower upper) held s =
     rw (end-read bytes at lower (held .0) (stand-first bytes at (end-fields lower) (end-fields upper) s), end-read bytes _ upper (held .1) second)
     (no-kind-3 lower lower upper)
 condition-read bytes at Periodic held s = periodic-read bytes at
+
+-- ---- both ends together
+
+no-bits : bits-in [] ≡ 64 * (values-of-kind 3 + values-of-kind 3)
+unfolding bits-in values-of-kind
+no-bits = refl
+
+pub ends-bits : (c : Condition) → bits-in (ends-fields c) ≡ 64 * (values-of-kind (lower-kind-of c) + values-of-kind (upper-kind-of c))
+ends-bits (Endpoints lower upper) = let a = end-bits lower in let b = end-bits upper in bits-in-append (end-fields lower) (end-fields upper) ∙ omega arith
+ends-bits Periodic = no-bits
+
+kind-most : (e : End) → kind-of-end e < 3
+kind-most NotAKnot = lit< tt
+kind-most (FirstDerivative value) = lit< tt
+kind-most (SecondDerivative value) = lit< tt
+
+pub lower-kind-most : (c : Condition) → lower-kind-of c < 4
+lower-kind-most (Endpoints lower upper) = let h = kind-most lower in omega arith
+lower-kind-most Periodic = lit< tt
+
+pub upper-kind-most : (c : Condition) → upper-kind-of c < 4
+upper-kind-most (Endpoints lower upper) = let h = kind-most upper in omega arith
+upper-kind-most Periodic = lit< tt
+
+end-sized : (e : End) → EndHeld e → Sized (end-fields e)
+unfolding Sized
+end-sized NotAKnot held = tt
+end-sized (FirstDerivative value) held = (toBits-lt binary64 value held, tt)
+end-sized (SecondDerivative value) held = (toBits-lt binary64 value held, tt)
+
+pub ends-sized : (c : Condition) → EndsHeld c → Sized (ends-fields c)
+unfolding Sized
+ends-sized (Endpoints lower upper) held = sized-append (end-fields lower) (end-fields upper) (end-sized lower (held .0)) (end-sized upper (held .1))
+ends-sized Periodic held = tt
 
 -- kind 3 stands at both ends or at none
 pub kinds-agree : (c : Condition) → periodic-at-one-end (lower-kind-of c) (upper-kind-of c) ≡ false

@@ -7,11 +7,11 @@ use native.Mathlib.Decide.{decLt}
 use native.Mathlib.Omega.{arith}
 use lib.ListN.{length}
 use lib.Ieee.{Float}
-use Rattle.rules.specs.Sizes.{Grid, points, condition, sum-below, product-below, knots, knots-length, samples-length, tensor-length}
+use Rattle.rules.specs.Sizes.{Grid, points, condition, sum-below, product-below, knots, knots-length, samples-length}
 use Rattle.rules.specs.declared.Axis.{Axis}
 use Rattle.rules.specs.declared.Condition.{Condition}
 use Rattle.grid.specs.Given.{grid, sizes-of}
-use Rattle.checks.proofs.Accepted.{knots-of-axis}
+use Rattle.grid.proofs.Knots.{knots-of-axis}
 use Rattle.kinds.specs.Kinds.{lower-kind-of, upper-kind-of}
 use Rattle.bits.specs.Written.{bits-in, bytes-for}
 use Rattle.sheet.proofs.Extents.{value-most}
@@ -32,7 +32,7 @@ module _ (g : Grid) (samples : List Float) (k : Known g samples) where
       let before = axes-count i (omega arith) in
       let next = axes-next g i in
       let here = axis-bits (entry g i) (knots g i) in
-      let exact = knots-of-axis g (tensor-length g) (k .grid-given) i l in omega arith
+      let exact = knots-of-axis g (k .grid-given .knots-exact) i l in omega arith
 
   pub part-count : bits-in (part-fields g samples) ≡ parts-bits (g .axes) (g .entries)
   unfolding parts-bits
