@@ -12,9 +12,10 @@ use Rattle.rules.specs.Numbers.{at}
 use Rattle.rules.specs.Sizes.{Grid, points, knots-length, knots, samples-length, tensor-length}
 use Rattle.rules.specs.Refusals.{points-refused, number-refused, some-number-refused, knots-refused}
 use Rattle.base.proofs.Scan.{neither, any-at}
+use Rattle.grid.proofs.Knots.{knots-of-axis}
 use Rattle.checks.specs.Given.{GridGiven}
 use Rattle.checks.proofs.Rows.{none-applies, exact, exact-3}
-use Rattle.checks.proofs.Accepted.{grid-known, knots-of-axis}
+use Rattle.checks.proofs.Accepted.{grid-known}
 use Rattle.checks.proofs.FiniteKnots.{axis-finite}
 use Rattle.locate.proofs.Accepted.{accepted-rise}
 use Rattle.step_checks.specs.Check.{point-rows, point-check, exact-rows, exact-check, stepped-rows, stepped-check}
@@ -59,7 +60,7 @@ module _ (g : Grid) (samples coordinates : List Float) where
     on-axis i l =
         let n = points g i in
         let x = knots g i in
-        let long = knots-of-axis g (tensor-length g) given i l in
+        let long = knots-of-axis g (given .knots-exact) i l in
         let rise = given .knots-rise i l in
         known n x (at coordinates i) (fine i l) long
         (axis-finite x n {refused = false} (fine i l) long (sym (ap (knots-refused x) long ∙ rise)) refl)
