@@ -207,6 +207,48 @@ fn stepped_answered(
     }
 }
 
+// A case of the stepped surface with the slices that it writes: the others are given at their places.
+fn stepped_on(
+    list: &[u8],
+    begin: usize,
+    answer: usize,
+    given_value: usize,
+    given_indices: usize,
+    value: &mut [f64],
+    indices: &mut [usize],
+) -> Replayed {
+    let at_axes = begin;
+    let at_points = after(at_axes, 1);
+    let at_directions = after_given(list, at_points);
+    let at_knots = after_given(list, at_directions);
+    let at_samples = after_given(list, at_knots);
+    let at_coordinates = after_given(list, at_samples);
+    let points = numbers_given(list, at_points);
+    let points_end = numbers_at(list, at_points);
+    let directions = bytes_given(list, at_directions);
+    let directions_end = bytes_at(list, at_directions);
+    let knots = floats_given(list, at_knots);
+    let knots_end = floats_at(list, at_knots);
+    let samples = floats_given(list, at_samples);
+    let samples_end = floats_at(list, at_samples);
+    let coordinates = floats_given(list, at_coordinates);
+    let coordinates_end = floats_at(list, at_coordinates);
+    stepped_answered(
+        list,
+        answer,
+        given_value,
+        given_indices,
+        word(list, at_axes) as usize,
+        &points[0..points_end],
+        &directions[0..directions_end],
+        &knots[0..knots_end],
+        &samples[0..samples_end],
+        &coordinates[0..coordinates_end],
+        value,
+        indices,
+    )
+}
+
 // A case of the stepped surface, whose arguments begin at a place.
 pub fn stepped(list: &[u8], begin: usize) -> Replayed {
     let at_axes = begin;
@@ -218,31 +260,16 @@ pub fn stepped(list: &[u8], begin: usize) -> Replayed {
     let at_value = after_given(list, at_coordinates);
     let at_indices = after_given(list, at_value);
     let answer = after_given(list, at_indices);
-    let points = numbers_given(list, at_points);
-    let directions = bytes_given(list, at_directions);
-    let knots = floats_given(list, at_knots);
-    let samples = floats_given(list, at_samples);
-    let coordinates = floats_given(list, at_coordinates);
     let mut value = floats_given(list, at_value);
-    let mut indices = numbers_given(list, at_indices);
-    let points_end = numbers_at(list, at_points);
-    let directions_end = bytes_at(list, at_directions);
-    let knots_end = floats_at(list, at_knots);
-    let samples_end = floats_at(list, at_samples);
-    let coordinates_end = floats_at(list, at_coordinates);
     let value_end = floats_at(list, at_value);
+    let mut indices = numbers_given(list, at_indices);
     let indices_end = numbers_at(list, at_indices);
-    stepped_answered(
+    stepped_on(
         list,
+        begin,
         answer,
         at_value,
         at_indices,
-        word(list, at_axes) as usize,
-        &points[0..points_end],
-        &directions[0..directions_end],
-        &knots[0..knots_end],
-        &samples[0..samples_end],
-        &coordinates[0..coordinates_end],
         &mut value[0..value_end],
         &mut indices[0..indices_end],
     )
