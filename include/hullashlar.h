@@ -15,7 +15,7 @@
  * another uses.
  *
  * Memory for the largest grid: tensor 32,768 bytes, scratch 49,152, the two buffers of a sheet 16,384, together 98,304.
- * docs/BENCH.md has the stack of each call (below 6,300 bytes), the size of the code (below 30,000 bytes) and what the
+ * docs/BENCH.md has the stack of each call (below 6,300 bytes), the size of the code (below 34,000 bytes) and what the
  * archive's proofs rest on.
  *
  * Axes. Points, kinds, values, directions, places, labels and indices are lent for four axes. No call looks at what

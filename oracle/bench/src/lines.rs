@@ -24,6 +24,7 @@ const THE_RUST: &str = "the Rust's";
 const OUR_BUILD: &str = "our fresh build";
 const RUST_BUILD: &str = "the Rust's fresh build";
 const THE_ORACLE: &str = "the oracle's reader";
+const RUST_STEPS: &str = "the Rust's steps";
 
 /// Why no measured call is refused.
 const ACCEPTED: &str = "the inputs are good ones";
@@ -304,7 +305,7 @@ fn stepped<'a>(name: &'static str, surface: &'a Surface) -> Line<'a> {
     let points = &surface.axes.points;
     Line {
         name,
-        held_against: THE_RUST,
+        held_against: RUST_STEPS,
         ours: Box::new(move || {
             let Surface {
                 axes,
