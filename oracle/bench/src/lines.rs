@@ -27,6 +27,7 @@ const RUST_BUILD: &str = "the Rust's fresh build";
 const THE_ORACLE: &str = "the oracle's reader";
 const ORACLE_WRITER: &str = "the oracle's writer";
 const OUR_READER: &str = "our reading of it";
+const RUST_STEPS: &str = "the Rust's steps";
 
 /// Why no measured call is refused.
 const ACCEPTED: &str = "the inputs are good ones";
@@ -439,7 +440,7 @@ fn stepped<'a>(name: &'static str, surface: &'a Surface) -> Line<'a> {
     let points = &surface.axes.points;
     Line {
         name,
-        held_against: THE_RUST,
+        held_against: RUST_STEPS,
         ours: Box::new(move || {
             let Surface {
                 axes,
