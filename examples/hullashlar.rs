@@ -277,6 +277,99 @@ pub fn even_query(
     outcome(refusal, (value[0], labels)).map_err(|number| (number, uneven))
 }
 
+/// The index of the knot that equals the point, of that at the lower index and the next.
+#[rustfmt::skip]
+pub fn exact_index(knots: &[f64], lower: usize, point: f64) -> Result<Option<usize>, Refusal> {
+    let mut found = [0; 2];
+    // SAFETY: each pointer goes with the length of a live slice, and no two slices overlap.
+    let refusal = unsafe {
+        hullashlar_exact_index(
+            knots.len(),
+            knots.as_ptr(), knots.len(),
+            lower,
+            point,
+            found.as_mut_ptr(), found.len(),
+        )
+    };
+    outcome(refusal, (found[0] == 1).then_some(found[1]))
+}
+
+/// Where a point lies among knots.
+#[derive(Debug, Clone, Copy, PartialEq)]
+pub enum Location {
+    /// On the knot of this index.
+    Exact(usize),
+    /// Beside the lower knot of its cell, at a fraction of the cell's width.
+    Between { lower: usize, frac: f64 },
+}
+
+/// Where a point lies.
+#[rustfmt::skip]
+pub fn locate_axis(knots: &[f64], point: f64) -> Result<Location, Refusal> {
+    let (mut location, mut fraction) = ([0; 2], [0.0]);
+    // SAFETY: each pointer goes with the length of a live slice, and no two slices overlap.
+    let refusal = unsafe {
+        hullashlar_locate_axis(
+            knots.len(),
+            knots.as_ptr(), knots.len(),
+            point,
+            location.as_mut_ptr(), location.len(),
+            fraction.as_mut_ptr(), fraction.len(),
+        )
+    };
+    let [between, index] = location;
+    let found = if between == 0 {
+        Location::Exact(index)
+    } else {
+        Location::Between { lower: index, frac: fraction[0] }
+    };
+    outcome(refusal, found)
+}
+
+/// The index of the knot that a point steps to: downward for direction 0, upward for 1.
+#[rustfmt::skip]
+pub fn locate_step_index(knots: &[f64], direction: u8, point: f64) -> Result<usize, Refusal> {
+    let mut index = [0];
+    // SAFETY: each pointer goes with the length of a live slice, and no two slices overlap.
+    let refusal = unsafe {
+        hullashlar_locate_step_index(
+            knots.len(),
+            knots.as_ptr(), knots.len(),
+            direction,
+            point,
+            index.as_mut_ptr(), index.len(),
+        )
+    };
+    outcome(refusal, index[0])
+}
+
+/// The sample at the place that the coordinates step to, and the indices of that place.
+#[rustfmt::skip]
+pub fn stepped(
+    axes: &Axes,
+    directions: [u8; 4],
+    knots: &[f64],
+    samples: &[f64],
+    coordinates: &[f64],
+) -> Result<(f64, [usize; 4]), Refusal> {
+    let mut value = [0.0];
+    let mut indices = [0; 4];
+    // SAFETY: each pointer goes with the length of a live slice, and no two slices overlap.
+    let refusal = unsafe {
+        hullashlar_stepped(
+            axes.count,
+            axes.points.as_ptr(), axes.points.len(),
+            directions.as_ptr(), directions.len(),
+            knots.as_ptr(), knots.len(),
+            samples.as_ptr(), samples.len(),
+            coordinates.as_ptr(), coordinates.len(),
+            value.as_mut_ptr(), value.len(),
+            indices.as_mut_ptr(), indices.len(),
+        )
+    };
+    outcome(refusal, (value[0], indices))
+}
+
 /// The axes of a packed sheet, once its knots and samples stand in the lent buffers.
 #[rustfmt::skip]
 pub fn read(

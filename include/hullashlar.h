@@ -1,5 +1,5 @@
 /* Hullashlar for C: every public call over numbers and plain slices. docs/RULES.md says what each computes and when it
- * refuses, in its chapters Calls, Read, SheetTensor, Write and Exports.
+ * refuses, in its chapters Calls, EvenCalls, StepCalls, Read, SheetTensor, Write, Exports and StepExports.
  *
  * The machine. The archive, target/staticlib/libhost.a, is code for x86-64, with SSE2 and the System V calling
  * convention. Of its host it wants memcpy and memset, and nothing else. It computes under the caller's MXCSR, which
@@ -15,12 +15,13 @@
  * another uses.
  *
  * Memory for the largest grid: tensor 32,768 bytes, scratch 49,152, the two buffers of a sheet 16,384, together 98,304.
- * docs/BENCH.md has the stack of each call (below 6,300 bytes), the size of the code (below 42,000 bytes) and what the
- * archive's proofs rest on.
+ * docs/BENCH.md has the stack of each call (below 6,300 bytes), the size of the code (below 42,000 bytes without the
+ * calls of steps) and what the archive's proofs rest on.
  *
- * Axes. Points, kinds, values, modes, places and labels are lent for four axes. No call looks at what stands past the
- * axes in use, and labels are 0 there. kinds[2 i] and values[2 i] are the lower end of axis i, kinds[2 i + 1] and
- * values[2 i + 1] the upper one. A value is read where its kind is a first or a second derivative.
+ * Axes. Points, kinds, values, modes, directions, places, labels and indices are lent for four axes. No call looks at
+ * what stands past the axes in use, and labels and indices are 0 there. kinds[2 i] and values[2 i] are the lower end of
+ * axis i, kinds[2 i + 1] and values[2 i + 1] the upper one. A value is read where its kind is a first or a second
+ * derivative.
  *
  * Grids. The knots of an axis follow those of the axis before it. Of samples and tensors, neighbours along the last
  * axis stand side by side; a tensor has 2^axes numbers for each sample, one for each mask, and these stand side by side
@@ -28,18 +29,18 @@
  *
  * Refusals. Every call returns its refusal, and all calls look for one in the same order.
  *   - With axes: 1 by their number alone; 4 for points that are not four; 2; 3; 4 for every other slice and slot; 13
- *     for kinds of an axis in use that are none, or Periodic at one end only; 22 for a mode of an axis in use that is
- *     none; then the rest of the call's list, 5 and on, in the list's order. That is not always the order of the
- *     numbers: 21 and 18 stand before 10.
- *   - On one axis: 2; 4; 13; then the rest of the list.
+ *     for kinds of an axis in use that are none, or Periodic at one end only; 22 for a mode or a direction of an axis
+ *     in use that is none; then the rest of the call's list, 5 and on, in the list's order. That is not always the
+ *     order of the numbers: 21 and 18 stand before 10.
+ *   - On one axis: 2; 4; 13 or 22; then the rest of the list.
  *   - Of a sheet: 4; then the faults of the sheet, the first that is met on the way through it; then, where its tensor
  *     is built, 5, 7, 8, 9, 10.
  *
- * Outputs. After a refusal every output is as it was but the slots of the answer: value, labels, lanes and uneven, and
- * of a sheet axes, points, kinds, values and length. These are then 0 or +0.0, but for uneven after 21, where all slots
- * of the call have their lengths; where one has another length, none of them is written. Where a sheet is read and only
- * its build is refused, its knots, samples, axes, points, kinds and values are handed over, as after a read, and the
- * length alone is 0.
+ * Outputs. After a refusal every output is as it was but the slots of the answer: value, labels, lanes, uneven, found,
+ * location, fraction, index and indices, and of a sheet axes, points, kinds, values and length. These are then 0 or
+ * +0.0, but for uneven after 21, where all slots of the call have their lengths; where one has another length, none of
+ * them is written. Where a sheet is read and only its build is refused, its knots, samples, axes, points, kinds and
+ * values are handed over, as after a read, and the length alone is 0.
  * All of scratch is +0.0 after success and after 10, and else as it was.
  */
 #ifndef HULLASHLAR_H
@@ -63,7 +64,7 @@ enum hullashlar_refusal {
     HULLASHLAR_REFUSED_TENSOR = 3,   /* the grid needs a tensor of more than 4,096 numbers */
     HULLASHLAR_REFUSED_LENGTH = 4,   /* a slice of another length than it must have */
     HULLASHLAR_REFUSED_SCRATCH = 5,  /* too little scratch */
-    HULLASHLAR_REFUSED_PLACE = 6,    /* no place of the grid */
+    HULLASHLAR_REFUSED_PLACE = 6,    /* no place of the grid; a lower index with no knot after it */
     HULLASHLAR_REFUSED_NUMBER = 7,   /* a given number is infinite or NaN; a change looks at its tensor too */
     HULLASHLAR_REFUSED_KNOTS = 8,    /* a knot is not above the one before it, or too far above for a double */
     HULLASHLAR_REFUSED_FEWNESS = 9,  /* fewer points than NotAKnot needs: 3, or 4 where both ends are so */
@@ -75,7 +76,7 @@ enum hullashlar_refusal {
     HULLASHLAR_REFUSED_BUFFER = 15,  /* fewer bytes than the sheet to be written has */
     HULLASHLAR_REFUSED_OUTSIDE = 18, /* a coordinate outside the knots of an axis whose mode refuses it */
     HULLASHLAR_REFUSED_UNEVEN = 21,  /* the knots of an axis are not evenly spaced */
-    HULLASHLAR_REFUSED_MODE = 22     /* no mode at all */
+    HULLASHLAR_REFUSED_MODE = 22     /* no mode at all, or no direction */
 };
 
 /* The kinds of an end. Periodic stands at both ends of an axis or at neither. */
@@ -93,9 +94,15 @@ enum hullashlar_mode {
     HULLASHLAR_REFUSE = 2            /* the query is refused by 18 */
 };
 
+/* The directions of a step. */
+enum hullashlar_direction {
+    HULLASHLAR_LOWER = 0,            /* to the last knot at or below the point */
+    HULLASHLAR_UPPER = 1             /* to the first knot at or above the point */
+};
+
 /* Sizes, in elements. */
 enum hullashlar_size {
-    HULLASHLAR_AXES = 4,             /* the most axes, and the length of points, modes, place and labels */
+    HULLASHLAR_AXES = 4,             /* the most axes; so long are points, modes, directions, place, labels, indices */
     HULLASHLAR_ENDS = 8,             /* the length of kinds and values */
     HULLASHLAR_AXIS_ENDS = 2,        /* the same in a call on one axis */
     HULLASHLAR_POINTS = 256,         /* the most points on an axis */
@@ -262,6 +269,49 @@ size_t hullashlar_write(size_t axes,
                         const double *samples, size_t samples_length,
                         uint8_t *bytes, size_t bytes_length,
                         size_t *length, size_t length_length);
+
+/* Which of two neighbouring knots equals the point, that at the lower index or the next: 1 and its index, or 0 and 0.
+ * Lengths: knots as many as points; found 2.
+ * Written: found. Refuses by 2, 4, 6, 7, 8. */
+size_t hullashlar_exact_index(size_t points,
+                              const double *knots, size_t knots_length,
+                              size_t lower,
+                              double point,
+                              size_t *found, size_t found_length);
+
+/* Where a point lies among the knots: 0 and the index of the knot that it equals, with the fraction +0.0; or 1 and the
+ * lower index of its cell, with the fraction of the cell's width at which it lies, below 0 or above 1 beyond the knots.
+ * Lengths: knots as many as points; location 2; fraction 1.
+ * Written: location, fraction. Refuses by 2, 4, 7, 8, and 10 for an infinite fraction. */
+size_t hullashlar_locate_axis(size_t points,
+                              const double *knots, size_t knots_length,
+                              double point,
+                              size_t *location, size_t location_length,
+                              double *fraction, size_t fraction_length);
+
+/* The index of the knot that a point steps to: downward the last knot at or below it, upward the first at or above it;
+ * downward the first knot and upward the last where there is none. But above all knots downward gives the last but one,
+ * and below all knots upward gives index 1, as in the Rust.
+ * Lengths: knots as many as points; index 1.
+ * Written: index. Refuses by 2, 4, 22, 7, 8. */
+size_t hullashlar_locate_step_index(size_t points,
+                                    const double *knots, size_t knots_length,
+                                    uint8_t direction,
+                                    double point,
+                                    size_t *index, size_t index_length);
+
+/* The sample at the place that the coordinates step to, each axis in its own direction, and the indices of that place.
+ * Lengths: points and directions 4; knots as many as the points of all axes together; samples one for each place of the
+ * grid; coordinates as many as axes; value 1; indices 4.
+ * Written: value, indices. Refuses by 1, 2, 3, 4, 22, 7, 8. */
+size_t hullashlar_stepped(size_t axes,
+                          const size_t *points, size_t points_length,
+                          const uint8_t *directions, size_t directions_length,
+                          const double *knots, size_t knots_length,
+                          const double *samples, size_t samples_length,
+                          const double *coordinates, size_t coordinates_length,
+                          double *value, size_t value_length,
+                          size_t *indices, size_t indices_length);
 
 #ifdef __cplusplus
 }

@@ -110,4 +110,35 @@ extern "C" {
         bytes: *mut u8, bytes_length: usize,
         length: *mut usize, length_length: usize,
     ) -> usize;
+    pub fn hullashlar_exact_index(
+        points: usize,
+        knots: *const f64, knots_length: usize,
+        lower: usize,
+        point: f64,
+        found: *mut usize, found_length: usize,
+    ) -> usize;
+    pub fn hullashlar_locate_axis(
+        points: usize,
+        knots: *const f64, knots_length: usize,
+        point: f64,
+        location: *mut usize, location_length: usize,
+        fraction: *mut f64, fraction_length: usize,
+    ) -> usize;
+    pub fn hullashlar_locate_step_index(
+        points: usize,
+        knots: *const f64, knots_length: usize,
+        direction: u8,
+        point: f64,
+        index: *mut usize, index_length: usize,
+    ) -> usize;
+    pub fn hullashlar_stepped(
+        axes: usize,
+        points: *const usize, points_length: usize,
+        directions: *const u8, directions_length: usize,
+        knots: *const f64, knots_length: usize,
+        samples: *const f64, samples_length: usize,
+        coordinates: *const f64, coordinates_length: usize,
+        value: *mut f64, value_length: usize,
+        indices: *mut usize, indices_length: usize,
+    ) -> usize;
 }

@@ -34,6 +34,7 @@ ERRORS = [
     "locate/end_knot_taken_as_outside",
     "even/cell_before_the_knot",
     "sheet_write/upper_value_first",
+    "step/upward_corner_mended",
 ]
 
 # What `rt try` says of a compiled run that wrote the counts where nothing is expected.

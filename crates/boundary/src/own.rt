@@ -65,7 +65,7 @@ pub fn curve_own_refusal(points: usize, value: &[f64]) -> usize
 }
 
 // What every call with axes meets first: 1 for their number alone, 4 for points that are not four, 2, 3, or 0.
-fn axes_own_refusal(axes: usize, points: &[usize]) -> usize
+pub fn axes_own_refusal(axes: usize, points: &[usize]) -> usize
     ensures { λ r. ⌜ r ≡ axes-own-refusal axes (now (points .entry)) ⌝ }
 {
     if sizes::axes_refused(axes) {

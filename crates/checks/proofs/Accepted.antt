@@ -79,7 +79,7 @@ module _ (n : ℕ) (x y : List Float) where
 -- ---- the calls on a grid
 
 module _ (g : Grid) where
-  grid-known : (tensor-given : ℕ) → axes-refused g ≡ false → some-points-refused g ≡ false → tensor-refused g ≡ false → length (g .flat-knots) ≡ knots-length g → tensor-given ≡ tensor-length g → some-number-refused (g .flat-knots) ≡ false → some-knots-refused g ≡ false → GridGiven g tensor-given
+  pub grid-known : (tensor-given : ℕ) → axes-refused g ≡ false → some-points-refused g ≡ false → tensor-refused g ≡ false → length (g .flat-knots) ≡ knots-length g → tensor-given ≡ tensor-length g → some-number-refused (g .flat-knots) ≡ false → some-knots-refused g ≡ false → GridGiven g tensor-given
   grid-known tensor-given few fine small knots-exact tensor-exact knots-finite rise =
       let count = axes-few {axes = g .axes} few in
       record {

@@ -60,7 +60,7 @@ module _ {check refusal : ℕ} {bad : Bool} (t : ThenOutcome check bad refusal) 
   pub outcome-good : check ≡ 0 → bad ≡ false → refusal ≡ 0
   outcome-good e b = rw (outcome e, b)
 
-then-outcome : (rows : List Refusal) (bad : Bool) → T (numbered rows) → T (below-outcome rows) → ThenOutcome (lowest rows 0) bad (lowest rows (cond bad 10 0))
+pub then-outcome : (rows : List Refusal) (bad : Bool) → T (numbered rows) → T (below-outcome rows) → ThenOutcome (lowest rows 0) bad (lowest rows (cond bad 10 0))
 then-outcome rows bad n b = record { is = rows-then rows (cond bad 10 0) n; low = rows-below-10 rows b }
 
 -- ---- each call

@@ -17,7 +17,7 @@ pub fn number_refused(number: f64) -> bool
 }
 
 // Whether an infinity or NaN is among the knots. Not public: that they are finite where refusal 8 does not apply is required.
-fn some_knot_refused(knots_refused: bool, knots: &[f64]) -> bool
+pub fn some_knot_refused(knots_refused: bool, knots: &[f64]) -> bool
     requires { ⌜ FiniteUnless «knots_refused» (now knots) ⌝ }
     ensures { λ r. ⌜ r ≡ some-number-refused (now (knots .entry)) ⌝ }
 {

@@ -1,12 +1,12 @@
 -- Each export refuses as the host's own refusal says, or answers as `rules` promises for what was given.
-use mathlib.Core.Path.{_≡_, refl, sym, ap, _∙_}
+use mathlib.Core.Path.{_≡_, sym, ap, _∙_}
 use mathlib.Core.List.{List, [], _∷_}
-use Prim.Native.Nat.{ℕ, zero, suc}
+use Prim.Native.Nat.{ℕ}
 use lib.ListN.{set}
 use lib.Ieee.{Float}
 use Rattle.rules.specs.Numbers.{plus-zero, table}
 use Rattle.rules.specs.Sizes.{most-axes, place-of}
-use Rattle.rules.specs.Calls.{or-else, stored, answered, counted, labelled, MomentsPromise, CurvePromise, BuildPromise, change-answer, ChangePromise, QueryPromise, QuickQueryPromise}
+use Rattle.rules.specs.Calls.{MomentsPromise, CurvePromise, BuildPromise, change-answer, ChangePromise, QueryPromise, QuickQueryPromise}
 use Rattle.rules.specs.EvenCalls.{even-query-answer, EvenQueryPromise}
 use Rattle.rules.specs.declared.Condition.{Condition}
 use Rattle.rules.specs.declared.CurveAnswer.{CurveAnswer}
@@ -15,7 +15,6 @@ use Rattle.rules.specs.declared.QueryAnswer.{QueryAnswer}
 use Rattle.rules.specs.declared.EvenAnswer.{EvenAnswer}
 use Rattle.rules.specs.declared.Axis.{Axis}
 use Rattle.rules.specs.declared.Mode.{Mode}
-use Rattle.rules.proofs.Refused.{or-else-met, unchanged}
 use Rattle.sheet.specs.Fields.{sheet-grid}
 use Rattle.sheet.specs.Read.{ReadPromise}
 use Rattle.sheet.specs.declared.ReadAnswer.{ReadAnswer}
@@ -29,36 +28,9 @@ use Rattle.plain_axes.specs.Axes.{condition-given, axes-given, axes-without-end
 use Rattle.boundary.specs.OwnRefusals.{moments-own-refusal, curve-own-refusal, build-own-refusal, change-own-refusal, write-own-refusal, query-own-refusal, read-own-refusal, sheet-tensor-own-refusal, even-query-own-refusal}
 use Rattle.boundary.specs.Slots.{in-slot, QueryStored, EvenStored}
 use Rattle.host.specs.Exports.{FoundStored, MomentsExport, CurveExport, BuildExport, ChangeExport, AnswerExport, QueryExport, QuickQueryExport, ReadExport, SheetTensorExport, WriteExport, EvenQueryExport}
+use Rattle.boundary.proofs.Exported.{own-answer, untouched, no-value, no-count, no-labels, call-answer, left}
 use Rattle.boundary.proofs.Lengths.{read-lengths, sheet-tensor-lengths}
 use Rattle.plain_axes.proofs.Slots.{one-stored}
-
--- ---- the host refuses: its number is the answer, each slice is as it was, and slots say that nothing was answered
-
-own-answer : (own later : ℕ) {r : ℕ} → r ≡ own → (r ≡ 0 → ⊥) → r ≡ or-else own later
-own-answer own later e some = e ∙ sym (or-else-met own later (λ z. some (e ∙ z)))
-
-untouched : {A : Type 0} (own : ℕ) (lent later : List A) {r : ℕ} → r ≡ own → (r ≡ 0 → ⊥) → lent ≡ stored own lent later
-untouched own lent later e some = unchanged own lent later (λ z. some (e ∙ z))
-
-no-value : (own : ℕ) (value : Float) {r : ℕ} → r ≡ own → (r ≡ 0 → ⊥) → plus-zero ≡ answered own value
-no-value zero value e some = absurd (some e)
-no-value (suc own) value e some = refl
-
-no-count : (own count : ℕ) {r : ℕ} → r ≡ own → (r ≡ 0 → ⊥) → 0 ≡ counted own count
-no-count zero count e some = absurd (some e)
-no-count (suc own) count e some = refl
-
-no-labels : (own : ℕ) (labels : List ℕ) {r : ℕ} → r ≡ own → (r ≡ 0 → ⊥) → table most-axes (λ i. 0) ≡ labelled own labels
-no-labels zero labels e some = absurd (some e)
-no-labels (suc own) labels e some = refl
-
--- ---- it does not: the call's number, and what the call leaves
-
-call-answer : (own : ℕ) {later r a : ℕ} → r ≡ own → r ≡ 0 → a ≡ later → a ≡ or-else own later
-call-answer own e none answers = rw (sym e ∙ none) answers
-
-left : {A : Type 0} (own : ℕ) (lent : List A) {later l : List A} {r : ℕ} → r ≡ own → r ≡ 0 → l ≡ later → l ≡ stored own lent later
-left own lent e none leaves = rw (sym e ∙ none) leaves
 
 -- ---- the curve's moments
 

@@ -1,5 +1,6 @@
 // Every public call exported for C, over numbers and plain slices. Each returns its refusal's number, 0 for none, in the one order that boundary::own says.
 ghost use Rattle.rules.specs.Calls.{SlopesPromise};
+ghost use Rattle.step_exports.specs.StepExports.{ExactExport, AxisExport, StepExport, SteppedExport};
 ghost use Rattle.host.specs.Exports.{MomentsExport, CurveExport, BuildExport, ChangeExport, QueryExport, QuickQueryExport, ReadExport, SheetTensorExport, WriteExport, EvenQueryExport};
 use boundary::own;
 use boundary::slots;
@@ -304,4 +305,72 @@ pub extern "C" fn hullashlar_write(
     let answer = sheet_write::write(axes, all, knots, samples, bytes);
     slots::store_count(length, answer.length);
     answer.refusal
+}
+
+// Which of the knots at a lower index and after it equals the point: 1 and its index, or 0 and 0, in a slot of two. Refuses 2 4 6 7 8, and then both are 0; and 4 of its own.
+#[no_mangle]
+pub extern "C" fn hullashlar_exact_index(
+    points: usize,
+    knots: &[f64],
+    lower: usize,
+    point: f64,
+    found: &mut [usize],
+) -> usize
+    ensures { λ r. ⌜ ExactExport points (now (knots .entry)) lower point (now (found .entry)) r (now (found .exit)) ⌝ }
+{
+    step_exports::exact_index(points, knots, lower, point, found)
+}
+
+// Where a point lies among the knots: 0 and the index of the knot that it equals, or 1 and the lower index of its cell, in a slot of two, and the fraction of the cell's width, +0.0 on a knot, in a slot of one. Refuses 2 4 7 8 10, and then all three are 0; and 4 of its own.
+#[no_mangle]
+pub extern "C" fn hullashlar_locate_axis(
+    points: usize,
+    knots: &[f64],
+    point: f64,
+    location: &mut [usize],
+    fraction: &mut [f64],
+) -> usize
+    ensures { λ r. ⌜ AxisExport points (now (knots .entry)) point (now (location .entry)) (now (fraction .entry)) r (now (location .exit)) (now (fraction .exit)) ⌝ }
+{
+    step_exports::locate_axis(points, knots, point, location, fraction)
+}
+
+// The index of the knot that a point steps to, downward for direction 0 and upward for 1, in a slot of one. Refuses 2 4 7 8, and then the index is 0; and 4 and 22 of its own.
+#[no_mangle]
+pub extern "C" fn hullashlar_locate_step_index(
+    points: usize,
+    knots: &[f64],
+    direction: u8,
+    point: f64,
+    index: &mut [usize],
+) -> usize
+    ensures { λ r. ⌜ StepExport points (now (knots .entry)) direction point (now (index .entry)) r (now (index .exit)) ⌝ }
+{
+    step_exports::locate_step_index(points, knots, direction, point, index)
+}
+
+// The sample at the place that the coordinates step to, each axis in its direction, in a slot of one, and the four indices of that place, 0 past the axes in use. Refuses 1 2 3 4 7 8, and then value and indices are 0; and 4 and 22 of its own.
+#[no_mangle]
+pub extern "C" fn hullashlar_stepped(
+    axes: usize,
+    points: &[usize],
+    directions: &[u8],
+    knots: &[f64],
+    samples: &[f64],
+    coordinates: &[f64],
+    value: &mut [f64],
+    indices: &mut [usize],
+) -> usize
+    ensures { λ r. ⌜ SteppedExport axes (now (points .entry)) (now (directions .entry)) (now (knots .entry)) (now (samples .entry)) (now (coordinates .entry)) (now (value .entry)) (now (indices .entry)) r (now (value .exit)) (now (indices .exit)) ⌝ }
+{
+    step_exports::stepped(
+        axes,
+        points,
+        directions,
+        knots,
+        samples,
+        coordinates,
+        value,
+        indices,
+    )
 }

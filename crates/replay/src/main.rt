@@ -12,6 +12,10 @@ use replay_items::words::word;
 use replay_sheets::read;
 use replay_sheets::sheet_tensor;
 use replay_sheets::write;
+use replay_steps::exact_index;
+use replay_steps::locate_axis;
+use replay_steps::locate_step_index;
+use replay_steps::stepped;
 use replay_surfaces::build;
 use replay_surfaces::change;
 use replay_surfaces::even_query;
@@ -33,6 +37,10 @@ fn case_at(list: &[u8], place: usize) -> Replayed {
         8 => quick_query(list, begin),
         9 => even_query(list, begin),
         10 => write(list, begin),
+        11 => exact_index(list, begin),
+        12 => locate_axis(list, begin),
+        13 => locate_step_index(list, begin),
+        14 => stepped(list, begin),
         _ => Replayed {
             same: false,
             next: begin,

@@ -16,6 +16,7 @@ use Rattle.rules.specs.Tensor.{tensor}
 use Rattle.rules.specs.Change.{changed-tensor, build-lanes, change-lanes, lane-sum}
 use Rattle.rules.specs.Outside.{side, placed}
 use Rattle.rules.specs.Query.{query}
+use Rattle.rules.specs.Step.{locate-axis, step-index, lower-step, upper-step}
 use Rattle.rules.specs.Refusals.{step-refused, found-cell-refused}
 use Rattle.rules.specs.Calls.{moments-refusal, labels, query-refusal, quick-query-refusal}
 use Rattle.rules.specs.declared.Condition.{Condition}
@@ -23,6 +24,8 @@ use Rattle.rules.specs.declared.Condition.the-variants.{Endpoints}
 use Rattle.rules.specs.declared.End.the-variants.{NotAKnot, FirstDerivative, SecondDerivative}
 use Rattle.rules.specs.declared.Mode.the-variants.{Extend, Hold, Refuse}
 use Rattle.rules.specs.declared.Side.the-variants.{Below, Inside, Above}
+use Rattle.rules.specs.declared.StepDirection.the-variants.{Lower, Upper}
+use Rattle.rules.specs.declared.AxisLocation.the-variants.{Exact, Between}
 
 -- the float of a bit pattern
 abbrev pattern : ℕ → Float
@@ -202,9 +205,25 @@ pub record Examples : Type 0 where
       ≡ pattern 0xBFDA_AAAA_AAAA_AAAB ∷ pattern 0x3FEA_AAAA_AAAA_AAAA ∷ pattern 0x400A_AAAA_AAAA_AAAB ∷ []
   -- no product is fused with a sum: natural through 0 1 5, at 0.25
   pub rounded-twice : spline knots-3 2 natural (0′ ∷ 1′ ∷ 5′ ∷ []) (pattern 0x3FD0_0000_0000_0000) ≡ pattern 0x3FB3_0000_0000_0000
+  -- steps on three knots: between two and on the middle one, in both directions
+  pub down-between : step-index Lower knots-3 2 ½ ≡ 0
+  pub up-between : step-index Upper knots-3 2 ½ ≡ 1
+  pub down-at-interior-knot : step-index Lower knots-3 2 1′ ≡ 1
+  pub up-at-interior-knot : step-index Upper knots-3 2 1′ ≡ 1
+  -- at the two ends, and the corners beyond them
+  pub down-at-last-knot : step-index Lower knots-3 2 2′ ≡ 2
+  pub up-at-first-knot : step-index Upper knots-3 2 0′ ≡ 0
+  pub down-above : step-index Lower knots-3 2 3′ ≡ 1
+  pub up-below : step-index Upper knots-3 2 -1′ ≡ 1
+  -- a location on a knot, and below the first one, where the fraction is negative
+  pub location-at-interior-knot : locate-axis knots-3 2 1′ ≡ Exact 1
+  pub location-below : locate-axis knots-3 2 -1′ ≡ Between 0 -1′
+  -- strictly between its knots a fraction can be 1: knots −1 and 2e−17, point 1e−17
+  pub fraction-of-one :
+      locate-axis (-1′ ∷ pattern 0x3C77_0EF5_4646_D497 ∷ []) 1 (pattern 0x3C67_0EF5_4646_D497) ≡ Between 0 1′
 
 pub examples : Examples
-unfolding any sum-below product-below locate lower-index visited side labels moments curve knot-slopes tensor changed-tensor change-lanes lane-sum query step-refused moments-refusal Ieee.add Ieee.sub Ieee.mul Ieee.div Ieee.neg Ieee.lt Ieee.le Ieee.ofBits found-cell-refused quick-query-refusal query-refusal
+unfolding any sum-below product-below locate lower-index visited side locate-axis lower-step upper-step labels moments curve knot-slopes tensor changed-tensor change-lanes lane-sum query step-refused moments-refusal Ieee.add Ieee.sub Ieee.mul Ieee.div Ieee.neg Ieee.lt Ieee.le Ieee.eq Ieee.ofBits found-cell-refused quick-query-refusal query-refusal
 examples = record {
   natural-moments = refl;
   natural-slopes = refl;
@@ -259,4 +278,15 @@ examples = record {
   curve-at-a-knot = refl;
   divided-by-six = refl;
   rounded-twice = refl;
+  down-between = refl;
+  up-between = refl;
+  down-at-interior-knot = refl;
+  up-at-interior-knot = refl;
+  down-at-last-knot = refl;
+  up-at-first-knot = refl;
+  down-above = refl;
+  up-below = refl;
+  location-at-interior-knot = refl;
+  location-below = refl;
+  fraction-of-one = refl;
 }

@@ -6,12 +6,18 @@ use lib.Ieee.{Float}
 use Rattle.rules.specs.Sizes.{Grid, Place}
 use Rattle.rules.specs.Calls.{MomentsPromise, CurvePromise, SlopesPromise, BuildPromise, ChangePromise, QueryPromise, QuickQueryPromise}
 use Rattle.rules.specs.EvenCalls.{EvenQueryPromise}
+use Rattle.rules.specs.StepCalls.{ExactPromise, AxisPromise, StepPromise, SteppedPromise}
 use Rattle.rules.specs.declared.Condition.{Condition}
 use Rattle.rules.specs.declared.CurveAnswer.{CurveAnswer}
 use Rattle.rules.specs.declared.ChangeAnswer.{ChangeAnswer}
 use Rattle.rules.specs.declared.QueryAnswer.{QueryAnswer}
 use Rattle.rules.specs.declared.EvenAnswer.{EvenAnswer}
 use Rattle.rules.specs.declared.Mode.{Mode}
+use Rattle.rules.specs.declared.StepDirection.{StepDirection}
+use Rattle.rules.specs.declared.ExactAnswer.{ExactAnswer}
+use Rattle.rules.specs.declared.AxisAnswer.{AxisAnswer}
+use Rattle.rules.specs.declared.StepAnswer.{StepAnswer}
+use Rattle.rules.specs.declared.SteppedAnswer.{SteppedAnswer}
 
 -- two things that equal a third
 same : {A : Type 0} {a b c : A} → a ≡ c → b ≡ c → a ≡ b
@@ -76,3 +82,31 @@ pub even-query-unique :
     → EvenQueryPromise g modes tensor-lent coordinates a′
     → a ≡ a′
 even-query-unique g modes tensor-lent coordinates a a′ p q = same (p .answer) (q .answer)
+
+pub exact-unique :
+    (n : ℕ) (knots : List Float) (lower : ℕ) (point : Float) (a a′ : ExactAnswer)
+    → ExactPromise n knots lower point a
+    → ExactPromise n knots lower point a′
+    → a ≡ a′
+exact-unique n knots lower point a a′ p q = same (p .answer) (q .answer)
+
+pub axis-unique :
+    (n : ℕ) (knots : List Float) (point : Float) (a a′ : AxisAnswer)
+    → AxisPromise n knots point a
+    → AxisPromise n knots point a′
+    → a ≡ a′
+axis-unique n knots point a a′ p q = same (p .answer) (q .answer)
+
+pub step-unique :
+    (direction : StepDirection) (n : ℕ) (knots : List Float) (point : Float) (a a′ : StepAnswer)
+    → StepPromise direction n knots point a
+    → StepPromise direction n knots point a′
+    → a ≡ a′
+step-unique direction n knots point a a′ p q = same (p .answer) (q .answer)
+
+pub stepped-unique :
+    (g : Grid) (directions : List StepDirection) (samples coordinates : List Float) (a a′ : SteppedAnswer)
+    → SteppedPromise g directions samples coordinates a
+    → SteppedPromise g directions samples coordinates a′
+    → a ≡ a′
+stepped-unique g directions samples coordinates a a′ p q = same (p .answer) (q .answer)

@@ -13,6 +13,8 @@ pub mod Curve
 pub mod Tensor
 pub mod Change
 pub mod Query
+pub mod Step
 pub mod Calls
 pub mod Extended
 pub mod EvenCalls
+pub mod StepCalls

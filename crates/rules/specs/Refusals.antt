@@ -14,6 +14,8 @@ use Rattle.rules.specs.declared.End.{End}
 use Rattle.rules.specs.declared.End.the-variants.{NotAKnot, FirstDerivative, SecondDerivative}
 use Rattle.rules.specs.declared.Condition.{Condition}
 use Rattle.rules.specs.declared.Condition.the-variants.{Endpoints, Periodic}
+use Rattle.rules.specs.declared.AxisLocation.{AxisLocation}
+use Rattle.rules.specs.declared.AxisLocation.the-variants.{Exact, Between}
 
 -- 1: no axis, or more than four
 abbrev pub axes-refused : Grid → Bool
@@ -42,6 +44,10 @@ scratch-refused given least = ltb given least
 -- 6: on an axis in use the index of the place is not below the points
 abbrev pub place-refused : Grid → Place → Bool
 place-refused g p = any (λ i. leb (points g i) (p i)) (g .axes)
+
+-- 6 of a lower index among n points: it has no knot after it
+abbrev pub lower-refused : ℕ → ℕ → Bool
+lower-refused lower n = ltb (n - 2) lower
 
 -- 7: a number is infinite or NaN
 abbrev pub number-refused : Float → Bool
@@ -103,3 +109,8 @@ outcome-refused outcome = some-number-refused outcome
 -- 10 of an answer: it is infinite or NaN
 abbrev pub answer-refused : Float → Bool
 answer-refused answer = number-refused answer
+
+-- 10 of a location: so for its fraction, if it has one
+abbrev pub location-refused : AxisLocation → Bool
+location-refused (Exact index) = false
+location-refused (Between lower frac) = answer-refused frac

@@ -70,6 +70,49 @@ pub struct EvenAnswer {
     pub interval: usize,
 }
 
+// Which way a step goes: down to the knot at or below a point, or up to the one at or above it.
+pub enum StepDirection {
+    Lower,
+    Upper,
+}
+
+// The index of a knot that equals a point, or none: the Rust's Option.
+pub enum ExactIndex {
+    Found(usize),
+    NotFound,
+}
+
+// Where a point lies among knots: on one of them, or beside the lower one of its cell at a fraction of the cell's width.
+pub enum AxisLocation {
+    Exact(usize),
+    Between { lower: usize, frac: f64 },
+}
+
+// A refusal's number, 0 for none, and the index of the knot that equals the point.
+pub struct ExactAnswer {
+    pub refusal: usize,
+    pub index: ExactIndex,
+}
+
+// A refusal's number, 0 for none, and where the point lies.
+pub struct AxisAnswer {
+    pub refusal: usize,
+    pub location: AxisLocation,
+}
+
+// A refusal's number, 0 for none, and the index of the step.
+pub struct StepAnswer {
+    pub refusal: usize,
+    pub index: usize,
+}
+
+// A refusal's number, 0 for none, the sample at the indices of the steps, and these, of each axis.
+pub struct SteppedAnswer {
+    pub refusal: usize,
+    pub value: f64,
+    pub indices: [usize; 4],
+}
+
 impl End {
     // The end that a spline through derivatives takes: of the same kind, with +0.0 for its number.
     pub fn zero_valued(self) -> End

@@ -5,7 +5,8 @@ use crate::hullashlar::{self, BUFFER, EXTEND, SCRATCH};
 use crate::inputs::{Inputs, Surface, CHANGED};
 use ninterp_quick::{
     compute_corner_cache, compute_m, evaluate_spline_corner_cached, evaluate_spline_from_m,
-    knot_derivatives_from_m, CubicC2BoundaryConditions,
+    exact_index, knot_derivatives_from_m, locate_axis, locate_step_index, AxisLocation,
+    CubicC2BoundaryConditions, StepDirection,
 };
 
 /// One call, and the last number of its outcome.
@@ -26,6 +27,7 @@ const RUST_BUILD: &str = "the Rust's fresh build";
 const THE_ORACLE: &str = "the oracle's reader";
 const ORACLE_WRITER: &str = "the oracle's writer";
 const OUR_READER: &str = "our reading of it";
+const RUST_STEPS: &str = "the Rust's steps";
 
 /// Why no measured call is refused.
 const ACCEPTED: &str = "the inputs are good ones";
@@ -44,6 +46,13 @@ pub fn lines(inputs: &Inputs) -> Vec<Line<'_>> {
         curve("curve, 16", &inputs.line_of_16),
         curve("curve, 256", &inputs.line_of_256),
         read(&inputs.two_axes),
+        exact(&inputs.line_of_256),
+        location("location, 16", &inputs.line_of_16),
+        location("location, 256", &inputs.line_of_256),
+        step("index of a step, 16", &inputs.line_of_16),
+        step("index of a step, 256", &inputs.line_of_256),
+        stepped("stepped, 16×16", &inputs.two_axes),
+        stepped("stepped, 4×4×4×4", &inputs.four_axes),
     ]);
     lines.extend(writes(&inputs.two_axes));
     lines
@@ -371,4 +380,83 @@ fn last_sample(sheet: &[u8]) -> f64 {
         .iter()
         .fold(0, |bits, byte| bits << 8 | u128::from(*byte));
     f64::from_bits((bits >> 1) as u64)
+}
+
+fn exact(line: &Surface) -> Line<'_> {
+    let knots = line.knots.as_slice();
+    let lower = knots.len() / 2;
+    let point = knots[lower + 1];
+    let number = |index: Option<usize>| index.map_or(-1.0, |index| index as f64);
+    Line {
+        name: "exact index, 256",
+        held_against: THE_RUST,
+        ours: Box::new(move || {
+            number(hullashlar::exact_index(knots, lower, point).expect(ACCEPTED))
+        }),
+        other: Box::new(move || number(exact_index(knots.into(), lower, &point))),
+    }
+}
+
+fn location<'a>(name: &'static str, line: &'a Surface) -> Line<'a> {
+    let knots = line.knots.as_slice();
+    let point = line.middle_point()[0];
+    Line {
+        name,
+        held_against: THE_RUST,
+        ours: Box::new(
+            move || match hullashlar::locate_axis(knots, point).expect(ACCEPTED) {
+                hullashlar::Location::Exact(index) => index as f64,
+                hullashlar::Location::Between { frac, .. } => frac,
+            },
+        ),
+        other: Box::new(move || match locate_axis(knots.into(), &point) {
+            AxisLocation::Exact(index) => index as f64,
+            AxisLocation::Between { frac, .. } => frac,
+        }),
+    }
+}
+
+fn step<'a>(name: &'static str, line: &'a Surface) -> Line<'a> {
+    let knots = line.knots.as_slice();
+    let point = line.middle_point()[0];
+    Line {
+        name,
+        held_against: THE_RUST,
+        ours: Box::new(move || {
+            hullashlar::locate_step_index(knots, 0, point).expect(ACCEPTED) as f64
+        }),
+        other: Box::new(move || {
+            locate_step_index(StepDirection::Lower, knots.into(), &point) as f64
+        }),
+    }
+}
+
+/// The Rust's surface of steps is in a file that is not here: the other side steps by its function
+/// on each axis and takes the sample there.
+fn stepped<'a>(name: &'static str, surface: &'a Surface) -> Line<'a> {
+    let point = surface.middle_point();
+    let point_again = point.clone();
+    let knots = surface.knots_by_axis();
+    let points = &surface.axes.points;
+    Line {
+        name,
+        held_against: RUST_STEPS,
+        ours: Box::new(move || {
+            let Surface {
+                axes,
+                knots,
+                samples,
+                ..
+            } = surface;
+            let answer = hullashlar::stepped(axes, [0; 4], knots, samples, &point);
+            answer.expect(ACCEPTED).0
+        }),
+        other: Box::new(move || {
+            let axes = knots.iter().zip(&point_again).zip(points);
+            let number = axes.fold(0, |number, ((knots, point), points)| {
+                number * points + locate_step_index(StepDirection::Lower, *knots, point)
+            });
+            surface.samples[number]
+        }),
+    }
 }

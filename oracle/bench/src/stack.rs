@@ -13,7 +13,7 @@ pub struct Stack {
 }
 
 /// The stack of every exported call.
-pub fn stacks(inputs: &Inputs) -> [Stack; 11] {
+pub fn stacks(inputs: &Inputs) -> [Stack; 15] {
     let surfaces = inputs.surfaces();
     let even_surfaces = inputs.even_surfaces();
     let lines = [&inputs.line_of_256, &inputs.periodic_line];
@@ -29,6 +29,10 @@ pub fn stacks(inputs: &Inputs) -> [Stack; 11] {
         deepest("hullashlar_moments", &lines.map(moments)),
         deepest("hullashlar_slopes", &lines.map(slopes)),
         deepest("hullashlar_curve", &lines.map(curve)),
+        deepest("hullashlar_exact_index", &lines.map(exact_index)),
+        deepest("hullashlar_locate_axis", &lines.map(locate_axis)),
+        deepest("hullashlar_locate_step_index", &lines.map(step)),
+        deepest("hullashlar_stepped", &surfaces.map(stepped)),
     ]
 }
 
@@ -141,6 +145,31 @@ fn curve(line: &Surface) -> usize {
     let moments = line.moments();
     let point = line.middle_point()[0];
     bytes_of(|| hullashlar::curve(&line.knots, &line.samples, &moments, point).is_ok())
+}
+
+fn exact_index(line: &Surface) -> usize {
+    bytes_of(|| hullashlar::exact_index(&line.knots, 1, line.knots[2]).is_ok())
+}
+
+fn locate_axis(line: &Surface) -> usize {
+    let point = line.middle_point()[0];
+    bytes_of(|| hullashlar::locate_axis(&line.knots, point).is_ok())
+}
+
+fn step(line: &Surface) -> usize {
+    let point = line.middle_point()[0];
+    bytes_of(|| hullashlar::locate_step_index(&line.knots, 1, point).is_ok())
+}
+
+fn stepped(surface: &Surface) -> usize {
+    let Surface {
+        axes,
+        knots,
+        samples,
+        ..
+    } = surface;
+    let point = surface.middle_point();
+    bytes_of(|| hullashlar::stepped(axes, [0, 1, 0, 1], knots, samples, &point).is_ok())
 }
 
 /// What the stack is painted with.

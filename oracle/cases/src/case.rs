@@ -16,6 +16,10 @@ pub enum Call {
     QuickQuery,
     EvenQuery,
     Write,
+    ExactIndex,
+    LocateAxis,
+    LocateStepIndex,
+    Stepped,
 }
 
 impl Call {
@@ -65,6 +69,19 @@ impl Call {
             Call::Write => &[
                 "axes", "points", "kinds", "values", "knots", "samples", "bytes", "length",
             ],
+            Call::ExactIndex => &["points", "knots", "lower", "point", "found"],
+            Call::LocateAxis => &["points", "knots", "point", "location", "fraction"],
+            Call::LocateStepIndex => &["points", "knots", "direction", "point", "index"],
+            Call::Stepped => &[
+                "axes",
+                "points",
+                "directions",
+                "knots",
+                "samples",
+                "coordinates",
+                "value",
+                "indices",
+            ],
         }
     }
 
@@ -84,6 +101,10 @@ impl Call {
                 "length",
             ],
             Call::Write => &["bytes", "length"],
+            Call::ExactIndex => &["found"],
+            Call::LocateAxis => &["location", "fraction"],
+            Call::LocateStepIndex => &["index"],
+            Call::Stepped => &["value", "indices"],
         }
     }
 

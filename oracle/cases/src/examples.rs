@@ -28,6 +28,7 @@ pub fn examples() -> Vec<Case> {
     cases.extend(fewest_points(random));
     cases.extend(knots_that_do_not_rise(random));
     cases.extend(limits(random));
+    cases.extend(steps(random));
     cases.extend([
         lending::read(random, &example_sheet()),
         lending::sheet_tensor(random, &example_sheet(), 4),
@@ -263,4 +264,28 @@ fn limits(random: &mut Random) -> Vec<Case> {
     let mut five = build(2, 2);
     *five.argument_mut("axes") = Argument::Number(5);
     vec![build(32, 32), build(25, 41), five]
+}
+
+/// Points on, between and beyond the knots 0 1 2, in both directions; a fraction of 1 between two
+/// knots, one that overflows, and the cell of a surface in all four directions.
+fn steps(random: &mut Random) -> Vec<Case> {
+    let knots = [0.0, 1.0, 2.0];
+    let points = [-1.0, 0.0, 0.5, 1.0, 1.5, 2.0, 3.0];
+    let mut cases = Vec::new();
+    for point in points {
+        cases.push(lending::locate_step_index(&knots, 0, point));
+        cases.push(lending::locate_step_index(&knots, 1, point));
+        cases.push(lending::locate_axis(random, &knots, point));
+        cases.push(lending::exact_index(&knots, 0, point));
+    }
+    cases.push(lending::exact_index(&knots, 2, 2.0));
+    cases.push(lending::locate_axis(random, &[-1.0, 2e-17], 1e-17));
+    cases.push(lending::locate_axis(random, &[0.0, 5e-324], 1e308));
+    let grid = grid(&[&[0.0, 1.0], &[10.0, 20.0, 30.0]], [SECOND; 2]);
+    let samples = [0.0, 1.0, 2.0, 3.0, 4.0, 5.0];
+    for directions in [[0, 0, 2, 2], [0, 1, 2, 2], [1, 0, 2, 2], [1, 1, 2, 2]] {
+        let case = lending::stepped(random, &grid, directions, &samples, &[0.5, 25.0]);
+        cases.push(case);
+    }
+    cases
 }

@@ -102,6 +102,36 @@ const OF_WRITE: &[Fault] = &[
     too_few_bytes,
 ];
 
+/// The faults of the calls of steps on one axis.
+const OF_EXACT_INDEX: &[Fault] = &[
+    points_off,
+    length_off,
+    lower_off,
+    number_not_finite,
+    knots_not_rising,
+    step_overflowing,
+];
+const OF_STEP: &[Fault] = &[
+    points_off,
+    length_off,
+    direction_off,
+    number_not_finite,
+    knots_not_rising,
+    step_overflowing,
+];
+
+/// The faults of a stepped surface.
+const OF_STEPPED: &[Fault] = &[
+    axes_off,
+    points_off,
+    shape_too_large,
+    length_off,
+    direction_off,
+    number_not_finite,
+    knots_not_rising,
+    step_overflowing,
+];
+
 /// The faults of a call, apart from lists of a fixed length and damaged sheets.
 fn faults_of(call: Call) -> &'static [Fault] {
     match call {
@@ -114,6 +144,10 @@ fn faults_of(call: Call) -> &'static [Fault] {
         Call::Write => OF_WRITE,
         Call::Read => &[length_off],
         Call::SheetTensor => &[length_off, scratch_short],
+        Call::ExactIndex => OF_EXACT_INDEX,
+        Call::LocateAxis => OF_CURVE,
+        Call::LocateStepIndex => OF_STEP,
+        Call::Stepped => OF_STEPPED,
     }
 }
 
@@ -189,8 +223,23 @@ fn length_off(random: &mut Random, case: &mut Case) {
 
 fn fixed_length_off(random: &mut Random, case: &mut Case) {
     let names = [
-        "axes", "points", "kinds", "values", "modes", "place", "value", "labels", "lanes",
-        "length", "uneven",
+        "axes",
+        "points",
+        "kinds",
+        "values",
+        "modes",
+        "directions",
+        "place",
+        "value",
+        "labels",
+        "lanes",
+        "length",
+        "uneven",
+        "found",
+        "location",
+        "fraction",
+        "index",
+        "indices",
     ];
     let mut fixed = present(case, &names);
     fixed.retain(|name| !matches!(case.argument(name), Argument::Number(_)));
@@ -332,5 +381,25 @@ fn mode_off(random: &mut Random, case: &mut Case) {
     if axes > 0 {
         let mode = random.pick(&[3, 3, 4, 255]);
         case.argument_mut("modes").bytes_mut()[random.below(axes)] = mode;
+    }
+}
+
+/// A lower index that has no knot after it.
+fn lower_off(random: &mut Random, case: &mut Case) {
+    let points = case.argument("points").number();
+    let last = points.saturating_sub(1);
+    let lower = random.pick(&[last, last, points, usize::MAX]);
+    *case.argument_mut("lower") = Argument::Number(lower);
+}
+
+/// A number that is no direction.
+fn direction_off(random: &mut Random, case: &mut Case) {
+    let number = random.pick(&[2, 2, 3, 255]);
+    let axes = axes_in_use(case);
+    if case.has("direction") {
+        *case.argument_mut("direction") = Argument::Number(number);
+    } else if axes > 0 {
+        let axis = random.below(axes);
+        case.argument_mut("directions").bytes_mut()[axis] = number as u8;
     }
 }

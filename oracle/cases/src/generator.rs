@@ -34,10 +34,14 @@ pub enum Kind {
     EvenQuery,
     Write,
     WrittenBack,
+    ExactIndex,
+    LocateAxis,
+    LocateStepIndex,
+    Stepped,
 }
 
 /// Every kind, in the order of the report.
-pub const KINDS: [Kind; 17] = [
+pub const KINDS: [Kind; 21] = [
     Kind::Example,
     Kind::Moments,
     Kind::Curve,
@@ -55,6 +59,10 @@ pub const KINDS: [Kind; 17] = [
     Kind::EvenQuery,
     Kind::Write,
     Kind::WrittenBack,
+    Kind::ExactIndex,
+    Kind::LocateAxis,
+    Kind::LocateStepIndex,
+    Kind::Stepped,
 ];
 
 impl Kind {
@@ -78,6 +86,10 @@ impl Kind {
             Kind::EvenQuery => "even_query",
             Kind::Write => "write",
             Kind::WrittenBack => "written_back",
+            Kind::ExactIndex => "exact_index",
+            Kind::LocateAxis => "locate_axis",
+            Kind::LocateStepIndex => "locate_step_index",
+            Kind::Stepped => "stepped",
         }
     }
 
@@ -132,6 +144,10 @@ pub fn single(kind: Kind, number: usize, random: &mut Random) -> Case {
         Kind::QuickQuery => quick_query(random),
         Kind::EvenQuery => even_query(random),
         Kind::Write => write(random),
+        Kind::ExactIndex => exact_index(random),
+        Kind::LocateAxis => locate_axis(random),
+        Kind::LocateStepIndex => locate_step_index(random),
+        Kind::Stepped => stepped(random),
         Kind::Example
         | Kind::ChangeList
         | Kind::ShortSheet
@@ -252,6 +268,45 @@ fn even_query(random: &mut Random) -> Case {
         spoil(random, &mut case);
     }
     case
+}
+
+/// Two neighbouring knots and a point, which is often one of them.
+fn exact_index(random: &mut Random) -> Case {
+    let line = Grid::line(random);
+    let lower = random.below(line.points[0] - 1);
+    let elsewhere = line.coordinates(random)[0];
+    let point = random.pick(&[line.knots[lower], line.knots[lower + 1], elsewhere]);
+    let case = lending::exact_index(&line.knots, lower, point);
+    altered_at_times(random, case)
+}
+
+/// Where a generated point lies.
+fn locate_axis(random: &mut Random) -> Case {
+    let line = Grid::line(random);
+    let point = line.coordinates(random)[0];
+    let case = lending::locate_axis(random, &line.knots, point);
+    altered_at_times(random, case)
+}
+
+/// The knot that a generated point steps to.
+fn locate_step_index(random: &mut Random) -> Case {
+    let line = Grid::line(random);
+    let point = line.coordinates(random)[0];
+    let case = lending::locate_step_index(&line.knots, random.below(2), point);
+    altered_at_times(random, case)
+}
+
+/// The sample that generated coordinates step to. What stands past the axes in use is not read.
+fn stepped(random: &mut Random) -> Case {
+    let grid = Grid::generate(random);
+    let mut directions = [2, 255, 3, 4];
+    for direction in &mut directions[..grid.axes] {
+        *direction = random.below(2) as u8;
+    }
+    let samples = list(random, grid.samples());
+    let coordinates = grid.coordinates(random);
+    let case = lending::stepped(random, &grid, directions, &samples, &coordinates);
+    altered_at_times(random, case)
 }
 
 /// A sheet to be read: first every cut and every single damaged bit of a small

@@ -159,6 +159,65 @@ fn query_arguments(
     ]
 }
 
+/// The knots of an axis, with how many there are.
+fn axis_arguments(knots: &[f64]) -> Vec<Argument> {
+    vec![Argument::Number(knots.len()), Argument::of_floats(knots)]
+}
+
+/// Which of a knot and the next equals a point.
+pub fn exact_index(knots: &[f64], lower: usize, point: f64) -> Case {
+    let mut arguments = axis_arguments(knots);
+    arguments.extend([
+        Argument::Number(lower),
+        Argument::Float(point),
+        Argument::of_numbers(&[75, 76]),
+    ]);
+    Case::new(Call::ExactIndex, arguments)
+}
+
+/// Where a point lies.
+pub fn locate_axis(random: &mut Random, knots: &[f64], point: f64) -> Case {
+    let mut arguments = axis_arguments(knots);
+    arguments.extend([
+        Argument::Float(point),
+        Argument::of_numbers(&[75, 76]),
+        room(random, 1),
+    ]);
+    Case::new(Call::LocateAxis, arguments)
+}
+
+/// The knot that a point steps to; a direction is a byte.
+pub fn locate_step_index(knots: &[f64], direction: usize, point: f64) -> Case {
+    let mut arguments = axis_arguments(knots);
+    arguments.extend([
+        Argument::Number(direction),
+        Argument::Float(point),
+        Argument::of_numbers(&[77]),
+    ]);
+    Case::new(Call::LocateStepIndex, arguments)
+}
+
+/// The sample that a point steps to on a grid.
+pub fn stepped(
+    random: &mut Random,
+    grid: &Grid,
+    directions: [u8; 4],
+    samples: &[f64],
+    coordinates: &[f64],
+) -> Case {
+    let arguments = vec![
+        Argument::Number(grid.axes),
+        Argument::of_numbers(&grid.points),
+        Argument::of_bytes(&directions),
+        Argument::of_floats(&grid.knots),
+        Argument::of_floats(samples),
+        Argument::of_floats(coordinates),
+        room(random, 1),
+        room_of_axes(),
+    ];
+    Case::new(Call::Stepped, arguments)
+}
+
 /// A sheet, the two buffers, and room for its axes. What is no number keeps no payload
 /// in them, so they are filled with numbers.
 fn sheet_arguments(random: &mut Random, bytes: &[u8]) -> Vec<Argument> {

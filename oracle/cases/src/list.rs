@@ -24,7 +24,7 @@ use crate::reading_calls::Reading;
 use crate::report::NUMBERS;
 
 /// The calls in the order of their numbers.
-pub const CALLS: [Call; 11] = [
+pub const CALLS: [Call; 15] = [
     Call::Moments,
     Call::Curve,
     Call::Slopes,
@@ -36,13 +36,17 @@ pub const CALLS: [Call; 11] = [
     Call::QuickQuery,
     Call::EvenQuery,
     Call::Write,
+    Call::ExactIndex,
+    Call::LocateAxis,
+    Call::LocateStepIndex,
+    Call::Stepped,
 ];
 
 /// The seed of the list; another one makes another list.
 const SEED: u64 = 1;
 
 /// How many accepted cases of each call the list has.
-const ACCEPTED: usize = 32;
+const ACCEPTED: usize = 28;
 
 /// How many cases of each refusal of each call.
 const REFUSED: usize = 3;

@@ -15,7 +15,7 @@ struct Edge {
 }
 
 /// How many edges there are.
-const COUNT: usize = 36;
+const COUNT: usize = 41;
 
 const EDGES: [Edge; COUNT] = [
     Edge {
@@ -169,6 +169,26 @@ const EDGES: [Edge; COUNT] = [
             written && case.argument("bytes").length() > 8000
         },
     },
+    Edge {
+        name: "a step upward from below all knots",
+        is_reached: |case, refusal| refusal == 0 && a_step(case, 1, |knots, p| p < knots[0]),
+    },
+    Edge {
+        name: "a step upward from the first knot",
+        is_reached: |case, refusal| refusal == 0 && a_step(case, 1, |knots, p| p == knots[0]),
+    },
+    Edge {
+        name: "a step downward from above all knots",
+        is_reached: |case, refusal| refusal == 0 && a_step(case, 0, |knots, p| p > last(knots)),
+    },
+    Edge {
+        name: "a step downward from the last knot",
+        is_reached: |case, refusal| refusal == 0 && a_step(case, 0, |knots, p| p == last(knots)),
+    },
+    Edge {
+        name: "a direction that is none beside a slice of another length",
+        is_reached: |case, refusal| refusal == 4 && no_direction(case),
+    },
 ];
 
 /// By how many bytes the buffer that a sheet is written to is longer than the sheet.
@@ -320,7 +340,7 @@ impl Reached {
 }
 
 /// The slices of a fixed length in a call with axes.
-const FIXED: [(&str, usize); 10] = [
+const FIXED: [(&str, usize); 12] = [
     ("points", 4),
     ("kinds", 8),
     ("values", 8),
@@ -331,6 +351,8 @@ const FIXED: [(&str, usize); 10] = [
     ("lanes", 1),
     ("uneven", 2),
     ("length", 1),
+    ("directions", 4),
+    ("indices", 4),
 ];
 
 fn a_fixed_length_off(case: &Case) -> bool {
@@ -376,7 +398,10 @@ fn knots_by_axis(case: &Case) -> Vec<&[f64]> {
 
 fn coordinates(case: &Case) -> Vec<f64> {
     match case.call {
-        Call::Curve => vec![case.argument("point").float()],
+        Call::Curve | Call::LocateAxis | Call::LocateStepIndex => {
+            vec![case.argument("point").float()]
+        }
+        Call::Stepped => case.argument("coordinates").floats().to_vec(),
         call if call.is_query() => case.argument("coordinates").floats().to_vec(),
         _ => Vec::new(),
     }
@@ -439,4 +464,33 @@ fn a_step_past_the_edge(case: &Case) -> bool {
 
 fn a_long_tensor(case: &Case) -> bool {
     case.has("tensor") && case.argument("tensor").length() > 3900
+}
+
+/// Whether a point steps in a direction on some axis, and lies so among the knots there.
+fn a_step(case: &Case, direction: u8, lies: fn(&[f64], f64) -> bool) -> bool {
+    let directions = match case.call {
+        Call::LocateStepIndex => vec![case.argument("direction").number() as u8],
+        Call::Stepped => case.argument("directions").bytes().to_vec(),
+        _ => return false,
+    };
+    let coordinates = coordinates(case).into_iter().zip(directions);
+    let mut axes = knots_by_axis(case).into_iter().zip(coordinates);
+    axes.any(|(knots, (point, given))| given == direction && lies(knots, point))
+}
+
+fn last(knots: &[f64]) -> f64 {
+    knots[knots.len() - 1]
+}
+
+/// Whether a case of steps has a number that is no direction.
+fn no_direction(case: &Case) -> bool {
+    match case.call {
+        Call::LocateStepIndex => case.argument("direction").number() > 1,
+        Call::Stepped => {
+            let axes = case.argument("axes").number();
+            let directions = case.argument("directions").bytes();
+            directions.iter().take(axes).any(|number| *number > 1)
+        }
+        _ => false,
+    }
 }

@@ -14,6 +14,9 @@ impl Calls for Reading {
             Call::Query | Call::QuickQuery => of_a_tensor(case.call, arguments),
             Call::EvenQuery => on_even_axes(arguments),
             Call::Read | Call::SheetTensor | Call::Write => on_a_sheet(case.call, arguments),
+            Call::ExactIndex | Call::LocateAxis | Call::LocateStepIndex | Call::Stepped => {
+                by_steps(case.call, arguments)
+            }
         };
         Some(refusal)
     }
@@ -105,6 +108,34 @@ fn on_a_sheet(call: Call, arguments: &mut [Argument]) -> usize {
                 knots.floats(), samples.floats(), bytes.bytes_mut(), length.numbers_mut(),
             )
         }
+        _ => panic!("a case has the arguments of its call"),
+    }
+}
+
+#[rustfmt::skip]
+fn by_steps(call: Call, arguments: &mut [Argument]) -> usize {
+    match (call, arguments) {
+        (Call::ExactIndex, [points, knots, lower, point, found]) => reading::exact_index(
+            points.number(), knots.floats(), lower.number(), point.float(),
+            found.numbers_mut(),
+        ),
+        (Call::LocateAxis, [points, knots, point, location, fraction]) => reading::locate_axis(
+            points.number(), knots.floats(), point.float(), location.numbers_mut(),
+            fraction.floats_mut(),
+        ),
+        (Call::LocateStepIndex, [points, knots, direction, point, index]) => {
+            reading::locate_step_index(
+                points.number(), knots.floats(), direction.number() as u8, point.float(),
+                index.numbers_mut(),
+            )
+        }
+        (
+            Call::Stepped,
+            [axes, points, directions, knots, samples, coordinates, value, indices],
+        ) => reading::stepped(
+            axes.number(), points.numbers(), directions.bytes(), knots.floats(),
+            samples.floats(), coordinates.floats(), value.floats_mut(), indices.numbers_mut(),
+        ),
         _ => panic!("a case has the arguments of its call"),
     }
 }

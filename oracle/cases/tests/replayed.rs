@@ -50,16 +50,18 @@ impl Words {
     }
 
     fn argument(&mut self, call: Call, name: &str) -> Argument {
-        let one_axis = matches!(call, Call::Moments | Call::Curve | Call::Slopes);
+        let one_axis = !call.reads_patterns() && !call.arguments().contains(&"axes");
         match name {
             "points" if one_axis => Argument::Number(self.next() as usize),
             "axes" if !call.reads_patterns() => Argument::Number(self.next() as usize),
+            "lower" | "direction" => Argument::Number(self.next() as usize),
             "point" | "sample" => Argument::Float(f64::from_bits(self.next())),
-            "kinds" | "modes" | "bytes" => {
+            "kinds" | "modes" | "directions" | "bytes" => {
                 let bytes: Vec<u8> = self.slice().into_iter().map(|word| word as u8).collect();
                 Argument::of_bytes(&bytes)
             }
-            "axes" | "points" | "place" | "labels" | "lanes" | "length" | "uneven" => {
+            "axes" | "points" | "place" | "labels" | "lanes" | "length" | "uneven" | "found"
+            | "location" | "index" | "indices" => {
                 let items: Vec<usize> =
                     self.slice().into_iter().map(|word| word as usize).collect();
                 Argument::of_numbers(&items)
@@ -103,7 +105,7 @@ fn the_list_gives_the_readings_answers_back() {
         seen[given.call as usize][refusal] += 1;
     }
     assert_eq!(words.words.len(), 0);
-    assert!((300..=800).contains(&count), "{count}");
+    assert!((300..=1000).contains(&count), "{count}");
     assert!(STORED.len() < ROOM, "{}", STORED.len());
     assert!(seen.iter().all(|refusals| refusals[0] >= 24));
     let refused = |number: usize| seen.iter().any(|refusals| refusals[number] > 0);

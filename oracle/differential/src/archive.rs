@@ -34,6 +34,10 @@ impl Calls for Archive {
             Call::Read => read(arguments),
             Call::SheetTensor => sheet_tensor(arguments),
             Call::Write => write(arguments),
+            Call::ExactIndex => exact_index(arguments),
+            Call::LocateAxis => locate_axis(arguments),
+            Call::LocateStepIndex => locate_step_index(arguments),
+            Call::Stepped => stepped(arguments),
         };
         Some(refusal)
     }
@@ -270,6 +274,76 @@ fn write(arguments: &mut [Argument]) -> usize {
         hullashlar_write(
             axes.number(), points.0, points.1, kinds.0, kinds.1, values.0, values.1,
             knots.0, knots.1, samples.0, samples.1, bytes.0, bytes.1, length.0, length.1,
+        )
+    }
+}
+
+#[rustfmt::skip]
+fn exact_index(arguments: &mut [Argument]) -> usize {
+    let [points, knots, lower, point, found] = arguments else {
+        panic!("a case has the arguments of its call")
+    };
+    let knots = lent(knots.floats());
+    let found = lent_mut(found.numbers_mut());
+    // SAFETY: each pair is a live slice; no two of them overlap.
+    unsafe {
+        hullashlar_exact_index(
+            points.number(), knots.0, knots.1, lower.number(), point.float(), found.0, found.1,
+        )
+    }
+}
+
+#[rustfmt::skip]
+fn locate_axis(arguments: &mut [Argument]) -> usize {
+    let [points, knots, point, location, fraction] = arguments else {
+        panic!("a case has the arguments of its call")
+    };
+    let knots = lent(knots.floats());
+    let location = lent_mut(location.numbers_mut());
+    let fraction = lent_mut(fraction.floats_mut());
+    // SAFETY: each pair is a live slice; no two of them overlap.
+    unsafe {
+        hullashlar_locate_axis(
+            points.number(), knots.0, knots.1, point.float(), location.0, location.1,
+            fraction.0, fraction.1,
+        )
+    }
+}
+
+#[rustfmt::skip]
+fn locate_step_index(arguments: &mut [Argument]) -> usize {
+    let [points, knots, direction, point, index] = arguments else {
+        panic!("a case has the arguments of its call")
+    };
+    let knots = lent(knots.floats());
+    let index = lent_mut(index.numbers_mut());
+    // SAFETY: each pair is a live slice; no two of them overlap.
+    unsafe {
+        hullashlar_locate_step_index(
+            points.number(), knots.0, knots.1, direction.number() as u8, point.float(),
+            index.0, index.1,
+        )
+    }
+}
+
+#[rustfmt::skip]
+fn stepped(arguments: &mut [Argument]) -> usize {
+    let [axes, points, directions, knots, samples, coordinates, value, indices] = arguments else {
+        panic!("a case has the arguments of its call")
+    };
+    let points = lent(points.numbers());
+    let directions = lent(directions.bytes());
+    let knots = lent(knots.floats());
+    let samples = lent(samples.floats());
+    let coordinates = lent(coordinates.floats());
+    let value = lent_mut(value.floats_mut());
+    let indices = lent_mut(indices.numbers_mut());
+    // SAFETY: each pair is a live slice; no two of them overlap.
+    unsafe {
+        hullashlar_stepped(
+            axes.number(), points.0, points.1, directions.0, directions.1, knots.0, knots.1,
+            samples.0, samples.1, coordinates.0, coordinates.1, value.0, value.1,
+            indices.0, indices.1,
         )
     }
 }

@@ -48,6 +48,7 @@ fn of_c(argument: &str) -> Vec<String> {
     let (c_type, name) = argument.split_at(end + 1);
     let rust_type = match c_type.trim() {
         "size_t" => "usize",
+        "uint8_t" => "u8",
         "double" => "f64",
         "const double *" => "*const f64",
         "const size_t *" => "*const usize",

@@ -6,7 +6,8 @@ mod strategy;
 pub use ndarray::{ArrayD, ArrayView1, ArrayViewD, IxDyn};
 pub use strategy::cubic::{CubicC2BoundaryConditions, CubicC2Endpoint};
 pub use strategy::grid::{
-    locate_lower_index, locate_lower_index_uniform, validate_uniform_grid_epsilon,
+    exact_index, locate_axis, locate_lower_index, locate_lower_index_uniform, locate_step_index,
+    validate_uniform_grid_epsilon, AxisLocation,
 };
 pub use strategy::{Broadcastable, InterpolateError, StepDirection, ValidateError};
 

@@ -149,3 +149,38 @@ fn a_second_derivative_of_minus_zero_loses_its_sign_at_the_upper_end() {
     assert_eq!(moments[0].to_bits(), (-0.0f64).to_bits());
     assert_eq!(moments[1].to_bits(), 0.0f64.to_bits());
 }
+
+/// The comment has every edge case handled, and that a cell's upper knot would pass over the first.
+#[test]
+fn a_step_upward_from_below_all_knots_passes_over_the_first() {
+    let knots = [0.0, 1.0];
+    let index = locate_step_index(StepDirection::Upper, knots.as_slice().into(), &-1.0);
+    assert_eq!(index, 1);
+}
+
+#[test]
+fn a_step_downward_from_above_all_knots_passes_over_the_last() {
+    let knots = [0.0, 1.0];
+    let index = locate_step_index(StepDirection::Lower, knots.as_slice().into(), &2.0);
+    assert_eq!(index, 0);
+}
+
+/// The comment has the fraction in [0, 1).
+#[test]
+fn a_fraction_lies_beyond_its_range() {
+    let fraction = |knots: [f64; 2], point: f64| match locate_axis(knots.as_slice().into(), &point)
+    {
+        AxisLocation::Between { lower: 0, frac } => frac,
+        _ => panic!("the point lies in the one cell and on no knot"),
+    };
+    assert_eq!(fraction([0.0, 1.0], -1.0), -1.0);
+    assert_eq!(fraction([-1.0, 2e-17], 1e-17), 1.0);
+    assert_eq!(fraction([0.0, 5e-324], 1e308), f64::INFINITY);
+}
+
+#[test]
+#[should_panic]
+fn a_lower_index_with_no_knot_after_it_stops_the_program() {
+    let knots = [0.0, 1.0];
+    exact_index(knots.as_slice().into(), 1, &2.0);
+}

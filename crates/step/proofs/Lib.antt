@@ -1,0 +1,4 @@
+mod Found
+mod Answers
+mod Positions
+pub mod Meaning

@@ -1,0 +1,37 @@
+-- What is known of all that a call of steps was given once its check has found nothing to refuse.
+use mathlib.Core.Path.{_≡_}
+use mathlib.Core.Bool.{true}
+use mathlib.Core.List.{List}
+use Prim.Native.Nat.{ℕ, _+_, _≤_, _<_}
+use lib.ListN.{length}
+use lib.Ieee.{Float}
+use lib.Ieee.Scale.{finite}
+use Rattle.rules.specs.Numbers.{at}
+use Rattle.rules.specs.Sizes.{fewest-on-an-axis, most-on-an-axis, most-in-a-tensor, Grid, points, knots-length, knots, samples-length, tensor-length}
+use Rattle.grid.specs.Given.{InRange}
+use Rattle.locate.specs.Answers.{Rising}
+
+-- of n knots and a point
+pub record PointGiven (n : ℕ) (x : List Float) (point : Float) : Type 0 where
+  pub some-points : fewest-on-an-axis ≤ n
+  pub few-points : n ≤ most-on-an-axis
+  pub rising : Rising x n
+  pub point-finite : finite point ≡ true
+
+-- of these and a lower index
+pub record ExactGiven (n : ℕ) (x : List Float) (lower : ℕ) (point : Float) : Type 0 where
+  pub point-given : PointGiven n x point
+  pub next-knot : lower + 1 < n
+
+-- of a grid and coordinates
+pub record AxesGiven (g : Grid) (coordinates : List Float) : Type 0 where
+  pub in-range : InRange (g .axes) (points g)
+  pub small : tensor-length g ≤ most-in-a-tensor
+  pub knots-exact : length (g .flat-knots) ≡ knots-length g
+  pub coordinates-exact : length coordinates ≡ g .axes
+  pub on-axis : (i : ℕ) → i < g .axes → PointGiven (points g i) (knots g i) (at coordinates i)
+
+-- of these and samples
+pub record SteppedGiven (g : Grid) (samples coordinates : List Float) : Type 0 where
+  pub axes-given : AxesGiven g coordinates
+  pub samples-exact : length samples ≡ samples-length g

@@ -1,0 +1,3 @@
+mod Stepping
+mod Answers
+pub mod OneSample
