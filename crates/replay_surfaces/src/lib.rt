@@ -354,31 +354,33 @@ fn query_answered(
     )
 }
 
-// A case of either query, whose arguments begin at a place.
-fn query_case(quick: bool, list: &[u8], begin: usize) -> Replayed {
+// Either call on the slices that it reads, of a case whose arguments begin at a place.
+fn query_on(
+    quick: bool,
+    list: &[u8],
+    begin: usize,
+    answer: usize,
+    at_value: usize,
+    at_labels: usize,
+    value: &mut [f64],
+    labels: &mut [usize],
+) -> Replayed {
     let at_axes = begin;
     let at_points = after(at_axes, 1);
     let at_modes = after_given(list, at_points);
     let at_knots = after_given(list, at_modes);
     let at_tensor = after_given(list, at_knots);
     let at_coordinates = after_given(list, at_tensor);
-    let at_value = after_given(list, at_coordinates);
-    let at_labels = after_given(list, at_value);
-    let answer = after_given(list, at_labels);
     let points = numbers_given(list, at_points);
-    let modes = bytes_given(list, at_modes);
-    let knots = floats_given(list, at_knots);
-    let tensor = floats_given(list, at_tensor);
-    let coordinates = floats_given(list, at_coordinates);
-    let mut value = floats_given(list, at_value);
-    let mut labels = numbers_given(list, at_labels);
     let points_end = numbers_at(list, at_points);
+    let modes = bytes_given(list, at_modes);
     let modes_end = bytes_at(list, at_modes);
+    let knots = floats_given(list, at_knots);
     let knots_end = floats_at(list, at_knots);
+    let tensor = floats_given(list, at_tensor);
     let tensor_end = floats_at(list, at_tensor);
+    let coordinates = floats_given(list, at_coordinates);
     let coordinates_end = floats_at(list, at_coordinates);
-    let value_end = floats_at(list, at_value);
-    let labels_end = numbers_at(list, at_labels);
     query_answered(
         quick,
         list,
@@ -391,6 +393,32 @@ fn query_case(quick: bool, list: &[u8], begin: usize) -> Replayed {
         &knots[0..knots_end],
         &tensor[0..tensor_end],
         &coordinates[0..coordinates_end],
+        value,
+        labels,
+    )
+}
+
+// A case of either query, whose arguments begin at a place.
+fn query_case(quick: bool, list: &[u8], begin: usize) -> Replayed {
+    let at_points = after(begin, 1);
+    let at_modes = after_given(list, at_points);
+    let at_knots = after_given(list, at_modes);
+    let at_tensor = after_given(list, at_knots);
+    let at_coordinates = after_given(list, at_tensor);
+    let at_value = after_given(list, at_coordinates);
+    let at_labels = after_given(list, at_value);
+    let answer = after_given(list, at_labels);
+    let mut value = floats_given(list, at_value);
+    let value_end = floats_at(list, at_value);
+    let mut labels = numbers_given(list, at_labels);
+    let labels_end = numbers_at(list, at_labels);
+    query_on(
+        quick,
+        list,
+        begin,
+        answer,
+        at_value,
+        at_labels,
         &mut value[0..value_end],
         &mut labels[0..labels_end],
     )
