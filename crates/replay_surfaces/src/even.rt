@@ -60,34 +60,34 @@ fn even_query_answered(
     }
 }
 
-// A case, whose arguments begin at a place.
-pub fn even_query_case(list: &[u8], begin: usize) -> Replayed {
+// The call on the slices that it reads, of a case whose arguments begin at a place.
+fn even_query_on(
+    list: &[u8],
+    begin: usize,
+    answer: usize,
+    at_value: usize,
+    at_labels: usize,
+    at_uneven: usize,
+    value: &mut [f64],
+    labels: &mut [usize],
+    uneven: &mut [usize],
+) -> Replayed {
     let at_axes = begin;
     let at_points = after(at_axes, 1);
     let at_modes = after_given(list, at_points);
     let at_knots = after_given(list, at_modes);
     let at_tensor = after_given(list, at_knots);
     let at_coordinates = after_given(list, at_tensor);
-    let at_value = after_given(list, at_coordinates);
-    let at_labels = after_given(list, at_value);
-    let at_uneven = after_given(list, at_labels);
-    let answer = after_given(list, at_uneven);
     let points = numbers_given(list, at_points);
-    let modes = bytes_given(list, at_modes);
-    let knots = floats_given(list, at_knots);
-    let tensor = floats_given(list, at_tensor);
-    let coordinates = floats_given(list, at_coordinates);
-    let mut value = floats_given(list, at_value);
-    let mut labels = numbers_given(list, at_labels);
-    let mut uneven = numbers_given(list, at_uneven);
     let points_end = numbers_at(list, at_points);
+    let modes = bytes_given(list, at_modes);
     let modes_end = bytes_at(list, at_modes);
+    let knots = floats_given(list, at_knots);
     let knots_end = floats_at(list, at_knots);
+    let tensor = floats_given(list, at_tensor);
     let tensor_end = floats_at(list, at_tensor);
+    let coordinates = floats_given(list, at_coordinates);
     let coordinates_end = floats_at(list, at_coordinates);
-    let value_end = floats_at(list, at_value);
-    let labels_end = numbers_at(list, at_labels);
-    let uneven_end = numbers_at(list, at_uneven);
     even_query_answered(
         list,
         answer,
@@ -100,6 +100,36 @@ pub fn even_query_case(list: &[u8], begin: usize) -> Replayed {
         &knots[0..knots_end],
         &tensor[0..tensor_end],
         &coordinates[0..coordinates_end],
+        value,
+        labels,
+        uneven,
+    )
+}
+
+// A case, whose arguments begin at a place.
+pub fn even_query_case(list: &[u8], begin: usize) -> Replayed {
+    let at_points = after(begin, 1);
+    let at_modes = after_given(list, at_points);
+    let at_knots = after_given(list, at_modes);
+    let at_tensor = after_given(list, at_knots);
+    let at_coordinates = after_given(list, at_tensor);
+    let at_value = after_given(list, at_coordinates);
+    let at_labels = after_given(list, at_value);
+    let at_uneven = after_given(list, at_labels);
+    let answer = after_given(list, at_uneven);
+    let mut value = floats_given(list, at_value);
+    let value_end = floats_at(list, at_value);
+    let mut labels = numbers_given(list, at_labels);
+    let labels_end = numbers_at(list, at_labels);
+    let mut uneven = numbers_given(list, at_uneven);
+    let uneven_end = numbers_at(list, at_uneven);
+    even_query_on(
+        list,
+        begin,
+        answer,
+        at_value,
+        at_labels,
+        at_uneven,
         &mut value[0..value_end],
         &mut labels[0..labels_end],
         &mut uneven[0..uneven_end],
