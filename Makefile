@@ -11,7 +11,8 @@ test:
 # How many cases of each kind are compared with the Rust; of a kind that is not named here there are 10,000.
 CASES = --moments 60000 --curve 60000 --slopes 60000 --build 50000 --change 50000 \
     --change_list 20000 --either_order 60000 --query 400000 --read 60000 --sheet_tensor 60000 --short_sheet 65793 \
-    --quick_query 200000 --quick_beside_full 530000 --even_query 240000
+    --quick_query 200000 --quick_beside_full 530000 --even_query 240000 \
+    --write 200000 --written_back 60000
 SEED = 20240917
 
 # Holds the exported calls against the Rust, bit for bit; fails where there is a difference, or nothing was compared of a kind.
@@ -44,14 +45,17 @@ archive:
 bench: archive
 	cd oracle && cargo run --offline --release -p bench
 
-# The two example hosts on one sheet, each held against the output that is kept beside them.
+# The two example hosts on one sheet, each held against the output and against the changed sheet that are kept beside them.
 examples: archive
 	mkdir -p target/examples
 	python3 examples/gain_sheet.py | cmp - examples/gain.sheet
+	python3 examples/gain_sheet.py changed | cmp - examples/changed.sheet
 	gcc -std=c11 -Wall -Wextra -Werror -O2 -Iinclude examples/host.c target/staticlib/libhost.a -o target/examples/host_in_c
 	rustc --edition 2021 -O examples/host.rs -L native=target/staticlib -l static=host -o target/examples/host_in_rust
-	target/examples/host_in_c examples/gain.sheet | diff examples/expected.txt -
-	target/examples/host_in_rust examples/gain.sheet | diff examples/expected.txt -
+	target/examples/host_in_c examples/gain.sheet target/examples/c.sheet | diff examples/expected.txt -
+	target/examples/host_in_rust examples/gain.sheet target/examples/rust.sheet | diff examples/expected.txt -
+	cmp examples/changed.sheet target/examples/c.sheet
+	cmp examples/changed.sheet target/examples/rust.sheet
 
 # Draws the picture of README.md anew, from numbers that the library computes.
 picture: archive

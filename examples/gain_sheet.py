@@ -1,5 +1,6 @@
 #!/usr/bin/env python3
-"""Writes gain.sheet: a hearing aid's gain over frequency and input level, as a packed sheet."""
+"""Writes gain.sheet: a hearing aid's gain over frequency and input level, as a packed sheet; with `changed`, the sheet that
+the example hosts write back once they have changed a sample."""
 
 import struct
 import sys
@@ -19,6 +20,9 @@ GAIN = [
     [26.0, 21.0, 15.0, 8.0, 3.0],
     [30.0, 24.0, 17.0, 9.0, 3.0],
 ]
+
+# The sample that the hosts change: its row, its column, the new gain.
+CHANGE = (2, 2, 15.0)
 
 
 def field(number, width):
@@ -50,5 +54,8 @@ def packed(axes, samples):
 
 
 if __name__ == "__main__":
+    if sys.argv[1:] == ["changed"]:
+        row, column, gain = CHANGE
+        GAIN[row][column] = gain
     samples = [gain for row in GAIN for gain in row]
     sys.stdout.buffer.write(packed([FREQUENCY, LEVEL], samples))

@@ -1,4 +1,4 @@
-/* A host in C: it loads the sheet of a gain surface, asks for a gain, changes one sample and asks again.
+/* A host in C: it loads the sheet of a gain surface, asks for a gain, changes one sample, asks again and writes the sheet back.
  * Nothing is allocated: every slice that a call is lent stands here. */
 #include "hullashlar.h"
 
@@ -97,6 +97,21 @@ static size_t query(const struct sheet *sheet, const double *coordinates, double
                             labels, HULLASHLAR_AXES);
 }
 
+/* The sheet with the samples that stand now, in a file. */
+static void write_back(const char *path, const struct sheet *sheet)
+{
+    static uint8_t bytes[HULLASHLAR_SHEET];
+    size_t length;
+    accept("write", hullashlar_write(sheet->axes, sheet->points, HULLASHLAR_AXES, sheet->kinds, HULLASHLAR_ENDS,
+                                     sheet->values, HULLASHLAR_ENDS, sheet->knots, knots_length(sheet), sheet->samples,
+                                     samples_length(sheet), bytes, HULLASHLAR_SHEET, &length, 1));
+    FILE *file = fopen(path, "wb");
+    if (file == NULL || fwrite(bytes, 1, length, file) != length || fclose(file) != 0) {
+        perror(path);
+        exit(1);
+    }
+}
+
 static void print_gain(const struct sheet *sheet, const double *coordinates)
 {
     double gain;
@@ -129,8 +144,8 @@ int main(int count, char **arguments)
     size_t cell[HULLASHLAR_AXES];
     size_t numbers;
 
-    if (count != 2) {
-        fprintf(stderr, "%s SHEET\n", arguments[0]);
+    if (count != 3) {
+        fprintf(stderr, "%s SHEET WRITTEN\n", arguments[0]);
         return 2;
     }
     load(arguments[1], &sheet, &numbers);
@@ -140,5 +155,6 @@ int main(int count, char **arguments)
     change_and_compare(&sheet, place, 15.0);
     print_gain(&sheet, point);
     printf("gain at a level that is no number: refused %zu\n", query(&sheet, no_point, &gain, cell));
+    write_back(arguments[2], &sheet);
     return 0;
 }

@@ -1,9 +1,9 @@
 //! A host in Rust: it loads the sheet of a gain surface, asks for a gain,
-//! changes one sample and asks again.
+//! changes one sample, asks again and writes the sheet back.
 
 mod hullashlar;
 
-use hullashlar::{Axes, Refusal, BUFFER, LONGEST_TENSOR, SCRATCH};
+use hullashlar::{Axes, Refusal, BUFFER, LONGEST_SHEET, LONGEST_TENSOR, SCRATCH};
 use std::process::ExitCode;
 use std::{env, fs};
 
@@ -74,6 +74,19 @@ impl Surface {
         )
     }
 
+    /// The sheet with the samples that stand now.
+    fn sheet(&self) -> Result<Vec<u8>, Refusal> {
+        let mut bytes = vec![0; LONGEST_SHEET];
+        let length = hullashlar::write(
+            &self.axes,
+            &self.knots[..self.axes.knots_length()],
+            &self.samples[..self.axes.samples_length()],
+            &mut bytes,
+        )?;
+        bytes.truncate(length);
+        Ok(bytes)
+    }
+
     /// The bits of every number of the tensor.
     fn bits(&self) -> Vec<u64> {
         self.tensor.iter().map(|number| number.to_bits()).collect()
@@ -81,13 +94,16 @@ impl Surface {
 }
 
 fn main() -> ExitCode {
-    let Some(path) = env::args().nth(1) else {
-        eprintln!("host SHEET");
+    let (Some(path), Some(written)) = (env::args().nth(1), env::args().nth(2)) else {
+        eprintln!("host SHEET WRITTEN");
         return ExitCode::from(2);
     };
     let sheet = fs::read(path).expect("the sheet can be read");
     match show(&sheet) {
-        Ok(()) => ExitCode::SUCCESS,
+        Ok(changed) => {
+            fs::write(written, changed).expect("the sheet can be written");
+            ExitCode::SUCCESS
+        }
         Err(refusal) => {
             eprintln!("refused {refusal}");
             ExitCode::FAILURE
@@ -95,7 +111,8 @@ fn main() -> ExitCode {
     }
 }
 
-fn show(sheet: &[u8]) -> Result<(), Refusal> {
+/// The sheet as it stands after the change.
+fn show(sheet: &[u8]) -> Result<Vec<u8>, Refusal> {
     let mut surface = Surface::load(sheet)?;
     let Axes { count, points, .. } = surface.axes;
     println!(
@@ -110,7 +127,7 @@ fn show(sheet: &[u8]) -> Result<(), Refusal> {
     print_gain(&surface, point)?;
     let refusal = surface.gain([1.5, f64::NAN]).err().unwrap_or(0);
     println!("gain at a level that is no number: refused {refusal}");
-    Ok(())
+    surface.sheet()
 }
 
 fn print_gain(surface: &Surface, point: [f64; 2]) -> Result<(), Refusal> {

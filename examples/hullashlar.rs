@@ -28,6 +28,8 @@ pub const EXTEND: [u8; 4] = [0; 4];
 
 /// The modes of four axes that are all held at their end knots.
 pub const HOLD: [u8; 4] = [1; 4];
+/// The bytes of the longest sheet.
+pub const LONGEST_SHEET: usize = 10308;
 
 /// The axes as the calls take them; what stands past the axes in use is not read.
 #[derive(Debug, Clone, Default)]
@@ -329,4 +331,29 @@ pub fn sheet_tensor(
     };
     axes.count = count[0];
     outcome(refusal, (axes, length[0]))
+}
+
+/// Writes the packed sheet of axes, knots and samples to the first of the bytes; gives how many it has.
+#[rustfmt::skip]
+pub fn write(
+    axes: &Axes,
+    knots: &[f64],
+    samples: &[f64],
+    bytes: &mut [u8],
+) -> Result<usize, Refusal> {
+    let mut length = [0];
+    // SAFETY: each pointer goes with the length of a live slice, and no two slices overlap.
+    let refusal = unsafe {
+        hullashlar_write(
+            axes.count,
+            axes.points.as_ptr(), axes.points.len(),
+            axes.kinds.as_ptr(), axes.kinds.len(),
+            axes.values.as_ptr(), axes.values.len(),
+            knots.as_ptr(), knots.len(),
+            samples.as_ptr(), samples.len(),
+            bytes.as_mut_ptr(), bytes.len(),
+            length.as_mut_ptr(), length.len(),
+        )
+    };
+    outcome(refusal, length[0])
 }

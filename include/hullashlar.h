@@ -1,5 +1,5 @@
 /* Hullashlar for C: every public call over numbers and plain slices. docs/RULES.md says what each computes and when it
- * refuses, in its chapters Calls, Read, SheetTensor and Exports.
+ * refuses, in its chapters Calls, Read, SheetTensor, Write and Exports.
  *
  * The machine. The archive, target/staticlib/libhost.a, is code for x86-64, with SSE2 and the System V calling
  * convention. Of its host it wants memcpy and memset, and nothing else. It computes under the caller's MXCSR, which
@@ -15,7 +15,7 @@
  * another uses.
  *
  * Memory for the largest grid: tensor 32,768 bytes, scratch 49,152, the two buffers of a sheet 16,384, together 98,304.
- * docs/BENCH.md has the stack of each call (below 6,300 bytes), the size of the code (below 30,000 bytes) and what the
+ * docs/BENCH.md has the stack of each call (below 6,300 bytes), the size of the code (below 42,000 bytes) and what the
  * archive's proofs rest on.
  *
  * Axes. Points, kinds, values, modes, places and labels are lent for four axes. No call looks at what stands past the
@@ -72,6 +72,7 @@ enum hullashlar_refusal {
     HULLASHLAR_REFUSED_EDITION = 12, /* a sheet of another edition than 1 */
     HULLASHLAR_REFUSED_KINDS = 13,   /* Periodic at one end of an axis and not at the other, or no kind at all */
     HULLASHLAR_REFUSED_TAIL = 14,    /* a sheet goes on after its fields, by a byte or by a bit that is set */
+    HULLASHLAR_REFUSED_BUFFER = 15,  /* fewer bytes than the sheet to be written has */
     HULLASHLAR_REFUSED_OUTSIDE = 18, /* a coordinate outside the knots of an axis whose mode refuses it */
     HULLASHLAR_REFUSED_UNEVEN = 21,  /* the knots of an axis are not evenly spaced */
     HULLASHLAR_REFUSED_MODE = 22     /* no mode at all */
@@ -246,6 +247,21 @@ size_t hullashlar_sheet_tensor(const uint8_t *bytes, size_t bytes_length,
                                double *tensor, size_t tensor_length,
                                double *scratch, size_t scratch_length,
                                size_t *length, size_t length_length);
+
+/* The packed sheet of axes, knots and samples, written to the first of the bytes, and how many it has; the others are
+ * as they were. A read of the sheet hands the same parts over, and a sheet that a read accepts and whose parts a write
+ * does not refuse is written again as it was, byte for byte.
+ * Lengths: points 4; kinds and values 8; knots as many as the points of all axes together; samples one for each place
+ * of the grid; bytes any, of which 10,308 are enough for every sheet; length 1.
+ * Written: bytes, length. Refuses by 1, 2, 3, 4, 13, 7, 8, 9, 15. */
+size_t hullashlar_write(size_t axes,
+                        const size_t *points, size_t points_length,
+                        const uint8_t *kinds, size_t kinds_length,
+                        const double *values, size_t values_length,
+                        const double *knots, size_t knots_length,
+                        const double *samples, size_t samples_length,
+                        uint8_t *bytes, size_t bytes_length,
+                        size_t *length, size_t length_length);
 
 #ifdef __cplusplus
 }

@@ -100,4 +100,14 @@ extern "C" {
         scratch: *mut f64, scratch_length: usize,
         length: *mut usize, length_length: usize,
     ) -> usize;
+    pub fn hullashlar_write(
+        axes: usize,
+        points: *const usize, points_length: usize,
+        kinds: *const u8, kinds_length: usize,
+        values: *const f64, values_length: usize,
+        knots: *const f64, knots_length: usize,
+        samples: *const f64, samples_length: usize,
+        bytes: *mut u8, bytes_length: usize,
+        length: *mut usize, length_length: usize,
+    ) -> usize;
 }

@@ -9,10 +9,10 @@ import sys
 from pathlib import Path
 
 ROOT = Path(__file__).resolve().parent.parent
-CRATES = ["rules", "grid", "checks", "bits", "kinds", "sheet", "sheet_build", "text", "plain_axes", "boundary", "host"]
+CRATES = ["rules", "grid", "checks", "bits", "kinds", "sheet", "sheet_build", "sheet_write", "text", "plain_axes", "boundary", "host"]
 
 # Files that say what functions need from each other and no promise of a public call, and chapters about no file.
-NOT_RULES = {"checks/Given", "checks/Check", "bits/Within", "sheet/Within", "text/Answers"}
+NOT_RULES = {"checks/Given", "checks/Check", "bits/Within", "sheet/Within", "sheet_write/Within", "text/Answers"}
 PROSE = {"Surface", "Program"}
 
 MODULE = re.compile(r"pub mod (\w+)")

@@ -33,6 +33,7 @@ ERRORS = [
     "host/full_query_for_the_quick_one",
     "locate/end_knot_taken_as_outside",
     "even/cell_before_the_knot",
+    "sheet_write/upper_value_first",
 ]
 
 # What `rt try` says of a compiled run that wrote the counts where nothing is expected.

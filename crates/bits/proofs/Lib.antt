@@ -1,2 +1,6 @@
 pub mod Shifts
 pub mod Runs
+pub mod Patches
+pub mod Writes
+pub mod Rows
+pub mod Numbers

@@ -30,7 +30,7 @@ module _ (bytes : List ℕ) where
   field-add at a zero = let e = ap (field bytes at) (add-zero a) in omega arith
   field-add at a (suc b) = rw (add-suc, field-add at a b, pow-suc, ← mul-assoc, ← add-assoc at a b) (omega arith)
 
-halves : (x t : ℕ) → x / 2 % 2 ^ t * 2 + x % 2 ≡ x % 2 ^ suc t
+pub halves : (x t : ℕ) → x / 2 % 2 ^ t * 2 + x % 2 ≡ x % 2 ^ suc t
 halves x t = sym (rw (add-one t) at (mod-pow-add x t 1))
 
 -- a run within one byte

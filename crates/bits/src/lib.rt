@@ -6,6 +6,8 @@ ghost use lib.ListN.{length};
 ghost use Rattle.bits.specs.Bits.{field, short, number, numbers, numbers-short};
 ghost use Rattle.bits.specs.Within.{Within};
 
+pub mod writing; // writing.rt: fields written
+
 // The `count` bits of a byte from its bit `from` on.
 fn chunk(byte: u8, from: usize, count: usize) -> u64
     requires { ⌜ from + count ≤ 8 ⌝ }

@@ -9,8 +9,8 @@ use lib.Ieee.{Float}
 use Rattle.rules.specs.Sizes.{most-axes, knots-length, samples-length, tensor-length}
 use Rattle.rules.specs.Refusals.{length-refused}
 use Rattle.base.proofs.Scan.{neither}
-use Rattle.checks.proofs.Rows.{NoneApplies, none-applies, exact, exact-2}
-use Rattle.boundary.specs.OwnRefusals.{sizes-given, two-ends-refused, eight-ends-refused, place-or-lanes-refused, query-slots-refused, modes-or-slots-refused, found-slots-refused, moments-own-rows, moments-own-refusal, build-own-rows, build-own-refusal, change-own-rows, change-own-refusal, query-later-rows, query-own-rows, query-own-refusal, even-query-own-rows, even-query-own-refusal, read-own-refusal, sheet-tensor-own-refusal}
+use Rattle.checks.proofs.Rows.{none-applies, exact, exact-2, NoneApplies}
+use Rattle.boundary.specs.OwnRefusals.{sizes-given, two-ends-refused, eight-ends-refused, place-or-lanes-refused, query-slots-refused, modes-or-slots-refused, found-slots-refused, moments-own-rows, moments-own-refusal, build-own-rows, build-own-refusal, change-own-rows, change-own-refusal, write-own-rows, write-own-refusal, query-own-rows, query-own-refusal, read-own-refusal, sheet-tensor-own-refusal, query-later-rows, even-query-own-rows, even-query-own-refusal}
 
 -- one row that does not apply
 not-the-first : (applies : Bool) (number : ℕ) → cond applies (suc number) 0 ≡ 0 → applies ≡ false
@@ -59,6 +59,19 @@ module _ (axes : ℕ) (points kinds : List ℕ) (values knots tensor : List Floa
       let ends = eight-lengths kinds values (two .0) in
       let slots = exact-2 (length place) 4 (length lanes) 1 (two .1) in
       (slots .0, exact (length points) 4 (rows .1 .0), ends .0, ends .1, slots .1)
+
+pub write-lengths :
+    (axes : ℕ) (points kinds : List ℕ) (values knots samples : List Float) (length-lent : List ℕ)
+    → write-own-refusal axes points kinds values knots samples length-lent ≡ 0
+    → (length points ≡ 4) × (length kinds ≡ 8) × (length values ≡ 8)
+unfolding write-own-refusal
+write-lengths axes points kinds values knots samples length-lent none =
+    let rows = none-applies (write-own-rows axes points kinds values knots samples length-lent) tt none in
+    let g = sizes-given axes points in
+    let given =
+    neither (eight-ends-refused kinds values || length-refused (length length-lent) 1) (length-refused (length knots) (knots-length g) || length-refused (length samples) (samples-length g)) (rows .1 .1 .1 .1 .0) .0 in
+    let ends = eight-lengths kinds values (neither (eight-ends-refused kinds values) (length-refused (length length-lent) 1) given .0) in
+    (exact (length points) 4 (rows .1 .0), ends .0, ends .1)
 
 pub mode-lengths : (modes : List ℕ) (value : List Float) (labels : List ℕ) → modes-or-slots-refused modes value labels ≡ false → length modes ≡ 4
 mode-lengths modes value labels none =

@@ -109,6 +109,27 @@ module _ (axes : ℕ) (points kinds : List ℕ) (values knots tensor-lent : List
   unfoldable pub change-own-refusal : ℕ
   change-own-refusal = lowest change-own-rows 0
 
+-- ---- the writer
+
+module _ (axes : ℕ) (points kinds : List ℕ) (values knots samples : List Float) (length-lent : List ℕ) where
+  -- 4 for the ends, the slot of the length and for the call's own slices
+  abbrev pub write-own-rows : List Refusal
+  write-own-rows =
+      axes-rows axes points ++ (
+      row 4 (
+      eight-ends-refused kinds values || length-refused (length length-lent) 1
+      || (
+      length-refused (length knots) (knots-length (sizes-given axes points))
+      || length-refused (length samples) (samples-length (sizes-given axes points))
+      )
+      )
+      ∷ row 13 (some-kinds-refused axes kinds)
+      ∷ []
+      )
+
+  unfoldable pub write-own-refusal : ℕ
+  write-own-refusal = lowest write-own-rows 0
+
 -- ---- the query
 
 -- 4 for the slots of value and labels

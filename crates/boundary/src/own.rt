@@ -1,7 +1,11 @@
 // The host's own refusals, in the one order of every export: with axes 1, 4 for the points, 2, 3, 4 for every other slice and slot, 13 for the kinds and 22 for the modes; on one axis 2, 4 and 13. Each is 0 where none applies, and then the call's own follow.
 ghost use mathlib.Core.Path.{_≡_};
+ghost use mathlib.Core.Bool.{_||_};
+ghost use Rattle.rules.specs.Sizes.{knots-length, samples-length};
+ghost use Rattle.rules.specs.Refusals.{length-refused};
+ghost use Rattle.grid.specs.Given.{sizes-of, points-of, InRange};
+ghost use Rattle.boundary.specs.OwnRefusals.{two-ends-refused, eight-ends-refused, place-or-lanes-refused, query-slots-refused, modes-or-slots-refused, found-slots-refused, moments-own-refusal, curve-own-refusal, axes-own-refusal, build-own-refusal, change-own-refusal, write-own-refusal, query-own-refusal, read-own-refusal, sheet-tensor-own-refusal, query-later-rows, even-query-own-refusal};
 ghost use Rattle.checks.specs.Tables.{lowest};
-ghost use Rattle.boundary.specs.OwnRefusals.{two-ends-refused, eight-ends-refused, place-or-lanes-refused, query-slots-refused, modes-or-slots-refused, found-slots-refused, moments-own-refusal, curve-own-refusal, axes-own-refusal, build-own-refusal, change-own-refusal, query-later-rows, query-own-refusal, even-query-own-refusal, read-own-refusal, sheet-tensor-own-refusal};
 use checks::lengths;
 use checks::sizes;
 use kinds::ends::kinds_refused;
@@ -9,6 +13,7 @@ use kinds::ends::wide;
 use plain_axes::axes_without_ends;
 use plain_axes::some_kinds_refused;
 use plain_axes::some_modes_refused;
+use rules::Axis;
 
 // Whether kinds or values are not those of one axis's two ends.
 fn two_ends_refused(kinds: &[u8], values: &[f64]) -> bool
@@ -146,6 +151,47 @@ pub fn change_own_refusal(
     }
     let all = axes_without_ends(axes, points);
     if lengths::change_refused(axes, all, knots.len(), tensor.len()) {
+        return 4;
+    }
+    if some_kinds_refused(axes, kinds) {
+        return 13;
+    }
+    0
+}
+
+// Whether knots or samples are not as many as the axes say: the build's test, told of a tensor that has its length. Not public: what
+// refusals 1 and 2 leave is required.
+fn parts_refused(axes: usize, all: [Axis; 4], knots: usize, samples: usize) -> bool
+    requires { ⌜ InRange axes (points-of all) ⌝ }
+    ensures { λ r. ⌜ r ≡ (length-refused knots (knots-length (sizes-of axes all)) || length-refused samples (samples-length (sizes-of axes all))) ⌝ }
+{
+    lengths::build_refused(axes, all, knots, samples, grid::tensor_length(axes, all))
+}
+
+// Of a sheet that is written: eight ends, the slot of the length, and the call's own slices.
+pub fn write_own_refusal(
+    axes: usize,
+    points: &[usize],
+    kinds: &[u8],
+    values: &[f64],
+    knots: &[f64],
+    samples: &[f64],
+    length: &[usize],
+) -> usize
+    ensures { λ r. ⌜ r ≡ write-own-refusal axes (now (points .entry)) (now (kinds .entry)) (now (values .entry)) (now (knots .entry)) (now (samples .entry)) (now (length .entry)) ⌝ }
+{
+    let refusal = axes_own_refusal(axes, points);
+    if refusal != 0 {
+        return refusal;
+    }
+    if eight_ends_refused(kinds, values) {
+        return 4;
+    }
+    if lengths::length_refused(length.len(), 1) {
+        return 4;
+    }
+    let all = axes_without_ends(axes, points);
+    if parts_refused(axes, all, knots.len(), samples.len()) {
         return 4;
     }
     if some_kinds_refused(axes, kinds) {

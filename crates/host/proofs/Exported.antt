@@ -23,10 +23,12 @@ use Rattle.sheet.proofs.Promises.{answer-refusal}
 use Rattle.sheet_build.specs.SheetTensor.{reading-refusal, sheet-tensor-refusal, SheetPromise}
 use Rattle.sheet_build.specs.declared.SheetAnswer.{SheetAnswer}
 use Rattle.sheet_build.proofs.Builds.{answered-refusal}
-use Rattle.plain_axes.specs.Axes.{condition-given, axes-given, axes-without-ends, grid-without-ends, modes-given, AxesStored}
-use Rattle.boundary.specs.OwnRefusals.{moments-own-refusal, curve-own-refusal, build-own-refusal, change-own-refusal, query-own-refusal, even-query-own-refusal, read-own-refusal, sheet-tensor-own-refusal}
+use Rattle.sheet_write.specs.Write.{write-refusal, write-answer, WritePromise}
+use Rattle.sheet_write.specs.declared.WriteAnswer.{WriteAnswer}
+use Rattle.plain_axes.specs.Axes.{condition-given, axes-given, axes-without-ends, modes-given, AxesStored, grid-without-ends}
+use Rattle.boundary.specs.OwnRefusals.{moments-own-refusal, curve-own-refusal, build-own-refusal, change-own-refusal, write-own-refusal, query-own-refusal, read-own-refusal, sheet-tensor-own-refusal, even-query-own-refusal}
 use Rattle.boundary.specs.Slots.{in-slot, QueryStored, EvenStored}
-use Rattle.host.specs.Exports.{FoundStored, MomentsExport, CurveExport, BuildExport, ChangeExport, AnswerExport, QueryExport, QuickQueryExport, EvenQueryExport, ReadExport, SheetTensorExport}
+use Rattle.host.specs.Exports.{FoundStored, MomentsExport, CurveExport, BuildExport, ChangeExport, AnswerExport, QueryExport, QuickQueryExport, ReadExport, SheetTensorExport, WriteExport, EvenQueryExport}
 use Rattle.boundary.proofs.Lengths.{read-lengths, sheet-tensor-lengths}
 use Rattle.plain_axes.proofs.Slots.{one-stored}
 
@@ -146,6 +148,32 @@ module _ (axes : ℕ) (points kinds : List ℕ) (values knots tensor-lent scratc
         output = left _ _ e none (q .output);
         scratch = left _ _ e none (q .scratch);
         slot = rw (sym e ∙ none) (in-place ∙ ap (λ (b : ChangeAnswer). in-slot lanes-lent (b .lanes)) (q .answer));
+      }
+
+-- ---- the writer
+
+module _ (axes : ℕ) (points kinds : List ℕ) (values knots samples : List Float) (bytes-lent length-lent : List ℕ) {r : ℕ} (e : r ≡ write-own-refusal axes points kinds values knots samples length-lent) where
+  pub write-refused :
+      (r ≡ 0 → ⊥) → {l : List ℕ} → l ≡ in-slot length-lent 0
+      → WriteExport axes points kinds values knots samples bytes-lent length-lent r bytes-lent l
+  write-refused some in-place = record {
+    answer = own-answer _ _ e some;
+    output = untouched _ _ _ e some;
+    slot = in-place ∙ ap (in-slot length-lent) (no-count _ _ e some);
+  }
+
+  pub write-called :
+      r ≡ 0 → (all : List Axis) → all ≡ axes-given axes points kinds values → (a : WriteAnswer) {b l : List ℕ}
+      → WritePromise (record { axes = axes; entries = all; flat-knots = knots }) samples bytes-lent a b
+      → l ≡ in-slot length-lent (a .length)
+      → WriteExport axes points kinds values knots samples bytes-lent length-lent (a .refusal) b l
+  unfolding write-answer
+  write-called none all given a p in-place =
+      let q = rw given at p in
+      record {
+        answer = call-answer _ e none (ap (λ (w : WriteAnswer). w .refusal) (q .answer));
+        output = left _ _ e none (q .output);
+        slot = rw (sym e ∙ none) (in-place ∙ ap (λ (w : WriteAnswer). in-slot length-lent (w .length)) (q .answer));
       }
 
 -- ---- the queries

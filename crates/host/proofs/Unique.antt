@@ -5,7 +5,7 @@ use Prim.Native.Nat.{ℕ}
 use lib.Ieee.{Float}
 use Rattle.rules.specs.declared.Axis.{Axis}
 use Rattle.rules.specs.declared.QueryAnswer.{QueryAnswer}
-use Rattle.host.specs.Exports.{FoundStored, MomentsExport, CurveExport, BuildExport, ChangeExport, AnswerExport, QueryExport, QuickQueryExport, EvenQueryExport, ReadExport, SheetTensorExport}
+use Rattle.host.specs.Exports.{FoundStored, MomentsExport, CurveExport, BuildExport, ChangeExport, AnswerExport, QueryExport, QuickQueryExport, ReadExport, SheetTensorExport, WriteExport, EvenQueryExport}
 
 -- two things that equal a third
 same : {A : Type 0} {a b c : A} → a ≡ c → b ≡ c → a ≡ b
@@ -123,3 +123,12 @@ sheet-tensor-unique bytes knots-lent samples-lent axes-lent points-lent kinds-le
   same (one .scratch) (other .scratch),
   same (one .slot) (other .slot),
 )
+
+pub write-unique :
+    (axes : ℕ) (points kinds : List ℕ) (values knots samples : List Float) (bytes-lent length-lent : List ℕ)
+    (r r′ : ℕ) (b b′ l l′ : List ℕ)
+    → WriteExport axes points kinds values knots samples bytes-lent length-lent r b l
+    → WriteExport axes points kinds values knots samples bytes-lent length-lent r′ b′ l′
+    → (r ≡ r′) × (b ≡ b′) × (l ≡ l′)
+write-unique axes points kinds values knots samples bytes-lent length-lent r r′ b b′ l l′ p q =
+    (same (p .answer) (q .answer), same (p .output) (q .output), same (p .slot) (q .slot))

@@ -18,8 +18,10 @@ use Rattle.sheet.specs.Read.{over, read-refusal, answer-of as read-answer-of}
 use Rattle.sheet.specs.declared.ReadAnswer.{ReadAnswer}
 use Rattle.sheet_build.specs.SheetTensor.{answer-of, reading-refusal, sheet-tensor-refusal}
 use Rattle.sheet_build.specs.declared.SheetAnswer.{SheetAnswer}
+use Rattle.sheet_write.specs.SheetOf.{sheet-of}
+use Rattle.sheet_write.specs.Write.{write-refusal, write-answer}
 use Rattle.plain_axes.specs.Axes.{condition-given, grid-given, grid-without-ends, modes-given, points-found, kinds-found, values-found}
-use Rattle.boundary.specs.OwnRefusals.{moments-own-refusal, curve-own-refusal, build-own-refusal, change-own-refusal, query-own-refusal, even-query-own-refusal, read-own-refusal, sheet-tensor-own-refusal}
+use Rattle.boundary.specs.OwnRefusals.{moments-own-refusal, curve-own-refusal, build-own-refusal, change-own-refusal, write-own-refusal, query-own-refusal, read-own-refusal, sheet-tensor-own-refusal, even-query-own-refusal}
 use Rattle.boundary.specs.Slots.{in-slot, QueryStored, EvenStored}
 
 -- ---- the curve's moments
@@ -103,6 +105,29 @@ module _ (axes : ℕ) (points kinds : List ℕ) (values knots tensor-lent scratc
         ≡ in-slot lanes-lent
         (counted change-own
         (change-answer (grid-given axes points kinds values knots) tensor-lent scratch-lent (place-of place) sample .lanes))
+
+-- ---- the writer
+
+module _ (axes : ℕ) (points kinds : List ℕ) (values knots samples : List Float) (bytes-lent length-lent : List ℕ) where
+  -- what the call refuses of what was given
+  abbrev given-write-refusal : ℕ
+  given-write-refusal = write-refusal (grid-given axes points kinds values knots) samples bytes-lent
+
+  -- the host's own refusal of what was given
+  abbrev write-own : ℕ
+  write-own = write-own-refusal axes points kinds values knots samples length-lent
+
+  -- what is promised: the refusal, the bytes, and the length in its slot
+  pub record WriteExport (refusal : ℕ) (bytes-later length-later : List ℕ) : Type 0 where
+    pub answer : refusal ≡ or-else write-own given-write-refusal
+    pub output :
+        bytes-later
+        ≡ stored write-own bytes-lent
+        (stored given-write-refusal bytes-lent (over (sheet-of (grid-given axes points kinds values knots) samples) bytes-lent))
+    pub slot :
+        length-later
+        ≡ in-slot length-lent
+        (counted write-own (write-answer (grid-given axes points kinds values knots) samples bytes-lent .length))
 
 -- ---- the queries
 

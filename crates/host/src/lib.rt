@@ -1,6 +1,6 @@
 // Every public call exported for C, over numbers and plain slices. Each returns its refusal's number, 0 for none, in the one order that boundary::own says.
 ghost use Rattle.rules.specs.Calls.{SlopesPromise};
-ghost use Rattle.host.specs.Exports.{MomentsExport, CurveExport, BuildExport, ChangeExport, QueryExport, QuickQueryExport, EvenQueryExport, ReadExport, SheetTensorExport};
+ghost use Rattle.host.specs.Exports.{MomentsExport, CurveExport, BuildExport, ChangeExport, QueryExport, QuickQueryExport, ReadExport, SheetTensorExport, WriteExport, EvenQueryExport};
 use boundary::own;
 use boundary::slots;
 
@@ -278,5 +278,30 @@ pub extern "C" fn hullashlar_sheet_tensor(
     axes[0] = answer.axes;
     let found = answer.all;
     plain_axes::store_axes(found, points, kinds, values);
+    answer.refusal
+}
+
+// The packed sheet of axes, knots and samples, in the first bytes of a buffer whose other bytes stay; how many bytes it has goes to a slot of one. Refuses 1 2 3 4 7 8 9, and then 15 for a buffer that is shorter than the sheet, and the length is then 0; and 4 and 13 of its own.
+#[no_mangle]
+pub extern "C" fn hullashlar_write(
+    axes: usize,
+    points: &[usize],
+    kinds: &[u8],
+    values: &[f64],
+    knots: &[f64],
+    samples: &[f64],
+    bytes: &mut [u8],
+    length: &mut [usize],
+) -> usize
+    ensures { λ r. ⌜ WriteExport axes (now (points .entry)) (now (kinds .entry)) (now (values .entry)) (now (knots .entry)) (now (samples .entry)) (now (bytes .entry)) (now (length .entry)) r (now (bytes .exit)) (now (length .exit)) ⌝ }
+{
+    let refusal = own::write_own_refusal(axes, points, kinds, values, knots, samples, length);
+    if refusal != 0 {
+        slots::store_count(length, 0);
+        return refusal;
+    }
+    let all = plain_axes::axes_given(axes, points, kinds, values);
+    let answer = sheet_write::write(axes, all, knots, samples, bytes);
+    slots::store_count(length, answer.length);
     answer.refusal
 }

@@ -5,7 +5,7 @@ ghost use Rattle.kinds.specs.Classes.{class};
 // None: the sheet was read and built.
 // Reading: it was not read. Nothing of it shows, and its length is not known.
 // Building: it was read, and its parts stand in the buffers. What it says is not built.
-// Unknown: no refusal has the number.
+// Unknown: no refusal of a sheet that is read and built has the number.
 pub enum Class {
     None,
     Reading,

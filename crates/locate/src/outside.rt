@@ -13,7 +13,7 @@ pub struct PlacedPoint {
     pub refused: bool,
 }
 
-// The side: below the first knot, then above the last, else inside.
+// Which side it is: the first knot is asked before the last, and a point on either of them is inside.
 fn side_of(knots: &[f64], point: f64) -> Side
     requires { ⌜ 1 ≤ length (now knots) ⌝ }
     ensures { λ r. ⌜ r ≡ side (now (knots .entry)) point ⌝ }

@@ -11,6 +11,7 @@ use replay_items::words::held;
 use replay_items::words::word;
 use replay_sheets::read;
 use replay_sheets::sheet_tensor;
+use replay_sheets::write;
 use replay_surfaces::build;
 use replay_surfaces::change;
 use replay_surfaces::even_query;
@@ -31,6 +32,7 @@ fn case_at(list: &[u8], place: usize) -> Replayed {
         7 => sheet_tensor(list, begin),
         8 => quick_query(list, begin),
         9 => even_query(list, begin),
+        10 => write(list, begin),
         _ => Replayed {
             same: false,
             next: begin,

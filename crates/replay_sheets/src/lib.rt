@@ -1,4 +1,4 @@
-// The cases of a sheet (what is read of it, its tensor), each replayed through the exported call: whether it answers as the list says, and leaves every slice so. No list makes a function here trap.
+// The cases of a sheet (what is read of it, its tensor, what is written), each replayed through the exported call: whether it answers as the list says, and leaves every slice so. No list makes a function here trap.
 use replay_items::Replayed;
 use replay_items::items::after_given;
 use replay_items::items::after_left;
@@ -358,6 +358,112 @@ pub fn sheet_tensor(list: &[u8], begin: usize) -> Replayed {
         answer,
         &mut tensor[0..tensor_end],
         &mut scratch[0..scratch_end],
+        &mut length[0..length_end],
+    )
+}
+
+// The call on what the list gives, where the arguments end at `answer` and the written slices are given at the places named so.
+fn write_answered(
+    list: &[u8],
+    answer: usize,
+    given_bytes: usize,
+    given_length: usize,
+    axes: usize,
+    points: &[usize],
+    kinds: &[u8],
+    values: &[f64],
+    knots: &[f64],
+    samples: &[f64],
+    bytes: &mut [u8],
+    length: &mut [usize],
+) -> Replayed {
+    let refusal = host::hullashlar_write(
+        axes,
+        points,
+        kinds,
+        values,
+        knots,
+        samples,
+        bytes,
+        length,
+    );
+    let left_bytes = after(answer, 1);
+    let left_length = after_left(list, left_bytes);
+    let next = after_left(list, left_length);
+    if refusal as u64 != word(list, answer) {
+        return Replayed { same: false, next };
+    }
+    if !bytes_left(list, given_bytes, left_bytes, bytes) {
+        return Replayed { same: false, next };
+    }
+    Replayed {
+        same: numbers_left(list, given_length, left_length, length),
+        next,
+    }
+}
+
+// A case of a sheet that is written with the slices that are: the others are given at their places.
+fn write_on(
+    list: &[u8],
+    begin: usize,
+    answer: usize,
+    given_bytes: usize,
+    given_length: usize,
+    bytes: &mut [u8],
+    length: &mut [usize],
+) -> Replayed {
+    let at_points = after(begin, 1);
+    let at_kinds = after_given(list, at_points);
+    let at_values = after_given(list, at_kinds);
+    let at_knots = after_given(list, at_values);
+    let at_samples = after_given(list, at_knots);
+    let points = numbers_given(list, at_points);
+    let points_end = numbers_at(list, at_points);
+    let kinds = bytes_given(list, at_kinds);
+    let kinds_end = bytes_at(list, at_kinds);
+    let values = floats_given(list, at_values);
+    let values_end = floats_at(list, at_values);
+    let knots = floats_given(list, at_knots);
+    let knots_end = floats_at(list, at_knots);
+    let samples = floats_given(list, at_samples);
+    let samples_end = floats_at(list, at_samples);
+    write_answered(
+        list,
+        answer,
+        given_bytes,
+        given_length,
+        word(list, begin) as usize,
+        &points[0..points_end],
+        &kinds[0..kinds_end],
+        &values[0..values_end],
+        &knots[0..knots_end],
+        &samples[0..samples_end],
+        bytes,
+        length,
+    )
+}
+
+// A case of a sheet that is written, whose arguments begin at a place.
+pub fn write(list: &[u8], begin: usize) -> Replayed {
+    let at_points = after(begin, 1);
+    let at_kinds = after_given(list, at_points);
+    let at_values = after_given(list, at_kinds);
+    let at_knots = after_given(list, at_values);
+    let at_samples = after_given(list, at_knots);
+    let at_bytes = after_given(list, at_samples);
+    let at_length = after_given(list, at_bytes);
+    let answer = after_given(list, at_length);
+    let mut bytes = bytes_given(list, at_bytes);
+    let bytes_end = bytes_at(list, at_bytes);
+    let mut length = numbers_given(list, at_length);
+    let length_end = numbers_at(list, at_length);
+    write_on(
+        list,
+        begin,
+        answer,
+        at_bytes,
+        at_length,
+        &mut bytes[0..bytes_end],
         &mut length[0..length_end],
     )
 }

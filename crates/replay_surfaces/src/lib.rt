@@ -13,7 +13,7 @@ use replay_items::items::numbers_left;
 use replay_items::words::after;
 use replay_items::words::word;
 
-mod even; // even.rt: the query of even axes
+mod even_queries; // even_queries.rt: the cases of the query of even axes
 
 // The call on what the list gives, where the arguments end at `answer` and the written slices are given at the places named so.
 fn build_answered(
@@ -436,5 +436,5 @@ pub fn quick_query(list: &[u8], begin: usize) -> Replayed {
 
 // A case of a query of even axes, likewise.
 pub fn even_query(list: &[u8], begin: usize) -> Replayed {
-    even::even_query_case(list, begin)
+    even_queries::even_query_case(list, begin)
 }

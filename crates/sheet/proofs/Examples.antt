@@ -12,14 +12,14 @@ use Rattle.kinds.specs.Kinds.{values-of-kind, end-of-kind, condition-of-kind, p
 use Rattle.sheet.specs.Fields.{points-at, values-at, axis-at, knots-begin, knots-at, axis-end, axis-begin, entries, knots-below, sheet-grid, sheet-samples}
 use Rattle.sheet.specs.Faults.{axis-fault, axes-fault, tail-refused, samples-fault, sheet-refusal}
 
-abbrev zero-bytes : ℕ → List ℕ
+abbrev pub zero-bytes : ℕ → List ℕ
 zero-bytes n = replicate n 0
 
 -- the example sheet: of its 403 bits the first 400, and then with the byte of the last 3
-abbrev first-bytes : List ℕ
+abbrev pub first-bytes : List ℕ
 first-bytes = 0x12 ∷ 0x03 ∷ 0x40 ∷ zero-bytes 23 ++ (0x07 ∷ 0xFE ∷ zero-bytes 14) ++ (0x07 ∷ 0xFE ∷ zero-bytes 6)
 
-abbrev example : List ℕ
+abbrev pub example : List ℕ
 example = first-bytes ++ (0x00 ∷ [])
 
 -- two axes of 25 and of 41 points, all knots zero

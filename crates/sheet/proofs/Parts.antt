@@ -20,8 +20,8 @@ use Rattle.sheet.proofs.Walks.{each-faultless, faultless-axis}
 use Rattle.sheet.proofs.Stores.{knots-below-next, length-knots-at}
 use Rattle.sheet.proofs.Sheets.{Accepted, accepted, axes-allowed, size, samples-most}
 
--- the new numbers are the first of a buffer
-pub take-over : (new old : List Float) (n : ℕ) → length new ≡ n → take n (over new old) ≡ new
+-- the new elements are the first of a buffer
+pub take-over : {A : Type 0} (new old : List A) (n : ℕ) → length new ≡ n → take n (over new old) ≡ new
 take-over new old n e = take-at new (drop (length new) old) n e
 
 knots-none : (bytes : List ℕ) → length (knots-below bytes 0) ≡ 0
@@ -42,7 +42,7 @@ module _ (bytes : List ℕ) (ok : Accepted bytes) where
   enough-points i l =
       rw (size-is i l) (faultless-axis bytes (axis-begin bytes i) (each-faultless bytes n i (ok .faultless) l) .0)
 
-  knots-sum : (i : ℕ) → i ≤ n → length (knots-below bytes i) ≡ sum-below sizes i
+  pub knots-sum : (i : ℕ) → i ≤ n → length (knots-below bytes i) ≡ sum-below sizes i
   unfolding sum-below
   knots-sum zero l = knots-none bytes
   knots-sum (suc i) l =

@@ -28,7 +28,7 @@ either-set zero (suc low) = rw (ne-eqb (suc low) 0 (omega arith), ne-eqb (0 * 2 
 either-set (suc high) low = rw (ne-eqb (suc high) 0 (omega arith), ne-eqb (suc high * 2 + low) 0 (omega arith))
 
 -- a run has a bit that is not zero where its number is not
-bits-set : (bytes : List ℕ) (at n : ℕ) → any (λ k. not (eqb (bit bytes (at + k)) 0)) n ≡ not (eqb (field bytes at n) 0)
+pub bits-set : (bytes : List ℕ) (at n : ℕ) → any (λ k. not (eqb (bit bytes (at + k)) 0)) n ≡ not (eqb (field bytes at n) 0)
 unfolding any field
 bits-set bytes at zero = refl
 bits-set bytes at (suc n) = rw (bits-set bytes at n) (either-set (field bytes at n) (bit bytes (at + n)))
@@ -48,7 +48,7 @@ module _ (bytes : List ℕ) (at : ℕ) where
 -- ---- after the last axis
 
 -- a product of numbers that are not zero is not
-product-least : (sizes : ℕ → ℕ) (n : ℕ) → ((k : ℕ) → k < n → 2 ≤ sizes k) → 0 < product-below sizes n
+pub product-least : (sizes : ℕ → ℕ) (n : ℕ) → ((k : ℕ) → k < n → 2 ≤ sizes k) → 0 < product-below sizes n
 unfolding product-below
 product-least sizes zero least = omega arith
 product-least sizes (suc n) least =

@@ -63,7 +63,7 @@ module _ (bytes : List ℕ) where
 
 -- ---- the samples
 
-entry-at : (bytes : List ℕ) (n i : ℕ) → n ≤ 4 → i < n → getD (entries bytes n) i unused-axis ≡ axis-at bytes (axis-begin bytes i)
+pub entry-at : (bytes : List ℕ) (n i : ℕ) → n ≤ 4 → i < n → getD (entries bytes n) i unused-axis ≡ axis-at bytes (axis-begin bytes i)
 unfolding entries
 entry-at bytes n i few l =
     at-table 4 (λ k. cond (ltb k n) (axis-at bytes (axis-begin bytes k)) unused-axis) i unused-axis (omega arith) ∙ rw (lt-ltb i n l)

@@ -59,8 +59,13 @@ each-faultless bytes (suc n) i e l =
     (λ m. each-faultless bytes n i (both .0) m)
     (eq-or-lt-of-le (le-of-suc-le-suc l))
 
--- an axis without a fault has enough points, and all of it is there
-pub faultless-axis : (bytes : List ℕ) (at : ℕ) → axis-fault bytes at ≡ 0 → (points-refused (points-at bytes at) ≡ false) × (axis-end bytes at ≤ 8 * length bytes)
+-- an axis without a fault has enough points, all of it is there, and Periodic stands at both ends or at none
+pub faultless-axis :
+    (bytes : List ℕ) (at : ℕ)
+    → axis-fault bytes at ≡ 0
+    → (points-refused (points-at bytes at) ≡ false)
+    × (axis-end bytes at ≤ 8 * length bytes)
+    × (periodic-at-one-end (lower-kind bytes at) (upper-kind bytes at) ≡ false)
 unfolding axis-fault
 faultless-axis bytes at e =
     let n = values-at bytes at + points-at bytes at in
@@ -72,7 +77,7 @@ faultless-axis bytes at e =
     let g = passed (numbers-short bytes (at + 12) n) 10 0 (f .1) in
     let reach = extent bytes at in
     let room : at + 12 + 64 * n ≤ 8 * length bytes = ltb-false _ _ (short-together bytes (at + 12) n (omega arith) ∙ g .0) in
-    (b .0, omega arith)
+    (b .0, omega arith, f .0)
 
 -- one of the four axes that has no fault is there, at a small place
 pub whole : (bytes : List ℕ) (i : ℕ) → i < 4 → axis-fault bytes (axis-begin bytes i) ≡ 0 → Whole bytes (axis-begin bytes i)

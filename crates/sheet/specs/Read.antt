@@ -27,8 +27,8 @@ abbrev pub answer-of : ℕ → ℕ → List Axis → ReadAnswer
 answer-of zero axes all = record { refusal = 0; axes = axes; all = all }
 answer-of (suc refusal) axes all = refused-answer (suc refusal)
 
--- a buffer with new numbers in its first places; behind them it is as it was
-abbrev pub over : List Float → List Float → List Float
+-- a buffer with new elements in its first places; behind them it is as it was
+abbrev pub over : {A : Type 0} → List A → List A → List A
 over new old = new ++ drop (length new) old
 
 module _ (bytes : List ℕ) (knots-lent samples-lent : List Float) where

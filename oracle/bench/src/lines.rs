@@ -24,6 +24,8 @@ const OUR_QUERY: &str = "our query";
 const OUR_BUILD: &str = "our fresh build";
 const RUST_BUILD: &str = "the Rust's fresh build";
 const THE_ORACLE: &str = "the oracle's reader";
+const ORACLE_WRITER: &str = "the oracle's writer";
+const OUR_READER: &str = "our reading of it";
 
 /// Why no measured call is refused.
 const ACCEPTED: &str = "the inputs are good ones";
@@ -43,6 +45,7 @@ pub fn lines(inputs: &Inputs) -> Vec<Line<'_>> {
         curve("curve, 256", &inputs.line_of_256),
         read(&inputs.two_axes),
     ]);
+    lines.extend(writes(&inputs.two_axes));
     lines
 }
 
@@ -269,21 +272,27 @@ fn curve<'a>(name: &'static str, line: &'a Surface) -> Line<'a> {
 /// There is no sheet in the Rust: the other side is the oracle's own reader.
 fn read(surface: &Surface) -> Line<'_> {
     let sheet = surface.sheet();
-    let sheet_again = sheet.clone();
     let last = surface.samples.len() - 1;
     let (mut knots, mut samples) = ([0.0; BUFFER], [0.0; BUFFER]);
     Line {
         name: "reading the sheet of 16×16",
         held_against: THE_ORACLE,
-        ours: Box::new(move || {
-            hullashlar::read(&sheet, &mut knots, &mut samples).expect(ACCEPTED);
-            samples[last]
-        }),
+        ours: our_read(surface),
         other: Box::new(move || {
-            oracle_read(&sheet_again, &mut knots, &mut samples);
+            oracle_read(&sheet, &mut knots, &mut samples);
             samples[last]
         }),
     }
+}
+
+fn our_read(surface: &Surface) -> Work<'_> {
+    let sheet = surface.sheet();
+    let last = surface.samples.len() - 1;
+    let (mut knots, mut samples) = ([0.0; BUFFER], [0.0; BUFFER]);
+    Box::new(move || {
+        hullashlar::read(&sheet, &mut knots, &mut samples).expect(ACCEPTED);
+        samples[last]
+    })
 }
 
 fn oracle_read(sheet: &[u8], knots: &mut [f64], samples: &mut [f64]) {
@@ -298,4 +307,68 @@ fn oracle_read(sheet: &[u8], knots: &mut [f64], samples: &mut [f64]) {
         &mut values,
     );
     assert_eq!(refusal, 0, "{ACCEPTED}");
+}
+
+/// Writing a sheet beside the oracle's writer, and beside our reading of the same sheet.
+fn writes(surface: &Surface) -> [Line<'_>; 2] {
+    let line = |held_against, other| Line {
+        name: "writing the sheet of 16×16",
+        held_against,
+        ours: our_write(surface),
+        other,
+    };
+    [
+        line(ORACLE_WRITER, oracle_write(surface)),
+        line(OUR_READER, our_read(surface)),
+    ]
+}
+
+fn our_write(surface: &Surface) -> Work<'_> {
+    let Surface {
+        axes,
+        knots,
+        samples,
+        ..
+    } = surface;
+    let mut sheet = vec![0; surface.sheet().len()];
+    Box::new(move || {
+        hullashlar::write(axes, knots, samples, &mut sheet).expect(ACCEPTED);
+        last_sample(&sheet)
+    })
+}
+
+fn oracle_write(surface: &Surface) -> Work<'_> {
+    let Surface {
+        axes,
+        knots,
+        samples,
+        ..
+    } = surface;
+    let mut sheet = vec![0; surface.sheet().len()];
+    Box::new(move || {
+        let refusal = reading::write(
+            axes.count,
+            &axes.points,
+            &axes.kinds,
+            &axes.values,
+            knots,
+            samples,
+            &mut sheet,
+            &mut [0],
+        );
+        assert_eq!(refusal, 0, "{ACCEPTED}");
+        last_sample(&sheet)
+    })
+}
+
+/// The last sample of a sheet of two axes, which one zero bit follows: the fields before the
+/// numbers have 31 bits.
+fn last_sample(sheet: &[u8]) -> f64 {
+    let last = sheet
+        .last_chunk::<9>()
+        .expect("a sheet of numbers is longer");
+    let bits = last
+        .iter()
+        .fold(0, |bits, byte| bits << 8 | u128::from(*byte));
+    f64::from_bits((bits >> 1) as u64)
 }

@@ -13,7 +13,7 @@ pub struct Stack {
 }
 
 /// The stack of every exported call.
-pub fn stacks(inputs: &Inputs) -> [Stack; 10] {
+pub fn stacks(inputs: &Inputs) -> [Stack; 11] {
     let surfaces = inputs.surfaces();
     let even_surfaces = inputs.even_surfaces();
     let lines = [&inputs.line_of_256, &inputs.periodic_line];
@@ -25,6 +25,7 @@ pub fn stacks(inputs: &Inputs) -> [Stack; 10] {
         deepest("hullashlar_even_query", &even_surfaces.map(even_query)),
         deepest("hullashlar_read", &surfaces.map(read)),
         deepest("hullashlar_sheet_tensor", &surfaces.map(sheet_tensor)),
+        deepest("hullashlar_write", &surfaces.map(write)),
         deepest("hullashlar_moments", &lines.map(moments)),
         deepest("hullashlar_slopes", &lines.map(slopes)),
         deepest("hullashlar_curve", &lines.map(curve)),
@@ -94,6 +95,17 @@ fn sheet_tensor(surface: &Surface) -> usize {
         hullashlar::sheet_tensor(&sheet, &mut knots, &mut samples, &mut tensor, &mut scratch)
             .is_ok()
     })
+}
+
+fn write(surface: &Surface) -> usize {
+    let mut bytes = vec![0; surface.sheet().len()];
+    let Surface {
+        axes,
+        knots,
+        samples,
+        ..
+    } = surface;
+    bytes_of(|| hullashlar::write(axes, knots, samples, &mut bytes).is_ok())
 }
 
 fn moments(line: &Surface) -> usize {

@@ -15,6 +15,7 @@ pub enum Call {
     SheetTensor,
     QuickQuery,
     EvenQuery,
+    Write,
 }
 
 impl Call {
@@ -61,6 +62,9 @@ impl Call {
                 "bytes", "knots", "samples", "axes", "points", "kinds", "values", "tensor",
                 "scratch", "length",
             ],
+            Call::Write => &[
+                "axes", "points", "kinds", "values", "knots", "samples", "bytes", "length",
+            ],
         }
     }
 
@@ -79,6 +83,7 @@ impl Call {
                 "knots", "samples", "axes", "points", "kinds", "values", "tensor", "scratch",
                 "length",
             ],
+            Call::Write => &["bytes", "length"],
         }
     }
 

@@ -1,6 +1,7 @@
 //! Runs cases against the reading and against a subject, and compares.
 
 mod either_order;
+mod sheets;
 
 use crate::case::{Argument, Call, Calls, Case};
 use crate::examples::examples;
@@ -82,6 +83,8 @@ fn compare_kind(subject: &dyn Calls, plan: &Plan, kind: Kind, report: &mut Repor
                 run.either_order(random);
             }
             Kind::QuickBesideFull => run.quick_beside_full(random),
+            Kind::Write => run.write_and_read(random),
+            Kind::WrittenBack => run.written_back(plan.seed, number),
             _ => {
                 run.compare(&generator::single(kind, number as usize, random));
             }

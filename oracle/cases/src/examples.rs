@@ -37,6 +37,7 @@ pub fn examples() -> Vec<Case> {
     cases.extend(quick_queries(random));
     cases.extend(outside(random));
     cases.extend(even_queries(random));
+    cases.extend(written(random));
     cases
 }
 
@@ -206,6 +207,24 @@ fn even_queries(random: &mut Random) -> Vec<Case> {
     let point = extended(&[0.5, 0.5]);
     cases.push(lending::even_query(random, &axes, &[1.0; 32], &point));
     cases
+}
+
+/// The example sheet written to as many bytes, to one fewer and to more; and one that is
+/// refused before its bytes are counted.
+fn written(random: &mut Random) -> Vec<Case> {
+    let samples = [0.0, 1.0];
+    let natural = line(&samples, [SECOND; 2]);
+    let too_few = line(&samples, [NOT_A_KNOT; 2]);
+    let no_number = [0.0, f64::NAN];
+    let mut write =
+        |line: &Grid, samples: &[f64], room| lending::write(random, line, samples, room);
+    vec![
+        write(&natural, &samples, 51),
+        write(&natural, &samples, 50),
+        write(&natural, &samples, 53),
+        write(&too_few, &samples, 0),
+        write(&natural, &no_number, 51),
+    ]
 }
 
 /// NotAKnot with one point too few, and with just enough.

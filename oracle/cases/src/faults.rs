@@ -88,6 +88,20 @@ const OF_QUICK_QUERY: &[Fault] = &[
     overflow,
 ];
 
+/// The faults of a sheet to be written.
+const OF_WRITE: &[Fault] = &[
+    axes_off,
+    points_off,
+    shape_too_large,
+    length_off,
+    number_not_finite,
+    knots_not_rising,
+    step_overflowing,
+    too_few_points,
+    kind_off,
+    too_few_bytes,
+];
+
 /// The faults of a call, apart from lists of a fixed length and damaged sheets.
 fn faults_of(call: Call) -> &'static [Fault] {
     match call {
@@ -97,6 +111,7 @@ fn faults_of(call: Call) -> &'static [Fault] {
         Call::Query => OF_QUERY,
         Call::QuickQuery => OF_QUICK_QUERY,
         Call::EvenQuery => OF_QUERY,
+        Call::Write => OF_WRITE,
         Call::Read => &[length_off],
         Call::SheetTensor => &[length_off, scratch_short],
     }
@@ -192,6 +207,16 @@ fn scratch_short(random: &mut Random, case: &mut Case) {
     if length > 0 {
         let any = random.below(length);
         scratch.resize(random.pick(&[length - 1, length - 1, any]));
+    }
+}
+
+/// Bytes that are fewer by one, or by any number.
+fn too_few_bytes(random: &mut Random, case: &mut Case) {
+    let bytes = case.argument_mut("bytes");
+    let length = bytes.length();
+    if length > 0 {
+        let any = random.below(length);
+        bytes.resize(random.pick(&[length - 1, any]));
     }
 }
 

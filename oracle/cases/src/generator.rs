@@ -9,12 +9,12 @@ use crate::lending::{self, Point};
 use crate::numbers::list;
 use crate::overflow::take_an_end_to_the_edge;
 use crate::random::Random;
-use crate::sheet::{damaged_sheet, good_sheet, swept_sheet};
+use crate::sheet::{damaged_sheet, good_sheet, length_of, swept_sheet};
 use reading::CURVE_SCRATCH;
 
 /// The kinds of cases: the worked examples, one kind for each call, lists
-/// of changes, the sheets of up to two bytes, changes in two orders, and quick
-/// queries beside full ones.
+/// of changes, the sheets of up to two bytes, changes in two orders, quick queries
+/// beside full ones, and the reader's sheets written back.
 #[derive(Debug, Clone, Copy, PartialEq, Eq)]
 pub enum Kind {
     Example,
@@ -32,10 +32,12 @@ pub enum Kind {
     QuickQuery,
     QuickBesideFull,
     EvenQuery,
+    Write,
+    WrittenBack,
 }
 
 /// Every kind, in the order of the report.
-pub const KINDS: [Kind; 15] = [
+pub const KINDS: [Kind; 17] = [
     Kind::Example,
     Kind::Moments,
     Kind::Curve,
@@ -51,6 +53,8 @@ pub const KINDS: [Kind; 15] = [
     Kind::QuickQuery,
     Kind::QuickBesideFull,
     Kind::EvenQuery,
+    Kind::Write,
+    Kind::WrittenBack,
 ];
 
 impl Kind {
@@ -72,6 +76,8 @@ impl Kind {
             Kind::QuickQuery => "quick_query",
             Kind::QuickBesideFull => "quick_beside_full",
             Kind::EvenQuery => "even_query",
+            Kind::Write => "write",
+            Kind::WrittenBack => "written_back",
         }
     }
 
@@ -84,6 +90,7 @@ impl Kind {
                 | Kind::ShortSheet
                 | Kind::EitherOrder
                 | Kind::QuickBesideFull
+                | Kind::WrittenBack
         )
     }
 }
@@ -104,6 +111,10 @@ const FAULTY_TO_BUILD: usize = 30;
 const FAULTY_QUICK: usize = 4;
 const FAULTY_BESIDE: usize = 4;
 
+/// Some buffers are too short without a fault; what is accepted is read back, and counted
+/// once more.
+const FAULTY_TO_WRITE: usize = 52;
+
 /// Axes that are not even are refused without another fault.
 const FAULTY_EVEN: usize = 18;
 
@@ -120,11 +131,13 @@ pub fn single(kind: Kind, number: usize, random: &mut Random) -> Case {
         Kind::SheetTensor => sheet_tensor(random, number),
         Kind::QuickQuery => quick_query(random),
         Kind::EvenQuery => even_query(random),
+        Kind::Write => write(random),
         Kind::Example
         | Kind::ChangeList
         | Kind::ShortSheet
         | Kind::EitherOrder
-        | Kind::QuickBesideFull => {
+        | Kind::QuickBesideFull
+        | Kind::WrittenBack => {
             panic!("more than one call: {}", kind.name())
         }
     }
@@ -254,6 +267,30 @@ fn read(random: &mut Random, number: usize) -> Case {
 /// A sheet to be read and built.
 fn sheet_tensor(random: &mut Random, number: usize) -> Case {
     sheet_case(random, number, FAULTY_TO_BUILD, lending::sheet_tensor)
+}
+
+/// A sheet to be written.
+pub fn write(random: &mut Random) -> Case {
+    let grid = Grid::generate(random);
+    let samples = list(random, grid.samples());
+    let length = length_of(&grid.points[..grid.axes], &grid.kinds[..2 * grid.axes]);
+    let room = room(random, length);
+    let mut case = lending::write(random, &grid, &samples, room);
+    if random.percent(FAULTY_TO_WRITE) {
+        spoil(random, &mut case);
+    }
+    case
+}
+
+/// The bytes that are lent for a sheet of a length: as many, one fewer, or more.
+pub fn room(random: &mut Random, length: usize) -> usize {
+    match random.below(16) {
+        0..=6 => length,
+        7 => length - 1,
+        8..=13 => length + random.between(1, 9),
+        14 => length + 300,
+        _ => random.below(length),
+    }
 }
 
 fn altered_at_times(random: &mut Random, mut case: Case) -> Case {

@@ -188,3 +188,43 @@ pub fn sheet_tensor(random: &mut Random, bytes: &[u8], tensor: usize) -> Case {
     ]);
     Case::new(Call::SheetTensor, arguments)
 }
+
+/// The sheet of a grid and its samples, to be written to so many bytes.
+pub fn write(random: &mut Random, grid: &Grid, samples: &[f64], room: usize) -> Case {
+    let parts = vec![
+        Argument::Number(grid.axes),
+        Argument::of_numbers(&grid.points),
+        Argument::of_bytes(&grid.kinds),
+        Argument::of_floats(&grid.values),
+        Argument::of_floats(&grid.knots),
+        Argument::of_floats(samples),
+    ];
+    write_case(random, parts, room)
+}
+
+/// The parts of a sheet that was read, to be written to so many bytes.
+pub fn write_parts(random: &mut Random, read: &Case, room: usize) -> Case {
+    let axes = read.argument("axes").numbers()[0];
+    let points = &read.argument("points").numbers()[..axes];
+    let (knots, samples) = (points.iter().sum(), points.iter().product());
+    let front = |name, length: usize| Argument::of_floats(&read.argument(name).floats()[..length]);
+    let parts = vec![
+        Argument::Number(axes),
+        read.argument("points").clone(),
+        read.argument("kinds").clone(),
+        read.argument("values").clone(),
+        front("knots", knots),
+        front("samples", samples),
+    ];
+    write_case(random, parts, room)
+}
+
+/// The bytes are all alike before, and not all zero, so that what is cleared is seen.
+fn write_case(random: &mut Random, mut arguments: Vec<Argument>, room: usize) -> Case {
+    let filling = random.pick(&[0xFF, 0x96, 0x01, 0]);
+    arguments.extend([
+        Argument::of_bytes(&vec![filling; room]),
+        Argument::of_numbers(&[78]),
+    ]);
+    Case::new(Call::Write, arguments)
+}

@@ -24,7 +24,7 @@ use crate::reading_calls::Reading;
 use crate::report::NUMBERS;
 
 /// The calls in the order of their numbers.
-pub const CALLS: [Call; 10] = [
+pub const CALLS: [Call; 11] = [
     Call::Moments,
     Call::Curve,
     Call::Slopes,
@@ -35,19 +35,23 @@ pub const CALLS: [Call; 10] = [
     Call::SheetTensor,
     Call::QuickQuery,
     Call::EvenQuery,
+    Call::Write,
 ];
 
 /// The seed of the list; another one makes another list.
 const SEED: u64 = 1;
 
 /// How many accepted cases of each call the list has.
-const ACCEPTED: usize = 40;
+const ACCEPTED: usize = 32;
 
 /// How many cases of each refusal of each call.
 const REFUSED: usize = 3;
 
 /// The most words of a case.
 const LONGEST_CASE: usize = 200;
+
+/// The most bytes that a slice of them has.
+const MOST_BYTES: usize = 256;
 
 /// How many generated cases of a kind are looked at.
 const LOOKED_AT: u64 = 3_000;
@@ -72,13 +76,22 @@ fn chosen(kind: Kind) -> Vec<Vec<u64>> {
     let mut chosen = Vec::new();
     for number in (0..LOOKED_AT).rev() {
         let mut random = Random::of_case(SEED, kind as u64, number);
-        let (refusal, words) = answered(&single(kind, number as usize, &mut random));
-        if wanted[refusal] > 0 && words.len() <= LONGEST_CASE {
+        let case = single(kind, number as usize, &mut random);
+        let (refusal, words) = answered(&case);
+        if wanted[refusal] > 0 && words.len() <= LONGEST_CASE && few_bytes(&case) {
             wanted[refusal] -= 1;
             chosen.push(words);
         }
     }
     chosen
+}
+
+/// Whether no slice has too many bytes, which need few words where they are counted up.
+fn few_bytes(case: &Case) -> bool {
+    case.arguments.iter().all(|argument| match argument {
+        Argument::Bytes(lent) => lent.slice().len() <= MOST_BYTES,
+        _ => true,
+    })
 }
 
 /// The refusal and the words of a case.

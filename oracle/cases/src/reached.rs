@@ -2,6 +2,7 @@
 
 use crate::case::{Call, Case};
 use crate::overflow::{numbered_ends, refusal_with};
+use crate::sheet::length_of;
 use ninterp_unchanged::{
     locate_lower_index, locate_lower_index_uniform, validate_uniform_grid_epsilon,
 };
@@ -14,7 +15,7 @@ struct Edge {
 }
 
 /// How many edges there are.
-const COUNT: usize = 32;
+const COUNT: usize = 36;
 
 const EDGES: [Edge; COUNT] = [
     Edge {
@@ -147,7 +148,39 @@ const EDGES: [Edge; COUNT] = [
         name: "uneven knots that are even with an upper knot one unit off",
         is_reached: |case, refusal| is_even(case) && refusal == 21 && at_the_tolerance(case, false),
     },
+    Edge {
+        name: "a sheet written to a buffer of its own length",
+        is_reached: |case, refusal| refusal == 0 && bytes_past_the_sheet(case) == Some(0),
+    },
+    Edge {
+        name: "a sheet written to a longer buffer",
+        is_reached: |case, refusal| {
+            refusal == 0 && bytes_past_the_sheet(case).is_some_and(|past| past > 0)
+        },
+    },
+    Edge {
+        name: "a sheet not written to a buffer one byte short",
+        is_reached: |case, refusal| refusal == 15 && bytes_past_the_sheet(case) == Some(-1),
+    },
+    Edge {
+        name: "a sheet of more than 8,000 bytes written",
+        is_reached: |case, refusal| {
+            let written = refusal == 0 && bytes_past_the_sheet(case).is_some();
+            written && case.argument("bytes").length() > 8000
+        },
+    },
 ];
+
+/// By how many bytes the buffer that a sheet is written to is longer than the sheet.
+fn bytes_past_the_sheet(case: &Case) -> Option<isize> {
+    if case.call != Call::Write {
+        return None;
+    }
+    let axes = case.argument("axes").number();
+    let points = &case.argument("points").numbers()[..axes];
+    let kinds = &case.argument("kinds").bytes()[..2 * axes];
+    Some(case.argument("bytes").length() as isize - length_of(points, kinds) as isize)
+}
 
 fn is_even(case: &Case) -> bool {
     case.call == Call::EvenQuery
@@ -257,9 +290,15 @@ fn is_held(case: &Case) -> bool {
 }
 
 /// How many cases have reached each edge.
-#[derive(Debug, Default)]
+#[derive(Debug)]
 pub struct Reached {
     cases: [u64; COUNT],
+}
+
+impl Default for Reached {
+    fn default() -> Self {
+        Self { cases: [0; COUNT] }
+    }
 }
 
 impl Reached {
@@ -281,7 +320,7 @@ impl Reached {
 }
 
 /// The slices of a fixed length in a call with axes.
-const FIXED: [(&str, usize); 9] = [
+const FIXED: [(&str, usize); 10] = [
     ("points", 4),
     ("kinds", 8),
     ("values", 8),
@@ -291,6 +330,7 @@ const FIXED: [(&str, usize); 9] = [
     ("labels", 4),
     ("lanes", 1),
     ("uneven", 2),
+    ("length", 1),
 ];
 
 fn a_fixed_length_off(case: &Case) -> bool {
@@ -299,10 +339,11 @@ fn a_fixed_length_off(case: &Case) -> bool {
     lengths.any(|(given, length)| given != *length)
 }
 
-/// Whether the first axis of a build or a change has Periodic at one end only, and the only
+/// Whether the first axis of a call with axes and kinds has Periodic at one end only, and the only
 /// length that is off is that of the knots.
 fn no_kinds_beside_a_length_off(case: &Case) -> bool {
-    if !matches!(case.call, Call::Build | Call::Change) || a_fixed_length_off(case) {
+    let has_kinds = matches!(case.call, Call::Build | Call::Change | Call::Write);
+    if !has_kinds || a_fixed_length_off(case) {
         return false;
     }
     let kinds = case.argument("kinds").bytes();

@@ -13,7 +13,7 @@ impl Calls for Reading {
             Call::Build | Call::Change => on_a_grid(case.call, arguments),
             Call::Query | Call::QuickQuery => of_a_tensor(case.call, arguments),
             Call::EvenQuery => on_even_axes(arguments),
-            Call::Read | Call::SheetTensor => on_a_sheet(case.call, arguments),
+            Call::Read | Call::SheetTensor | Call::Write => on_a_sheet(case.call, arguments),
         };
         Some(refusal)
     }
@@ -99,6 +99,12 @@ fn on_a_sheet(call: Call, arguments: &mut [Argument]) -> usize {
             points.numbers_mut(), kinds.bytes_mut(), values.floats_mut(), tensor.floats_mut(),
             scratch.floats_mut(), length.numbers_mut(),
         ),
+        (Call::Write, [axes, points, kinds, values, knots, samples, bytes, length]) => {
+            reading::write(
+                axes.number(), points.numbers(), kinds.bytes(), values.floats(),
+                knots.floats(), samples.floats(), bytes.bytes_mut(), length.numbers_mut(),
+            )
+        }
         _ => panic!("a case has the arguments of its call"),
     }
 }

@@ -72,6 +72,14 @@ fn pack(fields: &Fields) -> Vec<u8> {
     bytes
 }
 
+/// How many bytes the sheet of axes has.
+pub fn length_of(points: &[usize], kinds: &[u8]) -> usize {
+    let numbered = kinds.iter().filter(|kind| matches!(kind, 1 | 2)).count();
+    let (knots, samples): (usize, usize) = (points.iter().sum(), points.iter().product());
+    let bits = 7 + 12 * points.len() + 64 * (numbered + knots + samples);
+    bits.div_ceil(8)
+}
+
 /// The example sheet: one natural axis with knots and samples 0 and 1.
 pub fn example_sheet() -> Vec<u8> {
     let line = [0.0, 1.0];

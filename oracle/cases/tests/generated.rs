@@ -14,7 +14,7 @@ impl Calls for Nobody {
 /// The refusals that the calls of a kind have.
 fn refusals(kind: Kind) -> &'static [usize] {
     match kind {
-        Kind::Example => &[1, 3, 7, 8, 9, 10, 11, 18, 21],
+        Kind::Example => &[1, 3, 7, 8, 9, 10, 11, 15, 18, 21],
         Kind::Moments => &[2, 4, 5, 7, 8, 9, 10, 13],
         Kind::Curve | Kind::Slopes => &[2, 4, 7, 8, 10],
         Kind::Build => &[1, 2, 3, 4, 5, 7, 8, 9, 10, 13],
@@ -24,6 +24,8 @@ fn refusals(kind: Kind) -> &'static [usize] {
         Kind::SheetTensor => &[1, 2, 3, 4, 5, 7, 8, 9, 10, 11, 12, 13, 14],
         Kind::ShortSheet => &[1, 11, 12],
         Kind::EvenQuery => &[1, 2, 3, 4, 7, 8, 10, 18, 21, 22],
+        Kind::Write => &[1, 2, 3, 4, 7, 8, 9, 13, 15],
+        Kind::WrittenBack => &[1, 2, 3, 4, 7, 8, 9, 11, 12, 13, 14, 15],
         Kind::QuickBesideFull => &[1, 2, 3, 4, 7, 10, 18, 22],
     }
 }

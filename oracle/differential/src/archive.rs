@@ -33,6 +33,7 @@ impl Calls for Archive {
             Call::EvenQuery => even_query(arguments),
             Call::Read => read(arguments),
             Call::SheetTensor => sheet_tensor(arguments),
+            Call::Write => write(arguments),
         };
         Some(refusal)
     }
@@ -248,6 +249,27 @@ fn sheet_tensor(arguments: &mut [Argument]) -> usize {
             bytes.0, bytes.1, knots.0, knots.1, samples.0, samples.1, axes.0, axes.1,
             points.0, points.1, kinds.0, kinds.1, values.0, values.1, tensor.0, tensor.1,
             scratch.0, scratch.1, length.0, length.1,
+        )
+    }
+}
+
+#[rustfmt::skip]
+fn write(arguments: &mut [Argument]) -> usize {
+    let [axes, points, kinds, values, knots, samples, bytes, length] = arguments else {
+        panic!("a case has the arguments of its call")
+    };
+    let points = lent(points.numbers());
+    let kinds = lent(kinds.bytes());
+    let values = lent(values.floats());
+    let knots = lent(knots.floats());
+    let samples = lent(samples.floats());
+    let bytes = lent_mut(bytes.bytes_mut());
+    let length = lent_mut(length.numbers_mut());
+    // SAFETY: each pair is a live slice; no two of them overlap.
+    unsafe {
+        hullashlar_write(
+            axes.number(), points.0, points.1, kinds.0, kinds.1, values.0, values.1,
+            knots.0, knots.1, samples.0, samples.1, bytes.0, bytes.1, length.0, length.1,
         )
     }
 }

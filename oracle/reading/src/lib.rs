@@ -14,6 +14,7 @@ mod refusals;
 mod shape;
 mod sheet;
 mod tensor;
+mod write;
 
 pub use curve::{curve, moments, slopes};
 pub use ends::{conditions, Condition};
@@ -26,3 +27,4 @@ pub use tensor::{
     build, change, closed_sum_of_lanes, lanes_of_build, lanes_of_change, solve_lane, solve_lanes,
     Lane,
 };
+pub use write::write;

@@ -45,8 +45,8 @@ pub fn quick_query(
     hand_over(answer, slots_stand, value, labels)
 }
 
-/// The same on even axes, in the cells that direct arithmetic finds. Where an axis is not even,
-/// the lowest such axis and its first interval that is off go to a slot of two.
+/// The same on even axes, in the cells that direct arithmetic finds. A slot of two tells which axis is
+/// not even, the lowest where there are several, and where its spacing is first off.
 #[allow(clippy::too_many_arguments)]
 pub fn even_query(
     axes: usize,

@@ -91,7 +91,7 @@ fn check_scratch(shape: &Shape, scratch: &[f64]) -> Result<(), Refusal> {
 }
 
 /// The conditions of the axes in use, after 7 for end values and knots, 8 and 9.
-fn checked_conditions(
+pub(crate) fn checked_conditions(
     shape: &Shape,
     kinds: &[u8],
     values: &[f64],

@@ -20,12 +20,9 @@ modes-given-requires c κs = even-query-lengths _ _ _ _ _ _ _ _ _ (sym (c .befor
 returns-2 : tie.Need-returns-2
 returns-2 c =
     let stored = c .before .before .before .before .before .before in
-    let asked = stored .before .before .before .before .before in
-    let modes = asked .before in
-    let axes = modes .before in
-    let passed = axes .before in
-    even-query-called _ _ _ _ _ _ _ _ _ (passed .before .even-query-own-refusal .ensures) (passed .if1 .left)
-    _ (axes .axes-without-ends .ensures) _ (modes .modes-given .ensures) _ (asked .even-query .ensures) (stored .store-even-query2 .ensures)
+    let answered = stored .before .before .before .before .before in
+    let passed = answered .before .before .before in
+    even-query-called _ _ _ _ _ _ _ _ _ (passed .before .even-query-own-refusal .ensures) (passed .if1 .left) _ (answered .before .before .axes-without-ends .ensures) _ (answered .before .modes-given .ensures) _ (answered .even-query .ensures) (stored .store-even-query2 .ensures)
 
 pub hullashlar-even-query-spec : {M : Type 1} → statement M
 hullashlar-even-query-spec =

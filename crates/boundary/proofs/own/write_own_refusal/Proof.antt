@@ -1,0 +1,89 @@
+use mathlib.Core.Path.{refl, sym, _∙_}
+use mathlib.Core.List.{List}
+use Rattle.grid.specs.Given.{points-of, InRange}
+use Rattle.checks.specs.Tables.{Refusal}
+use Rattle.checks.proofs.Rows.{first, second, stop, pass, Past}
+use Rattle.plain_axes.specs.Axes.{axes-without-ends}
+use Rattle.boundary.specs.OwnRefusals.{write-own-rows, write-own-refusal}
+use Rattle.boundary.proofs.Rows.{axes-stop, axes-pass, points-four, points-in-range}
+use Rattle.boundary.proofs.Lengths.{eight-lengths}
+use borrow.Author.Needs.{needs}
+use Rattle.boundary.proofs.own.write_own_refusal.Statement.{statement}
+use Rattle.boundary.proofs.own.write_own_refusal.Tie as tie
+
+abbrev rows : tie.Start → List Refusal
+rows s = write-own-rows (s .args .axes) (s .args .points .now) (s .args .kinds .now) (s .args .values .now) (s .args .knots .now) (s .args .samples .now) (s .args .length .now)
+
+abbrev start : tie.Else1 → tie.Start
+start c = c .before .before .before .before .before .before .before .before
+
+past-axes : (c : tie.Else1) → Past (rows (start c)) 4
+past-axes c answer e = axes-pass _ _ (c .before .axes-own-refusal .ensures) _ (c .if1 .left) e
+
+range : (c : tie.Else1) → InRange (start c .args .axes) (points-of (axes-without-ends (start c .args .axes) (start c .args .points .now)))
+range c = points-in-range _ _ (c .before .axes-own-refusal .ensures) (c .if1 .left)
+
+past-lengths : (c : tie.Else4) → Past (rows (start (c .before .before .before .before .before .before .before))) 5
+past-lengths c answer e =
+    past-axes (c .before .before .before .before .before .before .before) _
+    (pass _ (second
+    (second (c .before .before .before .before .before .before .eight-ends-refused .ensures) (c .before .before .before .before .before .if2 .left) (c .before .before .before .before .length-refused .ensures)) (c .before .before .before .if3 .left)
+    (rw (c .before .before .axes-without-ends .ensures) at (c .before .parts-refused .ensures)))
+    (c .if4 .left) e)
+
+returns : tie.Need-returns
+unfolding write-own-refusal
+returns c = axes-stop _ _ (c .before .axes-own-refusal .ensures) _ (c .if1 .taken)
+
+returns-2 : tie.Need-returns-2
+unfolding write-own-refusal
+returns-2 c = past-axes (c .before .before) _ (stop _ (first _ (first _ (c .before .eight-ends-refused .ensures) (c .if2 .taken)) refl) refl)
+
+returns-3 : tie.Need-returns-3
+unfolding write-own-refusal
+returns-3 c = past-axes (c .before .before .before .before) _ (stop _ (first _ (second (c .before .before .before .eight-ends-refused .ensures) (c .before .before .if2 .left) (c .before .length-refused .ensures)) (c .if3 .taken)) refl)
+
+axes-without-ends-requires : tie.Need-axes-without-ends-requires
+axes-without-ends-requires c κs = points-four _ _ (c .before .before .before .before .before .axes-own-refusal .ensures) (c .before .before .before .before .if1 .left)
+
+parts-refused-requires : tie.Need-parts-refused-requires
+parts-refused-requires c κs = rw (c .axes-without-ends .ensures) (range (c .before .before .before .before .before))
+
+returns-4 : tie.Need-returns-4
+unfolding write-own-refusal
+returns-4 c =
+    past-axes (c .before .before .before .before .before .before .before) _
+    (stop _ (second
+    (second (c .before .before .before .before .before .before .eight-ends-refused .ensures) (c .before .before .before .before .before .if2 .left) (c .before .before .before .before .length-refused .ensures)) (c .before .before .before .if3 .left)
+    (rw (c .before .before .axes-without-ends .ensures) at (c .before .parts-refused .ensures)))
+    (c .if4 .taken))
+
+some-kinds-refused-requires : tie.Need-some-kinds-refused-requires
+some-kinds-refused-requires c κs =
+    let s = start (c .before .before .before .before .before .before .before) in
+    (range (c .before .before .before .before .before .before .before) .few-axes, eight-lengths (s .args .kinds .now) (s .args .values .now) (sym (c .before .before .before .before .before .before .eight-ends-refused .ensures) ∙ c .before .before .before .before .before .if2 .left) .0)
+
+returns-5 : tie.Need-returns-5
+unfolding write-own-refusal
+returns-5 c = past-lengths (c .before .before) _ (stop _ (c .before .some-kinds-refused .ensures) (c .if5 .taken))
+
+returns-6 : tie.Need-returns-6
+unfolding write-own-refusal
+returns-6 c = past-lengths (c .before .before) _ (pass _ (c .before .some-kinds-refused .ensures) (c .if5 .left) refl)
+
+pub write-own-refusal-spec : {M : Type 1} → statement M
+write-own-refusal-spec =
+    tie.close
+    (tie.spec
+    (λ c κs. search needs)
+    returns
+    (λ c κs. search needs)
+    returns-2
+    (λ c κs. search needs)
+    returns-3
+    axes-without-ends-requires
+    parts-refused-requires
+    returns-4
+    some-kinds-refused-requires
+    returns-5
+    returns-6)

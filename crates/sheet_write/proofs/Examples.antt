@@ -1,0 +1,64 @@
+-- The example sheet written from its parts, one refusal of each kind, and a sheet with a nan in it, which the reader takes and the writer does not: the rows of one theorem about the definitions.
+use mathlib.Core.Path.{_≡_, refl}
+use mathlib.Core.Bool.{true}
+use mathlib.Core.List.{List, [], _∷_, _++_}
+use Prim.Native.Nat.{ℕ}
+use lib.ListN.{length, replicate}
+use lib.Ieee.{Float, nan, inf, binary64, ofBits, toBits, lt, sub, add, neg}
+use Rattle.rules.specs.Numbers.{plus-zero, one, any}
+use Rattle.rules.specs.Ends.{natural, not-a-knot}
+use Rattle.rules.specs.Steps.{h}
+use Rattle.rules.specs.Sizes.{unused-axis, Grid, sum-below, product-below}
+use Rattle.rules.specs.Refusals.{step-refused}
+use Rattle.rules.specs.declared.Condition.{Condition}
+use Rattle.bits.specs.Bits.{bit, field}
+use Rattle.bits.specs.Written.{patch, with-bit, with-field, bits-in, with-fields, packed}
+use Rattle.kinds.specs.Kinds.{values-of-kind, end-of-kind, condition-of-kind, periodic-at-one-end}
+use Rattle.sheet.specs.Fields.{points-at, values-at, axis-at, knots-begin, knots-at, axis-end, axis-begin, entries, knots-below, sheet-grid, sheet-samples}
+use Rattle.sheet.specs.Faults.{axis-fault, axes-fault, tail-refused, samples-fault, sheet-refusal}
+use Rattle.sheet.proofs.Examples.{zero-bytes, first-bytes, example}
+use Rattle.sheet_write.specs.SheetOf.{axis-fields, axes-fields, part-fields, sheet-fields, sheet-of}
+use Rattle.sheet_write.specs.Write.{no-sheet-refusal, write-refusal}
+
+-- one axis of two points
+abbrev line : Condition → List Float → Grid
+line condition x = record { axes = 1; entries = record { points = 2; condition = condition } ∷ unused-axis ∷ unused-axis ∷ unused-axis ∷ []; flat-knots = x }
+
+abbrev ends : List Float
+ends = plus-zero ∷ one ∷ []
+
+-- the example sheet with a pattern of a nan for its last sample
+abbrev with-nan : List ℕ
+with-nan = 0x12 ∷ 0x03 ∷ 0x40 ∷ zero-bytes 23 ++ (0x07 ∷ 0xFE ∷ zero-bytes 14) ++ (0x0F ∷ 0xFF ∷ 0x20 ∷ zero-bytes 6)
+
+pub record Examples : Type 0 where
+  pub written : sheet-of (line natural ends) ends ≡ example
+  pub taken : no-sheet-refusal (line natural ends) ends ≡ 0
+  -- a buffer of its 51 bytes will do, and one of 50 will not
+  pub exact : write-refusal (line natural ends) ends (zero-bytes 51) ≡ 0
+  pub one-short : write-refusal (line natural ends) ends (zero-bytes 50) ≡ 15
+  pub no-sample : write-refusal (line natural ends) [] [] ≡ 4
+  pub infinite : write-refusal (line natural ends) (plus-zero ∷ inf true ∷ []) [] ≡ 7
+  pub falling : write-refusal (line natural (one ∷ plus-zero ∷ [])) ends [] ≡ 8
+  -- 9 stands before 15
+  pub few : write-refusal (line not-a-knot ends) ends [] ≡ 9
+  -- a sheet with a nan is read, and its parts have no sheet
+  pub nan-read : sheet-refusal with-nan ≡ 0
+  pub nan-found : sheet-samples with-nan ≡ plus-zero ∷ nan ∷ []
+  pub nan-refused : no-sheet-refusal (sheet-grid with-nan) (sheet-samples with-nan) ≡ 7
+
+pub examples : Examples
+unfolding any sum-below product-below bit field values-of-kind end-of-kind condition-of-kind periodic-at-one-end points-at values-at axis-at knots-begin knots-at axis-end axis-begin entries knots-below sheet-grid axis-fault axes-fault tail-refused samples-fault sheet-refusal patch with-bit with-field bits-in with-fields packed axis-fields axes-fields part-fields sheet-fields sheet-of no-sheet-refusal write-refusal step-refused h lt sub add neg ofBits toBits
+examples = record {
+  written = refl;
+  taken = refl;
+  exact = refl;
+  one-short = refl;
+  no-sample = refl;
+  infinite = refl;
+  falling = refl;
+  few = refl;
+  nan-read = refl;
+  nan-found = refl;
+  nan-refused = refl;
+}

@@ -1,0 +1,125 @@
+-- The bits of a sheet counted from its sizes, and how long it can be: 10,308 bytes at most, and a grid of 256 × 4 with four numbers at its ends has them.
+use mathlib.Core.Path.{_≡_, refl, sym, ap, _∙_}
+use mathlib.Core.List.{List}
+use Prim.Native.Nat.{ℕ, zero, suc, _+_, _-_, _*_, _/_, _^_, _<_, _≤_}
+use native.Mathlib.Nat.{le-refl, mul-le-mul, suc-mul, one-mul, add-mul, mul-add}
+use native.Mathlib.Decide.{decLt}
+use native.Mathlib.Omega.{arith}
+use lib.ListN.{length}
+use lib.Ieee.{Float}
+use Rattle.rules.specs.Sizes.{Grid, points, condition, sum-below, product-below, knots, knots-length, samples-length}
+use Rattle.rules.specs.declared.Axis.{Axis}
+use Rattle.rules.specs.declared.Condition.{Condition}
+use Rattle.grid.specs.Given.{grid, sizes-of}
+use Rattle.grid.proofs.Knots.{knots-of-axis}
+use Rattle.kinds.specs.Kinds.{lower-kind-of, upper-kind-of}
+use Rattle.bits.specs.Written.{bits-in, bytes-for}
+use Rattle.sheet.proofs.Extents.{value-most}
+use Rattle.sheet_write.specs.SheetOf.{axes-fields, part-fields, sheet-of}
+use Rattle.sheet_write.specs.Write.{no-sheet-refusal}
+use Rattle.sheet_write.specs.Within.{values, values-below, parts-bits}
+use Rattle.sheet_write.proofs.Lengths.{axis-bits, axes-next, axes-none, part-bits, sheet-length}
+use Rattle.sheet_write.proofs.Parts.{Known, known}
+use Rattle.sheet_write.proofs.Axes.{entry}
+
+-- ---- counted from the sizes
+
+module _ (g : Grid) (samples : List Float) (k : Known g samples) where
+  axes-count : (i : ℕ) → i ≤ g .axes → bits-in (axes-fields g i) ≡ 12 * i + 64 * (values-below (g .entries) i + sum-below (points g) i)
+  unfolding sum-below
+  axes-count zero l = axes-none g
+  axes-count (suc i) l =
+      let before = axes-count i (omega arith) in
+      let next = axes-next g i in
+      let here = axis-bits (entry g i) (knots g i) in
+      let exact = knots-of-axis g (k .grid-given .knots-exact) i l in omega arith
+
+  pub part-count : bits-in (part-fields g samples) ≡ parts-bits (g .axes) (g .entries)
+  unfolding parts-bits
+  part-count =
+      let a = part-bits g samples in
+      let b = axes-count (g .axes) (le-refl _) in
+      let c = k .samples-exact in omega arith
+
+-- ---- how many there can be
+
+pub values-most : (c : Condition) → values c ≤ 2
+values-most c = let a = value-most (lower-kind-of c) in let b = value-most (upper-kind-of c) in omega arith
+
+sum-most : (n : ℕ → ℕ) (most i : ℕ) → ((j : ℕ) → j < i → n j ≤ most) → sum-below n i ≤ i * most
+unfolding sum-below
+sum-most n most zero each = omega arith
+sum-most n most (suc i) each =
+    let before = sum-most n most i (λ j l. each j (omega arith)) in
+    let here = each i (omega arith) in
+    rw (suc-mul i most) (omega arith)
+
+-- two sizes of a product that is not above 1,024
+two-sum : (a b : ℕ) → a ≤ 256 → b ≤ 256 → a * b ≤ 1024 → a + b ≤ 260
+two-sum a b h k l =
+    elim (decLt a 4) [
+      | yes few ↦ omega (arith, few)
+      | no many ↦
+          elim (decLt b 4) [
+            | yes few ↦ omega (arith, few)
+            | no more ↦
+                let u : ℕ = a - 4 in
+                let v : ℕ = b - 4 in
+                let x : a ≡ u + 4 = omega (arith, many) in
+                let y : b ≡ v + 4 = omega (arith, more) in
+                let z : (u + 4) * (v + 4) ≡ u * v + u * 4 + (4 * v + 16) = rw (add-mul u 4 (v + 4), mul-add u v 4, mul-add 4 v 4) (omega arith) in
+                let w : (u + 4) * (v + 4) ≤ 1024 = rw (← x, ← y) l in omega (arith, x, y, z, w)
+          ]
+    ]
+
+all-most : (p : ℕ → ℕ) (n : ℕ) → 1 ≤ n → n ≤ 4 → ((i : ℕ) → i < n → 2 ≤ p i) → ((i : ℕ) → i < n → p i ≤ 256) → product-below p n * 2 ^ n ≤ 4096 → 140 * n + 64 * (sum-below p n + product-below p n) ≤ 82456
+unfolding sum-below product-below
+all-most p zero some few two most small = absurd (omega arith)
+all-most p (suc zero) some few two most small = let a = most 0 (omega arith) in omega arith
+all-most p (suc (suc zero)) some few two most small =
+    let s = two-sum (p 0) (p 1) (most 0 (omega arith)) (most 1 (omega arith)) (rw one-mul at (let e : 1 * p 0 * p 1 ≤ 1024 = omega arith in e)) in omega arith
+all-most p (suc (suc (suc zero))) some few two most small =
+    let a = most 0 (omega arith) in
+    let b = most 1 (omega arith) in
+    let c = most 2 (omega arith) in omega arith
+all-most p (suc (suc (suc (suc zero)))) some few two most small =
+    let a = most 1 (omega arith) in
+    let b = most 2 (omega arith) in
+    let c = most 3 (omega arith) in
+    let x : 1 * p 0 * 2 ≤ 1 * p 0 * p 1 = mul-le-mul (le-refl (1 * p 0)) (two 1 (omega arith)) in
+    let y : 1 * p 0 * p 1 * 2 ≤ 1 * p 0 * p 1 * p 2 = mul-le-mul (le-refl (1 * p 0 * p 1)) (two 2 (omega arith)) in
+    let z : 1 * p 0 * p 1 * p 2 * 2 ≤ 1 * p 0 * p 1 * p 2 * p 3 = mul-le-mul (le-refl (1 * p 0 * p 1 * p 2)) (two 3 (omega arith)) in omega arith
+all-most p (suc (suc (suc (suc (suc n))))) some few two most small = absurd (omega arith)
+
+-- the parts of any sheet
+pub bits-most : (g : Grid) (samples : List Float) → Known g samples → parts-bits (g .axes) (g .entries) ≤ 82463
+unfolding parts-bits
+bits-most g samples k =
+    let range = k .grid-given .in-range in
+    let v = sum-most (λ i. values (condition g i)) 2 (g .axes) (λ i l. values-most (condition g i)) in
+    let a = all-most (points g) (g .axes) (range .some-axes) (range .few-axes) (range .some-points) (range .few-points) (k .grid-given .small) in
+    omega arith
+
+pub sheet-length-most : (g : Grid) (samples : List Float) → no-sheet-refusal g samples ≡ 0 → length (sheet-of g samples) ≤ 10308
+sheet-length-most g samples e =
+    let k = known g samples e in
+    let a = sheet-length g samples in
+    let b = part-count g samples k in
+    let c = bits-most g samples k in omega arith
+
+-- and so none has more than 65,536
+pub sheet-length-below : (g : Grid) (samples : List Float) → no-sheet-refusal g samples ≡ 0 → length (sheet-of g samples) ≤ 65536
+sheet-length-below g samples e = let most = sheet-length-most g samples e in omega arith
+
+-- the largest: two axes of 256 and of 4 points, with a number at each of the four ends
+pub largest-length :
+    (g : Grid) (samples : List Float) → no-sheet-refusal g samples ≡ 0 → g .axes ≡ 2 → points g 0 ≡ 256 → points g 1 ≡ 4
+    → values (condition g 0) ≡ 2
+    → values (condition g 1) ≡ 2
+    → length (sheet-of g samples) ≡ 10308
+unfolding parts-bits sum-below product-below
+largest-length g samples e two first second lower upper =
+    let k = known g samples e in
+    let a = sheet-length g samples in
+    let b : bits-in (part-fields g samples) ≡ 82463 = part-count g samples k ∙ rw (two, first, second, lower, upper) in
+    a ∙ rw b

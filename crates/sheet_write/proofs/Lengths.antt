@@ -1,0 +1,54 @@
+-- How many bits the fields of axes and of a whole sheet have, and how many bytes a sheet has: at most 10,308, and the largest has them.
+use mathlib.Core.Path.{_≡_, refl, sym, ap, _∙_}
+use mathlib.Core.List.{List, [], _∷_, _++_}
+use Prim.Native.Nat.{ℕ, zero, suc, _+_, _-_, _*_, _/_, _%_, _^_, _<_, _≤_}
+use native.Mathlib.Omega.{arith}
+use lib.ListN.{length, getD}
+use lib.Ieee.{Float}
+use Rattle.rules.specs.Sizes.{unused-axis, Grid, points, condition, knots, sum-below, samples-length}
+use Rattle.rules.specs.declared.Axis.{Axis}
+use Rattle.rules.specs.declared.Condition.{Condition}
+use Rattle.kinds.specs.Kinds.{values-of-kind, lower-kind-of, upper-kind-of}
+use Rattle.bits.specs.Written.{bits-in, number-fields, filler, bytes-for}
+use Rattle.bits.proofs.Rows.{bits-in-append, packed-length}
+use Rattle.bits.proofs.Numbers.{numbers-bits}
+use Rattle.sheet_write.specs.SheetOf.{ends-fields, axis-fields, axes-fields, part-fields, sheet-fields, sheet-of}
+use Rattle.sheet_write.specs.Within.{values}
+use Rattle.sheet_write.proofs.Ends.{ends-bits}
+
+pub axis-bits : (axis : Axis) (x : List Float) → bits-in (axis-fields axis x) ≡ 12 + 64 * values (axis .condition) + 64 * length x
+unfolding axis-fields bits-in
+axis-bits axis x =
+    let a = ends-bits (axis .condition) in
+    let b = numbers-bits x in
+    let c = bits-in-append (ends-fields (axis .condition)) (number-fields x) in omega arith
+
+pub axes-next : (g : Grid) (i : ℕ) → bits-in (axes-fields g (suc i)) ≡ bits-in (axes-fields g i) + bits-in (axis-fields (getD (g .entries) i unused-axis) (knots g i))
+unfolding axes-fields
+axes-next g i = bits-in-append (axes-fields g i) (axis-fields (getD (g .entries) i unused-axis) (knots g i))
+
+pub axes-none : (g : Grid) → bits-in (axes-fields g 0) ≡ 0
+unfolding axes-fields bits-in
+axes-none g = refl
+
+pub part-bits : (g : Grid) (samples : List Float) → bits-in (part-fields g samples) ≡ 7 + bits-in (axes-fields g (g .axes)) + 64 * length samples
+unfolding part-fields bits-in
+part-bits g samples =
+    let a = bits-in-append (axes-fields g (g .axes)) (number-fields samples) in
+    let b = numbers-bits samples in omega arith
+
+last-bits : (n : ℕ) → bits-in (filler n ∷ []) ≡ (8 - n % 8) % 8
+unfolding bits-in
+last-bits n = omega arith
+
+-- a sheet fills whole bytes
+pub sheet-bits : (g : Grid) (samples : List Float) → bits-in (sheet-fields g samples) ≡ 8 * bytes-for (bits-in (part-fields g samples))
+unfolding sheet-fields
+sheet-bits g samples =
+    let n = bits-in (part-fields g samples) in
+    let a = bits-in-append (part-fields g samples) (filler n ∷ []) in
+    let b = last-bits n in omega arith
+
+pub sheet-length : (g : Grid) (samples : List Float) → length (sheet-of g samples) ≡ bytes-for (bits-in (part-fields g samples))
+unfolding sheet-of
+sheet-length g samples = packed-length (sheet-fields g samples) ∙ (let e = sheet-bits g samples in omega arith)

@@ -1,0 +1,11 @@
+pub mod Ends
+pub mod Lengths
+pub mod Reading
+pub mod Parts
+pub mod Axes
+pub mod Puts
+pub mod Largest
+pub mod Promises
+pub mod Unique
+pub mod Examples
+pub mod Sheets

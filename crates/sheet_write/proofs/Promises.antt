@@ -1,0 +1,104 @@
+-- The writer's promise for each way that it ends.
+use mathlib.Core.Path.{_≡_, refl, sym, ap, _∙_}
+use mathlib.Core.Bool.{true, false, cond}
+use mathlib.Core.List.{List, _++_}
+use Prim.Native.Nat.{ℕ, zero, suc, _+_, _*_, _<_, _≤_}
+use native.Mathlib.Omega.{arith}
+use borrow.Author.Tests.{lt-ltb, le-ltb}
+use lib.ListN.{length}
+use lib.Ieee.{Float}
+use Rattle.rules.specs.Sizes.{Grid}
+use Rattle.rules.specs.Calls.{or-else, stored, counted}
+use Rattle.rules.proofs.Refused.{or-else-met, unchanged}
+use Rattle.bits.specs.Within.{Within}
+use Rattle.bits.specs.Written.{bits-in, with-fields, bytes-for}
+use Rattle.bits.proofs.Writes.{Bytes}
+use Rattle.bits.proofs.Rows.{over-any}
+use Rattle.sheet.specs.Read.{over}
+use Rattle.sheet_write.specs.SheetOf.{part-fields, sheet-fields, sheet-of}
+use Rattle.sheet_write.specs.Write.{no-sheet-refusal, write-refusal, write-answer, WritePromise}
+use Rattle.sheet_write.specs.Within.{FieldsGiven, SheetGiven, parts-bits}
+use Rattle.sheet_write.specs.declared.WriteAnswer.{WriteAnswer}
+use Rattle.sheet_write.proofs.Lengths.{sheet-bits, sheet-length}
+use Rattle.sheet_write.proofs.Parts.{Known, known}
+use Rattle.sheet_write.proofs.Largest.{part-count, bits-most}
+
+-- what is not counted
+none-counted : (refusal count : ℕ) → (refusal ≡ 0 → ⊥) → 0 ≡ counted refusal count
+none-counted zero count met = absurd (met refl)
+none-counted (suc refusal) count met = refl
+
+module _ (g : Grid) (samples : List Float) (buffer : List ℕ) where
+  -- an answer with this refusal, and nothing written
+  refused : (r : ℕ) → r ≡ write-refusal g samples buffer → (r ≡ 0 → ⊥) → WritePromise g samples buffer (record { refusal = r; length = 0 }) buffer
+  unfolding write-answer
+  refused r e met =
+      let some : write-refusal g samples buffer ≡ 0 → ⊥ = λ z. met (e ∙ z) in
+      record {
+        answer = rw (e, ← none-counted (write-refusal g samples buffer) (length (sheet-of g samples)) some);
+        output = unchanged (write-refusal g samples buffer) buffer (over (sheet-of g samples) buffer) some;
+      }
+
+  parts-first : (no-sheet-refusal g samples ≡ 0 → ⊥) → no-sheet-refusal g samples ≡ write-refusal g samples buffer
+  unfolding write-refusal
+  parts-first met = sym (or-else-met (no-sheet-refusal g samples) _ met)
+
+  pub parts-refused : (r : ℕ) → r ≡ no-sheet-refusal g samples → (r ≡ 0 → ⊥) → WritePromise g samples buffer (record { refusal = r; length = 0 }) buffer
+  parts-refused r e met = refused r (e ∙ parts-first (λ z. met (e ∙ z))) met
+
+  module _ (r : ℕ) (e : r ≡ no-sheet-refusal g samples) (none : r ≡ 0) where
+    passed : no-sheet-refusal g samples ≡ 0
+    passed = sym e ∙ none
+
+    pub given : Known g samples
+    given = known g samples passed
+
+    module _ (bits : ℕ) (is : bits ≡ parts-bits (g .axes) (g .entries)) where
+      pub few : bits ≤ 82463
+      few = rw is (bits-most g samples given)
+
+      size : length (sheet-of g samples) ≡ bytes-for bits
+      size = sheet-length g samples ∙ rw (part-count g samples given, is)
+
+      short : length buffer < bytes-for bits → 15 ≡ write-refusal g samples buffer
+      unfolding write-refusal
+      short l = rw (passed, lt-ltb (length buffer) (length (sheet-of g samples)) (rw size l))
+
+      pub buffer-refused : length buffer < bytes-for bits → WritePromise g samples buffer (record { refusal = 15; length = 0 }) buffer
+      buffer-refused l = refused 15 (short l) (λ z. omega (arith, z))
+
+      module _ (long : bytes-for bits ≤ length buffer) where
+        pub room : SheetGiven buffer g samples
+        room =
+            let k = given in
+            let range = k .grid-given .in-range in
+            let whole = sheet-bits g samples in
+            let count = part-count g samples k in
+            let most = few in
+            record {
+              fields = record {
+                few = range .few-axes;
+                some-points = range .some-points;
+                few-points = range .few-points;
+                knots-exact = k .grid-given .knots-exact;
+                finite-ends = k .solve-given .ends-finite;
+                finite-knots = k .grid-given .knots-finite;
+              };
+              finite-samples = k .samples-finite;
+              within = record { room = omega arith; small = omega arith };
+            }
+
+        taken : 0 ≡ write-refusal g samples buffer
+        unfolding write-refusal
+        taken = rw (passed, le-ltb (length buffer) (length (sheet-of g samples)) (rw size long))
+
+        over-is : Bytes buffer → with-fields buffer 0 (sheet-fields g samples) ≡ over (sheet-of g samples) buffer
+        unfolding sheet-of
+        over-is all = over-any (sheet-fields g samples) (bytes-for (bits-in (part-fields g samples))) (sheet-bits g samples) buffer all (rw (part-count g samples given, ← is) long)
+
+        pub written : Bytes buffer → (later : List ℕ) → later ≡ with-fields buffer 0 (sheet-fields g samples) → WritePromise g samples buffer (record { refusal = 0; length = bytes-for bits }) later
+        unfolding write-answer
+        written all later put = record {
+          answer = rw (← taken, size);
+          output = rw (← taken) (put ∙ over-is all);
+        }

@@ -1,0 +1,90 @@
+use mathlib.Core.Path.{refl}
+use native.Mathlib.Omega.{arith}
+use Rattle.grid.specs.Given.{grid}
+use Rattle.sheet_write.proofs.Puts.{Ends, ends, last-within, sheet-put}
+use borrow.Author.Needs.{needs}
+use Rattle.sheet_write.proofs.fields.put_sheet.Statement.{statement}
+use Rattle.sheet_write.proofs.fields.put_sheet.Tie as tie
+
+put-field-requires : tie.Need-put-field-requires
+put-field-requires c κs =
+    let start = c .before .before .before .before in
+    let g = grid (start .args .axes) (start .args .all) (start .args .knots .now) in
+    let sizes = ends (start .args .bytes .now) g (start .args .samples .now) in
+    let within = start .pre .within in
+    (record { room = omega arith; small = omega arith }, omega arith)
+
+put-field-requires-2 : tie.Need-put-field-requires-2
+put-field-requires-2 c κs =
+    let start = c .before .before .before .before .before .before .before .before in
+    let g = grid (start .args .axes) (start .args .all) (start .args .knots .now) in
+    let sizes = ends (start .args .bytes .now) g (start .args .samples .now) in
+    let within = start .pre .within in
+    (record { room = omega arith; small = omega arith }, omega arith)
+
+put-axes-requires : tie.Need-put-axes-requires
+put-axes-requires c κs =
+    let start = c .before .before .before .before .before .before .before .before .before .before .before .before in
+    let g = grid (start .args .axes) (start .args .all) (start .args .knots .now) in
+    let sizes = ends (start .args .bytes .now) g (start .args .samples .now) in
+    let within = start .pre .within in
+    record { fields = start .pre .fields; within = record { room = omega arith; small = omega arith } }
+
+put-numbers-requires : tie.Need-put-numbers-requires
+put-numbers-requires c κs =
+    let start = c .before .before .before .before .before .before .before .before .before .before .before .before .before .before .before .before in
+    let g = grid (start .args .axes) (start .args .all) (start .args .knots .now) in
+    let sizes = ends (start .args .bytes .now) g (start .args .samples .now) in
+    let within = start .pre .within in
+    let next = c .before .before .before .put-axes .ensures .0 in
+    (record { room = omega arith; small = omega arith }, start .pre .finite-samples)
+
+mul-end : tie.Need-mul-end
+mul-end c =
+    let start = c .before .before .before .before .before .before .before .before .before .before .before .before .before .before .before .before .before .before .before in
+    let g = grid (start .args .axes) (start .args .all) (start .args .knots .now) in
+    let sizes = ends (start .args .bytes .now) g (start .args .samples .now) in
+    let within = start .pre .within in
+    omega arith
+
+add-end : tie.Need-add-end
+add-end c =
+    let start = c .before .before .before .before .before .before .before .before .before .before .before .before .before .before .before .before .before .before .before in
+    let g = grid (start .args .axes) (start .args .all) (start .args .knots .now) in
+    let sizes = ends (start .args .bytes .now) g (start .args .samples .now) in
+    let within = start .pre .within in
+    let next = c .before .before .before .before .before .before .put-axes .ensures .0 in omega arith
+
+put-field-requires-3 : tie.Need-put-field-requires-3
+put-field-requires-3 c κs =
+    let start = c .before .before .before .before .before .before .before .before .before .before .before .before .before .before .before .before .before .before .before .before in
+    let g = grid (start .args .axes) (start .args .all) (start .args .knots .now) in
+    (last-within (start .args .bytes .now) g (start .args .samples .now) _ _ (omega arith) (c .before .before .before .before .before .before .before .put-axes .ensures .0) (start .pre .within), omega arith)
+
+returns : tie.Need-returns
+returns c =
+    let args = c .before .before .before .before .before .before .before .before .before .before .before .before .before .before .before .before .before .before .before .before .before .before .before .args in
+    let axes = c .before .before .before .before .before .before .before .before .before .before .put-axes .ensures in
+    sheet-put (args .bytes .now) (grid (args .axes) (args .all) (args .knots .now)) (args .samples .now) _ _ _ _ _ _ _
+    (c .before .before .before .before .before .before .before .before .before .before .before .before .before .before .before .before .before .before .put-field .ensures)
+    (c .before .before .before .before .before .before .before .before .before .before .before .before .before .before .put-field2 .ensures)
+    (axes .0)
+    (axes .1)
+    (c .before .before .before .before .before .before .put-numbers .ensures)
+    refl
+    (c .before .before .put-field3 .ensures)
+
+pub put-sheet-spec : {M : Type 1} → statement M
+put-sheet-spec =
+    tie.close
+    (tie.spec
+    put-field-requires
+    put-field-requires-2
+    put-axes-requires
+    put-numbers-requires
+    mul-end
+    add-end
+    (λ c. search needs)
+    put-field-requires-3
+    (λ c. search needs)
+    returns)

@@ -1,0 +1,3 @@
+pub mod SheetOf
+pub mod Write
+pub mod Within

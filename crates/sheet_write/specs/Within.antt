@@ -1,0 +1,57 @@
+-- What the functions that are not public require: parts that have a sheet, with numbers that are finite, and room for their fields.
+use mathlib.Core.Path.{_≡_}
+use mathlib.Core.Bool.{false}
+use mathlib.Core.List.{List}
+use Prim.Native.Nat.{ℕ, _+_, _*_, _<_, _≤_}
+use lib.ListN.{length}
+use lib.Ieee.{Float}
+use Rattle.rules.specs.Sizes.{most-axes, fewest-on-an-axis, most-on-an-axis, Grid, points, condition, sum-below, knots-length, samples-length}
+use Rattle.rules.specs.Refusals.{some-number-refused, ends-refused}
+use Rattle.rules.specs.declared.Axis.{Axis}
+use Rattle.rules.specs.declared.Condition.{Condition}
+use Rattle.grid.specs.Given.{sizes-of, condition-of}
+use Rattle.kinds.specs.Kinds.{values-of-kind, lower-kind-of, upper-kind-of}
+use Rattle.bits.specs.Within.{Within}
+use Rattle.bits.specs.Written.{bits-in}
+use Rattle.sheet_write.specs.SheetOf.{axis-fields, axes-fields, sheet-fields}
+
+-- an axis and its knots, and room for them from bit `at` on
+pub record AxisGiven (bytes : List ℕ) (at : ℕ) (axis : Axis) (x : List Float) : Type 0 where
+  pub some-points : 1 ≤ axis .points
+  pub finite-ends : ends-refused (axis .condition) ≡ false
+  pub finite-knots : some-number-refused x ≡ false
+  pub within : Within bytes at (bits-in (axis-fields axis x))
+
+-- a grid whose fields can be written: few axes, points that fit their field, knots for each point, and finite numbers
+pub record FieldsGiven (g : Grid) : Type 0 where
+  pub few : g .axes ≤ most-axes
+  pub some-points : (i : ℕ) → i < g .axes → fewest-on-an-axis ≤ points g i
+  pub few-points : (i : ℕ) → i < g .axes → points g i ≤ most-on-an-axis
+  pub knots-exact : length (g .flat-knots) ≡ knots-length g
+  pub finite-ends : (i : ℕ) → i < g .axes → ends-refused (condition g i) ≡ false
+  pub finite-knots : some-number-refused (g .flat-knots) ≡ false
+
+-- its axes, and room for them from bit 7 on
+pub record AxesGiven (bytes : List ℕ) (g : Grid) : Type 0 where
+  pub fields : FieldsGiven g
+  pub within : Within bytes 7 (bits-in (axes-fields g (g .axes)))
+
+-- all of a sheet, and room for it
+pub record SheetGiven (bytes : List ℕ) (g : Grid) (samples : List Float) : Type 0 where
+  pub fields : FieldsGiven g
+  pub finite-samples : some-number-refused samples ≡ false
+  pub within : Within bytes 0 (bits-in (sheet-fields g samples))
+
+-- ---- how many bits the parts have
+
+-- how many of the two ends of a condition have a number
+abbrev pub values : Condition → ℕ
+values c = values-of-kind (lower-kind-of c) + values-of-kind (upper-kind-of c)
+
+-- so of the first i axes together
+abbrev pub values-below : List Axis → ℕ → ℕ
+values-below entries = sum-below (λ i. values (condition-of entries i))
+
+-- edition and number of axes, the axes, the samples
+unfoldable pub parts-bits : ℕ → List Axis → ℕ
+parts-bits axes entries = 7 + 12 * axes + 64 * (values-below entries axes + knots-length (sizes-of axes entries) + samples-length (sizes-of axes entries))
