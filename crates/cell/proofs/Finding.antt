@@ -11,7 +11,7 @@ use lib.Ieee.{Float, nan}
 use borrow.Author.Count.{below-more}
 use Rattle.rules.specs.Numbers.{plus-zero, at, any}
 use Rattle.rules.specs.Sizes.{most-in-a-tensor, Grid, points, knots, sum-below, tensor-length, Place, place-of}
-use Rattle.rules.specs.Outside.{mode-at, side, placed-on, outside-refused}
+use Rattle.rules.specs.Outside.{mode-at}
 use Rattle.rules.specs.declared.Mode.{Mode}
 use Rattle.grid.proofs.Products.{sum-more}
 use Rattle.grid.proofs.Knots as of-axis

@@ -13,9 +13,9 @@ use Rattle.rules.specs.Numbers.{at}
 use Rattle.rules.specs.Sizes.{Grid, place-of, tensor-length}
 use Rattle.rules.specs.Refusals.{answer-refused}
 use Rattle.rules.specs.Outside.{placed-on, some-outside-refused}
-use Rattle.rules.specs.Even.{some-uneven-refused, uneven-axis, uneven-interval}
+use Rattle.rules.specs.Even.{some-uneven-refused}
 use Rattle.rules.specs.Query.{even-cell-of, even-query}
-use Rattle.rules.specs.Calls.{or-else, labels-of}
+use Rattle.rules.specs.Calls.{or-else}
 use Rattle.rules.specs.EvenCalls.{nothing-told, even-labels, even-query-refusal, even-query-answer, EvenQueryPromise}
 use Rattle.rules.specs.declared.EvenAnswer.{EvenAnswer}
 use Rattle.rules.specs.declared.Mode.{Mode}

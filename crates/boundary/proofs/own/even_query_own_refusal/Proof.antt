@@ -1,4 +1,4 @@
-use mathlib.Core.Path.{refl, sym, _∙_}
+use mathlib.Core.Path.{sym, _∙_}
 use Rattle.checks.proofs.Rows.{stop, pass}
 use Rattle.boundary.specs.OwnRefusals.{even-query-own-refusal}
 use Rattle.boundary.proofs.Rows.{axes-stop, axes-pass}
