@@ -6,12 +6,12 @@ use native.Mathlib.Nat.{mul-one, one-mul, mul-assoc, mul-left-comm, zero-mul, mu
 use native.Mathlib.Omega.{arith}
 use lib.Dec.{T, eqb→eq}
 use lib.IntN.{ℤ, pos, negsuc}
-use lib.Pow.{pow-add, pow-pos}
+use lib.Pow.{pow-add}
 use lib.Ieee.{Float, nan, inf, fin, Format, binary32, binary64, low, up, down, round, fits}
 use lib.Ieee.Fits.{up-pos, down-pos, round-fits}
 use lib.Ieee.Exact.{HasValue, round-exact}
 use lib.Ieee.Scale.{overflow, round-same}
-use Rattle.floats.specs.Place.{weight, magnitude}
+use Rattle.floats.specs.Place.{weight}
 use Rattle.floats.proofs.Units.{Fitting, fitting, scaled, under-overflow}
 
 -- ---- an odd number times a power of two

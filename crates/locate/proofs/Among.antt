@@ -20,14 +20,14 @@ use Rattle.locate.proofs.Halving.{half, halving-ends, halving-down, hal
 -- ---- n knots, and a point among them
 
 -- the knots from `above` on, and no others, are at or above the point; those before `below`, and no others, at or below it
-record Among (knots : List Float) (point : Float) (n : ℕ) : Type 0 where
-  above : ℕ
-  below : ℕ
-  at-or-above : (k : ℕ) → k < n → le point (at knots k) ≡ leb above k
-  at-or-below : (k : ℕ) → k < n → le (at knots k) point ≡ ltb k below
-  before : (k : ℕ) → k < n → lt point (at knots k) ≡ leb below k
-  order : above ≤ below
-  close : below ≤ above + 1
+pub record Among (knots : List Float) (point : Float) (n : ℕ) : Type 0 where
+  pub above : ℕ
+  pub below : ℕ
+  pub at-or-above : (k : ℕ) → k < n → le point (at knots k) ≡ leb above k
+  pub at-or-below : (k : ℕ) → k < n → le (at knots k) point ≡ ltb k below
+  pub before : (k : ℕ) → k < n → lt point (at knots k) ≡ leb below k
+  pub order : above ≤ below
+  pub close : below ≤ above + 1
 
 less-not : (a b : ℕ) (i j : ℕ) → leb b a ≡ ltb i j → ltb a b ≡ leb j i
 less-not a b i j e = go (ltb i j) refl
@@ -94,7 +94,7 @@ module _ (knots : List Float) (point : Float) (last : ℕ) (A : Among knots poin
       go false p true q = let b = ltb-true last (A .below) q in let c = A .close in omega arith
       go false p false q = let b = ltb-false last (A .below) q in let o = A .order in let f = found (omega arith) in omega arith
 
-  locate-is : locate knots last point ≡ min (A .above - 1) (last - 1)
+  pub locate-is : locate knots last point ≡ min (A .above - 1) (last - 1)
   unfolding locate
   locate-is = ends-first (first-at-or-above knots point last 0 - 1) (λ h. ap (λ (k : ℕ). k - 1) (first-finds last 0 (omega arith) (omega arith) (omega arith)))
 
@@ -121,7 +121,7 @@ module _ (knots : List Float) (point : Float) (last : ℕ) (A : Among knots poin
 
 module _ (knots : List Float) (point : Float) (n : ℕ) (R : Rising knots n) (F : AllFit knots) (P : Real point) (some : 2 ≤ n) where
   -- all of it with the last knot's index for n - 1
-  placed : Among knots point (suc (n - 1))
+  pub placed : Among knots point (suc (n - 1))
   placed = subst (Among knots point) (let e : n ≡ suc (n - 1) = omega arith in e) (among knots point n R F P)
 
   counted : length knots ≡ suc (n - 1)
