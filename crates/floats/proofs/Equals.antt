@@ -36,6 +36,15 @@ pub equal-finite : (x y : Float) → Equal x y → finite y ≡ true → finite 
 equal-finite x y (inl p) h = ap finite p ∙ h
 equal-finite x y (inr p) h = zero-finite x (p .0)
 
+-- what is found equal to a finite number is finite
+pub eq-finite : (x y : Float) → eq x y ≡ true → finite y ≡ true → finite x ≡ true
+unfolding eq
+eq-finite nan y e h = e
+eq-finite (inf s) nan e h = e
+eq-finite (inf s) (inf t) e h = h
+eq-finite (inf s) (fin t n d) e h = e
+eq-finite (fin s m k) y e h = refl
+
 -- ---- equal numbers are found equal
 
 eq-self : (x : Float) → finite x ≡ true → eq x x ≡ true

@@ -1,4 +1,5 @@
 pub mod Products
+pub mod Knots
 pub mod Strides
 pub mod Placing
 pub mod Corners

@@ -1,0 +1,3 @@
+mod Weights
+pub mod Hermite
+pub mod Corner
