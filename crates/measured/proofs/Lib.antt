@@ -1,3 +1,7 @@
 mod Weights
 pub mod Hermite
 pub mod Corner
+pub mod Knots
+pub mod Surfaces
+pub mod InCells
+pub mod Measured
