@@ -1,15 +1,14 @@
 -- In cells beside the knots of a place, the value at a point that equals those knots equals the tensor's number at mask 0 of the place.
 use native.Mathlib.Omega.{arith}
-use mathlib.Core.Path.{_≡_, sym, ap, _∙_}
+use mathlib.Core.Path.{_≡_, _∙_}
 use mathlib.Core.List.{List}
 use mathlib.Core.Bool.{true}
-use Prim.Native.Nat.{ℕ, _+_, _-_, _*_, _/_, _%_, _^_, _<_, _≤_}
+use Prim.Native.Nat.{ℕ, _+_, _-_, _*_, _/_, _%_, _<_, _≤_}
 use native.Mathlib.Nat.{mul-div-cancel, mul-mod-left, mod-lt, zero-add}
 use lib.Arith.{digits-lt}
 use lib.ListN.{length}
 use lib.Pow.{pow-pos}
 use lib.Ieee.{Float, eq}
-use lib.Ieee.Scale.{finite}
 use Rattle.rules.specs.Numbers.{at}
 use Rattle.rules.specs.Sizes.{Grid, points, knots, masks, Place, spot}
 use Rattle.rules.specs.Steps.{h}

@@ -1,12 +1,12 @@
 -- A point that equals a knot: the cell that is found ends there, or is the first, and in either cell beside the knot the fraction is 0 or 1.
 use native.Mathlib.Omega.{arith}
-use mathlib.Core.Path.{_≡_, refl, sym, ap, _∙_, subst}
+use mathlib.Core.Path.{_≡_, refl, sym, ap, _∙_}
 use mathlib.Core.List.{List}
 use mathlib.Core.Bool.{Bool, true, false}
-use Prim.Native.Nat.{ℕ, suc, _+_, _-_, min, _<_, _≤_}
-use lib.Dec.{T, ltb, leb}
+use Prim.Native.Nat.{ℕ, suc, _+_, _-_, _<_, _≤_}
+use lib.Dec.{T, ltb}
 use borrow.Author.Tests.{ltb-true, ltb-false, leb-true}
-use lib.Ieee.{Float, binary64, lt, le, eq}
+use lib.Ieee.{Float, binary64, eq}
 use lib.Ieee.Scale.{finite}
 use lib.Ieee.Positive.{positive}
 use Rattle.rules.specs.Numbers.{_⊖_, _⊘_, at}
@@ -14,7 +14,6 @@ use Rattle.rules.specs.Steps.{h}
 use Rattle.rules.specs.Locate.{locate}
 use Rattle.rules.specs.Query.{fraction}
 use Rattle.floats.specs.Place.{Real, AllFit}
-use Rattle.floats.specs.Zeros.{one}
 use Rattle.floats.proofs.Reals.{eq-le}
 use Rattle.floats.proofs.Equals.{eq-equal}
 use Rattle.floats.proofs.Operations.{sub-equal, div-zero, div-self}

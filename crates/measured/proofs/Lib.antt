@@ -5,3 +5,4 @@ pub mod Knots
 pub mod Surfaces
 pub mod InCells
 pub mod Measured
+pub mod Example

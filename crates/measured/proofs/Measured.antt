@@ -1,34 +1,33 @@
 -- What was measured is read: the theorem, from the promise of `query`.
 use native.Mathlib.Omega.{arith}
-use mathlib.Core.Path.{_≡_, refl, sym, ap, _∙_}
+use mathlib.Core.Path.{_≡_, refl, ap, _∙_}
 use mathlib.Core.List.{List}
-use mathlib.Core.Bool.{Bool, true, false, not, cond}
-use Prim.Native.Nat.{ℕ, _+_, _-_, _<_, _≤_}
+use mathlib.Core.Bool.{true, false, not, cond}
+use Prim.Native.Nat.{ℕ, _-_, _<_}
 use lib.Dec.{ltb}
 use lib.ListN.{length, getD}
-use lib.Ieee.{Float, eq}
+use lib.Ieee.{Float}
 use lib.Ieee.Scale.{finite}
 use borrow.Author.Tests.{lt-ltb, eq-eqb}
 use Rattle.rules.specs.Numbers.{at}
 use Rattle.rules.specs.Sizes.{most-axes, Grid, points, knots, knots-length, tensor-length, Place, spot}
-use Rattle.rules.specs.Locate.{locate}
-use Rattle.rules.specs.Refusals.{length-refused, number-refused, some-number-refused, answer-refused}
+use Rattle.rules.specs.Refusals.{length-refused, number-refused, some-number-refused}
 use Rattle.rules.specs.Query.{cell-of, query}
 use Rattle.rules.specs.Calls.{labels, query-refusal, query-answer, QueryPromise}
 use Rattle.rules.specs.declared.QueryAnswer.{QueryAnswer}
 use Rattle.rules.proofs.Tables.{at-table}
 use Rattle.base.proofs.Scan.{any-never}
 use Rattle.checks.specs.Check.{query-check}
-use Rattle.checks.specs.Given.{QueryGiven, GridGiven}
+use Rattle.checks.specs.Given.{GridGiven}
 use Rattle.checks.proofs.Accepted.{query-given}
 use Rattle.checks.proofs.ThenOutcome.{outcome-good, query-outcome}
 use Rattle.floats.specs.Place.{Real}
 use Rattle.floats.specs.Zeros.{Equal}
 use Rattle.floats.proofs.Equals.{equal-finite, equal-eq, eq-finite}
 use Rattle.measured.specs.Measured.{Surface, AtPlace, Reads, MeasuredIsRead}
-use Rattle.measured.proofs.Knots.{Knots, real, cell-at-knot}
+use Rattle.measured.proofs.Knots.{cell-at-knot}
 use Rattle.measured.proofs.Surfaces.{axis-knots, knot-finite}
-use Rattle.measured.proofs.InCells.{value-in, Beside, equal-in-cells, place-real}
+use Rattle.measured.proofs.InCells.{Beside, equal-in-cells, place-real}
 
 module _ (g : Grid) (tensor coordinates : List Float) (place : Place) (S : Surface g tensor) (A : AtPlace g place coordinates) where
   -- ---- no check applies

@@ -12,7 +12,7 @@ use Rattle.rules.specs.Calls.{QueryPromise}
 use Rattle.rules.specs.declared.QueryAnswer.{QueryAnswer}
 use Rattle.floats.specs.Place.{AllFit}
 
--- a grid of 1 to 4 axes whose sizes and lengths fit and whose knots pass 7 and 8, and a tensor of finite numbers, whatever they are
+-- a grid of 1 to 4 axes whose sizes and lengths fit and whose knots pass 7 and 8, and a tensor of finite numbers, whatever they are; each an f64, as in every slice
 pub record Surface (g : Grid) (tensor : List Float) : Type 0 where
   pub axes-fine : axes-refused g ≡ false
   pub points-fine : some-points-refused g ≡ false
