@@ -39,8 +39,8 @@ sum-zeros f false false c h = record { sign = false; is = round-zero f false c h
 sum-zeros f true false c h = record { sign = false; is = round-zero f false c h }
 sum-zeros f false true c h = record { sign = false; is = round-zero f false c h }
 
-solid : (m : ℕ) (e : ℤ) → 0 < suc m * up e
-solid m e = mul-pos (zero-lt-suc m) (up-pos e)
+above-zero : (m : ℕ) (e : ℤ) → 0 < suc m * up e
+above-zero m e = mul-pos (zero-lt-suc m) (up-pos e)
 
 add-right : (f : Format) (s : Bool) (m : ℕ) (e : ℤ) (t : Bool) → add f (fin s m e) (fin t 0 (pos 0)) ≡ sum f s (m * up e) t 0 (down e)
 unfolding add
@@ -50,21 +50,23 @@ add-left : (f : Format) (s : Bool) (m : ℕ) (e : ℤ) (t : Bool) → add f (fin
 unfolding add
 add-left f s m e t = rw (mul-one (m * up e), zero-mul (down e), one-mul (down e)) refl
 
+-- x + 0
 pub add-zero-right : (f : Format) (x z : Float) → T (fits f x) → finite x ≡ true → Zero z → Equal (add f x z) x
 add-zero-right f nan z t h k = never h
 add-zero-right f (inf s) z t h k = never h
 add-zero-right f (fin s zero e) z t h k =
     rw (k .is, add-right f s 0 e (k .sign), zero-mul (up e)) (inr (sum-zeros f s (k .sign) (down e) (down-pos e), fitting-zero f s e t))
 add-zero-right f (fin s (suc m) e) z t h k =
-    rw (k .is, add-right f s (suc m) e (k .sign)) (inl (sum-right-zero f s (k .sign) (suc m * up e) (down e) (solid m e) ∙ round-back f s (suc m) e t))
+    rw (k .is, add-right f s (suc m) e (k .sign)) (inl (sum-right-zero f s (k .sign) (suc m * up e) (down e) (above-zero m e) ∙ round-back f s (suc m) e t))
 
+-- 0 + x
 pub add-zero-left : (f : Format) (z x : Float) → T (fits f x) → finite x ≡ true → Zero z → Equal (add f z x) x
 add-zero-left f z nan t h k = never h
 add-zero-left f z (inf s) t h k = never h
 add-zero-left f z (fin s zero e) t h k =
     rw (k .is, add-left f s 0 e (k .sign), zero-mul (up e)) (inr (sum-zeros f (k .sign) s (down e) (down-pos e), fitting-zero f s e t))
 add-zero-left f z (fin s (suc m) e) t h k =
-    rw (k .is, add-left f s (suc m) e (k .sign)) (inl (sum-left-zero f (k .sign) s (suc m * up e) (down e) (solid m e) ∙ round-back f s (suc m) e t))
+    rw (k .is, add-left f s (suc m) e (k .sign)) (inl (sum-left-zero f (k .sign) s (suc m * up e) (down e) (above-zero m e) ∙ round-back f s (suc m) e t))
 
 -- ---- a product with zero and with one
 
@@ -72,6 +74,7 @@ zero-times : (f : Format) (s t : Bool) (m : ℕ) (e : ℤ) → mul f (fin s 0 (p
 unfolding mul
 zero-times f s t m e = rw (zero-mul (m * up e), one-mul (down e)) (round-zero f (unlike s t) (down e) (down-pos e))
 
+-- 0 · x
 pub mul-zero-left : (f : Format) (z x : Float) → Zero z → finite x ≡ true → Zero (mul f z x)
 mul-zero-left f z nan k h = never h
 mul-zero-left f z (inf s) k h = never h
@@ -81,6 +84,7 @@ unlike-false : (s : Bool) → unlike false s ≡ s
 unlike-false true = refl
 unlike-false false = refl
 
+-- 1 · x
 pub mul-one-left : (f : Format) (x : Float) → T (fits f x) → finite x ≡ true → mul f one x ≡ x
 unfolding mul
 mul-one-left f nan t h = refl
@@ -94,11 +98,13 @@ unfolding sum
 difference-of-same f true a c = rw (le-ltb a a (le-refl a), sub-self a) refl
 difference-of-same f false a c = rw (le-ltb a a (le-refl a), sub-self a) refl
 
+-- a difference of finite numbers, before it is rounded
 pub sub-is : (f : Format) (s : Bool) (m : ℕ) (e : ℤ) (t : Bool) (n : ℕ) (d : ℤ)
     → sub f (fin s m e) (fin t n d) ≡ sum f s (m * up e * down d) (not t) (n * up d * down e) (down e * down d)
 unfolding sub
 sub-is f s m e t n d = refl
 
+-- x − y
 pub sub-equal : (f : Format) (x y : Float) → finite x ≡ true → Equal x y → Zero (sub f x y)
 sub-equal f nan y h k = never h
 sub-equal f (inf s) y h k = never h
@@ -118,6 +124,7 @@ div-is : (f : Format) (s : Bool) (m : ℕ) (e : ℤ) (n : ℕ) (d : ℤ)
 unfolding div
 div-is f s m e n d = rw (ne-eqb (suc n) 0 (λ z. omega arith)) refl
 
+-- 0 / x
 pub div-zero : (f : Format) (z x : Float) → Zero z → T (positive x) → Zero (div f z x)
 div-zero f z nan k p = absurd p
 div-zero f z (inf s) k p = absurd p
@@ -125,13 +132,14 @@ div-zero f z (fin true m e) k p = absurd p
 div-zero f z (fin false zero e) k p = absurd p
 div-zero f z (fin false (suc m) e) k p =
     rw (k .is, div-is f (k .sign) 0 (pos 0) m e, zero-mul (down e), mul-one (suc m * up e))
-    (record { sign = unlike (k .sign) false; is = round-zero f (unlike (k .sign) false) (suc m * up e) (solid m e) })
+    (record { sign = unlike (k .sign) false; is = round-zero f (unlike (k .sign) false) (suc m * up e) (above-zero m e) })
 
 one-over-one : (f : Format) → round f false 1 1 ≡ one
 unfolding round
 one-over-one binary32 = refl
 one-over-one binary64 = refl
 
+-- x / x
 pub div-self : (f : Format) (x : Float) → T (positive x) → div f x x ≡ one
 div-self f nan p = absurd p
 div-self f (inf s) p = absurd p
@@ -140,5 +148,5 @@ div-self f (fin false zero e) p = absurd p
 div-self f (fin false (suc m) e) p =
     let w : ℕ = suc m * up e * down e in
     div-is f false (suc m) e m e
-    ∙ round-same f false w w 1 1 (mul-pos (solid m e) (down-pos e)) (zero-lt-suc 0) (mul-one w ∙ sym (one-mul w))
+    ∙ round-same f false w w 1 1 (mul-pos (above-zero m e) (down-pos e)) (zero-lt-suc 0) (mul-one w ∙ sym (one-mul w))
     ∙ one-over-one f

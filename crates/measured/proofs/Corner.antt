@@ -17,12 +17,13 @@ use Rattle.floats.proofs.Equals.{equal-then, equal-finite}
 use Rattle.query.proofs.Gathering.{four-power}
 use Rattle.measured.proofs.Hermite.{FiniteEnds, hermite-fits, AtEnd, at-lower, at-upper, end-below, hermite-at-lower, hermite-at-upper}
 
--- ---- the number of a corner: the place, on axes of two points each, of the ends that it stands at
+-- ---- the number of a corner
 
+-- the points of axes that have their two ends alone
 abbrev two-points : ℕ → ℕ
 two-points i = 2
 
--- the corner of those ends, axis 0 slowest
+-- the number of the corner at these ends, each 0 for the lower and 1 for the upper: that of a place on such axes
 abbrev pub number-of : ℕ → Place → ℕ
 number-of axes ends = flat two-points axes ends
 
