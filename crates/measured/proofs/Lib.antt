@@ -6,3 +6,4 @@ pub mod Surfaces
 pub mod InCells
 pub mod Measured
 pub mod Example
+pub mod Samples

@@ -1,0 +1,63 @@
+-- After any list of changes the number at mask 0 of a place is the sample now standing there, so what is read there is that sample.
+use mathlib.Core.Path.{_≡_, ap, _∙_, subst}
+use mathlib.Core.List.{List}
+use Prim.Native.Nat.{zero-le}
+use native.Mathlib.Nat.{zero-lt-suc}
+use lib.ListN.{length}
+use lib.Ieee.{Float}
+use Rattle.rules.specs.Numbers.{at}
+use Rattle.rules.specs.Sizes.{Grid, points, tensor-length, Place, flat, spot}
+use Rattle.rules.specs.Refusals.{outcome-refused}
+use Rattle.rules.specs.Tensor.{sample, entry, tensor}
+use Rattle.rules.specs.Calls.{QueryPromise, QuickQueryPromise}
+use Rattle.rules.proofs.Tables.{length-table}
+use Rattle.rules.proofs.ChangeIsBuild.{built-entry}
+use Rattle.floats.specs.Place.{AllFit}
+use Rattle.grid.specs.Given.{On}
+use Rattle.tensor.specs.Changes.{tensor-after, samples-after}
+use Rattle.tensor.proofs.Demand3.{Stands, built-stands, steps-stand}
+use Rattle.measured.specs.Measured.{Promise, Surface, Reads, MeasuredIsRead}
+use Rattle.measured.specs.Samples.{ReadsItsSamples}
+use Rattle.measured.proofs.Measured.{measured-is-read, quick-measured-is-read}
+
+-- a tensor that stands as built from samples
+module _ (g : Grid) (samples t : List Float) (stands : Stands g samples t) where
+  as-long : length t ≡ tensor-length g
+  unfolding tensor
+  as-long = ap length (stands .is) ∙ length-table (tensor-length g) _
+
+  -- is a surface
+  surface : AllFit (g .flat-knots) → AllFit t → Surface g t
+  surface knots-fit tensor-fit = record {
+    axes-fine = stands .sound .axes-fine;
+    points-fine = stands .sound .points-fine;
+    tensor-fine = stands .sound .tensor-fine;
+    knots-exact = stands .sound .knots-exact;
+    tensor-exact = as-long;
+    knots-finite = stands .sound .knots-finite;
+    knots-rise = stands .sound .knots-rise;
+    tensor-finite = ap outcome-refused (stands .is) ∙ stands .sound .outcome-finite;
+    knots-fit = knots-fit;
+    tensor-fit = tensor-fit;
+  }
+
+  -- with the samples at mask 0
+  sample-at : (place : Place) → On g place → at t (spot g place 0) ≡ at samples (flat (points g) (g .axes) place)
+  unfolding entry sample
+  sample-at place on = ap (λ (l : List Float). at l (spot g place 0)) (stands .is) ∙ built-entry g samples 0 0 place zero-le (zero-lt-suc 0) on
+
+-- whatever query reads what was measured, reads the samples
+reads-standing : (Promised : Promise) → MeasuredIsRead Promised → ReadsItsSamples Promised
+reads-standing Promised is-read g samples out scratch t cleared built steps kept knots-fit tensor-fit modes coordinates place given at-place promise =
+    let stands = steps-stand g samples t (built-stands g samples out scratch t cleared built) steps kept in
+    subst (λ (number : Float). Reads g place number given)
+    (sample-at g (samples-after g samples steps) (tensor-after t steps) stands place (at-place .on-grid))
+    (is-read g modes (tensor-after t steps) coordinates place given (surface g (samples-after g samples steps) (tensor-after t steps) stands knots-fit tensor-fit) at-place promise)
+
+-- ---- the theorem
+
+pub reads-its-samples : ReadsItsSamples QueryPromise
+reads-its-samples = reads-standing QueryPromise measured-is-read
+
+pub quick-reads-its-samples : ReadsItsSamples QuickQueryPromise
+quick-reads-its-samples = reads-standing QuickQueryPromise quick-measured-is-read
