@@ -7,3 +7,4 @@ pub mod InCells
 pub mod Measured
 pub mod Example
 pub mod Samples
+pub mod Exceptions
