@@ -1,7 +1,7 @@
 -- After any list of changes the number at mask 0 of a place is the sample now standing there, so what is read there is that sample.
 use mathlib.Core.Path.{_≡_, ap, _∙_, subst}
 use mathlib.Core.List.{List}
-use Prim.Native.Nat.{zero-le}
+use Prim.Native.Nat.{ℕ, zero-le}
 use native.Mathlib.Nat.{zero-lt-suc}
 use lib.ListN.{length}
 use lib.Ieee.{Float}
@@ -16,8 +16,11 @@ use Rattle.floats.specs.Place.{AllFit}
 use Rattle.grid.specs.Given.{On}
 use Rattle.tensor.specs.Changes.{tensor-after, samples-after}
 use Rattle.tensor.proofs.Demand3.{Stands, built-stands, steps-stand}
+use Rattle.sheet_build.specs.SheetTensor.{SheetPromise}
+use Rattle.sheet_build.specs.declared.SheetAnswer.{SheetAnswer}
+use Rattle.sheet_build.proofs.Demand3.{grid-made, samples-made, tensor-made, sheet-is-built}
 use Rattle.measured.specs.Measured.{Promise, Surface, Reads, MeasuredIsRead}
-use Rattle.measured.specs.Samples.{ReadsItsSamples}
+use Rattle.measured.specs.Samples.{ReadsSamples, ReadsItsSamples}
 use Rattle.measured.proofs.Measured.{measured-is-read, quick-measured-is-read}
 
 -- a tensor that stands as built from samples
@@ -61,3 +64,15 @@ reads-its-samples = reads-standing QueryPromise measured-is-read
 
 pub quick-reads-its-samples : ReadsItsSamples QuickQueryPromise
 quick-reads-its-samples = reads-standing QuickQueryPromise quick-measured-is-read
+
+-- ---- and of what a caller finds where `tensor_of_sheet` accepted a sheet
+
+module _
+    (bytes : List ℕ) (knots samples lent scratch : List Float) (made : SheetAnswer) (k s t w : List Float)
+    (promise : SheetPromise bytes knots samples lent scratch made k s t w) (none : made .refusal ≡ 0)
+  where
+    pub sheet-reads-its-samples : ReadsSamples QueryPromise (grid-made made k) (samples-made made s) (tensor-made made t)
+    sheet-reads-its-samples = reads-its-samples _ _ _ _ _ _ (sheet-is-built bytes knots samples lent scratch made k s t w promise none)
+
+    pub sheet-quick-reads-its-samples : ReadsSamples QuickQueryPromise (grid-made made k) (samples-made made s) (tensor-made made t)
+    sheet-quick-reads-its-samples = quick-reads-its-samples _ _ _ _ _ _ (sheet-is-built bytes knots samples lent scratch made k s t w promise none)
