@@ -8,10 +8,10 @@ use lib.Dec.{ltb}
 use lib.ListN.{length, getD}
 use lib.Ieee.{Float}
 use lib.Ieee.Scale.{finite}
-use borrow.Author.Tests.{lt-ltb, eq-eqb}
+use borrow.Author.Tests.{lt-ltb}
 use Rattle.rules.specs.Numbers.{at}
 use Rattle.rules.specs.Sizes.{most-axes, Grid, points, knots, knots-length, tensor-length, Place, spot}
-use Rattle.rules.specs.Refusals.{length-refused, number-refused, some-number-refused}
+use Rattle.rules.specs.Refusals.{number-refused, some-number-refused}
 use Rattle.rules.specs.Outside.{side}
 use Rattle.rules.specs.Query.{cell-of, query}
 use Rattle.rules.specs.Calls.{labels, query-answer, QueryPromise, QuickQueryPromise}
@@ -25,6 +25,7 @@ use Rattle.base.proofs.Scan.{any-never}
 use Rattle.floats.specs.Place.{Real}
 use Rattle.floats.specs.Zeros.{Equal}
 use Rattle.floats.proofs.Equals.{equal-finite, equal-eq, eq-finite}
+use Rattle.tensor.proofs.Demand3.{exact}
 use Rattle.quick_query.proofs.QuickIsFull.{quick-is-full}
 use Rattle.measured.specs.Measured.{Surface, AtPlace, Reads, MeasuredIsRead}
 use Rattle.measured.proofs.Knots.{cell-at-knot, inside-at-knot}
@@ -70,9 +71,6 @@ module _ (g : Grid) (tensor coordinates : List Float) (place : Place) (S : Surfa
   sample-real = place-real g tensor S (cell-of g (at coordinates)) place (at coordinates) beside
 
   -- ---- the answer
-
-  exact : (given size : ℕ) → given ≡ size → length-refused given size ≡ false
-  exact given size e = ap not (eq-eqb given size e)
 
   not-refused : extended-query-refusal g tensor coordinates ≡ 0
   unfolding extended-query-refusal

@@ -2,6 +2,7 @@
 use mathlib.Core.Path.{_≡_}
 use mathlib.Core.Bool.{false}
 use mathlib.Core.List.{List, [], _∷_}
+use Prim.Native.Nat.{ℕ}
 use lib.Ieee.{Float, inf, binary64, ofBits, neg, eq}
 use Rattle.rules.specs.Numbers.{plus-zero, one, at, zeros}
 use Rattle.rules.specs.Ends.{natural, clamped}
@@ -15,22 +16,24 @@ use Rattle.rules.specs.declared.QueryAnswer.{QueryAnswer}
 use Rattle.grid.specs.Given.{grid}
 
 -- knots 0 1
-abbrev pub knots-01 : List Float
+abbrev knots-01 : List Float
 knots-01 = plus-zero ∷ one ∷ []
 
 -- samples 1 0
-abbrev pub samples-10 : List Float
+abbrev samples-10 : List Float
 samples-10 = one ∷ plus-zero ∷ []
 
--- one axis of these knots
-abbrev pub axis-01 : Grid
-axis-01 = grid 1 (record { points = 2; condition = natural } ∷ unused-axis ∷ unused-axis ∷ unused-axis ∷ []) knots-01
+-- a grid of one axis
+abbrev one-axis : ℕ → List Float → Grid
+one-axis points knots = grid 1 (record { points = points; condition = natural } ∷ unused-axis ∷ unused-axis ∷ unused-axis ∷ []) knots
 
--- one axis of the knots −1e308 0 1e308
-abbrev pub wide-axis : Grid
-wide-axis =
-    grid 1 (record { points = 3; condition = natural } ∷ unused-axis ∷ unused-axis ∷ unused-axis ∷ [])
-    (ofBits binary64 0xFFE1_CCF3_85EB_C8A0 ∷ plus-zero ∷ ofBits binary64 0x7FE1_CCF3_85EB_C8A0 ∷ [])
+-- of the knots 0 1
+abbrev axis-01 : Grid
+axis-01 = one-axis 2 knots-01
+
+-- of the knots −1e308 0 1e308
+abbrev wide-axis : Grid
+wide-axis = one-axis 3 (ofBits binary64 0xFFE1_CCF3_85EB_C8A0 ∷ plus-zero ∷ ofBits binary64 0x7FE1_CCF3_85EB_C8A0 ∷ [])
 
 pub record Exceptions : Type 0 where
   -- first derivatives 0 and 1: at knot 0 the curve is accepted, and its value is not equal to the sample

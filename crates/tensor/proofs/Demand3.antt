@@ -97,7 +97,7 @@ none-of-three a b c e f h = rw (e, f, h)
 third-alone : (a b c : Bool) → a ≡ false → b ≡ false → (a || b || c) ≡ c
 third-alone a b c e f = rw (e, f)
 
-exact : (given size : ℕ) → given ≡ size → length-refused given size ≡ false
+pub exact : (given size : ℕ) → given ≡ size → length-refused given size ≡ false
 exact given size e = ap not (eq-eqb given size e)
 
 not-exact : (given size : ℕ) → length-refused given size ≡ false → given ≡ size
