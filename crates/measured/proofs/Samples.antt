@@ -6,16 +6,15 @@ use native.Mathlib.Nat.{zero-lt-suc}
 use lib.ListN.{length}
 use lib.Ieee.{Float}
 use Rattle.rules.specs.Numbers.{at}
-use Rattle.rules.specs.Sizes.{Grid, points, tensor-length, Place, flat, spot}
+use Rattle.rules.specs.Sizes.{Grid, points, Place, flat, spot}
 use Rattle.rules.specs.Refusals.{outcome-refused}
-use Rattle.rules.specs.Tensor.{sample, entry, tensor}
+use Rattle.rules.specs.Tensor.{sample, entry}
 use Rattle.rules.specs.Calls.{QueryPromise, QuickQueryPromise}
-use Rattle.rules.proofs.Tables.{length-table}
 use Rattle.rules.proofs.ChangeIsBuild.{built-entry}
 use Rattle.floats.specs.Place.{AllFit}
 use Rattle.grid.specs.Given.{On}
 use Rattle.tensor.specs.Changes.{tensor-after, samples-after}
-use Rattle.tensor.proofs.Demand3.{Stands, built-stands, steps-stand}
+use Rattle.tensor.proofs.Demand3.{tensor-long, Stands, built-stands, steps-stand}
 use Rattle.sheet_build.specs.SheetTensor.{SheetPromise}
 use Rattle.sheet_build.specs.declared.SheetAnswer.{SheetAnswer}
 use Rattle.sheet_build.proofs.Demand3.{grid-made, samples-made, tensor-made, sheet-is-built}
@@ -25,10 +24,6 @@ use Rattle.measured.proofs.Measured.{measured-is-read, quick-measured-i
 
 -- a tensor that stands as built from samples
 module _ (g : Grid) (samples t : List Float) (stands : Stands g samples t) where
-  as-long : length t ≡ tensor-length g
-  unfolding tensor
-  as-long = ap length (stands .is) ∙ length-table (tensor-length g) _
-
   -- is a surface
   surface : AllFit (g .flat-knots) → AllFit t → Surface g t
   surface knots-fit tensor-fit = record {
@@ -36,7 +31,7 @@ module _ (g : Grid) (samples t : List Float) (stands : Stands g samples t) where
     points-fine = stands .sound .points-fine;
     tensor-fine = stands .sound .tensor-fine;
     knots-exact = stands .sound .knots-exact;
-    tensor-exact = as-long;
+    tensor-exact = ap length (stands .is) ∙ tensor-long g samples (stands .sound);
     knots-finite = stands .sound .knots-finite;
     knots-rise = stands .sound .knots-rise;
     tensor-finite = ap outcome-refused (stands .is) ∙ stands .sound .outcome-finite;

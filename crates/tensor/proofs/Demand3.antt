@@ -195,7 +195,7 @@ module _ (g : Grid) (samples : List Float) (sound : Sound g samples) where
           last-fine (some-number-refused (g .flat-knots) || some-ends-refused g || number-refused v) (some-number-refused (tensor g samples)) (sound .outcome-finite)
           ∙ third-alone (some-number-refused (g .flat-knots)) (some-ends-refused g) (number-refused v) (sound .knots-finite) (sound .ends-finite)
 
-  tensor-long : length (tensor g samples) ≡ tensor-length g
+  pub tensor-long : length (tensor g samples) ≡ tensor-length g
   unfolding tensor
   tensor-long = length-table (tensor-length g) _
 
