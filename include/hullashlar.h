@@ -174,7 +174,10 @@ size_t hullashlar_change(size_t axes,
                          size_t *lanes, size_t lanes_length);
 
 /* The surface's value at the coordinates, outside the knots of an axis as its mode says, and a label for each axis: the
- * number of the cell that was evaluated, which on a knot between two cells is the lower one.
+ * number of the cell that was evaluated, which on a knot between two cells is the lower one. On knots that are accepted
+ * and with a tensor of finite numbers, where each coordinate equals a knot of its axis the value equals the tensor's
+ * number at that place, mask 0: so after a build and any changes the sample that stands there. A zero may come with the
+ * other sign.
  * Lengths: points and modes 4; knots as many as the points of all axes together; tensor 2^axes for each place of the
  * grid; coordinates as many as axes; value 1; labels 4.
  * Written: value, labels. Refuses by 1, 2, 3, 4, 22, 7, 8, 18, 10. */

@@ -45,7 +45,7 @@ module _ (old new : List Float) (a k : ℕ) (room : a + k ≤ length old) (exact
 
 -- ---- two corners of the cell
 
-four-power : (axes : ℕ) → 4 ^ axes ≡ 2 ^ axes * 2 ^ axes
+pub four-power : (axes : ℕ) → 4 ^ axes ≡ 2 ^ axes * 2 ^ axes
 four-power zero = refl
 four-power (suc axes) =
     rw (pow-suc 4 axes, pow-suc 2 axes, four-power axes, mul-mul-mul-comm (2 ^ axes) 2 (2 ^ axes) 2) refl

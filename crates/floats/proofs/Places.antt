@@ -1,6 +1,6 @@
 -- `lt`, `le` and `eq` of floats that fit and are no NaN, the infinities among them, are those of their places.
 use mathlib.Core.Path.{_≡_, refl, sym, ap, _∙_, subst}
-use mathlib.Core.Bool.{Bool, true, false, _&&_, _||_, cond}
+use mathlib.Core.Bool.{Bool, true, false, _&&_, _||_, cond, true≢false}
 use Prim.Native.Nat.{ℕ, zero, suc, _+_, _-_, _*_, _^_, _≤_, _<_}
 use native.Mathlib.Nat.{mul-comm, zero-mul, mul-pos, mul-lt-mul-of-pos-right, lt-of-mul-lt-mul-right, eq-of-mul-eq-mul-right}
 use native.Mathlib.Omega.{arith}
@@ -10,7 +10,7 @@ use lib.Pow.{pow-pos}
 use borrow.Author.Tests.{ltb-true, ltb-false, eqb-true, eqb-false, lt-ltb, le-ltb, eq-eqb, ne-eqb, le-leb, lt-leb}
 use lib.Ieee.{Float, nan, inf, fin, Format, emax, low, up, down, fits, lt, le, eq, below, level}
 use lib.Ieee.Fits.{down-pos}
-use lib.Ieee.Scale.{overflow}
+use lib.Ieee.Scale.{overflow, finite}
 use Rattle.floats.specs.Place.{magnitude, place-in}
 use Rattle.floats.proofs.Units.{magnitude-under, magnitude-across}
 
@@ -130,7 +130,7 @@ module _ (B X Y a b : ℕ) (A : a < B) (A′ : b < B) (S : Scales X Y a b) where
 
 -- ---- finite values
 
-place-signed : (f : Format) (s : Bool) (m : ℕ) (e : ℤ) → cond s (overflow f - magnitude f m e) (overflow f + magnitude f m e) ≡ place-in f (fin s m e)
+pub place-signed : (f : Format) (s : Bool) (m : ℕ) (e : ℤ) → cond s (overflow f - magnitude f m e) (overflow f + magnitude f m e) ≡ place-in f (fin s m e)
 unfolding place-in
 place-signed f true m e = refl
 place-signed f false m e = refl
@@ -161,6 +161,10 @@ below-highest f false m e p = let h = magnitude-under f false m e p in omega ari
 
 highest-positive : (f : Format) → 0 < overflow f + overflow f
 highest-positive f = let h : 0 < overflow f = pow-pos (low f + suc (emax f)) in omega arith
+
+-- a finite number is no NaN
+pub no-nan : (x : Float) → finite x ≡ true → x ≡ nan → ⊥
+no-nan x h e = true≢false (sym h ∙ ap finite e)
 
 -- ---- the laws
 

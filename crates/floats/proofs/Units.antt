@@ -4,7 +4,7 @@ use mathlib.Core.Bool.{Bool, _&&_}
 use Prim.Native.Nat.{ℕ, zero, suc, _+_, _-_, _*_, _%_, _^_, _≤_, _<_}
 use native.Mathlib.Nat.{mul-one, one-mul, mul-assoc, mul-comm, mul-right-comm, zero-mul, lt-of-mul-lt-mul-right, mul-lt-mul-of-pos-right, not-le-of-lt}
 use native.Mathlib.Omega.{arith}
-use lib.Dec.{T, ltb, leb, eqb, ltb→lt, leb→le}
+use lib.Dec.{T, ltb, leb, eqb, eqb→eq, ltb→lt, leb→le}
 use lib.IntN.{ℤ, pos, negsuc}
 use lib.Pow.{pow-add, pow-pos, pow-lt}
 use lib.Ieee.{fin, Format, prec, emax, low, up, down, fits}
@@ -12,12 +12,14 @@ use lib.Ieee.Fits.{and-l, and-r}
 use lib.Ieee.Scale.{overflow}
 use Rattle.floats.specs.Place.{weight, magnitude}
 
--- what it takes to fit, as far as the order needs it
-record Fitting (f : Format) (m : ℕ) (e : ℤ) : Type 0 where
-  fine : down e ≤ 2 ^ low f
-  under : m * up e < 2 ^ suc (emax f) * down e
+-- what it takes to fit, of a value other than zero
+pub record Fitting (f : Format) (m : ℕ) (e : ℤ) : Type 0 where
+  pub odd : m % 2 ≡ 1
+  pub short : m < 2 ^ prec f
+  pub fine : down e ≤ 2 ^ low f
+  pub under : m * up e < 2 ^ suc (emax f) * down e
 
-fitting : (f : Format) (s : Bool) (m : ℕ) (e : ℤ) → T (fits f (fin s (suc m) e)) → Fitting f (suc m) e
+pub fitting : (f : Format) (s : Bool) (m : ℕ) (e : ℤ) → T (fits f (fin s (suc m) e)) → Fitting f (suc m) e
 unfolding fits
 fitting f s m e t =
     let odd : Bool = eqb (suc m % 2) 1 in
@@ -25,6 +27,8 @@ fitting f s m e t =
     let fine : Bool = leb (down e) (2 ^ low f) in
     let under : Bool = ltb (suc m * up e) (2 ^ suc (emax f) * down e) in
     record {
+      odd = eqb→eq (suc m % 2) 1 (and-l odd short (and-l (odd && short) fine (and-l (odd && short && fine) under t)));
+      short = ltb→lt (suc m) (2 ^ prec f) (and-r odd short (and-l (odd && short) fine (and-l (odd && short && fine) under t)));
       fine = leb→le (down e) (2 ^ low f) (and-r (odd && short) fine (and-l (odd && short && fine) under t));
       under = ltb→lt (suc m * up e) (2 ^ suc (emax f) * down e) (and-r (odd && short && fine) under t);
     }
@@ -47,11 +51,11 @@ weight-is f (negsuc k) h =
     back : (a b : ℕ) → b ≤ a → a - b + b ≡ a
     back a b h = omega arith
 
-scaled : (f : Format) (m : ℕ) (e : ℤ) → down e ≤ 2 ^ low f → m * up e * 2 ^ low f ≡ magnitude f m e * down e
+pub scaled : (f : Format) (m : ℕ) (e : ℤ) → down e ≤ 2 ^ low f → m * up e * 2 ^ low f ≡ magnitude f m e * down e
 scaled f m e h =
     mul-assoc m (up e) (2 ^ low f) ∙ ap (λ (x : ℕ). m * x) (sym (weight-is f e h)) ∙ sym (mul-assoc m (weight f e) (down e))
 
-under-overflow : (f : Format) (m : ℕ) (e : ℤ) → Fitting f m e → magnitude f m e < overflow f
+pub under-overflow : (f : Format) (m : ℕ) (e : ℤ) → Fitting f m e → magnitude f m e < overflow f
 under-overflow f m e w =
     lt-of-mul-lt-mul-right (down e)
     (subst (λ (x : ℕ). x < overflow f * down e) (scaled f m e (w .fine))

@@ -97,7 +97,7 @@ none-of-three a b c e f h = rw (e, f, h)
 third-alone : (a b c : Bool) → a ≡ false → b ≡ false → (a || b || c) ≡ c
 third-alone a b c e f = rw (e, f)
 
-exact : (given size : ℕ) → given ≡ size → length-refused given size ≡ false
+pub exact : (given size : ℕ) → given ≡ size → length-refused given size ≡ false
 exact given size e = ap not (eq-eqb given size e)
 
 not-exact : (given size : ℕ) → length-refused given size ≡ false → given ≡ size
@@ -195,7 +195,7 @@ module _ (g : Grid) (samples : List Float) (sound : Sound g samples) where
           last-fine (some-number-refused (g .flat-knots) || some-ends-refused g || number-refused v) (some-number-refused (tensor g samples)) (sound .outcome-finite)
           ∙ third-alone (some-number-refused (g .flat-knots)) (some-ends-refused g) (number-refused v) (sound .knots-finite) (sound .ends-finite)
 
-  tensor-long : length (tensor g samples) ≡ tensor-length g
+  pub tensor-long : length (tensor g samples) ≡ tensor-length g
   unfolding tensor
   tensor-long = length-table (tensor-length g) _
 

@@ -1,0 +1,4 @@
+pub mod Weights
+pub mod Measured
+pub mod Samples
+pub mod Exceptions
