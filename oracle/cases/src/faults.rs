@@ -23,7 +23,7 @@ const TOO_LARGE: [&[usize]; 8] = [
 const OFF_POINTS: [usize; 6] = [0, 1, 1, 257, 257, usize::MAX];
 
 /// Numbers so large that what follows from them seldom stays finite.
-const LARGEST: [f64; 4] = [f64::MAX, -f64::MAX, 1.1e308, -1e307];
+pub const LARGEST: [f64; 4] = [f64::MAX, -f64::MAX, 1.1e308, -1e307];
 
 /// The faults of moments.
 const OF_MOMENTS: &[Fault] = &[
@@ -250,7 +250,7 @@ fn fixed_length_off(random: &mut Random, case: &mut Case) {
 }
 
 /// One short where the scratch was exact; else anything shorter.
-fn scratch_short(random: &mut Random, case: &mut Case) {
+pub fn scratch_short(random: &mut Random, case: &mut Case) {
     let scratch = case.argument_mut("scratch");
     let length = scratch.length();
     if length > 0 {
@@ -269,7 +269,7 @@ fn too_few_bytes(random: &mut Random, case: &mut Case) {
     }
 }
 
-fn place_off(random: &mut Random, case: &mut Case) {
+pub fn place_off(random: &mut Random, case: &mut Case) {
     let axes = axes_in_use(case);
     if !case.has("place") || axes == 0 {
         return;

@@ -14,7 +14,7 @@ use reading::CURVE_SCRATCH;
 
 /// The kinds of cases: the worked examples, one kind for each call, lists
 /// of changes, the sheets of up to two bytes, changes in two orders, quick queries
-/// beside full ones, and the reader's sheets written back.
+/// beside full ones, the reader's sheets written back, and surfaces asked at every place.
 #[derive(Debug, Clone, Copy, PartialEq, Eq)]
 pub enum Kind {
     Example,
@@ -38,10 +38,11 @@ pub enum Kind {
     LocateAxis,
     LocateStepIndex,
     Stepped,
+    AtEveryPlace,
 }
 
 /// Every kind, in the order of the report.
-pub const KINDS: [Kind; 21] = [
+pub const KINDS: [Kind; 22] = [
     Kind::Example,
     Kind::Moments,
     Kind::Curve,
@@ -63,6 +64,7 @@ pub const KINDS: [Kind; 21] = [
     Kind::LocateAxis,
     Kind::LocateStepIndex,
     Kind::Stepped,
+    Kind::AtEveryPlace,
 ];
 
 impl Kind {
@@ -90,6 +92,7 @@ impl Kind {
             Kind::LocateAxis => "locate_axis",
             Kind::LocateStepIndex => "locate_step_index",
             Kind::Stepped => "stepped",
+            Kind::AtEveryPlace => "at_every_place",
         }
     }
 
@@ -103,6 +106,7 @@ impl Kind {
                 | Kind::EitherOrder
                 | Kind::QuickBesideFull
                 | Kind::WrittenBack
+                | Kind::AtEveryPlace
         )
     }
 }
@@ -153,7 +157,8 @@ pub fn single(kind: Kind, number: usize, random: &mut Random) -> Case {
         | Kind::ShortSheet
         | Kind::EitherOrder
         | Kind::QuickBesideFull
-        | Kind::WrittenBack => {
+        | Kind::WrittenBack
+        | Kind::AtEveryPlace => {
             panic!("more than one call: {}", kind.name())
         }
     }

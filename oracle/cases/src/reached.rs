@@ -15,7 +15,7 @@ struct Edge {
 }
 
 /// How many edges there are.
-const COUNT: usize = 41;
+const COUNT: usize = 43;
 
 const EDGES: [Edge; COUNT] = [
     Edge {
@@ -131,6 +131,14 @@ const EDGES: [Edge; COUNT] = [
     Edge {
         name: "in hold a coordinate below the first knot and above the last",
         is_reached: |case, refusal| refusal == 0 && in_mode(case, HOLD, below_and_above),
+    },
+    Edge {
+        name: "on every axis a coordinate at a knot between two cells",
+        is_reached: |case, refusal| refusal == 0 && between_cells_on_every_axis(case),
+    },
+    Edge {
+        name: "a coordinate at a knot that is the zero of the other sign",
+        is_reached: |case, refusal| refusal == 0 && at_a_knot_of_the_other_zero(case),
     },
     Edge {
         name: "an even query in another cell than the search finds",
@@ -280,6 +288,19 @@ fn at_the_other_zero(knots: &[f64], point: f64) -> bool {
 fn below_and_above(knots: &[f64], point: f64) -> bool {
     let (first, last) = ends(knots);
     point < first && point > last
+}
+
+fn between_cells_on_every_axis(case: &Case) -> bool {
+    let inner = |knots: &[f64], point: f64| knots[1..knots.len() - 1].contains(&point);
+    let mut axes = knots_by_axis(case).into_iter().zip(coordinates(case));
+    case.call.is_query() && axes.all(|(knots, point)| inner(knots, point))
+}
+
+fn at_a_knot_of_the_other_zero(case: &Case) -> bool {
+    let other_zero = |knot: f64, point: f64| knot == point && knot.to_bits() != point.to_bits();
+    let mut axes = knots_by_axis(case).into_iter().zip(coordinates(case));
+    case.call.is_query()
+        && axes.any(|(knots, point)| knots.iter().any(|knot| other_zero(*knot, point)))
 }
 
 fn is_quick(case: &Case) -> bool {

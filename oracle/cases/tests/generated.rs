@@ -31,6 +31,7 @@ fn refusals(kind: Kind) -> &'static [usize] {
         Kind::LocateAxis => &[2, 4, 7, 8, 10],
         Kind::LocateStepIndex => &[2, 4, 7, 8, 22],
         Kind::Stepped => &[1, 2, 3, 4, 7, 8, 22],
+        Kind::AtEveryPlace => &[5, 6, 7, 10],
     }
 }
 
@@ -47,11 +48,12 @@ fn every_refusal_is_seen_and_no_other() {
 #[test]
 fn about_sixty_in_a_hundred_are_accepted() {
     let report = compare_all(&Nobody, &Plan::of_each_kind(2, 4000));
-    // Quick queries beside full ones are nearly all accepted, so that the answers are compared.
+    // Quick queries beside full ones, and queries at places, are nearly all accepted, so that the
+    // answers are compared.
     let generated = |kind: &Kind| {
         !matches!(
             kind,
-            Kind::Example | Kind::ShortSheet | Kind::QuickBesideFull
+            Kind::Example | Kind::ShortSheet | Kind::QuickBesideFull | Kind::AtEveryPlace
         )
     };
     let (mut calls, mut accepted) = (0, 0);
