@@ -3,13 +3,13 @@ use mathlib.Core.Path.{_≡_, refl, sym, ap, subst, _∙_}
 use mathlib.Core.Bool.{Bool, _||_}
 use mathlib.Core.List.{List}
 use Prim.Native.Nat.{ℕ}
-use lib.ListN.{length, drop}
+use lib.ListN.{drop}
 use lib.Ieee.{Float}
 use Rattle.rules.specs.Sizes.{place-of, knots-length, tensor-length}
 use Rattle.rules.specs.Refusals.{length-refused, some-knots-refused}
 use Rattle.rules.specs.declared.Axis.{Axis}
 use Rattle.grid.specs.Given.{grid, sizes-of, points-of, InRange}
-use Rattle.checks.specs.Check.{points-rows, points-check, sizes-rows, sizes-check, query-lengths-refused, knots-of-points-refused, query-numbers-rows, query-numbers-check, query-check}
+use Rattle.checks.specs.Check.{points-rows, points-check, sizes-rows, sizes-check, lengths-of-points-refused, knots-of-points-refused, query-numbers-rows, query-numbers-check, query-check}
 use Rattle.checks.specs.Tables.{lowest}
 use Rattle.checks.proofs.Rows.{sizes-passed, sizes-pass}
 
@@ -22,9 +22,9 @@ module _ (axes : ℕ) (all : List Axis) (points : List ℕ) (same : place-of poi
   sizes-of-points e = e ∙ ap (λ (n : ℕ → ℕ). lowest (points-rows axes n) 0) same
 
   pub lengths-of-points :
-      (knots tensor coordinates : ℕ) {r : Bool} → r ≡ query-lengths-refused axes (place-of points) knots tensor coordinates
+      (knots tensor coordinates : ℕ) {r : Bool} → r ≡ lengths-of-points-refused axes (place-of points) knots tensor coordinates
       → r ≡ (length-refused knots (knots-length (sizes-of axes all)) || length-refused tensor (tensor-length (sizes-of axes all)) || length-refused coordinates axes)
-  lengths-of-points knots tensor coordinates e = e ∙ ap (λ (n : ℕ → ℕ). query-lengths-refused axes n knots tensor coordinates) same
+  lengths-of-points knots tensor coordinates e = e ∙ ap (λ (n : ℕ → ℕ). lengths-of-points-refused axes n knots tensor coordinates) same
 
   pub knots-of-points : (knots : List Float) {r : Bool} → r ≡ knots-of-points-refused axes (place-of points) knots → r ≡ some-knots-refused (grid axes all knots)
   knots-of-points knots e = e ∙ ap (λ (n : ℕ → ℕ). knots-of-points-refused axes n knots) same

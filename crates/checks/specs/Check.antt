@@ -62,8 +62,8 @@ unfoldable pub points-check : ℕ → (ℕ → ℕ) → ℕ
 points-check axes n = lowest (points-rows axes n) 0
 
 -- 4 of a query's lengths
-abbrev pub query-lengths-refused : ℕ → (ℕ → ℕ) → ℕ → ℕ → ℕ → Bool
-query-lengths-refused axes n knots tensor coordinates =
+abbrev pub lengths-of-points-refused : ℕ → (ℕ → ℕ) → ℕ → ℕ → ℕ → Bool
+lengths-of-points-refused axes n knots tensor coordinates =
     length-refused knots (sum-below n axes) || length-refused tensor (product-below n axes * 2 ^ axes) || length-refused coordinates axes
 
 -- 8 of the knots, axis after axis
@@ -73,7 +73,7 @@ knots-of-points-refused axes n knots = any (λ i. knots-refused (take (n i) (dro
 -- what a query meets below these
 abbrev pub query-numbers-rows : ℕ → (ℕ → ℕ) → List Float → ℕ → List Float → List Refusal
 query-numbers-rows axes n knots tensor-given coordinates =
-    row 4 (query-lengths-refused axes n (length knots) tensor-given (length coordinates))
+    row 4 (lengths-of-points-refused axes n (length knots) tensor-given (length coordinates))
     ∷ row 7 (some-number-refused knots || some-number-refused coordinates)
     ∷ row 8 (knots-of-points-refused axes n knots)
     ∷ []

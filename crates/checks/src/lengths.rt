@@ -5,7 +5,7 @@ ghost use lib.ListN.{length};
 ghost use Rattle.rules.specs.Sizes.{place-of, knots-length, samples-length, tensor-length, scratch-length};
 ghost use Rattle.rules.specs.Refusals.{length-refused, scratch-refused};
 ghost use Rattle.grid.specs.Given.{sizes-of, points-of, InRange};
-ghost use Rattle.checks.specs.Check.{query-lengths-refused};
+ghost use Rattle.checks.specs.Check.{lengths-of-points-refused};
 use rules::Axis;
 
 // Whether a slice is not of the exact length.
@@ -84,7 +84,7 @@ pub fn query_of_points_refused(
     coordinates: usize,
 ) -> bool
     requires { ⌜ InRange axes (place-of (now points)) × (length (now points) ≡ 4) ⌝ }
-    ensures { λ r. ⌜ r ≡ query-lengths-refused axes (place-of (now (points .entry))) knots tensor coordinates ⌝ }
+    ensures { λ r. ⌜ r ≡ lengths-of-points-refused axes (place-of (now (points .entry))) knots tensor coordinates ⌝ }
 {
     if length_refused(knots, grid::sum_of_points(axes, points)) {
         return true;

@@ -1,4 +1,4 @@
-use mathlib.Core.Path.{_≡_, ap, subst, sym, _∙_}
+use mathlib.Core.Path.{ap, subst, sym, _∙_}
 use Prim.Native.Nat.{ℕ}
 use Rattle.rules.specs.Sizes.{product-below}
 use Rattle.grid.specs.Given.{InRange}
