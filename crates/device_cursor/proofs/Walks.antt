@@ -9,11 +9,14 @@ use native.Mathlib.Omega.{arith}
 use lib.IntN.{ℤ, pos}
 use lib.ListN.{length, getD, length-append, List·getD-append}
 use lib.Seq.{getD-append-add, ext-getD}
+use Rattle.integers.specs.Sized.{Sized}
 use Rattle.device.specs.DeviceCell.{cell-number}
 use Rattle.device.specs.declared.Cell.{Cell}
+use Rattle.device.proofs.Reach.{number-sized}
 use Rattle.device_cursor.specs.DeviceCurve.{cell-at, cells, curve-refusal, numbers-below, numbers-of-cells, last-number, curve-numbers, last-cursor, cursor-number, start-cursor, next-answer}
 use Rattle.device_cursor.specs.declared.Cursor.{Cursor}
 use Rattle.device_cursor.specs.declared.NextAnswer.{NextAnswer}
+use Rattle.device_cursor.proofs.Judged.{Whole, length-known, cell-known}
 use Rattle.device_cursor.proofs.Steps.{number-before, number-last, curve-refused, past-the-end, not-refused, step-refused, step-given}
 
 -- ---- a number of a list that stands before another, and one of the list behind
@@ -154,3 +157,14 @@ pub refused-stays : (curve : List ℕ) (cursor : Cursor) → (curve-refusal curv
     → next-answer curve cursor ≡ record { refusal = curve-refusal curve; value = pos 0; cursor = cursor }
 refused-stays curve cursor refused =
     sym (step-refused curve cursor (curve-refusal curve) (curve-refused curve (cursor .n) (curve-refusal curve) refl refused) refused)
+
+-- ---- how far the numbers reach
+
+-- each lies in -65,536 .. 65,536
+pub cursor-sized : (curve : List ℕ) → curve-refusal curve ≡ 0 → (n : ℕ) → n ≤ last-cursor curve → Sized 65536 (cursor-number curve n)
+cursor-sized curve accepted n h =
+    let w : Whole (length curve) = length-known curve accepted in
+    ⊎-elim
+    (λ b. rw (← number-before curve n b) (number-sized (cell-at curve (n / 256)) (n % 256) (cell-known curve accepted (n / 256) (omega (arith, b))) (omega arith)))
+    (λ m. rw (← number-last curve n m) (number-sized (cell-at curve (cells curve - 1)) 256 (cell-known curve accepted (cells curve - 1) (omega arith)) (omega arith)))
+    (below-or-not n (last-cursor curve))

@@ -1,11 +1,11 @@
 -- Signs: of products, of magnitudes, and a number taken apart by its sign.
 use mathlib.Core.Path.{_≡_, refl}
 use mathlib.Core.Bool.{true, false}
-use Prim.Native.Nat.{ℕ, zero, suc}
+use Prim.Native.Nat.{ℕ, zero, suc, _-_}
 use native.Mathlib.Omega.{arith}
-use lib.IntN.{ℤ, pos, negsuc, negℤ, natAbs, _*ℤ_, *ℤ-zero, *ℤ-comm, *ℤ-negsuc, negℤ-negℤ}
+use lib.IntN.{ℤ, pos, negsuc, negℤ, natAbs, _-ℤ_, _*ℤ_, *ℤ-zero, *ℤ-comm, *ℤ-negsuc, negℤ-negℤ}
 use lib.Signed.{ltZ}
-use borrow.Author.Tests.{ltb-true}
+use borrow.Author.Tests.{ltb-true, le-ltb}
 
 pub times-neg : (m z : ℤ) → m *ℤ negℤ z ≡ negℤ (m *ℤ z)
 times-neg m (pos zero) = rw (*ℤ-zero m)
@@ -36,3 +36,7 @@ below (negsuc n) t = record { n = n; is = refl }
 pub above : (z : ℤ) → ltZ z (pos 0) ≡ false → Above z
 above (pos n) t = record { n = n; is = refl }
 above (negsuc n) t = let z : _≡_ {A = ℕ} 0 1 = cc in (let y : ⊥ = omega arith in absurd y)
+
+-- minus one less a number below zero
+pub back : (n : ℕ) → negsuc 0 -ℤ negsuc n ≡ pos n
+back n = let e : suc n - 1 ≡ n = omega arith in rw (le-ltb (suc n) 1 (omega arith), e)
