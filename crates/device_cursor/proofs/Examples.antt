@@ -1,4 +1,4 @@
--- Curves by hand: numbers that begin with their lowest byte, cells of two bytes too few, a number out of range, the last cursor, and the one past it.
+-- Curves by hand: numbers that begin with their lowest byte, a length that is refused before its numbers are, a number out of range, the last cursor, and the one past it.
 use mathlib.Core.Path.{_≡_, refl}
 use mathlib.Core.List.{List, [], _∷_}
 use Prim.Native.Nat.{ℕ}
@@ -11,9 +11,9 @@ use Rattle.device_cursor.specs.declared.NextAnswer.{NextAnswer}
 abbrev one-cell : List ℕ
 one-cell = 1 ∷ 0 ∷ 0 ∷ 0 ∷ 254 ∷ 255 ∷ 255 ∷ 255 ∷ 0 ∷ 1 ∷ 0 ∷ 0 ∷ 0 ∷ 0 ∷ 254 ∷ 255 ∷ []
 
--- the same without its last two bytes
+-- 32,768 for p0, and no whole cell behind it
 abbrev broken : List ℕ
-broken = 1 ∷ 0 ∷ 0 ∷ 0 ∷ 254 ∷ 255 ∷ 255 ∷ 255 ∷ 0 ∷ 1 ∷ 0 ∷ 0 ∷ 0 ∷ 0 ∷ []
+broken = 0 ∷ 128 ∷ 0 ∷ 0 ∷ 254 ∷ 255 ∷ 255 ∷ 255 ∷ 0 ∷ 1 ∷ 0 ∷ 0 ∷ 0 ∷ 0 ∷ []
 
 -- p0 32,768
 abbrev out-of-range : List ℕ
