@@ -2,6 +2,7 @@
 
 use crate::any_knots::disturb;
 use crate::case::Case;
+use crate::device;
 use crate::even_knots::{far, make_even};
 use crate::faults::spoil;
 use crate::grid::Grid;
@@ -14,7 +15,7 @@ use reading::CURVE_SCRATCH;
 
 /// The kinds of cases: the worked examples, one kind for each call, lists
 /// of changes, the sheets of up to two bytes, changes in two orders, quick queries
-/// beside full ones, and the reader's sheets written back.
+/// beside full ones, the reader's sheets written back, and the device's program.
 #[derive(Debug, Clone, Copy, PartialEq, Eq)]
 pub enum Kind {
     Example,
@@ -38,10 +39,13 @@ pub enum Kind {
     LocateAxis,
     LocateStepIndex,
     Stepped,
+    CellValue,
+    CursorNext,
+    DeviceCurve,
 }
 
 /// Every kind, in the order of the report.
-pub const KINDS: [Kind; 21] = [
+pub const KINDS: [Kind; 24] = [
     Kind::Example,
     Kind::Moments,
     Kind::Curve,
@@ -63,6 +67,9 @@ pub const KINDS: [Kind; 21] = [
     Kind::LocateAxis,
     Kind::LocateStepIndex,
     Kind::Stepped,
+    Kind::CellValue,
+    Kind::CursorNext,
+    Kind::DeviceCurve,
 ];
 
 impl Kind {
@@ -90,6 +97,9 @@ impl Kind {
             Kind::LocateAxis => "locate_axis",
             Kind::LocateStepIndex => "locate_step_index",
             Kind::Stepped => "stepped",
+            Kind::CellValue => "cell_value",
+            Kind::CursorNext => "cursor_next",
+            Kind::DeviceCurve => "device_curve",
         }
     }
 
@@ -103,6 +113,7 @@ impl Kind {
                 | Kind::EitherOrder
                 | Kind::QuickBesideFull
                 | Kind::WrittenBack
+                | Kind::DeviceCurve
         )
     }
 }
@@ -148,13 +159,16 @@ pub fn single(kind: Kind, number: usize, random: &mut Random) -> Case {
         Kind::LocateAxis => locate_axis(random),
         Kind::LocateStepIndex => locate_step_index(random),
         Kind::Stepped => stepped(random),
+        Kind::CellValue => device::cell_value(number),
+        Kind::CursorNext => device::cursor_next(random),
         Kind::Example
         | Kind::ChangeList
         | Kind::ShortSheet
         | Kind::EitherOrder
         | Kind::QuickBesideFull
-        | Kind::WrittenBack => {
-            panic!("more than one call: {}", kind.name())
+        | Kind::WrittenBack
+        | Kind::DeviceCurve => {
+            panic!("not one call: {}", kind.name())
         }
     }
 }
