@@ -11,7 +11,7 @@ use mir.Syntax.{Width, w32, w64}
 use mir.Val.{SFits, hbits}
 use Rattle.integers.specs.Sized.{Sized}
 use Rattle.integers.proofs.Differences.{less, less-above, less-below}
-use Rattle.integers.proofs.Signs.{abs-neg}
+use Rattle.integers.proofs.Signs.{abs-neg, back}
 
 pub abs-less : (a b : ℕ) → natAbs (less a b) ≡ (a - b) + (b - a)
 abs-less a b =
@@ -66,3 +66,9 @@ neg-fits (suc q) h = record { sfits = omega arith }
 -- what fits 32 bits fits 64
 pub wider : (z : ℤ) → SFits w32 z → SFits w64 z
 wider z f = record { sfits = omega arith }
+
+-- minus one less any number that fits
+pub one-less-fits : (z : ℤ) → SFits w32 z → SFits w32 (negsuc 0 -ℤ z)
+one-less-fits (pos zero) f = record { sfits = omega arith }
+one-less-fits (pos (suc n)) f = let h = f .sfits in record { sfits = omega arith }
+one-less-fits (negsuc n) f = rw (back n) (record { sfits = f .sfits })

@@ -18,7 +18,9 @@ const TEXT: usize = 7 * (255 * 256 + 1);
 
 /// The ends of the two ranges with what is next to them, and numbers near zero.
 const VALUES: [i32; 9] = [-32_768, -32_767, -16_384, -1, 0, 1, 16_383, 32_766, 32_767];
-const SLOPES: [i32; 9] = [-131_072, -131_071, -65_536, -1, 0, 1, 65_535, 131_070, 131_071];
+const SLOPES: [i32; 9] = [
+    -131_072, -131_071, -65_536, -1, 0, 1, 65_535, 131_070, 131_071,
+];
 const VALUES_OUTSIDE: [i32; 4] = [i32::MIN, -32_769, 32_768, i32::MAX];
 const SLOPES_OUTSIDE: [i32; 4] = [i32::MIN, -131_073, 131_072, i32::MAX];
 
@@ -51,7 +53,10 @@ pub fn as_words(slot: &mut [usize], call: impl FnOnce(&mut [u32]) -> usize) -> u
     items.insert(0, 0x1234_5678);
     items.push(0x8765_4321);
     let refusal = call(&mut items[1..=slot.len()]);
-    assert_eq!((items[0], items[slot.len() + 1]), (0x1234_5678, 0x8765_4321));
+    assert_eq!(
+        (items[0], items[slot.len() + 1]),
+        (0x1234_5678, 0x8765_4321)
+    );
     for (item, word) in slot.iter_mut().zip(&items[1..]) {
         *item = *word as usize;
     }
@@ -92,17 +97,38 @@ fn cell_by_number(number: usize) -> [i32; 4] {
     cell
 }
 
+/// A cell at a position, with a slot for its value.
+fn cell_with(cell: [i32; 4], k: i32, slot: &[usize]) -> Case {
+    let numbers = [cell[0], cell[1], cell[2], cell[3], k];
+    let numbers = numbers.map(|number| Argument::Number(bits(number)));
+    let mut arguments = numbers.to_vec();
+    arguments.push(Argument::of_numbers(slot));
+    Case::new(Call::CellValue, arguments)
+}
+
+/// A cell at a position.
+pub fn cell_at(cell: [i32; 4], k: i32) -> Case {
+    cell_with(cell, k, &[71])
+}
+
 /// A cell at a position, by the number of the case.
 pub fn cell_value(number: usize) -> Case {
     let cell = cell_by_number(number % CELLS);
-    let (position, slot): (i32, &[usize]) = match number % POSITIONS {
-        259 => (128, if number % 2 == 0 { &[] } else { &[71, 72] }),
-        position => (position as i32 - 1, &[71]),
-    };
-    let numbers = [cell[0], cell[1], cell[2], cell[3], position];
-    let mut arguments = numbers.map(|number| Argument::Number(bits(number))).to_vec();
-    arguments.push(Argument::of_numbers(slot));
-    Case::new(Call::CellValue, arguments)
+    match number % POSITIONS {
+        259 if number % 2 == 0 => cell_with(cell, 128, &[]),
+        259 => cell_with(cell, 128, &[71, 72]),
+        position => cell_at(cell, position as i32 - 1),
+    }
+}
+
+/// A step of the cursor.
+pub fn step_at(curve: &[u8], n: usize) -> Case {
+    let arguments = vec![
+        Argument::of_bytes(curve),
+        Argument::of_numbers(&[n]),
+        Argument::of_numbers(&[73]),
+    ];
+    Case::new(Call::CursorNext, arguments)
 }
 
 /// The bytes of so many cells.
@@ -131,13 +157,34 @@ pub fn cursor_next(random: &mut Random) -> Case {
         curve.truncate(curve.len().saturating_sub(random.between(1, 15)));
     }
     let last = 256 * cells;
-    let ends = [0, 255, 256, last, last.saturating_sub(1), last + 1, last + 2, u32::MAX as usize];
-    let n = if random.percent(35) { random.pick(&ends) } else { random.between(0, last) };
+    let ends = [
+        0,
+        255,
+        256,
+        last,
+        last.saturating_sub(1),
+        last + 1,
+        last + 2,
+        u32::MAX as usize,
+    ];
+    let n = if random.percent(35) {
+        random.pick(&ends)
+    } else {
+        random.between(0, last)
+    };
     let slot = |random: &mut Random, number: usize| {
-        let length = if random.percent(3) { random.pick(&[0, 2]) } else { 1 };
+        let length = if random.percent(3) {
+            random.pick(&[0, 2])
+        } else {
+            1
+        };
         Argument::of_numbers(&vec![number; length])
     };
-    let arguments = vec![Argument::of_bytes(&curve), slot(random, n), slot(random, 73)];
+    let arguments = vec![
+        Argument::of_bytes(&curve),
+        slot(random, n),
+        slot(random, 73),
+    ];
     Case::new(Call::CursorNext, arguments)
 }
 

@@ -394,7 +394,10 @@ fn device_text(arguments: &mut [Argument]) -> usize {
         .stdout(Stdio::piped())
         .spawn()
         .expect("the program is built by `rt check device_curve`");
-    let mut input = program.stdin.take().expect("the program is given its input");
+    let mut input = program
+        .stdin
+        .take()
+        .expect("the program is given its input");
     let bytes = curve.bytes().to_vec();
     // The program may have read enough before all is written.
     let writer = thread::spawn(move || drop(input.write_all(&bytes)));

@@ -63,15 +63,18 @@ fn cells(curve: &[u8]) -> Result<Vec<Cell>, Refusal> {
 
 /// All numbers in the program's order: each cell at 0 to 255, and the last at 256.
 fn numbers(cells: &[Cell]) -> impl Iterator<Item = i32> + '_ {
-    let walked = cells.iter().flat_map(|cell| (0..256).map(|k| number(*cell, k)));
+    let walked = cells
+        .iter()
+        .flat_map(|cell| (0..256).map(|k| number(*cell, k)));
     walked.chain(cells.last().map(|cell| number(*cell, 256)))
 }
 
 /// The value at the cursor in its slot, and the cursor moved on.
 pub fn cursor_next(curve: &[u8], cursor: &mut [u32], value: &mut [i32]) -> Refusal {
-    let ([cursor], [value]) = (cursor, value) else { return 4 };
-    let answer = cells(curve)
-        .and_then(|cells| numbers(&cells).nth(*cursor as usize).ok_or(20));
+    let ([cursor], [value]) = (cursor, value) else {
+        return 4;
+    };
+    let answer = cells(curve).and_then(|cells| numbers(&cells).nth(*cursor as usize).ok_or(20));
     *value = answer.unwrap_or(0);
     *cursor += u32::from(answer.is_ok());
     answer.err().unwrap_or(0)
@@ -80,7 +83,9 @@ pub fn cursor_next(curve: &[u8], cursor: &mut [u32], value: &mut [i32]) -> Refus
 /// All that the device's program prints of a curve.
 pub fn device_text(curve: &[u8]) -> String {
     match cells(curve) {
-        Ok(cells) => numbers(&cells).map(|number| format!("{number}\n")).collect(),
+        Ok(cells) => numbers(&cells)
+            .map(|number| format!("{number}\n"))
+            .collect(),
         Err(refusal) => format!("refused {refusal}\n"),
     }
 }
