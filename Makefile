@@ -13,11 +13,13 @@ CASES = --moments 60000 --curve 60000 --slopes 60000 --build 50000 --change 5000
     --change_list 20000 --either_order 60000 --query 400000 --read 60000 --sheet_tensor 60000 --short_sheet 65793 \
     --quick_query 200000 --quick_beside_full 530000 --even_query 240000 \
     --write 200000 --written_back 60000 \
-    --exact_index 60000 --locate_axis 60000 --locate_step_index 100000 --stepped 100000 --at_every_place 5000
+    --exact_index 60000 --locate_axis 60000 --locate_step_index 100000 --stepped 100000 --at_every_place 5000 \
+    --cell_value 5202860 --cursor_next 200000 --device_curve 4101
 SEED = 20240917
 
-# Holds the exported calls against the Rust, bit for bit; fails where there is a difference, or nothing was compared of a kind.
+# Holds the exported calls against the Rust, bit for bit, and what the device's program prints; fails where there is a difference, or nothing was compared of a kind.
 differential: archive
+	rt check device_curve
 	cd oracle && cargo run --offline --release -p differential -- --seed $(SEED) $(CASES)
 
 # Runs copies of the code, each with one deliberate error, on the oracle's fixed list of answers; fails where an error is not found.

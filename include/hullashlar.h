@@ -1,5 +1,6 @@
 /* Hullashlar for C: every public call over numbers and plain slices. docs/RULES.md says what each computes and when it
- * refuses, in its chapters Calls, EvenCalls, StepCalls, Read, SheetTensor, Write, Exports and StepExports.
+ * refuses, in its chapters Calls, EvenCalls, StepCalls, DeviceCell, DeviceCurve, Read, SheetTensor, Write, Exports,
+ * StepExports and DeviceExports.
  *
  * The machine. The archive, target/staticlib/libhost.a, is code for x86-64, with SSE2 and the System V calling
  * convention. Of its host it wants memcpy and memset, and nothing else. It computes under the caller's MXCSR, which
@@ -8,7 +9,7 @@
  * when it returns.
  *
  * Slices. A slice is a pointer and then its length, in elements. Pointers to double and to size_t are aligned to 8
- * bytes. A slice that a call writes overlaps no other slice of that call.
+ * bytes, those to int32_t and uint32_t to 4. A slice that a call writes overlaps no other slice of that call.
  *
  * State. No call allocates memory, keeps a pointer, has data of its own, or writes anything but its stack and the
  * slices named as written. So calls may run at the same time, on threads or in handlers, where none writes a slice that
@@ -35,12 +36,14 @@
  *   - On one axis: 2; 4; 13 or 22; then the rest of the list.
  *   - Of a sheet: 4; then the faults of the sheet, the first that is met on the way through it; then, where its tensor
  *     is built, 5, 7, 8, 9, 10.
+ *   - Of the device: 4 for its slots; then 19 and 20 of a cell, and 20, 19, 20 of a cursor.
  *
  * Outputs. After a refusal every output is as it was but the slots of the answer: value, labels, lanes, uneven, found,
  * location, fraction, index and indices, and of a sheet axes, points, kinds, values and length. These are then 0 or
  * +0.0, but for uneven after 21, where all slots of the call have their lengths; where one has another length, none of
  * them is written. Where a sheet is read and only its build is refused, its knots, samples, axes, points, kinds and
  * values are handed over, as after a read, and the length alone is 0.
+ * Of the device, a cursor is as it was after a refusal, and a value 0.
  * All of scratch is +0.0 after success and after 10, and else as it was.
  */
 #ifndef HULLASHLAR_H
@@ -75,6 +78,8 @@ enum hullashlar_refusal {
     HULLASHLAR_REFUSED_TAIL = 14,    /* a sheet goes on after its fields, by a byte or by a bit that is set */
     HULLASHLAR_REFUSED_BUFFER = 15,  /* fewer bytes than the sheet to be written has */
     HULLASHLAR_REFUSED_OUTSIDE = 18, /* a coordinate outside the knots of an axis whose mode refuses it */
+    HULLASHLAR_REFUSED_RANGE = 19,   /* a value or a slope of a cell in whole numbers is out of its range */
+    HULLASHLAR_REFUSED_POSITION = 20, /* a position outside a cell, a cursor past the end, or no 1 to 255 whole cells */
     HULLASHLAR_REFUSED_UNEVEN = 21,  /* the knots of an axis are not evenly spaced */
     HULLASHLAR_REFUSED_MODE = 22     /* no mode at all, or no direction */
 };
@@ -315,6 +320,28 @@ size_t hullashlar_stepped(size_t axes,
                           const double *coordinates, size_t coordinates_length,
                           double *value, size_t value_length,
                           size_t *indices, size_t indices_length);
+
+/* ---- For aids without a float unit: whole numbers alone, in the calls and inside them. ---- */
+
+/* The value at position k of 256 of a cell with the values p0, p1 and the width-scaled slopes d0, d1 at its two ends:
+ * the exact value of the cubic, rounded to the nearest whole number, a half away from zero. It lies in -65,536..65,535;
+ * at k = 0 it is p0, and at 256 p1.
+ * Lengths: value 1. Another length is 4, and the slot is left as it was.
+ * Written: value, 0 on a refusal by 19 or 20. Refuses by 4; 19 for a value outside -32,768..32,767 or a slope outside
+ * -131,072..131,071; 20 for a position outside 0..256. */
+size_t hullashlar_cell_value(int32_t p0, int32_t p1, int32_t d0, int32_t d1, int32_t k,
+                             int32_t *value, size_t value_length);
+
+/* The value at a cursor of a curve of 1 to 255 cells, and the cursor moved on. A cell is 16 bytes: p0, p1, d0, d1, each
+ * 32 bits with a sign, the lowest byte first. A walk starts with 0 in the cursor's slot. Below 256 times the cells a
+ * cursor n is position n mod 256 of cell n / 256; at 256 times the cells it is position 256 of the last; any other
+ * number is past the end. The curve is judged whole at every call.
+ * Lengths: cursor 1; value 1. Another length is 4, and then nothing is written.
+ * Written: cursor, as it was on a refusal; value, 0 on a refusal by 19 or 20. Refuses by 4; 20 for a curve that is not 1
+ * to 255 whole cells; 19 for a value or a slope out of range anywhere in it; 20 past the end, for ever. */
+size_t hullashlar_cursor_next(const uint8_t *curve, size_t curve_length,
+                              uint32_t *cursor, size_t cursor_length,
+                              int32_t *value, size_t value_length);
 
 #ifdef __cplusplus
 }

@@ -141,4 +141,17 @@ extern "C" {
         value: *mut f64, value_length: usize,
         indices: *mut usize, indices_length: usize,
     ) -> usize;
+    pub fn hullashlar_cell_value(
+        p0: i32,
+        p1: i32,
+        d0: i32,
+        d1: i32,
+        k: i32,
+        value: *mut i32, value_length: usize,
+    ) -> usize;
+    pub fn hullashlar_cursor_next(
+        curve: *const u8, curve_length: usize,
+        cursor: *mut u32, cursor_length: usize,
+        value: *mut i32, value_length: usize,
+    ) -> usize;
 }

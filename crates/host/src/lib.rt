@@ -5,6 +5,7 @@ ghost use Rattle.curve_exports.specs.CurveExports.{MomentsExport, CurveExport};
 ghost use Rattle.tensor_exports.specs.TensorExports.{BuildExport, ChangeExport};
 ghost use Rattle.query_exports.specs.QueryExports.{QueryExport, QuickQueryExport, EvenQueryExport};
 ghost use Rattle.sheet_exports.specs.SheetExports.{ReadExport, SheetTensorExport, WriteExport};
+ghost use Rattle.device_exports.specs.DeviceExports.{CellExport, NextExport};
 
 // The moments of the curve through the samples, one for each point, under the two ends given. Refuses 2 4 5 7 8 9 10, and 4 and 13 of its own.
 #[no_mangle]
@@ -307,4 +308,31 @@ pub extern "C" fn hullashlar_stepped(
         value,
         indices,
     )
+}
+
+// The value of a cell in whole numbers at position k of 256, rounded to the nearest, a half away from zero, in a slot of one. Refuses 19 20, and then the value is 0; and before them 4 for its slot, which is left as it was.
+#[no_mangle]
+pub extern "C" fn hullashlar_cell_value(
+    p0: i32,
+    p1: i32,
+    d0: i32,
+    d1: i32,
+    k: i32,
+    value: &mut [i32],
+) -> usize
+    ensures { λ r. ⌜ CellExport p0 p1 d0 d1 k (now (value .entry)) r (now (value .exit)) ⌝ }
+{
+    device_exports::cell_value(p0, p1, d0, d1, k, value)
+}
+
+// The value at the cursor in its slot of one, in a slot of one, and the cursor moved on; a walk starts at 0. Refuses 20 19 20, and then the value is 0 and the cursor as it was; and before them 4 for a slot, with which nothing is written.
+#[no_mangle]
+pub extern "C" fn hullashlar_cursor_next(
+    curve: &[u8],
+    cursor: &mut [u32],
+    value: &mut [i32],
+) -> usize
+    ensures { λ r. ⌜ NextExport (now (curve .entry)) (now (cursor .entry)) (now (value .entry)) r (now (cursor .exit)) (now (value .exit)) ⌝ }
+{
+    device_exports::cursor_next(curve, cursor, value)
 }

@@ -5,6 +5,8 @@ use libc::STDOUT_FILENO;
 use replay_curves::curve;
 use replay_curves::moments;
 use replay_curves::slopes;
+use replay_device::cell_value;
+use replay_device::cursor_next;
 use replay_items::Replayed;
 use replay_items::words::after;
 use replay_items::words::held;
@@ -41,6 +43,8 @@ fn case_at(list: &[u8], place: usize) -> Replayed {
         12 => locate_axis(list, begin),
         13 => locate_step_index(list, begin),
         14 => stepped(list, begin),
+        15 => cell_value(list, begin),
+        16 => cursor_next(list, begin),
         _ => Replayed {
             same: false,
             next: begin,
@@ -89,7 +93,7 @@ fn replay(list: &[u8]) {
 }
 
 fn main() {
-    let mut list = [0u8; 524288];
+    let mut list = [0u8; 589824];
     let n = io::read_full(STDIN_FILENO, &mut list);
     replay(&list[..n]);
 }

@@ -2,7 +2,8 @@
 
 use crate::lent::{Lent, Word};
 
-/// The calls of the archive.
+/// The calls of the archive, and the text of the device's program. A whole number with a sign is
+/// held by its 32 bits.
 #[derive(Debug, Clone, Copy, PartialEq, Eq)]
 pub enum Call {
     Moments,
@@ -20,6 +21,9 @@ pub enum Call {
     LocateAxis,
     LocateStepIndex,
     Stepped,
+    CellValue,
+    CursorNext,
+    DeviceText,
 }
 
 impl Call {
@@ -82,6 +86,9 @@ impl Call {
                 "value",
                 "indices",
             ],
+            Call::CellValue => &["p0", "p1", "d0", "d1", "k", "value"],
+            Call::CursorNext => &["curve", "cursor", "value"],
+            Call::DeviceText => &["curve", "text", "length"],
         }
     }
 
@@ -105,6 +112,9 @@ impl Call {
             Call::LocateAxis => &["location", "fraction"],
             Call::LocateStepIndex => &["index"],
             Call::Stepped => &["value", "indices"],
+            Call::CellValue => &["value"],
+            Call::CursorNext => &["cursor", "value"],
+            Call::DeviceText => &["text", "length"],
         }
     }
 

@@ -5,6 +5,7 @@ mod places;
 mod sheets;
 
 use crate::case::{Argument, Call, Calls, Case};
+use crate::device::{device_text, LENGTHS};
 use crate::examples::examples;
 use crate::faults::spoil;
 use crate::generator::{self, Kind, KINDS};
@@ -39,11 +40,12 @@ const CALLS_AT_EVERY_PLACE: u64 = 360;
 
 impl Plan {
     /// About so many calls of each kind, the examples once, and no sheet of up to
-    /// two bytes twice.
+    /// two bytes and no length of a device's curve twice.
     pub fn of_each_kind(seed: u64, calls: u64) -> Self {
         let cases = KINDS.map(|kind| match kind {
             Kind::Example => 1,
             Kind::ShortSheet => calls.min(SHORT_SHEETS),
+            Kind::DeviceCurve => calls.min(LENGTHS),
             Kind::ChangeList => calls.div_ceil(CHANGES_IN_A_LIST),
             Kind::EitherOrder => calls.div_ceil(CALLS_IN_TWO_ORDERS),
             Kind::QuickBesideFull => calls.div_ceil(CALLS_BESIDE),
@@ -91,6 +93,9 @@ fn compare_kind(subject: &dyn Calls, plan: &Plan, kind: Kind, report: &mut Repor
             Kind::AtEveryPlace => run.at_every_place(random),
             Kind::Write => run.write_and_read(random),
             Kind::WrittenBack => run.written_back(plan.seed, number),
+            Kind::DeviceCurve => {
+                run.compare(&device_text(random, number as usize));
+            }
             _ => {
                 run.compare(&generator::single(kind, number as usize, random));
             }

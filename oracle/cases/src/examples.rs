@@ -1,6 +1,7 @@
 //! The worked examples as cases, and a periodic axis of one interval whose slope overflows.
 
 use crate::case::{Argument, Calls, Case};
+use crate::device::{cell_at, step_at};
 use crate::grid::Grid;
 use crate::lending::{self, Point};
 use crate::numbers::power_of_two;
@@ -39,6 +40,7 @@ pub fn examples() -> Vec<Case> {
     cases.extend(outside(random));
     cases.extend(even_queries(random));
     cases.extend(written(random));
+    cases.extend(cells());
     cases
 }
 
@@ -287,5 +289,36 @@ fn steps(random: &mut Random) -> Vec<Case> {
         let case = lending::stepped(random, &grid, directions, &samples, &[0.5, 25.0]);
         cases.push(case);
     }
+    cases
+}
+
+/// Cells in whole numbers: a half on either side of zero, the farthest reach, both ends, and the
+/// refusals; and the cursor at the start, before the end, at it and past it.
+fn cells() -> Vec<Case> {
+    let mut cases = vec![
+        cell_at([0, 1, 0, 0], 128),
+        cell_at([0, -1, 0, 0], 128),
+        cell_at([32_767, 32_767, 131_071, -131_072], 128),
+        cell_at([-32_768, -32_768, -131_072, 131_071], 128),
+        cell_at([-7, 11, 300, -5], 0),
+        cell_at([-7, 11, 300, -5], 255),
+        cell_at([-7, 11, 300, -5], 256),
+        cell_at([32_768, 0, 0, 0], 257),
+        cell_at([0, 0, 0, -131_073], 0),
+        cell_at([32_767, 0, 0, 0], 257),
+        cell_at([0, 0, 0, 0], -1),
+    ];
+    let good = [1, -2, 256, -131_072].map(i32::to_le_bytes).concat();
+    let off = [32_768, 0, 0, 0].map(i32::to_le_bytes).concat();
+    for n in [0, 128, 255, 256, 257, u32::MAX as usize] {
+        cases.push(step_at(&good, n));
+    }
+    cases.extend([
+        step_at(&good[..14], 0),
+        step_at(&off[..14], 0),
+        step_at(&off, 257),
+        step_at(&[good.clone(), off].concat(), 0),
+        step_at(&[], 0),
+    ]);
     cases
 }

@@ -148,6 +148,7 @@ fn faults_of(call: Call) -> &'static [Fault] {
         Call::LocateAxis => OF_CURVE,
         Call::LocateStepIndex => OF_STEP,
         Call::Stepped => OF_STEPPED,
+        Call::CellValue | Call::CursorNext | Call::DeviceText => &[],
     }
 }
 

@@ -2,6 +2,7 @@
 
 use crate::any_knots::disturb;
 use crate::case::Case;
+use crate::device;
 use crate::even_knots::{far, make_even};
 use crate::faults::spoil;
 use crate::grid::Grid;
@@ -14,7 +15,7 @@ use reading::CURVE_SCRATCH;
 
 /// The kinds of cases: the worked examples, one kind for each call, lists
 /// of changes, the sheets of up to two bytes, changes in two orders, quick queries
-/// beside full ones, the reader's sheets written back, and surfaces asked at every place.
+/// beside full ones, the reader's sheets written back, surfaces asked at every place, and the device's program.
 #[derive(Debug, Clone, Copy, PartialEq, Eq)]
 pub enum Kind {
     Example,
@@ -39,10 +40,13 @@ pub enum Kind {
     LocateStepIndex,
     Stepped,
     AtEveryPlace,
+    CellValue,
+    CursorNext,
+    DeviceCurve,
 }
 
 /// Every kind, in the order of the report.
-pub const KINDS: [Kind; 22] = [
+pub const KINDS: [Kind; 25] = [
     Kind::Example,
     Kind::Moments,
     Kind::Curve,
@@ -65,6 +69,9 @@ pub const KINDS: [Kind; 22] = [
     Kind::LocateStepIndex,
     Kind::Stepped,
     Kind::AtEveryPlace,
+    Kind::CellValue,
+    Kind::CursorNext,
+    Kind::DeviceCurve,
 ];
 
 impl Kind {
@@ -93,6 +100,9 @@ impl Kind {
             Kind::LocateStepIndex => "locate_step_index",
             Kind::Stepped => "stepped",
             Kind::AtEveryPlace => "at_every_place",
+            Kind::CellValue => "cell_value",
+            Kind::CursorNext => "cursor_next",
+            Kind::DeviceCurve => "device_curve",
         }
     }
 
@@ -107,6 +117,7 @@ impl Kind {
                 | Kind::QuickBesideFull
                 | Kind::WrittenBack
                 | Kind::AtEveryPlace
+                | Kind::DeviceCurve
         )
     }
 }
@@ -152,14 +163,17 @@ pub fn single(kind: Kind, number: usize, random: &mut Random) -> Case {
         Kind::LocateAxis => locate_axis(random),
         Kind::LocateStepIndex => locate_step_index(random),
         Kind::Stepped => stepped(random),
+        Kind::CellValue => device::cell_value(number),
+        Kind::CursorNext => device::cursor_next(random),
         Kind::Example
         | Kind::ChangeList
         | Kind::ShortSheet
         | Kind::EitherOrder
         | Kind::QuickBesideFull
         | Kind::WrittenBack
-        | Kind::AtEveryPlace => {
-            panic!("more than one call: {}", kind.name())
+        | Kind::AtEveryPlace
+        | Kind::DeviceCurve => {
+            panic!("not one call: {}", kind.name())
         }
     }
 }

@@ -3,6 +3,7 @@
 mod any_knots;
 mod case;
 mod comparison;
+mod device;
 mod even_knots;
 mod examples;
 mod faults;
@@ -21,6 +22,7 @@ mod sheet;
 
 pub use case::{Argument, Call, Calls, Case};
 pub use comparison::{compare_all, Plan};
+pub use device::{as_integers, as_words, integer, LENGTHS};
 pub use generator::{Kind, KINDS};
 pub use lent::Lent;
 pub use list::{list, CALLS};

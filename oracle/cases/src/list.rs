@@ -23,8 +23,8 @@ use crate::random::Random;
 use crate::reading_calls::Reading;
 use crate::report::NUMBERS;
 
-/// The calls in the order of their numbers.
-pub const CALLS: [Call; 15] = [
+/// The calls in the order of their numbers; the program's text is none of them.
+pub const CALLS: [Call; 17] = [
     Call::Moments,
     Call::Curve,
     Call::Slopes,
@@ -40,6 +40,8 @@ pub const CALLS: [Call; 15] = [
     Call::LocateAxis,
     Call::LocateStepIndex,
     Call::Stepped,
+    Call::CellValue,
+    Call::CursorNext,
 ];
 
 /// The seed of the list; another one makes another list.

@@ -1,6 +1,7 @@
 //! The reading of the rules as something that answers calls.
 
 use crate::case::{Argument, Call, Calls, Case};
+use crate::device::{as_integers, as_words, integer};
 
 /// The reading, which answers every call.
 pub struct Reading;
@@ -16,6 +17,9 @@ impl Calls for Reading {
             Call::Read | Call::SheetTensor | Call::Write => on_a_sheet(case.call, arguments),
             Call::ExactIndex | Call::LocateAxis | Call::LocateStepIndex | Call::Stepped => {
                 by_steps(case.call, arguments)
+            }
+            Call::CellValue | Call::CursorNext | Call::DeviceText => {
+                of_the_device(case.call, arguments)
             }
         };
         Some(refusal)
@@ -136,6 +140,29 @@ fn by_steps(call: Call, arguments: &mut [Argument]) -> usize {
             axes.number(), points.numbers(), directions.bytes(), knots.floats(),
             samples.floats(), coordinates.floats(), value.floats_mut(), indices.numbers_mut(),
         ),
+        _ => panic!("a case has the arguments of its call"),
+    }
+}
+
+fn of_the_device(call: Call, arguments: &mut [Argument]) -> usize {
+    match (call, arguments) {
+        (Call::CellValue, [p0, p1, d0, d1, k, value]) => {
+            let cell = [&*p0, p1, d0, d1].map(integer);
+            as_integers(value.numbers_mut(), |value| {
+                reading::cell_value(cell, integer(k), value)
+            })
+        }
+        (Call::CursorNext, [curve, cursor, value]) => as_words(cursor.numbers_mut(), |cursor| {
+            as_integers(value.numbers_mut(), |value| {
+                reading::cursor_next(curve.bytes(), cursor, value)
+            })
+        }),
+        (Call::DeviceText, [curve, text, length]) => {
+            let printed = reading::device_text(curve.bytes());
+            text.bytes_mut()[..printed.len()].copy_from_slice(printed.as_bytes());
+            length.numbers_mut()[0] = printed.len();
+            0
+        }
         _ => panic!("a case has the arguments of its call"),
     }
 }

@@ -3,8 +3,11 @@
 #[path = "../../../include/hullashlar.rs"]
 mod declared;
 
-use cases::{Argument, Call, Calls, Case};
+use cases::{as_integers, as_words, integer, Argument, Call, Calls, Case};
 use declared::*;
+use std::io::Write;
+use std::process::{Command, Stdio};
+use std::thread;
 
 /// A slice as the archive takes it to read: where it begins, and its length.
 fn lent<T>(slice: &[T]) -> (*const T, usize) {
@@ -16,7 +19,7 @@ fn lent_mut<T>(slice: &mut [T]) -> (*mut T, usize) {
     (slice.as_mut_ptr(), slice.len())
 }
 
-/// The archive, which answers every call.
+/// The archive, which answers every call, and beside it the device's program.
 pub struct Archive;
 
 impl Calls for Archive {
@@ -38,6 +41,9 @@ impl Calls for Archive {
             Call::LocateAxis => locate_axis(arguments),
             Call::LocateStepIndex => locate_step_index(arguments),
             Call::Stepped => stepped(arguments),
+            Call::CellValue => cell_value(arguments),
+            Call::CursorNext => cursor_next(arguments),
+            Call::DeviceText => device_text(arguments),
         };
         Some(refusal)
     }
@@ -346,4 +352,58 @@ fn stepped(arguments: &mut [Argument]) -> usize {
             indices.0, indices.1,
         )
     }
+}
+
+fn cell_value(arguments: &mut [Argument]) -> usize {
+    let [p0, p1, d0, d1, k, value] = arguments else {
+        panic!("a case has the arguments of its call")
+    };
+    let [p0, p1, d0, d1, k] = [&*p0, p1, d0, d1, k].map(integer);
+    as_integers(value.numbers_mut(), |value| {
+        let value = lent_mut(value);
+        // SAFETY: the pair is a live slice.
+        unsafe { hullashlar_cell_value(p0, p1, d0, d1, k, value.0, value.1) }
+    })
+}
+
+fn cursor_next(arguments: &mut [Argument]) -> usize {
+    let [curve, cursor, value] = arguments else {
+        panic!("a case has the arguments of its call")
+    };
+    as_words(cursor.numbers_mut(), |cursor| {
+        as_integers(value.numbers_mut(), |value| {
+            let (curve, cursor, value) = (lent(curve.bytes()), lent_mut(cursor), lent_mut(value));
+            // SAFETY: each pair is a live slice; no two of them overlap.
+            unsafe {
+                hullashlar_cursor_next(curve.0, curve.1, cursor.0, cursor.1, value.0, value.1)
+            }
+        })
+    })
+}
+
+/// The program, where the repository builds it.
+const PROGRAM: &str = concat!(env!("CARGO_MANIFEST_DIR"), "/../../target/bin/device_curve");
+
+/// Runs the program on a curve, and takes what it prints.
+fn device_text(arguments: &mut [Argument]) -> usize {
+    let [curve, text, length] = arguments else {
+        panic!("a case has the arguments of its call")
+    };
+    let mut program = Command::new(PROGRAM)
+        .stdin(Stdio::piped())
+        .stdout(Stdio::piped())
+        .spawn()
+        .expect("the program is built by `rt check device_curve`");
+    let mut input = program
+        .stdin
+        .take()
+        .expect("the program is given its input");
+    let bytes = curve.bytes().to_vec();
+    // The program may have read enough before all is written.
+    let writer = thread::spawn(move || drop(input.write_all(&bytes)));
+    let printed = program.wait_with_output().expect("the program ends").stdout;
+    writer.join().expect("the input was given");
+    text.bytes_mut()[..printed.len()].copy_from_slice(&printed);
+    length.numbers_mut()[0] = printed.len();
+    0
 }

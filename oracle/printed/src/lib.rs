@@ -26,6 +26,7 @@ pub fn printed(program: &str, input: &[u8]) -> Option<String> {
         "surface_examples" => surface::examples(),
         "change_examples" => changes::changes(),
         "either_order_examples" => either_order::either_order(),
+        "device_curve" => reading::device_text(input),
         "replay" => replay(input),
         _ => return None,
     };

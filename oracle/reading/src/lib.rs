@@ -6,6 +6,7 @@
 
 mod bits;
 mod curve;
+mod device;
 mod ends;
 mod even;
 mod modes;
@@ -18,6 +19,7 @@ mod tensor;
 mod write;
 
 pub use curve::{curve, moments, slopes};
+pub use device::{cell_value, cursor_next, device_text};
 pub use ends::{conditions, Condition};
 pub use modes::{EXTEND, HOLD, REFUSE};
 pub use query::{even_query, query, quick_query};

@@ -1,0 +1,2 @@
+pub mod DeviceCell
+pub mod Within

@@ -1,0 +1,5 @@
+pub mod Judged
+pub mod Steps
+pub mod Walks
+pub mod Unique
+mod Examples

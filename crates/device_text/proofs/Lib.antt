@@ -1,0 +1,4 @@
+mod Lines
+pub mod Promises
+pub mod Unique
+mod Examples

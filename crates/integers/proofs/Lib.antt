@@ -1,0 +1,4 @@
+pub mod Differences
+pub mod Signs
+pub mod Sizes
+pub mod Tests
