@@ -10,10 +10,11 @@ use borrow.Author.Tests.{lt-ltb}
 use Rattle.rules.specs.Ends.{not-a-knot}
 use Rattle.rules.specs.Sizes.{unused-axis, place-of, knots-length, tensor-length}
 use Rattle.rules.specs.Refusals.{points-refused, length-refused}
+use Rattle.rules.specs.declared.Mode.the-variants.{Extend}
 use Rattle.rules.proofs.Refused.{any-ext}
 use Rattle.rules.proofs.Sums.{sum-ext, product-ext}
 use Rattle.grid.specs.Given.{points-of, InRange}
-use Rattle.checks.specs.Check.{points-check, sizes-check, lengths-of-points-refused}
+use Rattle.checks.specs.Check.{points-check, lengths-of-points-refused}
 use Rattle.checks.specs.Tables.{row, lowest}
 use Rattle.checks.proofs.Rows.{none-applies, rows-stop, rows-pass, axes-few, in-range, exact}
 use Rattle.plain_axes.specs.Axes.{axis-without-ends, axes-without-ends}
@@ -43,7 +44,7 @@ module _ (axes : ℕ) (points : List ℕ) {number : ℕ} (e : number ≡ axes-ow
 
 module _ (axes : ℕ) (points : List ℕ) where
   -- an entry in use has its points
-  in-use : (i : ℕ) → i < axes → cond (ltb i axes) (record { points = getD points i 0; condition = not-a-knot }) unused-axis .points ≡ getD points i 0
+  in-use : (i : ℕ) → i < axes → cond (ltb i axes) (record { points = getD points i 0; condition = not-a-knot; mode = Extend }) unused-axis .points ≡ getD points i 0
   in-use i l = rw (lt-ltb i axes l)
 
   pub given-below : axes ≤ 4 → (i : ℕ) → i < axes → points-of (axes-without-ends axes points) i ≡ place-of points i
@@ -85,10 +86,3 @@ module _ (axes : ℕ) (points : List ℕ) where
         some-points = λ i l. rw (← given-below (range .few-axes) i l) (range .some-points i l);
         few-points = λ i l. rw (← given-below (range .few-axes) i l) (range .few-points i l);
       }
-
-  -- and neither are the sizes of the axes
-  pub sizes-accepted : axes-own-refusal axes points ≡ 0 → sizes-check axes (axes-without-ends axes points) ≡ 0
-  unfolding axes-own-refusal sizes-check
-  sizes-accepted none =
-      let rows = none-applies (axes-rows axes points) tt none in
-      rw (rows .0, rows .1 .1 .0, rows .1 .1 .1 .0)

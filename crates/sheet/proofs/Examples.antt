@@ -7,6 +7,7 @@ use lib.Ieee.{binary64, ofBits}
 use Rattle.rules.specs.Numbers.{plus-zero, one, any}
 use Rattle.rules.specs.Ends.{natural}
 use Rattle.rules.specs.Sizes.{unused-axis, product-below}
+use Rattle.rules.specs.declared.Mode.the-variants.{Extend}
 use Rattle.bits.specs.Bits.{bit, field}
 use Rattle.kinds.specs.Kinds.{values-of-kind, end-of-kind, condition-of-kind, periodic-at-one-end}
 use Rattle.sheet.specs.Fields.{points-at, values-at, axis-at, knots-begin, knots-at, axis-end, axis-begin, entries, knots-below, sheet-grid, sheet-samples}
@@ -30,7 +31,7 @@ pub record Examples : Type 0 where
   pub accepted : sheet-refusal example ≡ 0
   pub grid : sheet-grid example ≡ record {
     axes = 1;
-    entries = record { points = 2; condition = natural } ∷ unused-axis ∷ unused-axis ∷ unused-axis ∷ [];
+    entries = record { points = 2; condition = natural; mode = Extend } ∷ unused-axis ∷ unused-axis ∷ unused-axis ∷ [];
     flat-knots = plus-zero ∷ one ∷ [];
   }
   pub samples : sheet-samples example ≡ plus-zero ∷ one ∷ []

@@ -6,6 +6,7 @@ use lib.Dec.{ltb}
 use lib.Ieee.{Float}
 use Rattle.rules.specs.Numbers.{table}
 use Rattle.rules.specs.Sizes.{most-axes, unused-axis, Grid, samples-length}
+use Rattle.rules.specs.declared.Mode.the-variants.{Extend}
 use Rattle.rules.specs.declared.Axis.{Axis}
 use Rattle.bits.specs.Bits.{field, number, numbers}
 use Rattle.kinds.specs.Kinds.{values-of-kind, end-of-kind, condition-of-kind}
@@ -45,11 +46,12 @@ module _ (bytes : List ℕ) (at : ℕ) where
   abbrev pub upper-value : Float
   upper-value = number bytes (at + 12 + 64 * values-of-kind lower-kind)
 
-  -- the axis: its points, and its ends with their numbers
+  -- the axis: its points, its ends with their numbers, and extend
   unfoldable pub axis-at : Axis
   axis-at = record {
     points = points-at;
     condition = condition-of-kind lower-kind (end-of-kind lower-kind lower-value) (end-of-kind upper-kind upper-value);
+    mode = Extend;
   }
 
   -- where its knots begin: after the numbers of the ends

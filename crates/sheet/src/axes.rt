@@ -18,6 +18,7 @@ use kinds::ends::is_periodic_at_one_end;
 use kinds::ends::values_of_kind;
 use rules::Axis;
 use rules::Condition;
+use rules::Mode;
 
 // What a walk over the axes has found: the first fault, 0 for none, the four axes, and the bit after the last.
 pub struct Walk {
@@ -99,6 +100,7 @@ fn axis(bytes: &[u8], at: usize) -> Axis
     Axis {
         points: points(bytes, at),
         condition: condition(bytes, at),
+        mode: Mode::Extend,
     }
 }
 

@@ -30,7 +30,7 @@ use Rattle.sheet.proofs.Parts.{knots-sum}
 use Rattle.sheet_write.specs.SheetOf.{axis-fields, axes-fields}
 use Rattle.sheet_write.proofs.Ends.{EndsHeld, EndsNoNan}
 use Rattle.sheet_write.proofs.Lengths.{axes-next, axes-none}
-use Rattle.sheet_write.proofs.Reading.{AxisRead, axis-found, found-faultless, end-back, axis-stands}
+use Rattle.sheet_write.proofs.Reading.{as-written, AxisRead, axis-found, found-faultless, end-back, axis-stands}
 use Rattle.sheet_write.proofs.Parts.{Known, WithoutNan}
 
 -- an entry of the four
@@ -43,9 +43,9 @@ pub record PartsHeld (g : Grid) (samples : List Float) : Type 0 where
   pub samples-held : Held samples
   pub ends-held : (i : ℕ) → i < g .axes → EndsHeld (condition g i)
 
--- the four axes as a reader answers them: those in use, and the others as not in use
+-- the four axes as a reader answers them: those in use as they were written, and the others as not in use
 abbrev pub in-use : Grid → List Axis
-in-use g = table most-axes (λ i. cond (ltb i (g .axes)) (entry g i) unused-axis)
+in-use g = table most-axes (λ i. cond (ltb i (g .axes)) (as-written (entry g i)) unused-axis)
 
 -- ---- the fields of the first axes
 
@@ -128,7 +128,7 @@ module _ (g : Grid) (samples : List Float) (k : Known g samples) (held : PartsHe
   unfolding entries
   entries-found = table-ext most-axes _ _ (λ i l. same i (ltb i (g .axes)) refl)
     where
-      same : (i : ℕ) (b : Bool) → ltb i (g .axes) ≡ b → cond b (axis-at bytes (axis-begin bytes i)) unused-axis ≡ cond b (entry g i) unused-axis
+      same : (i : ℕ) (b : Bool) → ltb i (g .axes) ≡ b → cond b (axis-at bytes (axis-begin bytes i)) unused-axis ≡ cond b (as-written (entry g i)) unused-axis
       same i true e = found i (ltb-true i (g .axes) e) .axis-same
       same i false e = refl
 

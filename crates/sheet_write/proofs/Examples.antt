@@ -11,6 +11,7 @@ use Rattle.rules.specs.Steps.{h}
 use Rattle.rules.specs.Sizes.{unused-axis, Grid, sum-below, product-below}
 use Rattle.rules.specs.Refusals.{step-refused}
 use Rattle.rules.specs.declared.Condition.{Condition}
+use Rattle.rules.specs.declared.Mode.the-variants.{Extend}
 use Rattle.bits.specs.Bits.{bit, field}
 use Rattle.bits.specs.Written.{patch, with-bit, with-field, bits-in, with-fields, packed}
 use Rattle.kinds.specs.Kinds.{values-of-kind, end-of-kind, condition-of-kind, periodic-at-one-end}
@@ -22,7 +23,7 @@ use Rattle.sheet_write.specs.Write.{no-sheet-refusal, write-refusal}
 
 -- one axis of two points
 abbrev line : Condition → List Float → Grid
-line condition x = record { axes = 1; entries = record { points = 2; condition = condition } ∷ unused-axis ∷ unused-axis ∷ unused-axis ∷ []; flat-knots = x }
+line condition x = record { axes = 1; entries = record { points = 2; condition = condition; mode = Extend } ∷ unused-axis ∷ unused-axis ∷ unused-axis ∷ []; flat-knots = x }
 
 abbrev ends : List Float
 ends = plus-zero ∷ one ∷ []

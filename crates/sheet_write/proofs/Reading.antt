@@ -8,6 +8,7 @@ use borrow.Author.Tests.{le-ltb}
 use lib.ListN.{length}
 use lib.Ieee.{Float}
 use Rattle.rules.specs.Refusals.{points-refused}
+use Rattle.rules.specs.declared.Mode.the-variants.{Extend}
 use Rattle.rules.specs.declared.Axis.{Axis}
 use Rattle.kinds.specs.Kinds.{values-of-kind, periodic-at-one-end, lower-kind-of, upper-kind-of}
 use Rattle.bits.specs.Bits.{field, short, number, numbers, numbers-short}
@@ -44,13 +45,17 @@ fields bytes at axis x s =
       rest = rw twelve at (s .1 .1 .1);
     }
 
+-- an axis as a sheet has it: in extend, whatever its mode is
+abbrev pub as-written : Axis → Axis
+as-written axis = record { points = axis .points; condition = axis .condition; mode = Extend }
+
 -- what the reader finds
 pub record AxisRead (bytes : List ℕ) (at : ℕ) (axis : Axis) (x : List Float) : Type 0 where
   pub points : points-at bytes at ≡ axis .points
   pub lower : lower-kind bytes at ≡ lower-kind-of (axis .condition)
   pub upper : upper-kind bytes at ≡ upper-kind-of (axis .condition)
   pub values-same : values-at bytes at ≡ values (axis .condition)
-  pub axis-same : axis-at bytes at ≡ axis
+  pub axis-same : axis-at bytes at ≡ as-written axis
   pub knots-same : knots-at bytes at ≡ x
   pub end : axis-end bytes at ≡ at + bits-in (axis-fields axis x)
 
@@ -64,7 +69,7 @@ module _ (bytes : List ℕ) (at : ℕ) (axis : Axis) (x : List Float) (some : 1 
   unfolding values-at
   values-read = rw (f .lower, f .upper)
 
-  axis-read : axis-at bytes at ≡ axis
+  axis-read : axis-at bytes at ≡ as-written axis
   unfolding axis-at
   axis-read =
       rw (points-read, f .lower, f .upper, condition-read bytes (at + 12) (axis .condition) ends-held (stand-first bytes (at + 12) (ends-fields (axis .condition)) (number-fields x) (f .rest)))

@@ -34,6 +34,7 @@ use Rattle.sheet_write.specs.Write.{no-sheet-refusal}
 use Rattle.sheet_write.proofs.Ends.{ends-sized, lower-kind-most, upper-kind-most}
 use Rattle.sheet_write.proofs.Lengths.{part-bits, sheet-bits, sheet-length}
 use Rattle.sheet_write.proofs.Parts.{Known, known, WithoutNan, without-nan}
+use Rattle.sheet_write.proofs.Reading.{as-written}
 use Rattle.sheet_write.proofs.Axes.{entry, PartsHeld, in-use, begin-is, no-fault, entries-found, knots-found, end-is, axes-stand}
 
 -- ---- each number fits its field
@@ -127,8 +128,8 @@ module _ (g : Grid) (samples : List Float) (k : Known g samples) (held : PartsHe
   size-read : (i : ℕ) → i < n → getD (in-use g) i unused-axis .points ≡ points g i
   size-read i l =
       let few = k .grid-given .in-range .few-axes in
-      let here : cond (ltb i n) (entry g i) unused-axis ≡ entry g i = rw (lt-ltb i n l) in
-      ap (λ (a : Axis). a .points) (at-table most-axes (λ j. cond (ltb j n) (entry g j) unused-axis) i unused-axis (omega arith) ∙ here)
+      let here : cond (ltb i n) (as-written (entry g i)) unused-axis ≡ as-written (entry g i) = rw (lt-ltb i n l) in
+      ap (λ (a : Axis). a .points) (at-table most-axes (λ j. cond (ltb j n) (as-written (entry g j)) unused-axis) i unused-axis (omega arith) ∙ here)
 
   count-read : samples-length (sheet-grid bytes) ≡ samples-length g
   unfolding sheet-grid

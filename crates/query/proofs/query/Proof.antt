@@ -22,7 +22,7 @@ returns : tie.Need-returns
 returns c =
     let check = c .before .before in
     let s = check .before .before .before .before .args in
-    check-refuses _ _ _ _ _ (sizes-refuse (s .axes) (s .all) (s .knots .now) (length (s .tensor .now)) (s .coordinates .now) (check .sizes-refusal .ensures) (c .before .if1 .taken)) (c .before .if1 .taken) _ (c .refused .ensures)
+    check-refuses _ _ _ _ (sizes-refuse (s .axes) (s .all) (s .knots .now) (length (s .tensor .now)) (s .coordinates .now) (check .sizes-refusal .ensures) (c .before .if1 .taken)) (c .before .if1 .taken) _ (c .refused .ensures)
 
 query-after-sizes-requires : tie.Need-query-after-sizes-requires
 query-after-sizes-requires c κs = sym (c .before .sizes-refusal .ensures) ∙ c .if1 .left
