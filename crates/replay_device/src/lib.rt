@@ -26,19 +26,17 @@ fn integer_of(bits: u64) -> i32 {
 
 // The 32 bits of a whole number.
 fn bits_of(number: i32) -> usize {
+    let magnitude = integers::magnitude(number) as usize;
     if number < 0 {
-        4294967295 - ((-1 - number) as usize)
+        4294967296 - magnitude
     } else {
-        number as usize
+        magnitude
     }
 }
 
 // The first two numbers of a slot, as whole numbers with a sign.
 fn integers_of(numbers: [usize; 8]) -> [i32; 2] {
-    [
-        integer_of(numbers[0] as u64),
-        integer_of(numbers[1] as u64),
-    ]
+    [integer_of(numbers[0] as u64), integer_of(numbers[1] as u64)]
 }
 
 // The same without a sign.
