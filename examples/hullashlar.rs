@@ -370,6 +370,36 @@ pub fn stepped(
     outcome(refusal, (value[0], indices))
 }
 
+/// The value of a cell in whole numbers, p0, p1, d0, d1, at position k of 256.
+#[rustfmt::skip]
+pub fn cell_value(cell: [i32; 4], k: i32) -> Result<i32, Refusal> {
+    let [p0, p1, d0, d1] = cell;
+    let mut value = [0];
+    // SAFETY: the pointer goes with the length of a live slice.
+    let refusal = unsafe {
+        hullashlar_cell_value(
+            p0, p1, d0, d1, k,
+            value.as_mut_ptr(), value.len(),
+        )
+    };
+    outcome(refusal, value[0])
+}
+
+/// The value at a cursor of a curve of such cells; the cursor, which starts at 0, is moved on.
+#[rustfmt::skip]
+pub fn cursor_next(curve: &[u8], cursor: &mut u32) -> Result<i32, Refusal> {
+    let mut value = [0];
+    // SAFETY: each pointer goes with the length of a live slice, and no two slices overlap.
+    let refusal = unsafe {
+        hullashlar_cursor_next(
+            curve.as_ptr(), curve.len(),
+            cursor, 1,
+            value.as_mut_ptr(), value.len(),
+        )
+    };
+    outcome(refusal, value[0])
+}
+
 /// The axes of a packed sheet, once its knots and samples stand in the lent buffers.
 #[rustfmt::skip]
 pub fn read(

@@ -1,5 +1,5 @@
 -- The answer of a cell, for each way that the call ends; p0 at position 0 and p1 at 256.
-use mathlib.Core.Path.{_≡_, refl, sym, ap, _∙_}
+use mathlib.Core.Path.{_≡_, refl, ap, _∙_}
 use mathlib.Core.Bool.{Bool, true, false, cond}
 use Prim.Native.Nat.{ℕ, zero, suc, _≤_}
 use native.Mathlib.Omega.{arith}
@@ -12,7 +12,6 @@ use mir.Val.{Fits}
 use Rattle.integers.proofs.Tests.{both}
 use Rattle.device.specs.DeviceCell.{exact, nearest, cell-number, cell-in-range, position-in-range, cell-refusal, valued, cell-answer}
 use Rattle.device.specs.declared.Cell.{Cell}
-use Rattle.device.specs.declared.CellAnswer.{CellAnswer}
 use Rattle.device.proofs.Nearest.{nearest-whole}
 
 -- ---- what is known where nothing is refused

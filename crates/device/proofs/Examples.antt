@@ -2,7 +2,6 @@
 use mathlib.Core.Path.{_≡_, refl}
 use lib.IntN.{ℤ, pos, negsuc}
 use Rattle.device.specs.DeviceCell.{exact, nearest, cell-in-range, cell-refusal, cell-answer}
-use Rattle.device.specs.declared.Cell.{Cell}
 use Rattle.device.specs.declared.CellAnswer.{CellAnswer}
 
 abbrev at : ℤ → ℤ → ℤ → ℤ → ℤ → CellAnswer

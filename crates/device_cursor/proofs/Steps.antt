@@ -1,5 +1,5 @@
 -- One step of the cursor, for each way that it ends.
-use mathlib.Core.Path.{_≡_, refl, sym, _∙_}
+use mathlib.Core.Path.{_≡_, refl}
 use mathlib.Core.Bool.{Bool, true, false, cond}
 use mathlib.Core.List.{List}
 use Prim.Native.Nat.{ℕ, zero, suc, _+_, _/_, _%_, _<_, _≤_}
@@ -8,9 +8,8 @@ use lib.Dec.{ltb}
 use lib.IntN.{ℤ, pos}
 use borrow.Author.Tests.{lt-ltb, le-ltb, ltb-false}
 use Rattle.device.specs.DeviceCell.{cell-number, valued}
-use Rattle.device_cursor.specs.DeviceCurve.{cell-at, cells, curve-refusal, last-number, last-cursor, cursor-number, refused-first, next-refusal, moved, next-answer}
+use Rattle.device_cursor.specs.DeviceCurve.{cell-at, curve-refusal, last-number, last-cursor, cursor-number, refused-first, next-refusal, moved, next-answer}
 use Rattle.device_cursor.specs.declared.Cursor.{Cursor}
-use Rattle.device_cursor.specs.declared.NextAnswer.{NextAnswer}
 
 module _ (curve : List ℕ) (n : ℕ) where
   -- ---- the number at a cursor

@@ -4,10 +4,9 @@ use mathlib.Core.Bool.{Bool, cond, not, _||_}
 use mathlib.Core.List.{List, [], _∷_}
 use Prim.Native.Nat.{ℕ}
 use lib.Dec.{eqb}
-use lib.IntN.{ℤ, pos}
+use lib.IntN.{ℤ}
 use lib.ListN.{length, getD}
 use Rattle.device.specs.DeviceCell.{cell-answer}
-use Rattle.device.specs.declared.Cell.{Cell}
 use Rattle.device.specs.declared.CellAnswer.{CellAnswer}
 use Rattle.device_cursor.specs.DeviceCurve.{next-answer}
 use Rattle.device_cursor.specs.declared.NextAnswer.{NextAnswer}

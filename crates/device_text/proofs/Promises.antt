@@ -1,20 +1,17 @@
 -- The promise of the call, for each way that it ends. No text of a curve is longer than the length that is asked for.
-use mathlib.Core.Path.{_≡_, refl, sym, ap, _∙_}
+use mathlib.Core.Path.{_≡_, refl}
 use mathlib.Core.Bool.{Bool, true, false, cond}
-use mathlib.Core.List.{List, []}
-use Prim.Native.Nat.{ℕ, zero, suc, _+_, _*_, _<_, _≤_}
+use mathlib.Core.List.{List}
+use Prim.Native.Nat.{ℕ, zero, suc, _+_, _<_, _≤_}
 use native.Mathlib.Omega.{arith}
-use lib.Dec.{ltb}
-use lib.IntN.{pos}
-use lib.ListN.{length, take, length-append, getD}
-use lib.Seq.{take-suc, take-all}
+use lib.ListN.{length}
 use borrow.Author.Tests.{lt-ltb, le-ltb}
 use Rattle.rules.specs.Calls.{counted}
 use Rattle.text.specs.Lines.{refused-line}
 use Rattle.text.specs.Answers.{Put}
 use Rattle.text.proofs.Puts.{put-written}
 use Rattle.text.proofs.Decimals.{decimal-length, length-word-line}
-use Rattle.device_cursor.specs.DeviceCurve.{whole-cells, all-in-range, cells, curve-refusal, curve-numbers, last-cursor, cursor-number}
+use Rattle.device_cursor.specs.DeviceCurve.{whole-cells, all-in-range, cells, curve-refusal, curve-numbers}
 use Rattle.device_cursor.proofs.Judged.{Whole, length-known}
 use Rattle.device_text.specs.DeviceText.{signed-lines, curve-text-of, device-text, device-text-length, device-text-refusal, device-text-answer, DeviceTextPromise}
 use Rattle.device_text.specs.declared.CurveTextAnswer.{CurveTextAnswer}

@@ -1,7 +1,6 @@
 // All that the device's program prints of a curve, written to a text that the caller lends.
 ghost use mathlib.Core.Path.{_≡_};
 ghost use Prim.Native.Nat.{_+_, _≤_};
-ghost use lib.IntN.{natAbs};
 ghost use lib.ListN.{length};
 ghost use Rattle.text.specs.Answers.{Put};
 ghost use Rattle.device_cursor.specs.DeviceCurve.{curve-refusal, curve-numbers};
@@ -13,23 +12,12 @@ pub struct CurveTextAnswer {
     pub length: usize,
 }
 
-// How far a number lies from zero.
-fn magnitude(number: i32) -> u64
-    ensures { λ r. ⌜ r ≡ natAbs number ⌝ }
-{
-    if number < 0 {
-        1 + ((-1 - number) as u64)
-    } else {
-        number as u64
-    }
-}
-
 // The line of a number. Not public, as none of those below but the call itself: that there is room is required.
 fn put_signed_line(number: i32, text: &mut [u8], at: usize) -> usize
     requires { ⌜ at + length (signed-line number) ≤ length (now text) ⌝ }
     ensures { λ r. ⌜ Put (signed-line number) (now (text .entry)) at (now (text .exit)) r ⌝ }
 {
-    let digits = magnitude(number);
+    let digits = integers::magnitude(number);
     if number < 0 {
         return text::put_word_line(b"-", digits, text, at);
     }

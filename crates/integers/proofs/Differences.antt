@@ -1,9 +1,9 @@
 -- A whole number as a difference of two naturals: each law of whole numbers becomes one of naturals.
 use mathlib.Core.Path.{_≡_, refl, sym, ap, _∙_}
-use Prim.Native.Nat.{ℕ, zero, suc, _+_, _-_, _*_, _≤_}
-use native.Mathlib.Nat.{add-comm, suc-mul, zero-mul}
+use Prim.Native.Nat.{ℕ, _+_, _-_, _≤_}
+use native.Mathlib.Nat.{add-comm}
 use native.Mathlib.Omega.{arith}
-use lib.IntN.{ℤ, pos, negsuc, negℤ, _+ℤ_, _-ℤ_, _*ℤ_, sucℤ-*ℤ, zero-*ℤ, +ℤ-assoc, +ℤ-comm, +ℤ-invr, +ℤ-idl, +ℤ-idr, negℤ-+ℤ, negℤ-negℤ}
+use lib.IntN.{ℤ, pos, negℤ, _+ℤ_, _-ℤ_, +ℤ-assoc, +ℤ-comm, +ℤ-invr, +ℤ-idr, negℤ-+ℤ, negℤ-negℤ}
 
 -- a − b
 unfoldable pub less : ℕ → ℕ → ℤ

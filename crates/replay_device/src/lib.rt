@@ -26,10 +26,11 @@ fn integer_of(bits: u64) -> i32 {
 
 // The 32 bits of a whole number.
 fn bits_of(number: i32) -> usize {
+    let magnitude = integers::magnitude(number) as usize;
     if number < 0 {
-        4294967295 - ((-1 - number) as usize)
+        4294967296 - magnitude
     } else {
-        number as usize
+        magnitude
     }
 }
 

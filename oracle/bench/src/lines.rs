@@ -8,6 +8,7 @@ use ninterp_quick::{
     exact_index, knot_derivatives_from_m, locate_axis, locate_step_index, AxisLocation,
     CubicC2BoundaryConditions, StepDirection,
 };
+use std::hint::black_box;
 
 /// One call, and the last number of its outcome.
 pub type Work<'a> = Box<dyn FnMut() -> f64 + 'a>;
@@ -28,6 +29,8 @@ const THE_ORACLE: &str = "the oracle's reader";
 const ORACLE_WRITER: &str = "the oracle's writer";
 const OUR_READER: &str = "our reading of it";
 const RUST_STEPS: &str = "the Rust's steps";
+const HERMITE: &str = "a Hermite in f64";
+const OUR_CELL: &str = "our cell";
 
 /// Why no measured call is refused.
 const ACCEPTED: &str = "the inputs are good ones";
@@ -53,6 +56,9 @@ pub fn lines(inputs: &Inputs) -> Vec<Line<'_>> {
         step("index of a step, 256", &inputs.line_of_256),
         stepped("stepped, 16×16", &inputs.two_axes),
         stepped("stepped, 4×4×4×4", &inputs.four_axes),
+        cell(),
+        cursor("step of a cursor, 1 cell", 1),
+        cursor("step of a cursor, 255 cells", 255),
     ]);
     lines.extend(writes(&inputs.two_axes));
     lines
@@ -457,6 +463,52 @@ fn stepped<'a>(name: &'static str, surface: &'a Surface) -> Line<'a> {
                 number * points + locate_step_index(StepDirection::Lower, *knots, point)
             });
             surface.samples[number]
+        }),
+    }
+}
+
+/// A cell of the device, and a position in it.
+const CELL: [i32; 4] = [-3_000, 12_345, 90_000, -70_000];
+const POSITION: i32 = 100;
+
+/// One value of a cell in doubles, which are exact here, rounded as the device rounds.
+fn hermite([p0, p1, d0, d1]: [f64; 4], t: f64) -> f64 {
+    let rest = 1.0 - t;
+    let (first, last) = (rest * rest, t * t);
+    let value = (1.0 + 2.0 * t) * first * p0 + t * first * d0 + last * (3.0 - 2.0 * t) * p1
+        - last * rest * d1;
+    value.round()
+}
+
+fn cell<'a>() -> Line<'a> {
+    let numbers = CELL.map(f64::from);
+    Line {
+        name: "one cell in whole numbers",
+        held_against: HERMITE,
+        ours: Box::new(|| {
+            let (cell, k) = black_box((CELL, POSITION));
+            f64::from(hullashlar::cell_value(cell, k).expect(ACCEPTED))
+        }),
+        other: Box::new(move || {
+            let (cell, k) = black_box((numbers, POSITION));
+            hermite(cell, f64::from(k) / 256.0)
+        }),
+    }
+}
+
+/// The curve is judged whole at every step, so a step costs more the more cells there are.
+fn cursor<'a>(name: &'static str, cells: usize) -> Line<'a> {
+    let curve = CELL.map(i32::to_le_bytes).concat().repeat(cells);
+    Line {
+        name,
+        held_against: OUR_CELL,
+        ours: Box::new(move || {
+            let mut cursor = POSITION as u32;
+            f64::from(hullashlar::cursor_next(&curve, &mut cursor).expect(ACCEPTED))
+        }),
+        other: Box::new(|| {
+            let (cell, k) = black_box((CELL, POSITION));
+            f64::from(hullashlar::cell_value(cell, k).expect(ACCEPTED))
         }),
     }
 }

@@ -13,7 +13,7 @@ pub struct Stack {
 }
 
 /// The stack of every exported call.
-pub fn stacks(inputs: &Inputs) -> [Stack; 15] {
+pub fn stacks(inputs: &Inputs) -> [Stack; 17] {
     let surfaces = inputs.surfaces();
     let even_surfaces = inputs.even_surfaces();
     let lines = [&inputs.line_of_256, &inputs.periodic_line];
@@ -33,6 +33,8 @@ pub fn stacks(inputs: &Inputs) -> [Stack; 15] {
         deepest("hullashlar_locate_axis", &lines.map(locate_axis)),
         deepest("hullashlar_locate_step_index", &lines.map(step)),
         deepest("hullashlar_stepped", &surfaces.map(stepped)),
+        deepest("hullashlar_cell_value", &[cell_value()]),
+        deepest("hullashlar_cursor_next", &[cursor_next()]),
     ]
 }
 
@@ -170,6 +172,15 @@ fn stepped(surface: &Surface) -> usize {
     } = surface;
     let point = surface.middle_point();
     bytes_of(|| hullashlar::stepped(axes, [0, 1, 0, 1], knots, samples, &point).is_ok())
+}
+
+fn cell_value() -> usize {
+    bytes_of(|| hullashlar::cell_value([-5, 7, 300, -400], 100).is_ok())
+}
+
+fn cursor_next() -> usize {
+    let curve = [0; 16 * 255];
+    bytes_of(|| hullashlar::cursor_next(&curve, &mut 1_000).is_ok())
 }
 
 /// What the stack is painted with.

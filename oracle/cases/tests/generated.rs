@@ -14,7 +14,7 @@ impl Calls for Nobody {
 /// The refusals that the calls of a kind have.
 fn refusals(kind: Kind) -> &'static [usize] {
     match kind {
-        Kind::Example => &[1, 3, 6, 7, 8, 9, 10, 11, 15, 18, 21],
+        Kind::Example => &[1, 3, 6, 7, 8, 9, 10, 11, 15, 18, 19, 20, 21],
         Kind::Moments => &[2, 4, 5, 7, 8, 9, 10, 13],
         Kind::Curve | Kind::Slopes => &[2, 4, 7, 8, 10],
         Kind::Build => &[1, 2, 3, 4, 5, 7, 8, 9, 10, 13],

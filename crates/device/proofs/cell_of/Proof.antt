@@ -1,4 +1,3 @@
-use mathlib.Core.Path.{_≡_}
 use mir.Syntax.{w32, w64}
 use mir.ValLaws.{toZ-ofZ}
 use Rattle.integers.proofs.Sizes.{wider}

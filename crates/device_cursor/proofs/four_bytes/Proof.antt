@@ -1,4 +1,3 @@
-use mathlib.Core.Path.{_≡_, sym}
 use native.Mathlib.Omega.{arith}
 use Rattle.device_cursor.specs.DeviceCurve.{four-bytes}
 use borrow.Author.Needs.{needs}

@@ -1,4 +1,4 @@
-use mathlib.Core.Path.{_≡_, ap, _∙_}
+use mathlib.Core.Path.{ap, _∙_}
 use Rattle.device.specs.DeviceCell.{cell-in-range}
 use Rattle.device.specs.declared.Cell.{Cell}
 use borrow.Author.Needs.{needs}

@@ -1,6 +1,5 @@
 use borrow.Author.Tests.{le-leb, lt-leb, eq-eqb, ne-eqb}
 use Rattle.device_cursor.specs.DeviceCurve.{whole-cells}
-use borrow.Author.Needs.{needs}
 use Rattle.device_cursor.proofs.whole_cells.Statement.{statement}
 use Rattle.device_cursor.proofs.whole_cells.Tie as tie
 

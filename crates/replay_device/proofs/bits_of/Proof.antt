@@ -1,46 +1,16 @@
-use mathlib.Core.Path.{_≡_}
-use Prim.Native.Nat.{_<_}
 use native.Mathlib.Omega.{arith}
-use lib.IntN.{pos}
+use lib.Signed.{natAbs-le}
 use mir.Syntax.{w32}
-use mir.Val.{toZ, ofZ}
 use mir.ValLaws.{toZ-ofZ}
-use Rattle.integers.proofs.Signs.{Below, Above, below, above, back}
 use borrow.Author.Needs.{needs}
 use Rattle.replay_device.proofs.bits_of.Statement.{statement}
 use Rattle.replay_device.proofs.bits_of.Tie as tie
 
-read : (s : tie.Start) → toZ w32 (ofZ w32 (s .args .number)) ≡ s .args .number
-read s = toZ-ofZ w32 (s .args .number) (s .fits .number)
-
-neg : (c : tie.Then1) → Below (c .before .args .number)
-neg c = below (c .before .args .number) (rw (read (c .before)) at (c .if1 .taken))
-
-neg-small : (c : tie.Then1) → neg c .n < 2147483648
-neg-small c = rw (neg c .is) at (c .before .fits .number .sfits)
-
-not : (c : tie.Else1) → Above (c .before .args .number)
-not c = above (c .before .args .number) (rw (read (c .before)) at (c .if1 .left))
-
-not-small : (c : tie.Else1) → not c .n < 2147483648
-not-small c = rw (not c .is) at (c .before .fits .number .sfits)
-
-turned : (c : tie.Then1) → toZ w32 (ofZ w32 (pos (neg c .n))) ≡ pos (neg c .n)
-turned c = toZ-ofZ w32 (pos (neg c .n)) (record { sfits = neg-small c })
-
 sub-result : tie.Need-sub-result
-sub-result c = rw (read (c .before), neg c .is, back) (record { sfits = neg-small c })
-
-cast-result : tie.Need-cast-result
-cast-result c = rw (read (c .before), neg c .is, back, turned c) (let h = neg-small c in (tt, omega arith))
-
-sub-result-2 : tie.Need-sub-result-2
-sub-result-2 c = rw (read (c .before), neg c .is, back, turned c) (let h = neg-small c in omega arith)
-
-cast-result-2 : tie.Need-cast-result-2
-cast-result-2 c = rw (read (c .before), not c .is) (let h = not-small c in (tt, omega arith))
+sub-result c =
+    let s = c .before .before in
+    let most = natAbs-le (s .args .number) (s .fits .number .sfits) in
+    rw (c .before .magnitude .ensures, toZ-ofZ w32 (s .args .number) (s .fits .number)) (omega (arith, most))
 
 pub bits-of-spec : {M : Type 1} → statement M
-bits-of-spec =
-    tie.close
-    (tie.spec sub-result cast-result sub-result-2 cast-result-2 (λ c. search needs) (λ c. search needs))
+bits-of-spec = tie.close (tie.spec (λ c κs. search needs) sub-result (λ c. search needs) (λ c. search needs))

@@ -1,15 +1,15 @@
-use mathlib.Core.Path.{_≡_, refl}
-use Prim.Native.Nat.{suc, _-_, _<_}
+use mathlib.Core.Path.{_≡_}
+use Prim.Native.Nat.{_-_, _<_}
 use native.Mathlib.Numerals.{one-add}
 use native.Mathlib.Omega.{arith}
-use lib.IntN.{pos, negsuc, _-ℤ_}
+use lib.IntN.{pos}
 use mir.Syntax.{w32}
 use mir.Val.{toZ, ofZ}
 use mir.ValLaws.{toZ-ofZ}
 use Rattle.integers.proofs.Signs.{Below, Above, below, above, back}
 use borrow.Author.Needs.{needs}
-use Rattle.device_text.proofs.magnitude.Statement.{statement}
-use Rattle.device_text.proofs.magnitude.Tie as tie
+use Rattle.integers.proofs.magnitude.Statement.{statement}
+use Rattle.integers.proofs.magnitude.Tie as tie
 
 read : (s : tie.Start) → toZ w32 (ofZ w32 (s .args .number)) ≡ s .args .number
 read s = toZ-ofZ w32 (s .args .number) (s .fits .number)
