@@ -1,4 +1,4 @@
--- What the theorem asks can be met: knots −0.0 1 3 and 0 2, the first place on axis 0 asked for by +0.0, a tensor with −0.0 there and the largest of numbers beside it.
+-- What the theorem asks can be met: knots −0.0 1 3 and 0 2, the first place on axis 0 asked for by +0.0, the axes in hold and refuse, a tensor with −0.0 there and the largest of numbers beside it.
 use native.Mathlib.Omega.{arith}
 use mathlib.Core.Path.{_≡_, refl}
 use mathlib.Core.List.{List, [], _∷_, _++_, map}
@@ -15,6 +15,7 @@ use Rattle.rules.specs.Refusals.{step-refused}
 use Rattle.rules.specs.Calls.{QueryPromise}
 use Rattle.rules.specs.declared.Axis.{Axis}
 use Rattle.rules.specs.declared.Mode.{Mode}
+use Rattle.rules.specs.declared.Mode.the-variants.{Hold, Refuse}
 use Rattle.rules.specs.declared.QueryAnswer.{QueryAnswer}
 use Rattle.floats.specs.Place.{AllFit}
 use Rattle.measured.specs.Measured.{Surface, AtPlace, Reads}
@@ -29,14 +30,14 @@ patterns-fit [] k = nan-fits binary64
 patterns-fit (b ∷ bits) zero = ofBits-fits binary64 b
 patterns-fit (b ∷ bits) (suc k) = patterns-fit bits k
 
-abbrev axis : ℕ → Axis
-axis points = record { points = points; condition = natural }
+abbrev axis : ℕ → Mode → Axis
+axis points mode = record { points = points; condition = natural; mode = mode }
 
 abbrev knot-bits : List ℕ
 knot-bits = 0x8000_0000_0000_0000 ∷ 0x3FF0_0000_0000_0000 ∷ 0x4008_0000_0000_0000 ∷ 0 ∷ 0x4000_0000_0000_0000 ∷ []
 
 abbrev grid : Grid
-grid = record { axes = 2; entries = axis 3 ∷ axis 2 ∷ unused-axis ∷ unused-axis ∷ []; flat-knots = patterns knot-bits }
+grid = record { axes = 2; entries = axis 3 Hold ∷ axis 2 Refuse ∷ unused-axis ∷ unused-axis ∷ []; flat-knots = patterns knot-bits }
 
 -- the largest number, twenty-four times, but −0.0 for the value at the place
 abbrev tensor-bits : List ℕ
@@ -77,6 +78,6 @@ equal-knots (suc (suc i)) l = absurd (omega arith)
 at-place : AtPlace grid place (patterns coordinate-bits)
 at-place = record { exact = refl; on-grid = on-the-grid; equal = equal-knots; fit = patterns-fit coordinate-bits }
 
-pub example : (modes : List Mode) (given : QueryAnswer) → QueryPromise grid modes (patterns tensor-bits) (patterns coordinate-bits) given → Reads grid place (at (patterns tensor-bits) 4) given
+pub example : (given : QueryAnswer) → QueryPromise grid (patterns tensor-bits) (patterns coordinate-bits) given → Reads grid place (at (patterns tensor-bits) 4) given
 unfolding flat
-example modes given promise = measured-is-read grid modes (patterns tensor-bits) (patterns coordinate-bits) place given surface at-place promise
+example given promise = measured-is-read grid (patterns tensor-bits) (patterns coordinate-bits) place given surface at-place promise

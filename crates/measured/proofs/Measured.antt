@@ -1,7 +1,7 @@
 -- What was measured is read: the theorem for both queries, from their promises.
 use native.Mathlib.Omega.{arith}
 use mathlib.Core.Path.{_≡_, refl, ap, _∙_}
-use mathlib.Core.List.{List, []}
+use mathlib.Core.List.{List}
 use mathlib.Core.Bool.{true, false, not, cond}
 use Prim.Native.Nat.{ℕ, _-_, _<_}
 use lib.Dec.{ltb}
@@ -16,10 +16,9 @@ use Rattle.rules.specs.Outside.{side}
 use Rattle.rules.specs.Query.{cell-of, query}
 use Rattle.rules.specs.Calls.{labels, query-answer, QueryPromise, QuickQueryPromise}
 use Rattle.rules.specs.Extended.{extended-query-refusal, extended-query-answer}
-use Rattle.rules.specs.declared.Mode.{Mode}
 use Rattle.rules.specs.declared.QueryAnswer.{QueryAnswer}
 use Rattle.rules.specs.declared.Side.the-variants.{Inside}
-use Rattle.rules.proofs.Modes.{extend-as-before, inside-alike}
+use Rattle.rules.proofs.Modes.{as-extended, within}
 use Rattle.rules.proofs.Tables.{at-table}
 use Rattle.base.proofs.Scan.{any-never}
 use Rattle.floats.specs.Place.{Real}
@@ -94,30 +93,26 @@ module _ (g : Grid) (tensor coordinates : List Float) (place : Place) (S : Surfa
       at-table most-axes (λ j. cond (ltb j (g .axes)) (cell-of g (at coordinates) j) 0) i 0 (omega (arith, range g tensor S .few-axes))
       ∙ rw (lt-ltb i (g .axes) l) (cell-below i l)
 
-  module _ (modes : List Mode) where
-    -- where every coordinate lies inside, no mode is looked at
-    without-modes : query-answer g modes tensor coordinates ≡ extended-query-answer g tensor coordinates
-    without-modes = inside-alike g modes [] tensor coordinates inside ∙ extend-as-before g [] tensor coordinates (λ i l. refl)
+  -- where every coordinate lies inside, no mode is looked at
+  answer-is : query-answer g tensor coordinates ≡ record { refusal = 0; value = query g tensor (at coordinates); labels = labels g coordinates }
+  unfolding extended-query-answer
+  answer-is = as-extended g tensor coordinates (within g tensor coordinates inside) ∙ rw not-refused refl
 
-    answer-is : query-answer g modes tensor coordinates ≡ record { refusal = 0; value = query g tensor (at coordinates); labels = labels g coordinates }
-    unfolding extended-query-answer
-    answer-is = without-modes ∙ rw not-refused refl
-
-    reads : (given : QueryAnswer) → given ≡ query-answer g modes tensor coordinates → Reads g place (at tensor (spot g place 0)) given
-    reads given is =
-        rw (is, answer-is)
-        (record {
-          accepted = refl;
-          value = equal-eq (query g tensor (at coordinates)) (at tensor (spot g place 0)) equal (sample-real .finite);
-          label = label-is;
-        })
+  reads : (given : QueryAnswer) → given ≡ query-answer g tensor coordinates → Reads g place (at tensor (spot g place 0)) given
+  reads given is =
+      rw (is, answer-is)
+      (record {
+        accepted = refl;
+        value = equal-eq (query g tensor (at coordinates)) (at tensor (spot g place 0)) equal (sample-real .finite);
+        label = label-is;
+      })
 
 -- ---- the theorem
 
 pub measured-is-read : MeasuredIsRead QueryPromise
-measured-is-read g modes tensor coordinates place given S A promise = reads g tensor coordinates place S A modes given (promise .answer)
+measured-is-read g tensor coordinates place given S A promise = reads g tensor coordinates place S A given (promise .answer)
 
 pub quick-measured-is-read : MeasuredIsRead QuickQueryPromise
-quick-measured-is-read g modes tensor coordinates place given S A promise =
-    reads g tensor coordinates place S A modes given
-    (promise .answer ∙ quick-is-full g modes tensor coordinates (S .knots-fit) (A .fit) (S .knots-finite) (S .knots-rise))
+quick-measured-is-read g tensor coordinates place given S A promise =
+    reads g tensor coordinates place S A given
+    (promise .answer ∙ quick-is-full g tensor coordinates (S .knots-fit) (A .fit) (S .knots-finite) (S .knots-rise))

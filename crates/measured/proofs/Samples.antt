@@ -46,11 +46,11 @@ module _ (g : Grid) (samples t : List Float) (stands : Stands g samples t) where
 
 -- whatever query reads what was measured, reads the samples
 reads-standing : (Promised : Promise) → MeasuredIsRead Promised → ReadsItsSamples Promised
-reads-standing Promised is-read g samples out scratch t cleared built steps kept knots-fit tensor-fit modes coordinates place given at-place promise =
+reads-standing Promised is-read g samples out scratch t cleared built steps kept knots-fit tensor-fit coordinates place given at-place promise =
     let stands = steps-stand g samples t (built-stands g samples out scratch t cleared built) steps kept in
     subst (λ (number : Float). Reads g place number given)
     (sample-at g (samples-after g samples steps) (tensor-after t steps) stands place (at-place .on-grid))
-    (is-read g modes (tensor-after t steps) coordinates place given (surface g (samples-after g samples steps) (tensor-after t steps) stands knots-fit tensor-fit) at-place promise)
+    (is-read g (tensor-after t steps) coordinates place given (surface g (samples-after g samples steps) (tensor-after t steps) stands knots-fit tensor-fit) at-place promise)
 
 -- ---- the theorem
 

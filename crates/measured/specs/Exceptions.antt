@@ -12,6 +12,7 @@ use Rattle.rules.specs.Calls.{CurvePromise, QueryPromise}
 use Rattle.rules.specs.EvenCalls.{EvenQueryPromise}
 use Rattle.rules.specs.declared.CurveAnswer.{CurveAnswer}
 use Rattle.rules.specs.declared.EvenAnswer.{EvenAnswer}
+use Rattle.rules.specs.declared.Mode.the-variants.{Extend}
 use Rattle.rules.specs.declared.QueryAnswer.{QueryAnswer}
 use Rattle.grid.specs.Given.{grid}
 
@@ -25,7 +26,7 @@ samples-10 = one ∷ plus-zero ∷ []
 
 -- a grid of one axis
 abbrev one-axis : ℕ → List Float → Grid
-one-axis points knots = grid 1 (record { points = points; condition = natural } ∷ unused-axis ∷ unused-axis ∷ unused-axis ∷ []) knots
+one-axis points knots = grid 1 (record { points = points; condition = natural; mode = Extend } ∷ unused-axis ∷ unused-axis ∷ unused-axis ∷ []) knots
 
 -- of the knots 0 1
 abbrev axis-01 : Grid
@@ -41,8 +42,8 @@ pub record Exceptions : Type 0 where
       (given : CurveAnswer) → CurvePromise 2 knots-01 samples-10 (moments knots-01 1 (clamped plus-zero one) samples-10) (at knots-01 0) given
       → (given .refusal ≡ 0) × (eq (given .value) (at samples-10 0) ≡ false)
   -- a tensor of zeros: at the last knot of the wide axis the query of even axes is refused by 10
-  pub even-axis : (given : EvenAnswer) → EvenQueryPromise wide-axis [] (zeros 6) (at (wide-axis .flat-knots) 2 ∷ []) given → given .refusal ≡ 10
+  pub even-axis : (given : EvenAnswer) → EvenQueryPromise wide-axis (zeros 6) (at (wide-axis .flat-knots) 2 ∷ []) given → given .refusal ≡ 10
   -- a slope beside the sample is infinite: the query at its knot is refused by 10
-  pub infinite-slope : (given : QueryAnswer) → QueryPromise axis-01 [] (plus-zero ∷ inf false ∷ plus-zero ∷ plus-zero ∷ []) (plus-zero ∷ []) given → given .refusal ≡ 10
+  pub infinite-slope : (given : QueryAnswer) → QueryPromise axis-01 (plus-zero ∷ inf false ∷ plus-zero ∷ plus-zero ∷ []) (plus-zero ∷ []) given → given .refusal ≡ 10
   -- the sample is −0.0: what is read is +0.0
-  pub sign-of-a-zero : (given : QueryAnswer) → QueryPromise axis-01 [] (neg plus-zero ∷ zeros 3) (plus-zero ∷ []) given → given .value ≡ plus-zero
+  pub sign-of-a-zero : (given : QueryAnswer) → QueryPromise axis-01 (neg plus-zero ∷ zeros 3) (plus-zero ∷ []) given → given .value ≡ plus-zero

@@ -8,7 +8,6 @@ use lib.Ieee.{Float, eq}
 use Rattle.rules.specs.Numbers.{at}
 use Rattle.rules.specs.Sizes.{Grid, knots-length, knots, tensor-length, Place, spot}
 use Rattle.rules.specs.Refusals.{axes-refused, some-points-refused, tensor-refused, some-number-refused, some-knots-refused}
-use Rattle.rules.specs.declared.Mode.{Mode}
 use Rattle.rules.specs.declared.QueryAnswer.{QueryAnswer}
 use Rattle.grid.specs.Given.{On}
 use Rattle.floats.specs.Place.{AllFit}
@@ -39,12 +38,12 @@ pub record Reads (g : Grid) (place : Place) (number : Float) (given : QueryAnswe
   pub value : eq (given .value) number ≡ true
   pub label : (i : ℕ) → i < g .axes → getD (given .labels) i 0 ≡ place i - 1
 
--- what a query promises of its answer, from the grid, the modes, the tensor and the coordinates
+-- what a query promises of its answer, from the grid, the tensor and the coordinates
 abbrev pub Promise : Type 1
-Promise = Grid → List Mode → List Float → List Float → QueryAnswer → Type 0
+Promise = Grid → List Float → List Float → QueryAnswer → Type 0
 
--- in every mode of every axis it reads the tensor's number at mask 0 of the place
+-- in whatever modes the axes are it reads the tensor's number at mask 0 of the place
 abbrev pub MeasuredIsRead : Promise → Type 0
 MeasuredIsRead Promised =
-    (g : Grid) (modes : List Mode) (tensor coordinates : List Float) (place : Place) (given : QueryAnswer) → Surface g tensor → AtPlace g place coordinates
-    → Promised g modes tensor coordinates given → Reads g place (at tensor (spot g place 0)) given
+    (g : Grid) (tensor coordinates : List Float) (place : Place) (given : QueryAnswer) → Surface g tensor → AtPlace g place coordinates
+    → Promised g tensor coordinates given → Reads g place (at tensor (spot g place 0)) given

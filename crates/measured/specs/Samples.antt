@@ -4,7 +4,6 @@ use lib.Ieee.{Float}
 use Rattle.rules.specs.Numbers.{at}
 use Rattle.rules.specs.Sizes.{Grid, points, Place, flat}
 use Rattle.rules.specs.Calls.{BuildPromise}
-use Rattle.rules.specs.declared.Mode.{Mode}
 use Rattle.rules.specs.declared.QueryAnswer.{QueryAnswer}
 use Rattle.floats.specs.Place.{AllFit}
 use Rattle.tensor.specs.Changes.{Step, Kept, tensor-after, samples-after}
@@ -15,8 +14,8 @@ abbrev pub ReadsSamples : Promise → Grid → List Float → List Float → Typ
 ReadsSamples Promised g samples t =
     (steps : List Step) → Kept g t steps
     → AllFit (g .flat-knots) → AllFit (tensor-after t steps)
-    → (modes : List Mode) (coordinates : List Float) (place : Place) (given : QueryAnswer) → AtPlace g place coordinates
-    → Promised g modes (tensor-after t steps) coordinates given
+    → (coordinates : List Float) (place : Place) (given : QueryAnswer) → AtPlace g place coordinates
+    → Promised g (tensor-after t steps) coordinates given
     → Reads g place (at (samples-after g samples steps) (flat (points g) (g .axes) place)) given
 
 -- so of one that an accepted build made

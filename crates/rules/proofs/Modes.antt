@@ -79,7 +79,7 @@ module _ (g : Grid) (tensor coordinates : List Float) where
   -- ---- every coordinate inside
 
   module _ (inside : (i : ℕ) → i < g .axes → side (knots g i) (at coordinates i) ≡ Inside) where
-    within : AtEase
+    pub within : AtEase
     within = record {
       stays = λ i l. stay i (mode-at g i) (inside i l);
       passes = λ i l. rw (inside i l) (pass (mode-at g i));
