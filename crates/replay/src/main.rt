@@ -12,6 +12,7 @@ use replay_items::words::after;
 use replay_items::words::held;
 use replay_items::words::word;
 use replay_sheets::read;
+use replay_sheets::read_edition_1;
 use replay_sheets::sheet_tensor;
 use replay_sheets::write;
 use replay_steps::exact_index;
@@ -45,6 +46,7 @@ fn case_at(list: &[u8], place: usize) -> Replayed {
         14 => stepped(list, begin),
         15 => cell_value(list, begin),
         16 => cursor_next(list, begin),
+        17 => read_edition_1(list, begin),
         _ => Replayed {
             same: false,
             next: begin,

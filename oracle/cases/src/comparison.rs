@@ -147,9 +147,10 @@ impl Run<'_> {
         }
     }
 
-    /// A sheet through both of its calls.
+    /// A sheet through all of its calls.
     fn compare_sheet(&mut self, random: &mut Random, bytes: &[u8]) {
         self.compare(&lending::read(random, bytes));
+        self.compare(&lending::read_edition_1(random, bytes));
         self.compare(&lending::sheet_tensor(random, bytes, LONGEST_TENSOR));
     }
 

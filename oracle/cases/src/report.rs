@@ -15,7 +15,7 @@ const PRINTED: u64 = 2;
 pub const PERIODIC_POINTS: [usize; 2] = [2, 3];
 
 /// One more than the largest number of a refusal.
-pub const NUMBERS: usize = 23;
+pub const NUMBERS: usize = 24;
 
 /// What was seen of one kind of case.
 #[derive(Debug, Clone, Default)]
