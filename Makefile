@@ -15,7 +15,7 @@ CASES = --moments 60000 --curve 60000 --slopes 60000 --build 50000 --change 5000
     --read 240000 --read_edition_1 60000 --sheet_tensor 120000 --short_sheet 65793 \
     --write 240000 --written_back 120000 \
     --exact_index 60000 --locate_axis 60000 --locate_step_index 100000 --stepped 100000 \
-    --cell_value 5202860 --cursor_next 200000 --device_curve 4101
+    --cell_value 8520460 --cursor_next 200000 --device_curve 4101
 SEED = 20240917
 
 # Holds the exported calls against the Rust, bit for bit, and what the device's program prints; fails where there is a difference, or nothing was compared of a kind.

@@ -24,7 +24,7 @@ pub nearest-neg : (z : ℤ) → nearest (negℤ z) ≡ negℤ (nearest z)
 unfolding nearest
 nearest-neg (pos zero) = refl
 nearest-neg (pos (suc n)) = refl
-nearest-neg (negsuc n) = sym (negℤ-negℤ (pos ((suc n + 8388608) / 16777216)))
+nearest-neg (negsuc n) = sym (negℤ-negℤ (nearest (pos (suc n))))
 
 -- ---- above zero and at it
 

@@ -3,9 +3,10 @@
 use crate::case::{Argument, Call, Case};
 use crate::random::Random;
 
-/// How many cells are looked at, each at every position. It has no factor in common with
-/// `POSITIONS`, so that numbers one after the other name every cell at every position once.
-const CELLS: usize = 20_011;
+/// How many cells are looked at, each at every position; more than 20,000 of them are in range.
+/// It has no factor in common with `POSITIONS`, so that numbers one after the other name every
+/// cell at every position once.
+const CELLS: usize = 32_771;
 
 /// The positions from -1 to 257, and one more for a slot of another length.
 const POSITIONS: usize = 260;
