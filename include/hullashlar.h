@@ -16,8 +16,8 @@
  * another uses.
  *
  * Memory for the largest grid: tensor 32,768 bytes, scratch 49,152, the two buffers of a sheet 16,384, together 98,304.
- * docs/BENCH.md has the stack of each call (below 6,300 bytes), the size of the code (below 42,000 bytes without the
- * calls of steps) and what the archive's proofs rest on.
+ * docs/BENCH.md has the stack of each call (below 6,300 bytes), the size of the code (below 50,000 bytes) and what the
+ * archive's proofs rest on.
  *
  * Axes. Points, kinds, values, modes, directions, places, labels and indices are lent for four axes. No call looks at
  * what stands past the axes in use, and labels and indices are 0 there. kinds[2 i] and values[2 i] are the lower end of

@@ -1,7 +1,7 @@
 -- Knots that refusals 7 and 8 let pass are rising.
-use mathlib.Core.Path.{_≡_, refl}
+use mathlib.Core.Path.{_≡_}
 use mathlib.Core.List.{List}
-use mathlib.Core.Bool.{Bool, true, false, not, _||_}
+use mathlib.Core.Bool.{true, false, not}
 use Prim.Native.Nat.{ℕ, _+_, _-_}
 use native.Mathlib.Omega.{arith}
 use borrow.Author.Tests.{not-false}
@@ -11,12 +11,8 @@ use lib.Ieee.Scale.{finite}
 use Rattle.rules.specs.Numbers.{at}
 use Rattle.rules.specs.Steps.{h}
 use Rattle.rules.specs.Refusals.{number-refused, some-number-refused, step-refused, knots-refused}
-use Rattle.base.proofs.Scan.{any-at}
+use Rattle.base.proofs.Scan.{neither, any-at}
 use Rattle.locate.specs.Answers.{Rising}
-
-neither : (t u : Bool) → t || u ≡ false → (t ≡ false) × (u ≡ false)
-neither true u e = (e, (cc))
-neither false u e = (refl, e)
 
 step-rises : (knots : List Float) (k : ℕ) → step-refused knots k ≡ false → lt (at knots k) (at knots (k + 1)) ≡ true
 unfolding step-refused

@@ -1,27 +1,30 @@
 -- Where every axis is even and the direct cells are those that the query evaluates, the query of even axes answers as the query does, with axis and interval 0.
 use mathlib.Core.Path.{_≡_, refl, _∙_}
-use mathlib.Core.Bool.{Bool, true, false, cond, _||_}
+use mathlib.Core.Bool.{Bool, true, false, cond}
 use mathlib.Core.List.{List}
 use Prim.Native.Nat.{ℕ}
 use native.Mathlib.Omega.{arith}
-use lib.Dec.{eqb}
+use lib.Dec.{eqb, ltb}
 use lib.Ieee.{Float}
-use borrow.Author.Tests.{eqb-true}
+use borrow.Author.Tests.{eqb-true, ltb-true}
 use Rattle.rules.specs.Numbers.{at}
 use Rattle.rules.specs.Sizes.{Grid}
-use Rattle.rules.specs.Refusals.{axes-refused, some-points-refused, tensor-refused, some-number-refused, some-knots-refused, answer-refused}
-use Rattle.rules.specs.Outside.{placed-on, some-outside-refused}
+use Rattle.rules.specs.Outside.{placed-on}
 use Rattle.rules.specs.Even.{some-uneven-refused}
 use Rattle.rules.specs.Query.{cell-of, query-in-modes, even-cell-of, even-query}
-use Rattle.rules.specs.Calls.{answer-of, query-lengths-refused, labels, query-refusal, query-answer}
+use Rattle.rules.specs.Calls.{answer-of, labels, query-refusal, query-answer}
 use Rattle.rules.specs.EvenCalls.{told-of-uneven, even-answer-of, nothing-told, even-query-refusal, even-labels, even-query-answer}
 use Rattle.rules.proofs.Places.{One}
 use Rattle.rules.proofs.Cells.{value-in-ext, labels-ext}
 
--- neither a number other than 21 nor what comes later
-not-21 : (test : Bool) (number : ℕ) {later : ℕ} → (number ≡ 21 → ⊥) → (later ≡ 21 → ⊥) → cond test number later ≡ 21 → ⊥
-not-21 true number first later = first
-not-21 false number first later = later
+-- whether a number is below 21, of the one of two that a test gives
+tested : (test : Bool) (one other : ℕ) → ltb (cond test one other) 21 ≡ cond test (ltb one 21) (ltb other 21)
+tested true one other = refl
+tested false one other = refl
+
+either : (test : Bool) → cond test true true ≡ true
+either true = refl
+either false = refl
 
 -- nothing is told beside another refusal than 21
 not-told : (refusal number : ℕ) → (refusal ≡ 21 → ⊥) → told-of-uneven refusal number ≡ 0
@@ -36,17 +39,13 @@ pub answers-as-query : (refusal : ℕ) (value : Float) (labels : List ℕ) (axis
 answers-as-query refusal value labels axis interval other = rw (not-told refusal axis other, not-told refusal interval other) refl
 
 module _ (g : Grid) (tensor coordinates : List Float) where
-  query-never-21 : query-refusal g tensor coordinates ≡ 21 → ⊥
+  -- no number of the query is as large as 21, in whatever order they come
+  below-21 : ltb (query-refusal g tensor coordinates) 21 ≡ true
   unfolding query-refusal
-  query-never-21 =
-      not-21 (axes-refused g) 1 (λ z. omega (arith, z))
-      (not-21 (some-points-refused g) 2 (λ z. omega (arith, z))
-      (not-21 (tensor-refused g) 3 (λ z. omega (arith, z))
-      (not-21 (query-lengths-refused g tensor coordinates) 4 (λ z. omega (arith, z))
-      (not-21 (some-number-refused (g .flat-knots) || some-number-refused coordinates) 7 (λ z. omega (arith, z))
-      (not-21 (some-knots-refused g) 8 (λ z. omega (arith, z))
-      (not-21 (some-outside-refused g (at coordinates)) 18 (λ z. omega (arith, z))
-      (not-21 (answer-refused (query-in-modes g tensor (at coordinates))) 10 (λ z. omega (arith, z)) (λ z. omega (arith, z)))))))))
+  below-21 = simp (tested, either)
+
+  query-never-21 : query-refusal g tensor coordinates ≡ 21 → ⊥
+  query-never-21 z = omega (arith, ltb-true (query-refusal g tensor coordinates) 21 below-21, z)
 
   module _ (even : some-uneven-refused g ≡ false) (agree : One (g .axes) (even-cell-of g (at coordinates)) (cell-of g (at coordinates))) where
     same-value : even-query g tensor (at coordinates) ≡ query-in-modes g tensor (at coordinates)

@@ -2,8 +2,8 @@
 use mathlib.Core.Path.{_≡_, refl, sym, _∙_}
 use mathlib.Core.List.{List}
 use mathlib.Core.Bool.{Bool, true, false, cond}
-use Prim.Native.Nat.{ℕ, zero, suc, _+_, _-_, _/_, _^_, min, _<_, _≤_}
-use native.Mathlib.Nat.{pow-suc, pow-le-pow-right}
+use Prim.Native.Nat.{ℕ, zero, suc, _+_, _-_, _/_, _^_, _<_, _≤_}
+use native.Mathlib.Nat.{pow-suc}
 use native.Mathlib.Omega.{arith}
 use lib.Dec.{ltb}
 use lib.ListN.{length}
@@ -11,7 +11,7 @@ use borrow.Author.Tests.{ltb-true, ltb-false, lt-ltb, le-ltb}
 use lib.Ieee.{Float, le}
 use Rattle.rules.specs.Numbers.{at}
 use Rattle.rules.specs.Sizes.{most-on-an-axis}
-use Rattle.rules.specs.Search.{middle, halving, most-halvings, rust-index, lower-index}
+use Rattle.rules.specs.Search.{middle, halving, most-halvings, lower-index}
 
 -- half of what is below 2 to the d + 1
 pub half : (d width : ℕ) → width < 2 ^ suc d → width / 2 < 2 ^ d
