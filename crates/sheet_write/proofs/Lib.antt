@@ -1,4 +1,5 @@
 pub mod Ends
+pub mod Editions
 pub mod Lengths
 pub mod Reading
 pub mod Parts
