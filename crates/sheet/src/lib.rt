@@ -3,14 +3,14 @@ ghost use mathlib.Core.Path.{_≡_};
 ghost use Rattle.sheet.specs.Read.{edition-1-answer, ReadPromise, Edition1Promise};
 use crate::look::look;
 use crate::look::refused;
-use crate::parts::store_parts;
+use crate::store::store_parts;
 use bits::field_at;
 use bits::is_short;
 use rules::Axis;
 
 mod axes; // axes.rt: the axes of a sheet, one after the other
 pub mod look; // look.rt: all of a sheet, up to its first fault
-pub mod parts; // parts.rt: knots and samples of a sheet that has no fault, stored
+pub mod store; // store.rt: knots and samples of a sheet that has no fault, stored
 
 // A refusal's number, 0 for none, the sheet's edition, how many axes there are, and the four axes.
 pub struct ReadAnswer {

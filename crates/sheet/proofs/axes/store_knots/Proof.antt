@@ -9,13 +9,13 @@ use Rattle.sheet.proofs.axes.store_knots.Statement.{statement}
 use Rattle.sheet.proofs.axes.store_knots.Tie as tie
 
 abbrev Inv-loop : tie.InvT-loop
-Inv-loop bytes axes knots₀ at₀ from₀ i₀ knots at from i = Turn bytes axes knots₀ knots at from i
+Inv-loop bytes width axes knots₀ at₀ from₀ i₀ knots at from i = Turn bytes axes knots₀ knots at from i
 
 abbrev μ-loop : tie.MeasureT-loop
-μ-loop bytes axes knots₀ at₀ from₀ i₀ knots at from i = axes - i
+μ-loop bytes width axes knots₀ at₀ from₀ i₀ knots at from i = axes - i
 
 loop-holds : tie.Need-loop-holds Inv-loop μ-loop
-loop-holds c = turn-first _ _ _ (c .before .before .pre .0) (c .before .before .pre .1)
+loop-holds c = turn-first _ _ _ (c .before .before .pre .1) (c .before .before .pre .2)
 
 -- the axis at hand is there
 known : (c : tie.In-loop Inv-loop μ-loop) → let bytes = c .before .before .before .before .args .bytes .now in Whole bytes (c .before .loop .at) × Extent bytes (c .before .loop .at)

@@ -6,13 +6,13 @@ use Rattle.sheet.proofs.axes.walk_axes.Statement.{statement}
 use Rattle.sheet.proofs.axes.walk_axes.Tie as tie
 
 abbrev Inv-loop : tie.InvT-loop
-Inv-loop bytes axes all₀ at₀ i₀ all at i = Turn bytes axes all at i
+Inv-loop bytes width axes all₀ at₀ i₀ all at i = Turn bytes axes all at i
 
 abbrev μ-loop : tie.MeasureT-loop
-μ-loop bytes axes all₀ at₀ i₀ all at i = axes - i
+μ-loop bytes width axes all₀ at₀ i₀ all at i = axes - i
 
 loop-holds : tie.Need-loop-holds Inv-loop μ-loop
-loop-holds c = rw (c .unused .ensures) (turn-first _ _ (c .before .before .pre))
+loop-holds c = rw (c .unused .ensures) (turn-first _ _ (c .before .before .pre .1))
 
 returns : tie.Need-returns Inv-loop μ-loop
 returns c =
