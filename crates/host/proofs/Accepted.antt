@@ -12,6 +12,7 @@ use Rattle.rules.specs.Ends.{not-a-knot}
 use Rattle.rules.specs.Sizes.{Grid, points, sum-below, product-below, knots-length, samples-length, tensor-length, unused-axis}
 use Rattle.rules.specs.Refusals.{points-refused, length-refused}
 use Rattle.rules.specs.declared.Condition.{Condition}
+use Rattle.rules.specs.declared.Mode.the-variants.{Extend}
 use Rattle.checks.specs.Tables.{Refusal, lowest}
 use Rattle.checks.proofs.Rows.{NoneApplies, none-applies}
 use Rattle.tensor.proofs.Demand3.{Sound}
@@ -33,7 +34,7 @@ fits given size e = rw (eq-eqb given size e)
 -- ---- ends play no part in the sizes of a grid
 
 -- an entry in use has its points, whatever its ends are
-any-ends : (in-use : Bool) (n : ℕ) (ends others : Condition) → cond in-use (record { points = n; condition = ends }) unused-axis .points ≡ cond in-use (record { points = n; condition = others }) unused-axis .points
+any-ends : (in-use : Bool) (n : ℕ) (ends others : Condition) → cond in-use (record { points = n; condition = ends; mode = Extend }) unused-axis .points ≡ cond in-use (record { points = n; condition = others; mode = Extend }) unused-axis .points
 any-ends true n ends others = refl
 any-ends false n ends others = refl
 

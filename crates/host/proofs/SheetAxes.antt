@@ -19,8 +19,8 @@ use Rattle.host.proofs.Accepted.{Fine}
 pub sheet-axes-again :
     (bytes : List ℕ) (n : ℕ)
     → axes-given n (points-found (entries bytes n)) (kinds-found (entries bytes n)) (values-found (entries bytes n)) ≡ entries bytes n
-unfolding entries
-sheet-axes-again bytes n = axes-again (λ i. axis-at bytes (axis-begin bytes i)) n
+unfolding entries axis-at
+sheet-axes-again bytes n = axes-again (λ i. axis-at bytes (axis-begin bytes i)) n (λ i. refl)
 
 -- the kinds of a condition are never refused
 told-stands : (c : Condition) → kinds-refused (lower-kind-of c) (upper-kind-of c) ≡ false

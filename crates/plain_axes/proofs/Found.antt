@@ -8,6 +8,7 @@ use lib.ListN.{length, getD, length-set}
 use lib.Ieee.{Float}
 use Rattle.rules.specs.Numbers.{zeros, table}
 use Rattle.rules.specs.Sizes.{most-axes, unused-axis}
+use Rattle.rules.specs.declared.Mode.the-variants.{Extend}
 use Rattle.rules.specs.declared.Axis.{Axis}
 use Rattle.kinds.proofs.Told.{told, condition-again}
 use Rattle.plain_axes.specs.Axes.{eight-ends, condition-given, axis-given, axes-given, points-found, kinds-found, values-found, AxisStored, AxesStored}
@@ -55,26 +56,26 @@ pub none-found :
     × (values-found (table most-axes (λ i. unused-axis)) ≡ zeros eight-ends)
 none-found = (refl, refl, refl)
 
--- an axis is told by its numbers
+-- an axis in extend is told by its numbers
 entry-again :
-    (in-use : Bool) (axis : Axis)
-    → cond in-use (record { points = cond in-use axis unused-axis .points; condition = told (cond in-use axis unused-axis .condition) }) unused-axis
+    (in-use : Bool) (axis : Axis) → axis .mode ≡ Extend
+    → cond in-use (record { points = cond in-use axis unused-axis .points; condition = told (cond in-use axis unused-axis .condition); mode = Extend }) unused-axis
     ≡ cond in-use axis unused-axis
-entry-again true axis = rw (condition-again (axis .condition))
-entry-again false axis = refl
+entry-again true axis extend = rw (condition-again (axis .condition), ← extend)
+entry-again false axis extend = refl
 
 four-same : {a a′ b b′ c c′ d d′ : Axis} → a ≡ a′ → b ≡ b′ → c ≡ c′ → d ≡ d′ → a ∷ b ∷ c ∷ d ∷ [] ≡ a′ ∷ b′ ∷ c′ ∷ d′ ∷ []
 four-same p q r s = rw (p, q, r, s)
 
 -- the calls that take the numbers take them for the same axes
 pub axes-again :
-    (axis : ℕ → Axis) (n : ℕ)
+    (axis : ℕ → Axis) (n : ℕ) → ((i : ℕ) → axis i .mode ≡ Extend)
     → let found = table most-axes (λ i. cond (ltb i n) (axis i) unused-axis) in
     axes-given n (points-found found) (kinds-found found) (values-found found) ≡ found
 unfolding axes-given axis-given condition-given
-axes-again axis n =
+axes-again axis n extend =
     four-same
-    (entry-again (ltb 0 n) (axis 0))
-    (entry-again (ltb 1 n) (axis 1))
-    (entry-again (ltb 2 n) (axis 2))
-    (entry-again (ltb 3 n) (axis 3))
+    (entry-again (ltb 0 n) (axis 0) (extend 0))
+    (entry-again (ltb 1 n) (axis 1) (extend 1))
+    (entry-again (ltb 2 n) (axis 2) (extend 2))
+    (entry-again (ltb 3 n) (axis 3) (extend 3))

@@ -48,7 +48,7 @@ some-kinds-refused axes kinds = any (λ i. kinds-refused (lower-kind kinds i) (u
 unfoldable pub axis-given : ℕ → List ℕ → List ℕ → List Float → ℕ → Axis
 unfolding condition-given
 axis-given axes points kinds values i =
-    cond (ltb i axes) (record { points = getD points i 0; condition = condition-given kinds values i }) unused-axis
+    cond (ltb i axes) (record { points = getD points i 0; condition = condition-given kinds values i; mode = Extend }) unused-axis
 
 -- the four axes so given
 unfoldable pub axes-given : ℕ → List ℕ → List ℕ → List Float → List Axis
@@ -57,7 +57,7 @@ axes-given axes points kinds values = table most-axes (axis-given axes points ki
 
 -- entry i of the four of a query, which takes no ends
 unfoldable pub axis-without-ends : ℕ → List ℕ → ℕ → Axis
-axis-without-ends axes points i = cond (ltb i axes) (record { points = getD points i 0; condition = not-a-knot }) unused-axis
+axis-without-ends axes points i = cond (ltb i axes) (record { points = getD points i 0; condition = not-a-knot; mode = Extend }) unused-axis
 
 -- the four axes of a query
 unfoldable pub axes-without-ends : ℕ → List ℕ → List Axis

@@ -40,6 +40,7 @@ fn axis_given(axes: usize, points: &[usize], kinds: &[u8], values: &[f64], i: us
         Axis {
             points: points[i],
             condition: condition_given(kinds, values, i),
+            mode: Mode::Extend,
         }
     } else {
         Axis::unused()
@@ -68,6 +69,7 @@ fn axis_without_ends(axes: usize, points: &[usize], i: usize) -> Axis
         Axis {
             points: points[i],
             condition: Condition::not_a_knot(),
+            mode: Mode::Extend,
         }
     } else {
         Axis::unused()

@@ -89,7 +89,7 @@ tiny-failing last = first-failing (0′ ∷ tiny ∷ pattern last ∷ []) 3
 abbrev two-axes : List Float → Grid
 two-axes knots = record {
   axes = 2;
-  entries = record { points = 3; condition = natural } ∷ record { points = 3; condition = natural } ∷ unused-axis ∷ unused-axis ∷ [];
+  entries = record { points = 3; condition = natural; mode = Extend } ∷ record { points = 3; condition = natural; mode = Extend } ∷ unused-axis ∷ unused-axis ∷ [];
   flat-knots = knots;
 }
 
@@ -103,7 +103,7 @@ both-axes-even = two-axes (0′ ∷ 1′ ∷ 2′ ∷ 0′ ∷ 1′ ∷ 2′ ∷
 abbrev one-axis : Grid
 one-axis = record {
   axes = 1;
-  entries = record { points = 3; condition = natural } ∷ unused-axis ∷ unused-axis ∷ unused-axis ∷ [];
+  entries = record { points = 3; condition = natural; mode = Extend } ∷ unused-axis ∷ unused-axis ∷ unused-axis ∷ [];
   flat-knots = knots-3;
 }
 

@@ -78,7 +78,7 @@ slopes x n c y = knot-slopes x n y (moments x n c y)
 abbrev square : Condition → Grid
 square c = record {
   axes = 2;
-  entries = record { points = 2; condition = c } ∷ record { points = 2; condition = c } ∷ unused-axis ∷ unused-axis ∷ [];
+  entries = record { points = 2; condition = c; mode = Extend } ∷ record { points = 2; condition = c; mode = Extend } ∷ unused-axis ∷ unused-axis ∷ [];
   flat-knots = 0′ ∷ 1′ ∷ 0′ ∷ 1′ ∷ [];
 }
 
@@ -86,7 +86,7 @@ square c = record {
 abbrev labels-at : Float → List ℕ
 labels-at point =
     labels
-    (record { axes = 1; entries = record { points = 3; condition = natural } ∷ unused-axis ∷ unused-axis ∷ unused-axis ∷ []; flat-knots = knots-3 })
+    (record { axes = 1; entries = record { points = 3; condition = natural; mode = Extend } ∷ unused-axis ∷ unused-axis ∷ unused-axis ∷ []; flat-knots = knots-3 })
     (point ∷ [])
 
 -- the samples of the square, 0 0 0 1
@@ -112,7 +112,7 @@ falling-knots = 0′ ∷ 5′ ∷ 1′ ∷ 2′ ∷ pattern 0x4022_0000_0000_000
 abbrev quick-refusal-of : List Float → Float → ℕ
 quick-refusal-of x point =
     quick-query-refusal
-    (record { axes = 1; entries = record { points = length x; condition = natural } ∷ []; flat-knots = x })
+    (record { axes = 1; entries = record { points = length x; condition = natural; mode = Extend } ∷ []; flat-knots = x })
     [] (zeros (2 * length x)) (point ∷ [])
 
 -- the refusal of the moments of samples that are all 0, with all lengths right
@@ -123,7 +123,7 @@ refusal-of n x c = moments-refusal n x (zeros n) c (zeros n) (zeros 2048)
 abbrev refusal-at-3 : List Float → List Float → ℕ
 refusal-at-3 x t =
     query-refusal
-    (record { axes = 1; entries = record { points = 2; condition = natural } ∷ unused-axis ∷ unused-axis ∷ unused-axis ∷ []; flat-knots = x })
+    (record { axes = 1; entries = record { points = 2; condition = natural; mode = Extend } ∷ unused-axis ∷ unused-axis ∷ unused-axis ∷ []; flat-knots = x })
     (Refuse ∷ []) t (3′ ∷ [])
 
 pub record Examples : Type 0 where

@@ -1,11 +1,13 @@
 // The grids and the samples of the examples.
 use rules::Axis;
 use rules::Condition;
+use rules::Mode;
 
 pub fn axis(points: usize, condition: Condition) -> Axis {
     Axis {
         points: points,
         condition: condition,
+        mode: Mode::Extend,
     }
 }
 
