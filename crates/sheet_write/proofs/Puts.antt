@@ -22,8 +22,9 @@ use Rattle.bits.specs.Within.{Within}
 use Rattle.bits.specs.Written.{with-field, Field, wide, number-field, number-fields, bits-in, with-fields, filler}
 use Rattle.bits.proofs.Rows.{bits-in-append, with-fields-append, fields-length}
 use Rattle.bits.proofs.Numbers.{numbers-bits}
+use Rattle.sheet.proofs.Extents.{width-most}
 use Rattle.sheet_write.specs.SheetOf.{ends-fields, axis-fields, axes-fields, part-fields, sheet-fields}
-use Rattle.sheet_write.specs.Within.{AxisGiven, FieldsGiven, AxesGiven}
+use Rattle.sheet_write.specs.Within.{AxisGiven, FieldsGiven, AxesGiven, SheetGiven}
 use Rattle.sheet_write.proofs.Ends.{ends-bits}
 use Rattle.sheet_write.proofs.Lengths.{axis-bits, axes-next, part-bits}
 use Rattle.sheet_write.proofs.Axes.{entry, axes-append, first-bits}
@@ -187,6 +188,24 @@ module _ (b : List ℕ) (edition : ℕ) (g : Grid) (samples : List Float) where
         let two = bits-in-append (part-fields edition g samples) (filler (bits-in (part-fields edition g samples)) ∷ []) in
         let one = last-bits (bits-in (part-fields edition g samples)) in omega arith;
   }
+
+  -- there is room for the axes, after edition and number of axes
+  pub axes-given : (d : List ℕ) (width : ℕ) → width ≡ mode-width edition → length d ≡ length b → SheetGiven b edition g samples → AxesGiven d width g
+  axes-given d width is same given =
+      let all = ends in
+      rw is
+      (record {
+        narrow = width-most edition;
+        fields = given .fields;
+        within = part-within b d 0 (bits-in (sheet-fields edition g samples)) 7 (bits-in (axes-fields (mode-width edition) g (g .axes))) (given .within) same (omega arith);
+      })
+
+  -- what was put with that many bits for a mode
+  pub axes-end-is : (width next : ℕ) → width ≡ mode-width edition → next ≡ 7 + bits-in (axes-fields width g (g .axes)) → next ≡ 7 + bits-in (axes-fields (mode-width edition) g (g .axes))
+  axes-end-is width next is n = rw is at n
+
+  pub axes-put-is : (width : ℕ) (d later : List ℕ) → width ≡ mode-width edition → later ≡ with-fields d 7 (axes-fields width g (g .axes)) → later ≡ with-fields d 7 (axes-fields (mode-width edition) g (g .axes))
+  axes-put-is width d later is put = rw is at put
 
   -- there is room for what fills the last byte
   pub last-within : (d : List ℕ) (next : ℕ) → length d ≡ length b → next ≡ 7 + bits-in (axes-fields (mode-width edition) g (g .axes)) → Within b 0 (bits-in (sheet-fields edition g samples))

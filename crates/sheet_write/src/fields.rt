@@ -59,10 +59,11 @@ fn put_axis(bytes: &mut [u8], at: usize, width: usize, axis: Axis, knots: &[f64]
     ensures { λ r. ⌜ (r ≡ at + bits-in (axis-fields width axis (now (knots .entry)))) × (now (bytes .exit) ≡ with-fields (now (bytes .entry)) at (axis-fields width axis (now (knots .entry)))) ⌝ }
 {
     let condition = axis.condition;
+    let mode = axis.mode;
     put_field(bytes, at, 8, (axis.points - 1) as u64);
     put_field(bytes, at + 8, 2, wide(lower_kind(condition)));
     put_field(bytes, at + 10, 2, wide(upper_kind(condition)));
-    put_field(bytes, at + 12, width, wide(mode_number(axis.mode)));
+    put_field(bytes, at + 12, width, wide(mode_number(mode)));
     let next = put_ends(bytes, at + 12 + width, condition);
     put_numbers(bytes, next, knots);
     next + 64 * knots.len()
