@@ -99,15 +99,18 @@ module _ (bytes : List ℕ) (knots-lent samples-lent : List Float) (axes-lent po
       → Edition1Promise bytes knots-lent samples-lent a k s
       → AxesStored (a .all) points-later kinds-later values-later
       → ReadEdition1Export bytes knots-lent samples-lent axes-lent points-lent kinds-lent values-lent (a .refusal) k s (set axes-lent 0 (a .axes)) points-later kinds-later values-later
-  read-edition-1-called none a p axes-stored = record {
-    answer = call-answer _ e none (ap (λ (b : Edition1Answer). b .refusal) (p .answer) ∙ answer-refusal _ _ _ _);
-    knots = left _ _ e none (p .knots);
-    samples = left _ _ e none (p .samples);
-    found =
-        rw (sym (p .answer))
-        (found-stored _ (a .axes) (a .all) _ _ _ _ e none
-        (one-stored axes-lent (a .axes) (read-edition-1-lengths axes-lent points-lent kinds-lent values-lent (sym e ∙ none) .0)) axes-stored);
-  }
+  read-edition-1-called none a p axes-stored =
+      let axes-are = sym (ap (λ (b : Edition1Answer). b .axes) (p .answer)) in
+      let all-are = sym (ap (λ (b : Edition1Answer). b .all) (p .answer)) in
+      record {
+        answer = call-answer _ e none (ap (λ (b : Edition1Answer). b .refusal) (p .answer) ∙ answer-refusal _ _ _ _);
+        knots = left _ _ e none (p .knots);
+        samples = left _ _ e none (p .samples);
+        found =
+            rw (axes-are, all-are)
+            (found-stored _ (a .axes) (a .all) _ _ _ _ e none
+            (one-stored axes-lent (a .axes) (read-edition-1-lengths axes-lent points-lent kinds-lent values-lent (sym e ∙ none) .0)) axes-stored);
+      }
 
 -- ---- the sheet's tensor
 
