@@ -9,8 +9,10 @@ use lib.Ieee.{Float}
 use Rattle.rules.specs.Sizes.{most-axes, knots-length, samples-length, tensor-length}
 use Rattle.rules.specs.Refusals.{length-refused}
 use Rattle.base.proofs.Scan.{neither}
-use Rattle.checks.proofs.Rows.{none-applies, exact, exact-2, NoneApplies}
-use Rattle.boundary.specs.OwnRefusals.{sizes-given, two-ends-refused, eight-ends-refused, place-or-lanes-refused, query-slots-refused, modes-or-slots-refused, modes-or-slot-refused, found-slots-refused, moments-own-rows, moments-own-refusal, build-own-rows, build-own-refusal, change-own-rows, change-own-refusal, write-own-rows, write-own-refusal, query-own-rows, query-own-refusal, read-edition-1-own-refusal, read-own-refusal, sheet-tensor-own-refusal, query-later-rows, even-query-own-rows, even-query-own-refusal}
+use Rattle.checks.proofs.Rows.{none-applies, exact, exact-2}
+use Rattle.boundary.specs.OwnRefusals.{sizes-given, two-ends-refused, eight-ends-refused, place-or-lanes-refused, query-slots-refused, modes-or-slots-refused, modes-or-slot-refused, found-slots-refused, moments-own-rows, moments-own-refusal, build-own-rows, build-own-refusal, change-own-rows, change-own-refusal, write-own-rows, write-own-refusal, read-edition-1-own-refusal, read-own-refusal, sheet-tensor-own-refusal}
+use Rattle.boundary.specs.Within.{LeftToTheCall}
+use Rattle.boundary.proofs.Rows.{points-four}
 
 -- one row that does not apply
 not-the-first : (applies : Bool) (number : ℕ) → cond applies (suc number) 0 ≡ 0 → applies ≡ false
@@ -81,24 +83,12 @@ pub mode-lengths : (modes : List ℕ) (value : List Float) (labels : List ℕ) �
 mode-lengths modes value labels none =
     exact (length modes) 4 (neither (length-refused (length modes) 4) (query-slots-refused value labels) none .0)
 
-module _ (axes : ℕ) (points modes : List ℕ) (knots tensor coordinates value : List Float) (labels : List ℕ) where
-  later-lengths : NoneApplies (query-later-rows axes points modes knots tensor coordinates value labels) → length modes ≡ 4
-  later-lengths rows =
-      let g = sizes-given axes points in
-      mode-lengths modes value labels
-      (neither (modes-or-slots-refused modes value labels) (length-refused (length knots) (knots-length g) || length-refused (length tensor) (tensor-length g) || length-refused (length coordinates) axes) (rows .0) .0)
-
-  pub query-lengths : query-own-refusal axes points modes knots tensor coordinates value labels ≡ 0 → (length points ≡ 4) × (length modes ≡ 4)
-  unfolding query-own-refusal
-  query-lengths none =
-      let rows = none-applies (query-own-rows axes points modes knots tensor coordinates value labels) tt none in
-      (exact (length points) 4 (rows .1 .0), later-lengths (rows .1 .1 .1 .1))
-
-  pub even-query-lengths : (uneven : List ℕ) → even-query-own-refusal axes points modes knots tensor coordinates value labels uneven ≡ 0 → (length points ≡ 4) × (length modes ≡ 4)
-  unfolding even-query-own-refusal
-  even-query-lengths uneven none =
-      let rows = none-applies (even-query-own-rows axes points modes knots tensor coordinates value labels uneven) tt none in
-      (exact (length points) 4 (rows .1 .0), later-lengths (rows .1 .1 .1 .1 .1))
+-- of a query, whose call may still refuse its own slices
+pub query-lengths :
+    (axes : ℕ) (points modes : List ℕ) (knots tensor coordinates value : List Float) (labels : List ℕ) {own : ℕ}
+    → LeftToTheCall axes points modes knots tensor coordinates value labels own → (length points ≡ 4) × (length modes ≡ 4)
+query-lengths axes points modes knots tensor coordinates value labels left =
+    (points-four axes points refl (left .axes-fine), mode-lengths modes value labels (left .slots-fine))
 
 found-lengths :
     (axes points kinds : List ℕ) (values : List Float)

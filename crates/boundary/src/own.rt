@@ -5,6 +5,7 @@ ghost use Rattle.rules.specs.Sizes.{knots-length, samples-length};
 ghost use Rattle.rules.specs.Refusals.{length-refused};
 ghost use Rattle.grid.specs.Given.{sizes-of, points-of, InRange};
 ghost use Rattle.boundary.specs.OwnRefusals.{two-ends-refused, eight-ends-refused, place-or-lanes-refused, query-slots-refused, modes-or-slots-refused, found-slots-refused, moments-own-refusal, curve-own-refusal, axes-own-refusal, build-own-refusal, change-own-refusal, write-own-refusal, query-own-refusal, modes-or-slot-refused, read-edition-1-own-refusal, read-own-refusal, sheet-tensor-own-refusal, query-later-rows, even-query-own-refusal};
+ghost use Rattle.boundary.specs.Within.{Asked};
 ghost use Rattle.checks.specs.Tables.{lowest};
 use checks::lengths;
 use checks::sizes;
@@ -74,7 +75,7 @@ pub fn axes_own_refusal(axes: usize, points: &[usize]) -> usize
     if lengths::length_refused(points.len(), 4) {
         return 4;
     }
-    sizes::sizes_refusal(axes, axes_without_ends(axes, points))
+    sizes::points_refusal(axes, points)
 }
 
 // Whether kinds or values are not those of the eight ends of four axes.
@@ -234,7 +235,7 @@ fn modes_or_slots_refused(modes: &[u8], value: &[f64], labels: &[usize]) -> bool
     query_slots_refused(value, labels)
 }
 
-// What a query meets after its axes: 4 for the modes, the slots of its answer and the call's own slices, which 22 comes after. Not public: what is met before is required to be nothing.
+// What a query meets after its axes: 4 for the modes and the slots of its answer, and 22. The call's own slices, which 22 comes after, are looked at where a mode is unknown; where none is, 4 for them is left to the call, which looks at them too. Not public: what is met before is required to be nothing.
 fn query_later_refusal(
     axes: usize,
     points: &[usize],
@@ -246,22 +247,27 @@ fn query_later_refusal(
     labels: &[usize],
 ) -> usize
     requires { ⌜ axes-own-refusal axes (now points) ≡ 0 ⌝ }
-    ensures { λ r. ⌜ r ≡ lowest (query-later-rows axes (now (points .entry)) (now (modes .entry)) (now (knots .entry)) (now (tensor .entry)) (now (coordinates .entry)) (now (value .entry)) (now (labels .entry))) 0 ⌝ }
+    ensures { λ r. ⌜ Asked axes (now (points .entry)) (now (modes .entry)) (now (knots .entry)) (now (tensor .entry)) (now (coordinates .entry)) (now (value .entry)) (now (labels .entry)) (lowest (query-later-rows axes (now (points .entry)) (now (modes .entry)) (now (knots .entry)) (now (tensor .entry)) (now (coordinates .entry)) (now (value .entry)) (now (labels .entry))) 0) r ⌝ }
 {
     if modes_or_slots_refused(modes, value, labels) {
         return 4;
     }
-    let all = axes_without_ends(axes, points);
-    if lengths::query_refused(axes, all, knots.len(), tensor.len(), coordinates.len()) {
-        return 4;
-    }
     if some_modes_refused(axes, modes) {
+        if lengths::query_of_points_refused(
+            axes,
+            points,
+            knots.len(),
+            tensor.len(),
+            coordinates.len(),
+        ) {
+            return 4;
+        }
         return 22;
     }
     0
 }
 
-// Of a query: its axes, and then these.
+// Of a query: its axes, and then these, with the same left to the call.
 pub fn query_own_refusal(
     axes: usize,
     points: &[usize],
@@ -272,7 +278,7 @@ pub fn query_own_refusal(
     value: &[f64],
     labels: &[usize],
 ) -> usize
-    ensures { λ r. ⌜ r ≡ query-own-refusal axes (now (points .entry)) (now (modes .entry)) (now (knots .entry)) (now (tensor .entry)) (now (coordinates .entry)) (now (value .entry)) (now (labels .entry)) ⌝ }
+    ensures { λ r. ⌜ Asked axes (now (points .entry)) (now (modes .entry)) (now (knots .entry)) (now (tensor .entry)) (now (coordinates .entry)) (now (value .entry)) (now (labels .entry)) (query-own-refusal axes (now (points .entry)) (now (modes .entry)) (now (knots .entry)) (now (tensor .entry)) (now (coordinates .entry)) (now (value .entry)) (now (labels .entry))) r ⌝ }
 {
     let refusal = axes_own_refusal(axes, points);
     if refusal != 0 {
@@ -302,7 +308,7 @@ pub fn even_query_own_refusal(
     labels: &[usize],
     uneven: &[usize],
 ) -> usize
-    ensures { λ r. ⌜ r ≡ even-query-own-refusal axes (now (points .entry)) (now (modes .entry)) (now (knots .entry)) (now (tensor .entry)) (now (coordinates .entry)) (now (value .entry)) (now (labels .entry)) (now (uneven .entry)) ⌝ }
+    ensures { λ r. ⌜ Asked axes (now (points .entry)) (now (modes .entry)) (now (knots .entry)) (now (tensor .entry)) (now (coordinates .entry)) (now (value .entry)) (now (labels .entry)) (even-query-own-refusal axes (now (points .entry)) (now (modes .entry)) (now (knots .entry)) (now (tensor .entry)) (now (coordinates .entry)) (now (value .entry)) (now (labels .entry)) (now (uneven .entry))) r ⌝ }
 {
     let refusal = axes_own_refusal(axes, points);
     if refusal != 0 {
