@@ -1,7 +1,7 @@
 //! Stack bytes of each exported call: it runs on a stack of its own that was
 //! painted before, and the lowest number that lost its paint says how deep it went.
 
-use crate::hullashlar::{self, BUFFER, EXTEND, LONGEST_TENSOR, SCRATCH};
+use crate::hullashlar::{self, BUFFER, LONGEST_TENSOR, SCRATCH};
 use crate::inputs::{Inputs, Surface, CHANGED};
 use std::arch::asm;
 use std::hint::black_box;
@@ -13,7 +13,7 @@ pub struct Stack {
 }
 
 /// The stack of every exported call.
-pub fn stacks(inputs: &Inputs) -> [Stack; 15] {
+pub fn stacks(inputs: &Inputs) -> [Stack; 16] {
     let surfaces = inputs.surfaces();
     let even_surfaces = inputs.even_surfaces();
     let lines = [&inputs.line_of_256, &inputs.periodic_line];
@@ -24,6 +24,7 @@ pub fn stacks(inputs: &Inputs) -> [Stack; 15] {
         deepest("hullashlar_quick_query", &surfaces.map(quick_query)),
         deepest("hullashlar_even_query", &even_surfaces.map(even_query)),
         deepest("hullashlar_read", &surfaces.map(read)),
+        deepest("hullashlar_read_edition_1", &surfaces.map(read_edition_1)),
         deepest("hullashlar_sheet_tensor", &surfaces.map(sheet_tensor)),
         deepest("hullashlar_write", &surfaces.map(write)),
         deepest("hullashlar_moments", &lines.map(moments)),
@@ -65,29 +66,31 @@ fn change(surface: &Surface) -> usize {
 fn query(surface: &Surface) -> usize {
     let tensor: Vec<f64> = surface.tensor().iter().copied().collect();
     let point = surface.middle_point();
-    bytes_of(|| hullashlar::query(&surface.axes, EXTEND, &surface.knots, &tensor, &point).is_ok())
+    bytes_of(|| hullashlar::query(&surface.axes, &surface.knots, &tensor, &point).is_ok())
 }
 
 fn quick_query(surface: &Surface) -> usize {
     let tensor: Vec<f64> = surface.tensor().iter().copied().collect();
     let point = surface.middle_point();
-    bytes_of(|| {
-        hullashlar::quick_query(&surface.axes, EXTEND, &surface.knots, &tensor, &point).is_ok()
-    })
+    bytes_of(|| hullashlar::quick_query(&surface.axes, &surface.knots, &tensor, &point).is_ok())
 }
 
 fn even_query(surface: &Surface) -> usize {
     let tensor: Vec<f64> = surface.tensor().iter().copied().collect();
     let point = surface.middle_point();
-    bytes_of(|| {
-        hullashlar::even_query(&surface.axes, EXTEND, &surface.knots, &tensor, &point).is_ok()
-    })
+    bytes_of(|| hullashlar::even_query(&surface.axes, &surface.knots, &tensor, &point).is_ok())
 }
 
 fn read(surface: &Surface) -> usize {
     let sheet = surface.sheet();
     let (mut knots, mut samples) = ([0.0; BUFFER], [0.0; BUFFER]);
     bytes_of(|| hullashlar::read(&sheet, &mut knots, &mut samples).is_ok())
+}
+
+fn read_edition_1(surface: &Surface) -> usize {
+    let sheet = surface.sheet();
+    let (mut knots, mut samples) = ([0.0; BUFFER], [0.0; BUFFER]);
+    bytes_of(|| hullashlar::read_edition_1(&sheet, &mut knots, &mut samples).is_ok())
 }
 
 fn sheet_tensor(surface: &Surface) -> usize {
@@ -109,7 +112,7 @@ fn write(surface: &Surface) -> usize {
         samples,
         ..
     } = surface;
-    bytes_of(|| hullashlar::write(axes, knots, samples, &mut bytes).is_ok())
+    bytes_of(|| hullashlar::write(1, axes, knots, samples, &mut bytes).is_ok())
 }
 
 fn moments(line: &Surface) -> usize {

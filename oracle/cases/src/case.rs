@@ -20,6 +20,7 @@ pub enum Call {
     LocateAxis,
     LocateStepIndex,
     Stepped,
+    ReadEdition1,
 }
 
 impl Call {
@@ -60,14 +61,19 @@ impl Call {
                 "uneven",
             ],
             Call::Read => &[
+                "bytes", "knots", "samples", "axes", "points", "kinds", "values", "modes",
+                "edition",
+            ],
+            Call::ReadEdition1 => &[
                 "bytes", "knots", "samples", "axes", "points", "kinds", "values",
             ],
             Call::SheetTensor => &[
-                "bytes", "knots", "samples", "axes", "points", "kinds", "values", "tensor",
-                "scratch", "length",
+                "bytes", "knots", "samples", "axes", "points", "kinds", "values", "modes",
+                "edition", "tensor", "scratch", "length",
             ],
             Call::Write => &[
-                "axes", "points", "kinds", "values", "knots", "samples", "bytes", "length",
+                "axes", "points", "kinds", "values", "modes", "knots", "samples", "edition",
+                "bytes", "length",
             ],
             Call::ExactIndex => &["points", "knots", "lower", "point", "found"],
             Call::LocateAxis => &["points", "knots", "point", "location", "fraction"],
@@ -95,10 +101,13 @@ impl Call {
             Call::Change => &["tensor", "scratch", "lanes"],
             Call::Query | Call::QuickQuery => &["value", "labels"],
             Call::EvenQuery => &["value", "labels", "uneven"],
-            Call::Read => &["knots", "samples", "axes", "points", "kinds", "values"],
+            Call::Read => &[
+                "knots", "samples", "axes", "points", "kinds", "values", "modes", "edition",
+            ],
+            Call::ReadEdition1 => &["knots", "samples", "axes", "points", "kinds", "values"],
             Call::SheetTensor => &[
-                "knots", "samples", "axes", "points", "kinds", "values", "tensor", "scratch",
-                "length",
+                "knots", "samples", "axes", "points", "kinds", "values", "modes", "edition",
+                "tensor", "scratch", "length",
             ],
             Call::Write => &["bytes", "length"],
             Call::ExactIndex => &["found"],
@@ -115,7 +124,7 @@ impl Call {
 
     /// Whether floats come from patterns, of which a NaN keeps no payload.
     pub fn reads_patterns(self) -> bool {
-        matches!(self, Call::Read | Call::SheetTensor)
+        matches!(self, Call::Read | Call::ReadEdition1 | Call::SheetTensor)
     }
 }
 

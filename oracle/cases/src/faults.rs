@@ -23,7 +23,7 @@ const TOO_LARGE: [&[usize]; 8] = [
 const OFF_POINTS: [usize; 6] = [0, 1, 1, 257, 257, usize::MAX];
 
 /// Numbers so large that what follows from them seldom stays finite.
-const LARGEST: [f64; 4] = [f64::MAX, -f64::MAX, 1.1e308, -1e307];
+pub const LARGEST: [f64; 4] = [f64::MAX, -f64::MAX, 1.1e308, -1e307];
 
 /// The faults of moments.
 const OF_MOMENTS: &[Fault] = &[
@@ -99,6 +99,8 @@ const OF_WRITE: &[Fault] = &[
     step_overflowing,
     too_few_points,
     kind_off,
+    mode_off,
+    edition_off,
     too_few_bytes,
 ];
 
@@ -142,7 +144,7 @@ fn faults_of(call: Call) -> &'static [Fault] {
         Call::QuickQuery => OF_QUICK_QUERY,
         Call::EvenQuery => OF_QUERY,
         Call::Write => OF_WRITE,
-        Call::Read => &[length_off],
+        Call::Read | Call::ReadEdition1 => &[length_off],
         Call::SheetTensor => &[length_off, scratch_short],
         Call::ExactIndex => OF_EXACT_INDEX,
         Call::LocateAxis => OF_CURVE,
@@ -240,6 +242,7 @@ fn fixed_length_off(random: &mut Random, case: &mut Case) {
         "fraction",
         "index",
         "indices",
+        "edition",
     ];
     let mut fixed = present(case, &names);
     fixed.retain(|name| !matches!(case.argument(name), Argument::Number(_)));
@@ -250,7 +253,7 @@ fn fixed_length_off(random: &mut Random, case: &mut Case) {
 }
 
 /// One short where the scratch was exact; else anything shorter.
-fn scratch_short(random: &mut Random, case: &mut Case) {
+pub fn scratch_short(random: &mut Random, case: &mut Case) {
     let scratch = case.argument_mut("scratch");
     let length = scratch.length();
     if length > 0 {
@@ -269,7 +272,7 @@ fn too_few_bytes(random: &mut Random, case: &mut Case) {
     }
 }
 
-fn place_off(random: &mut Random, case: &mut Case) {
+pub fn place_off(random: &mut Random, case: &mut Case) {
     let axes = axes_in_use(case);
     if !case.has("place") || axes == 0 {
         return;
@@ -382,6 +385,12 @@ fn mode_off(random: &mut Random, case: &mut Case) {
         let mode = random.pick(&[3, 3, 4, 255]);
         case.argument_mut("modes").bytes_mut()[random.below(axes)] = mode;
     }
+}
+
+/// A number that is no edition, though its lowest bits may be those of one.
+fn edition_off(random: &mut Random, case: &mut Case) {
+    let numbers = [0, 3, 3, 15, 16, 17, 18, 257, 258, (1 << 32) + 1, usize::MAX];
+    *case.argument_mut("edition") = Argument::Number(random.pick(&numbers));
 }
 
 /// A lower index that has no knot after it.

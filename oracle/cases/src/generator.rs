@@ -9,12 +9,12 @@ use crate::lending::{self, Point};
 use crate::numbers::list;
 use crate::overflow::take_an_end_to_the_edge;
 use crate::random::Random;
-use crate::sheet::{damaged_sheet, good_sheet, length_of, swept_sheet};
-use reading::CURVE_SCRATCH;
+use crate::sheet::{damaged_sheet, edition_of, good_sheet, length_of, swept_sheet};
+use reading::{CURVE_SCRATCH, EDITIONS, EXTEND, LONGEST_TENSOR};
 
 /// The kinds of cases: the worked examples, one kind for each call, lists
 /// of changes, the sheets of up to two bytes, changes in two orders, quick queries
-/// beside full ones, and the reader's sheets written back.
+/// beside full ones, the reader's sheets written back, and surfaces asked at every place.
 #[derive(Debug, Clone, Copy, PartialEq, Eq)]
 pub enum Kind {
     Example,
@@ -38,10 +38,12 @@ pub enum Kind {
     LocateAxis,
     LocateStepIndex,
     Stepped,
+    AtEveryPlace,
+    ReadEdition1,
 }
 
 /// Every kind, in the order of the report.
-pub const KINDS: [Kind; 21] = [
+pub const KINDS: [Kind; 23] = [
     Kind::Example,
     Kind::Moments,
     Kind::Curve,
@@ -63,6 +65,8 @@ pub const KINDS: [Kind; 21] = [
     Kind::LocateAxis,
     Kind::LocateStepIndex,
     Kind::Stepped,
+    Kind::AtEveryPlace,
+    Kind::ReadEdition1,
 ];
 
 impl Kind {
@@ -90,6 +94,8 @@ impl Kind {
             Kind::LocateAxis => "locate_axis",
             Kind::LocateStepIndex => "locate_step_index",
             Kind::Stepped => "stepped",
+            Kind::AtEveryPlace => "at_every_place",
+            Kind::ReadEdition1 => "read_edition_1",
         }
     }
 
@@ -103,6 +109,7 @@ impl Kind {
                 | Kind::EitherOrder
                 | Kind::QuickBesideFull
                 | Kind::WrittenBack
+                | Kind::AtEveryPlace
         )
     }
 }
@@ -148,12 +155,14 @@ pub fn single(kind: Kind, number: usize, random: &mut Random) -> Case {
         Kind::LocateAxis => locate_axis(random),
         Kind::LocateStepIndex => locate_step_index(random),
         Kind::Stepped => stepped(random),
+        Kind::ReadEdition1 => read_edition_1(random, number),
         Kind::Example
         | Kind::ChangeList
         | Kind::ShortSheet
         | Kind::EitherOrder
         | Kind::QuickBesideFull
-        | Kind::WrittenBack => {
+        | Kind::WrittenBack
+        | Kind::AtEveryPlace => {
             panic!("more than one call: {}", kind.name())
         }
     }
@@ -309,14 +318,26 @@ fn stepped(random: &mut Random) -> Case {
     altered_at_times(random, case)
 }
 
-/// A sheet to be read: first every cut and every single damaged bit of a small
-/// one, by the number of the case, and then generated ones.
+/// A sheet to be read: first a small one with all that a sweep does to it, by the number of the
+/// case, and then generated ones.
 fn read(random: &mut Random, number: usize) -> Case {
-    if let Some(bytes) = swept_sheet(number) {
-        return lending::read(random, &bytes);
+    swept_or_generated(random, number, |random, bytes, _| {
+        lending::read(random, bytes)
+    })
+}
+
+/// The same for the reader of edition 1.
+fn read_edition_1(random: &mut Random, number: usize) -> Case {
+    swept_or_generated(random, number, |random, bytes, _| {
+        lending::read_edition_1(random, bytes)
+    })
+}
+
+fn swept_or_generated(random: &mut Random, number: usize, lend: LendSheet) -> Case {
+    match swept_sheet(number) {
+        Some(bytes) => lend(random, &bytes, LONGEST_TENSOR),
+        None => sheet_case(random, number, FAULTY_TO_READ, lend),
     }
-    let lend = |random: &mut Random, bytes: &[u8], _| lending::read(random, bytes);
-    sheet_case(random, number, FAULTY_TO_READ, lend)
 }
 
 /// A sheet to be read and built.
@@ -324,13 +345,18 @@ fn sheet_tensor(random: &mut Random, number: usize) -> Case {
     sheet_case(random, number, FAULTY_TO_BUILD, lending::sheet_tensor)
 }
 
-/// A sheet to be written.
+/// A sheet to be written, in edition 1 most often with no mode that it has no room for.
 pub fn write(random: &mut Random) -> Case {
     let grid = Grid::generate(random);
     let samples = list(random, grid.samples());
-    let length = length_of(&grid.points[..grid.axes], &grid.kinds[..2 * grid.axes]);
-    let room = room(random, length);
-    let mut case = lending::write(random, &grid, &samples, room);
+    let edition = random.pick(&EDITIONS);
+    let mut modes = grid.modes(random);
+    if edition == 1 && random.percent(85) {
+        modes[..grid.axes].fill(EXTEND);
+    }
+    let (points, kinds) = (&grid.points[..grid.axes], &grid.kinds[..2 * grid.axes]);
+    let room = room(random, length_of(edition, points, kinds));
+    let mut case = lending::write(random, &grid, modes, &samples, edition, room);
     if random.percent(FAULTY_TO_WRITE) {
         spoil(random, &mut case);
     }
@@ -358,19 +384,17 @@ fn altered_at_times(random: &mut Random, mut case: Case) -> Case {
     case
 }
 
+/// Makes a case of a sheet, whose tensor has a length.
+type LendSheet = fn(&mut Random, &[u8], usize) -> Case;
+
 /// A case of a sheet that is good or damaged, or whose other arguments are.
-fn sheet_case(
-    random: &mut Random,
-    number: usize,
-    faulty: usize,
-    lend: fn(&mut Random, &[u8], usize) -> Case,
-) -> Case {
+fn sheet_case(random: &mut Random, number: usize, faulty: usize, lend: LendSheet) -> Case {
     let faulty = random.percent(faulty);
     let damaged = faulty && random.percent(80);
     let (bytes, tensor) = if damaged {
         damaged_sheet(random, number)
     } else {
-        good_sheet(random)
+        good_sheet(random, edition_of(number))
     };
     let mut case = lend(random, &bytes, tensor);
     if faulty && (!damaged || random.percent(10)) {

@@ -24,7 +24,7 @@ use crate::reading_calls::Reading;
 use crate::report::NUMBERS;
 
 /// The calls in the order of their numbers.
-pub const CALLS: [Call; 15] = [
+pub const CALLS: [Call; 16] = [
     Call::Moments,
     Call::Curve,
     Call::Slopes,
@@ -40,19 +40,20 @@ pub const CALLS: [Call; 15] = [
     Call::LocateAxis,
     Call::LocateStepIndex,
     Call::Stepped,
+    Call::ReadEdition1,
 ];
 
 /// The seed of the list; another one makes another list.
 const SEED: u64 = 1;
 
 /// How many accepted cases of each call the list has.
-const ACCEPTED: usize = 28;
+const ACCEPTED: usize = 20;
 
 /// How many cases of each refusal of each call.
-const REFUSED: usize = 3;
+const REFUSED: usize = 2;
 
 /// The most words of a case.
-const LONGEST_CASE: usize = 200;
+const LONGEST_CASE: usize = 180;
 
 /// The most bytes that a slice of them has.
 const MOST_BYTES: usize = 256;

@@ -15,7 +15,7 @@ const PRINTED: u64 = 2;
 pub const PERIODIC_POINTS: [usize; 2] = [2, 3];
 
 /// One more than the largest number of a refusal.
-pub const NUMBERS: usize = 23;
+pub const NUMBERS: usize = 24;
 
 /// What was seen of one kind of case.
 #[derive(Debug, Clone, Default)]
@@ -28,6 +28,8 @@ pub struct Counts {
     pub refusals: [u64; NUMBERS],
     /// Periodic axes of accepted calls, by their points.
     pub periodic: [u64; PERIODIC_POINTS.len()],
+    /// Places at which a surface was asked, and its answers held against the sample.
+    pub places: u64,
     /// Compared calls that were not the same.
     pub differences: u64,
 }
@@ -58,6 +60,7 @@ impl Report {
             total.calls += counts.calls;
             total.compared += counts.compared;
             total.differences += counts.differences;
+            total.places += counts.places;
             for (sum, seen) in total.refusals.iter_mut().zip(counts.refusals) {
                 *sum += seen;
             }
@@ -122,6 +125,9 @@ fn write_counts(formatter: &mut fmt::Formatter<'_>, name: &str, counts: &Counts)
         for (points, seen) in PERIODIC_POINTS.iter().zip(counts.periodic) {
             write!(formatter, " of {points} points:{seen}")?;
         }
+    }
+    if counts.places > 0 {
+        write!(formatter, "; asked at {} places", counts.places)?;
     }
     writeln!(
         formatter,

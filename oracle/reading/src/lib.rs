@@ -23,7 +23,7 @@ pub use modes::{EXTEND, HOLD, REFUSE};
 pub use query::{even_query, query, quick_query};
 pub use refusals::CURVE_SCRATCH;
 pub use shape::{Shape, LONGEST_TENSOR};
-pub use sheet::{read, sheet_tensor, BUFFER};
+pub use sheet::{read, read_edition_1, sheet_tensor, BUFFER, EDITIONS};
 pub use step::{exact_index, locate_axis, locate_step_index, stepped};
 pub use tensor::{
     build, change, closed_sum_of_lanes, lanes_of_build, lanes_of_change, solve_lane, solve_lanes,
