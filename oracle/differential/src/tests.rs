@@ -49,6 +49,7 @@ fn of_c(argument: &str) -> Vec<String> {
     let rust_type = match c_type.trim() {
         "size_t" => "usize",
         "uint8_t" => "u8",
+        "int32_t" => "i32",
         "double" => "f64",
         "const double *" => "*const f64",
         "const size_t *" => "*const usize",
@@ -56,6 +57,8 @@ fn of_c(argument: &str) -> Vec<String> {
         "double *" => "*mut f64",
         "size_t *" => "*mut usize",
         "uint8_t *" => "*mut u8",
+        "int32_t *" => "*mut i32",
+        "uint32_t *" => "*mut u32",
         other => panic!("no type is known for {other}"),
     };
     vec![format!("{name}: {rust_type}")]
