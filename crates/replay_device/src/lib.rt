@@ -57,6 +57,20 @@ fn words_left(left: [u32; 2]) -> [usize; 2] {
     [left[0] as usize, left[1] as usize]
 }
 
+// Whether a slot that is given at a place stands as the list says, with these numbers at its front.
+fn integers_stand(list: &[u8], given: usize, left: usize, value: [i32; 2]) -> bool {
+    let now = integers_left(value);
+    let end = held(word(list, given), 2);
+    numbers_left(list, given, left, &now[0..end])
+}
+
+// The same without a sign.
+fn words_stand(list: &[u8], given: usize, left: usize, cursor: [u32; 2]) -> bool {
+    let now = words_left(cursor);
+    let end = held(word(list, given), 2);
+    numbers_left(list, given, left, &now[0..end])
+}
+
 // A case of one cell, whose arguments begin at a place.
 pub fn cell_value(list: &[u8], begin: usize) -> Replayed {
     let at_value = after(begin, 5);
@@ -76,9 +90,8 @@ pub fn cell_value(list: &[u8], begin: usize) -> Replayed {
     if refusal as u64 != word(list, answer) {
         return Replayed { same: false, next };
     }
-    let left = integers_left(value);
     Replayed {
-        same: numbers_left(list, at_value, left_value, &left[0..end]),
+        same: integers_stand(list, at_value, left_value, value),
         next,
     }
 }
@@ -106,13 +119,11 @@ fn next_answered(
     if refusal as u64 != word(list, answer) {
         return Replayed { same: false, next };
     }
-    let cursor_now = words_left(cursor);
-    if !numbers_left(list, at_cursor, left_cursor, &cursor_now[0..cursor_end]) {
+    if !words_stand(list, at_cursor, left_cursor, cursor) {
         return Replayed { same: false, next };
     }
-    let value_now = integers_left(value);
     Replayed {
-        same: numbers_left(list, at_value, left_value, &value_now[0..value_end]),
+        same: integers_stand(list, at_value, left_value, value),
         next,
     }
 }
