@@ -35,6 +35,9 @@ ERRORS = [
     "even/cell_before_the_knot",
     "sheet_write/upper_value_first",
     "step/upward_corner_mended",
+    "sheet/mode_read_from_the_upper_kind",
+    "kinds/mode_dropped_in_edition_1",
+    "cell/mode_of_the_first_axis_for_all",
 ]
 
 # What `rt try` says of a compiled run that wrote the counts where nothing is expected.
