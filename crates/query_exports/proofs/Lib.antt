@@ -1,0 +1,3 @@
+mod Left
+pub mod Exported
+pub mod Unique
