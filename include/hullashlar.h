@@ -37,10 +37,10 @@
  *     is built, 5, 7, 8, 9, 10.
  *
  * Outputs. After a refusal every output is as it was but the slots of the answer: value, labels, lanes, uneven, found,
- * location, fraction, index and indices, and of a sheet axes, points, kinds, values, modes, edition and length. These are
- * then 0 or +0.0, but for uneven after 21, where all slots of the call have their lengths; where one has another length, none of
- * them is written. Where a sheet is read and only its build is refused, its knots, samples, axes, points, kinds,
- * values, modes and edition are handed over, as after a read, and the length alone is 0.
+ * location, fraction, index and indices, and of a sheet axes, points, kinds, values, modes, edition and length. These
+ * are then 0 or +0.0, but for uneven after 21, where all slots of the call have their lengths; where one has another
+ * length, none of them is written. Where a sheet is read and only its build is refused, its knots, samples, axes,
+ * points, kinds, values, modes and edition are handed over, as after a read, and the length alone is 0.
  * All of scratch is +0.0 after success and after 10, and else as it was.
  */
 #ifndef HULLASHLAR_H
