@@ -37,6 +37,9 @@ ERRORS = [
     "step/upward_corner_mended",
     "device/slopes_exchanged",
     "device/half_below_zero_up",
+    "sheet/mode_read_from_the_upper_kind",
+    "kinds/mode_dropped_in_edition_1",
+    "cell/mode_of_the_first_axis_for_all",
 ]
 
 # What `rt try` says of a compiled run that wrote the counts where nothing is expected.

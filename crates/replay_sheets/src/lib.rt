@@ -186,6 +186,45 @@ fn read_refusal(
     )
 }
 
+// Whether the call refused and left its slices as the list says, of which the first is given at a place and the modes at another; the arguments end at `answer`.
+fn parts_left(
+    list: &[u8],
+    given: usize,
+    given_modes: usize,
+    answer: usize,
+    refusal: usize,
+    knots: &[f64],
+    samples: &[f64],
+    axes: &[usize],
+    points: &[usize],
+    kinds: &[u8],
+    values: &[f64],
+    modes: &[u8],
+    edition: &[usize],
+) -> Replayed {
+    let left = after(answer, 1);
+    let read = read_left(
+        list,
+        given,
+        left,
+        knots,
+        samples,
+        axes,
+        points,
+        kinds,
+        values,
+    );
+    let told = edition_left(list, given_modes, read.next, modes, edition);
+    let next = told.next;
+    if refusal as u64 != word(list, answer) {
+        return Replayed { same: false, next };
+    }
+    if !read.same {
+        return Replayed { same: false, next };
+    }
+    told
+}
+
 // The call on the sheet that the list gives at a place and on the slices that it writes, of which the first is given at another and the modes at a third; the arguments end at `answer`.
 fn read_answered(
     list: &[u8],
@@ -214,27 +253,21 @@ fn read_answered(
         modes,
         edition,
     );
-    let left = after(answer, 1);
-    let parts = read_left(
+    parts_left(
         list,
         given,
-        left,
+        given_modes,
+        answer,
+        refusal,
         knots,
         samples,
         axes,
         points,
         kinds,
         values,
-    );
-    let told = edition_left(list, given_modes, parts.next, modes, edition);
-    let next = told.next;
-    if refusal as u64 != word(list, answer) {
-        return Replayed { same: false, next };
-    }
-    if !parts.same {
-        return Replayed { same: false, next };
-    }
-    told
+        modes,
+        edition,
+    )
 }
 
 // The same on the slots of modes and edition alone: the slices of the parts are as the list gives them.
