@@ -1,6 +1,5 @@
 pub mod Ends
 pub mod Editions
-pub mod Classes
 pub mod Lengths
 pub mod Reading
 pub mod Parts
@@ -11,3 +10,4 @@ pub mod Promises
 pub mod Unique
 pub mod Examples
 pub mod Sheets
+pub mod Refusals
