@@ -19,7 +19,7 @@ field-at-requires c κs =
 
 returns : tie.Need-returns
 unfolding axis-at
-returns c = let told = c .before .before .before .before .pre .0 in cc
+returns c = let told = c .before .before .before .before .before .pre .0 in cc
 
 pub axis-spec : {M : Type 1} → statement M
 axis-spec =

@@ -20,13 +20,13 @@ field-at-requires-2 : tie.Need-field-at-requires-2
 field-at-requires-2 c κs = let reach = known (c .before .before) in search needs
 
 add-number-at-2 : tie.Need-add-number-at-2
-add-number-at-2 c = let start = c .before .before in let reach = known start in let told = start .pre .0 in omega arith
+add-number-at-2 c = let start = c .before .before .before in let reach = known start in let told = start .pre .0 in omega arith
 
 number-at-requires : tie.Need-number-at-requires
 number-at-requires c κs = let start = c .before .before .before in let reach = known start in let told = start .pre .0 in search needs
 
 add-number-at-4 : tie.Need-add-number-at-4
-add-number-at-4 c = let start = c .before .before .before in let reach = known start in let told = start .pre .0 in omega arith
+add-number-at-4 c = let start = c .before .before .before .before in let reach = known start in let told = start .pre .0 in omega arith
 
 mul-number-at : tie.Need-mul-number-at
 mul-number-at c = let reach = known (c .before .before .before .before .before) in let lower = kind c in omega arith

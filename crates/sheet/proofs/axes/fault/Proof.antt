@@ -1,13 +1,13 @@
-use mathlib.Core.Path.{_≡_, sym, ap, _∙_}
+use mathlib.Core.Path.{_≡_, sym, ap, ap₂, _∙_}
 use mathlib.Core.Bool.{Bool, true, false, cond}
 use mathlib.Core.List.{List}
-use Prim.Native.Nat.{ℕ, _+_, _*_, _≤_}
+use Prim.Native.Nat.{ℕ, _+_, _*_, _<_, _≤_}
 use native.Mathlib.Omega.{arith}
 use borrow.Author.Tests.{ltb-true, ltb-false}
 use lib.ListN.{length}
 use Rattle.kinds.specs.Kinds.{periodic-at-one-end}
 use Rattle.kinds.specs.Modes.{unknown-mode}
-use Rattle.bits.specs.Bits.{field}
+use Rattle.bits.specs.Bits.{field, numbers-short}
 use Rattle.sheet.specs.Fields.{mode-bits, points-at, lower-kind, upper-kind, mode-said}
 use Rattle.sheet.specs.Faults.{axis-fault}
 use Rattle.sheet.proofs.Extents.{Extent, extent}
@@ -101,24 +101,28 @@ returns-5 c =
     (sym (kinds (c .before)) ∙ c .if5 .taken)
 
 is-short-requires-4 : tie.Need-is-short-requires-4
-is-short-requires-4 c κs = let start = past-kinds (c .before) in let reach = known start in let told = start .pre .0 in omega arith
+is-short-requires-4 c κs = let start = past-kinds c in let reach = known start in let told = start .pre .0 in omega arith
 
 returns-6 : tie.Need-returns-6
 returns-6 c =
     let agreed = c .before .before in
     let upper = agreed .before .before .before in
-    no-mode _ _ (enough (upper .before .before .before .before .before)) (upper-room upper) (kinds-agree agreed)
-    (rw (past-kinds agreed .pre .0) at (ltb-true _ _ (sym (c .before .is-short4 .ensures) ∙ c .if6 .taken)))
+    let start = past-kinds agreed in
+    let gone : 8 * length (list start) < place start + 12 + start .args .width = ltb-true _ _ (sym (c .before .is-short4 .ensures) ∙ c .if6 .taken) in
+    no-mode _ _ (enough (upper .before .before .before .before .before)) (upper-room upper) (kinds-agree agreed) (omega (arith, gone, start .pre .0))
 
 mode-room : (c : tie.Else6) → place (past-mode c) + 12 + mode-bits (list (past-mode c)) ≤ 8 * length (list (past-mode c))
-mode-room c = rw (past-mode c .pre .0) at (ltb-false _ _ (sym (c .before .is-short4 .ensures) ∙ c .if6 .left))
+mode-room c =
+    let start = past-mode c in
+    let room : place start + 12 + start .args .width ≤ 8 * length (list start) = ltb-false _ _ (sym (c .before .is-short4 .ensures) ∙ c .if6 .left) in
+    omega (arith, room, start .pre .0)
 
 field-at-requires-3 : tie.Need-field-at-requires-3
 field-at-requires-3 c κs =
-    let start = past-mode (c .before) in
+    let start = past-mode c in
     let reach = known start in
     let told = start .pre .0 in
-    let room = mode-room (c .before) in
+    let room = mode-room c in
     (record { room = omega arith; small = omega arith }, omega arith)
 
 mode : (c : tie.After-is-unknown-mode) → let start = past-mode (c .before .before) in c .is-unknown-mode .result ≡ unknown-mode (mode-said (list start) (place start))
@@ -136,18 +140,18 @@ returns-7 c =
     (sym (mode (c .before)) ∙ c .if7 .taken)
 
 add-are-short-2 : tie.Need-add-are-short-2
-add-are-short-2 c = let start = past-known (c .before) in let reach = known start in let told = start .pre .0 in omega arith
+add-are-short-2 c = let start = past-known c in let reach = known start in let told = start .pre .0 in omega arith
 
 values-requires : tie.Need-values-requires
 values-requires c κs =
-    let room = upper-room (c .before .before .before .before .before .before .before .before .before) in
+    let room = upper-room (c .before .before .before .before .before .before .before .before) in
     record { room = omega arith; small = omega arith }
 
 add-are-short-3 : tie.Need-add-are-short-3
 add-are-short-3 c = let reach = known (past-known (c .before)) in omega arith
 
 are-short-requires : tie.Need-are-short-requires
-are-short-requires c κs = let start = past-known (c .before .before) in let reach = known start in let told = start .pre .0 in (omega arith, omega arith)
+are-short-requires c κs = let start = past-known (c .before) in let reach = known start in let told = start .pre .0 in (omega arith, omega arith)
 
 -- all that follows the mode
 rest : (c : tie.After-are-short) (test : Bool) → c .are-short .result ≡ test → cond test 11 0 ≡ axis-fault (list (past-known (c .before .before))) (place (past-known (c .before .before)))
@@ -156,10 +160,14 @@ rest c test e =
     let there = known-mode .before .before .before in
     let agreed = there .before .before in
     let upper = agreed .before .before .before in
+    let few = upper .before .before .before .before .before in
     let start = past-known known-mode in
-    let told = start .pre .0 in
-    patterns _ _ (enough (upper .before .before .before .before .before)) (upper-room upper) (kinds-agree agreed) (mode-room there)
-    (sym (mode (known-mode .before)) ∙ known-mode .if7 .left) test (cc)
+    let is =
+    c .are-short .ensures
+    ∙ ap₂ (λ (p n : ℕ). numbers-short (list start) p n) (ap (λ (w : ℕ). place start + 12 + w) (start .pre .0))
+    (ap₂ (λ (a b : ℕ). a + b) (c .before .values .ensures) (few .before .points .ensures)) in
+    patterns _ _ (enough few) (upper-room upper) (kinds-agree agreed) (mode-room there)
+    (sym (mode (known-mode .before)) ∙ known-mode .if7 .left) test (sym is ∙ e)
 
 returns-8 : tie.Need-returns-8
 returns-8 c = rest (c .before) true (c .if8 .taken)

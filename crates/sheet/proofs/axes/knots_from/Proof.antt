@@ -9,7 +9,7 @@ known : (c : tie.Start) → Extent (c .args .bytes .now) (c .args .at)
 known c = extent _ _
 
 add-result-2 : tie.Need-add-result-2
-add-result-2 c = let reach = known c in let told = c .pre .0 in omega arith
+add-result-2 c = let reach = known (c .before) in let told = c .before .pre .0 in omega arith
 
 mul-result : tie.Need-mul-result
 mul-result c = let reach = known (c .before .before) in omega arith

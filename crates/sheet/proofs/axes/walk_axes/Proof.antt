@@ -22,7 +22,7 @@ returns c =
 axis-requires : tie.Need-axis-requires Inv-loop μ-loop
 axis-requires c κs =
     let turn = c .before .before in
-    turn-whole _ _ _ _ _ (turn .before .loop .inv) (turn .loop-test .taken) (sym (c .before .fault .ensures) ∙ c .if1 .left)
+    (turn .before .before .before .before .pre .0, turn-whole _ _ _ _ _ (turn .before .loop .inv) (turn .loop-test .taken) (sym (c .before .fault .ensures) ∙ c .if1 .left))
 
 after-requires : tie.Need-after-requires Inv-loop μ-loop
 after-requires c κs = axis-requires (c .before) κs
