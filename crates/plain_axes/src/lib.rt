@@ -2,7 +2,7 @@
 ghost use mathlib.Core.Path.{_≡_};
 ghost use Prim.Native.Nat.{_+_, _*_, _<_, _≤_};
 ghost use lib.ListN.{length};
-ghost use Rattle.plain_axes.specs.Axes.{condition-given, some-kinds-refused, axis-given, axes-given, axis-without-ends, axes-without-ends, some-modes-refused, mode-given, modes-given, AxisStored, AxesStored};
+ghost use Rattle.plain_axes.specs.Axes.{condition-given, some-kinds-refused, axis-given, axes-given, axis-without-ends, axes-without-ends, some-modes-refused, axis-in-mode, axes-in-modes, AxisStored, AxesStored};
 use kinds::ends::condition_of_kind;
 use kinds::ends::end_of_kind;
 use kinds::ends::kinds_refused;
@@ -31,7 +31,7 @@ pub fn condition_given(kinds: &[u8], values: &[f64], i: usize) -> Condition
     )
 }
 
-// Entry i of the four: the axis, where it is in use.
+// Entry i of the four: the axis in extend, where it is in use.
 fn axis_given(axes: usize, points: &[usize], kinds: &[u8], values: &[f64], i: usize) -> Axis
     requires { ⌜ (i < length (now points)) × (2 * i + 1 < length (now kinds)) × (2 * i + 1 < length (now values)) ⌝ }
     ensures { λ r. ⌜ r ≡ axis-given axes (now (points .entry)) (now (kinds .entry)) (now (values .entry)) i ⌝ }
@@ -60,7 +60,7 @@ pub fn axes_given(axes: usize, points: &[usize], kinds: &[u8], values: &[f64]) -
     ]
 }
 
-// Entry i of the four of a query, which takes no ends.
+// Entry i of the four of a call that takes no ends.
 fn axis_without_ends(axes: usize, points: &[usize], i: usize) -> Axis
     requires { ⌜ i < length (now points) ⌝ }
     ensures { λ r. ⌜ r ≡ axis-without-ends axes (now (points .entry)) i ⌝ }
@@ -76,7 +76,7 @@ fn axis_without_ends(axes: usize, points: &[usize], i: usize) -> Axis
     }
 }
 
-// The four axes of a query.
+// The four axes of such a call.
 pub fn axes_without_ends(axes: usize, points: &[usize]) -> [Axis; 4]
     requires { ⌜ length (now points) ≡ 4 ⌝ }
     ensures { λ r. ⌜ r ≡ axes-without-ends axes (now (points .entry)) ⌝ }
@@ -119,28 +119,34 @@ pub fn some_modes_refused(axes: usize, modes: &[u8]) -> bool
     false
 }
 
-// Entry i of the four: the mode, where the axis is in use.
-fn mode_given(axes: usize, modes: &[u8], i: usize) -> Mode
-    requires { ⌜ i < length (now modes) ⌝ }
-    ensures { λ r. ⌜ r ≡ mode-given axes (now (modes .entry)) i ⌝ }
+// Entry i of the four with its mode, where the axis is in use.
+fn axis_in_mode(axes: usize, all: [Axis; 4], modes: &[u8], i: usize) -> Axis
+    requires { ⌜ (i < 4) × (i < length (now modes)) ⌝ }
+    ensures { λ r. ⌜ r ≡ axis-in-mode axes all (now (modes .entry)) i ⌝ }
 {
+    let axis = all[i];
     if i < axes {
-        mode_of_number(wide(modes[i]))
+        let condition = axis.condition;
+        Axis {
+            points: axis.points,
+            condition,
+            mode: mode_of_number(wide(modes[i])),
+        }
     } else {
-        Mode::Extend
+        axis
     }
 }
 
-// The four modes.
-pub fn modes_given(axes: usize, modes: &[u8]) -> [Mode; 4]
+// The four axes with their modes.
+pub fn axes_in_modes(axes: usize, all: [Axis; 4], modes: &[u8]) -> [Axis; 4]
     requires { ⌜ length (now modes) ≡ 4 ⌝ }
-    ensures { λ r. ⌜ r ≡ modes-given axes (now (modes .entry)) ⌝ }
+    ensures { λ r. ⌜ r ≡ axes-in-modes axes all (now (modes .entry)) ⌝ }
 {
     [
-        mode_given(axes, modes, 0),
-        mode_given(axes, modes, 1),
-        mode_given(axes, modes, 2),
-        mode_given(axes, modes, 3),
+        axis_in_mode(axes, all, modes, 0),
+        axis_in_mode(axes, all, modes, 1),
+        axis_in_mode(axes, all, modes, 2),
+        axis_in_mode(axes, all, modes, 3),
     ]
 }
 

@@ -10,8 +10,7 @@ use Rattle.rules.specs.EvenCalls.{even-query-answer, EvenQueryPromise}
 use Rattle.rules.specs.declared.QueryAnswer.{QueryAnswer}
 use Rattle.rules.specs.declared.EvenAnswer.{EvenAnswer}
 use Rattle.rules.specs.declared.Axis.{Axis}
-use Rattle.rules.specs.declared.Mode.{Mode}
-use Rattle.plain_axes.specs.Axes.{axes-without-ends, modes-given, grid-without-ends}
+use Rattle.plain_axes.specs.Axes.{axes-without-ends, axes-in-modes, grid-in-modes}
 use Rattle.boundary.specs.OwnRefusals.{query-own-refusal, even-query-own-refusal}
 use Rattle.boundary.specs.Slots.{QueryStored, EvenStored}
 use Rattle.query_exports.specs.QueryExports.{AnswerExport, QueryExport, QuickQueryExport, EvenQueryExport}
@@ -48,24 +47,24 @@ module _ (axes : ℕ) (points modes : List ℕ) (knots tensor-lent coordinates v
       → QuickQueryExport axes points modes knots tensor-lent coordinates value-lent labels-lent r v l
   quick-query-refused = answer-refused _ _ value-lent labels-lent e
 
-  module _ (none : r ≡ 0) (all : List Axis) (given : all ≡ axes-without-ends axes points) (chosen : List Mode) (modes-are : chosen ≡ modes-given axes modes) (a : QueryAnswer) {v : List Float} {l : List ℕ} where
+  module _ (none : r ≡ 0) (all : List Axis) (given : all ≡ axes-without-ends axes points) (moded : List Axis) (modes-are : moded ≡ axes-in-modes axes all modes) (a : QueryAnswer) {v : List Float} {l : List ℕ} where
     pub query-called :
-        QueryPromise (record { axes = axes; entries = all; flat-knots = knots }) chosen tensor-lent coordinates a
+        QueryPromise (record { axes = axes; entries = moded; flat-knots = knots }) tensor-lent coordinates a
         → QueryStored value-lent labels-lent (a .value) (a .labels) v l
         → QueryExport axes points modes knots tensor-lent coordinates value-lent labels-lent (a .refusal) v l
-    query-called p = answer-given _ _ value-lent labels-lent e none a ((rw (given, modes-are) at p) .answer)
+    query-called p = answer-given _ _ value-lent labels-lent e none a ((rw (modes-are, given) at p) .answer)
 
     pub quick-query-called :
-        QuickQueryPromise (record { axes = axes; entries = all; flat-knots = knots }) chosen tensor-lent coordinates a
+        QuickQueryPromise (record { axes = axes; entries = moded; flat-knots = knots }) tensor-lent coordinates a
         → QueryStored value-lent labels-lent (a .value) (a .labels) v l
         → QuickQueryExport axes points modes knots tensor-lent coordinates value-lent labels-lent (a .refusal) v l
-    quick-query-called p = answer-given _ _ value-lent labels-lent e none a ((rw (given, modes-are) at p) .answer)
+    quick-query-called p = answer-given _ _ value-lent labels-lent e none a ((rw (modes-are, given) at p) .answer)
 
 -- ---- the query of even axes
 
 module _ (axes : ℕ) (points modes : List ℕ) (knots tensor-lent coordinates value-lent : List Float) (labels-lent uneven-lent : List ℕ) {r : ℕ} (e : r ≡ even-query-own-refusal axes points modes knots tensor-lent coordinates value-lent labels-lent uneven-lent) where
   abbrev given-answer : EvenAnswer
-  given-answer = even-query-answer (grid-without-ends axes points knots) (modes-given axes modes) tensor-lent coordinates
+  given-answer = even-query-answer (grid-in-modes axes points modes knots) tensor-lent coordinates
 
   pub even-query-refused :
       (r ≡ 0 → ⊥) → {v : List Float} {l u : List ℕ} → EvenStored value-lent labels-lent uneven-lent plus-zero (table most-axes (λ i. 0)) 0 0 v l u
@@ -78,12 +77,12 @@ module _ (axes : ℕ) (points modes : List ℕ) (knots tensor-lent coordinates v
   }
 
   pub even-query-called :
-      r ≡ 0 → (all : List Axis) → all ≡ axes-without-ends axes points → (chosen : List Mode) → chosen ≡ modes-given axes modes → (a : EvenAnswer) {v : List Float} {l u : List ℕ}
-      → EvenQueryPromise (record { axes = axes; entries = all; flat-knots = knots }) chosen tensor-lent coordinates a
+      r ≡ 0 → (all : List Axis) → all ≡ axes-without-ends axes points → (moded : List Axis) → moded ≡ axes-in-modes axes all modes → (a : EvenAnswer) {v : List Float} {l u : List ℕ}
+      → EvenQueryPromise (record { axes = axes; entries = moded; flat-knots = knots }) tensor-lent coordinates a
       → EvenStored value-lent labels-lent uneven-lent (a .value) (a .labels) (a .axis) (a .interval) v l u
       → EvenQueryExport axes points modes knots tensor-lent coordinates value-lent labels-lent uneven-lent (a .refusal) v l u
-  even-query-called none all given chosen modes-are a p in-place =
-      let is = (rw (given, modes-are) at p) .answer in
+  even-query-called none all given moded modes-are a p in-place =
+      let is = (rw (modes-are, given) at p) .answer in
       record {
         answer = call-answer _ e none (ap (λ (b : EvenAnswer). b .refusal) is);
         answer-stored = rw (sym e ∙ none) (rw is at in-place);

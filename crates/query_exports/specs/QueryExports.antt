@@ -7,7 +7,7 @@ use Rattle.rules.specs.Calls.{or-else, answered, counted, labelled, query-answe
 use Rattle.rules.specs.EvenCalls.{even-query-answer}
 use Rattle.rules.specs.declared.EvenAnswer.{EvenAnswer}
 use Rattle.rules.specs.declared.QueryAnswer.{QueryAnswer}
-use Rattle.plain_axes.specs.Axes.{grid-without-ends, modes-given}
+use Rattle.plain_axes.specs.Axes.{grid-in-modes}
 use Rattle.boundary.specs.OwnRefusals.{query-own-refusal, even-query-own-refusal}
 use Rattle.boundary.specs.Slots.{QueryStored, EvenStored}
 
@@ -24,10 +24,10 @@ pub record AnswerExport (own : ℕ) (given : QueryAnswer) (value-lent : List Flo
 module _ (axes : ℕ) (points modes : List ℕ) (knots tensor-lent coordinates value-lent : List Float) (labels-lent : List ℕ) where
   -- short names for what the promises are said by
   abbrev given-query-answer : QueryAnswer
-  given-query-answer = query-answer (grid-without-ends axes points knots) (modes-given axes modes) tensor-lent coordinates
+  given-query-answer = query-answer (grid-in-modes axes points modes knots) tensor-lent coordinates
 
   abbrev given-quick-query-answer : QueryAnswer
-  given-quick-query-answer = quick-query-answer (grid-without-ends axes points knots) (modes-given axes modes) tensor-lent coordinates
+  given-quick-query-answer = quick-query-answer (grid-in-modes axes points modes knots) tensor-lent coordinates
 
   abbrev query-own : ℕ
   query-own = query-own-refusal axes points modes knots tensor-lent coordinates value-lent labels-lent
@@ -44,7 +44,7 @@ module _ (axes : ℕ) (points modes : List ℕ) (knots tensor-lent coordinates v
 module _ (axes : ℕ) (points modes : List ℕ) (knots tensor-lent coordinates value-lent : List Float) (labels-lent uneven-lent : List ℕ) where
   -- what the call answers of what was given
   abbrev given-even-answer : EvenAnswer
-  given-even-answer = even-query-answer (grid-without-ends axes points knots) (modes-given axes modes) tensor-lent coordinates
+  given-even-answer = even-query-answer (grid-in-modes axes points modes knots) tensor-lent coordinates
 
   -- the host's own refusal of what was given
   abbrev even-own : ℕ

@@ -31,8 +31,8 @@ pub fn query(
         return refusal;
     }
     let all = plain_axes::axes_without_ends(axes, points);
-    let chosen = plain_axes::modes_given(axes, modes);
-    let answer = query::query(axes, all, chosen, knots, tensor, coordinates);
+    let moded = plain_axes::axes_in_modes(axes, all, modes);
+    let answer = query::query(axes, moded, knots, tensor, coordinates);
     let found = answer.labels;
     slots::store_query(value, labels, answer.value, found);
     answer.refusal
@@ -66,8 +66,8 @@ pub fn quick_query(
         return refusal;
     }
     let all = plain_axes::axes_without_ends(axes, points);
-    let chosen = plain_axes::modes_given(axes, modes);
-    let answer = quick_query::quick_query(axes, all, chosen, knots, tensor, coordinates);
+    let moded = plain_axes::axes_in_modes(axes, all, modes);
+    let answer = quick_query::quick_query(axes, moded, knots, tensor, coordinates);
     let found = answer.labels;
     slots::store_query(value, labels, answer.value, found);
     answer.refusal
@@ -103,8 +103,8 @@ pub fn even_query(
         return refusal;
     }
     let all = plain_axes::axes_without_ends(axes, points);
-    let chosen = plain_axes::modes_given(axes, modes);
-    let answer = even_query::even_query(axes, all, chosen, knots, tensor, coordinates);
+    let moded = plain_axes::axes_in_modes(axes, all, modes);
+    let answer = even_query::even_query(axes, moded, knots, tensor, coordinates);
     let found = answer.labels;
     slots::store_even_query(
         value,

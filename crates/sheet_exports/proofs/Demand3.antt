@@ -6,7 +6,10 @@ use lib.ListN.{length, take, getD}
 use lib.Ieee.{Float}
 use Rattle.rules.specs.Numbers.{at}
 use Rattle.rules.specs.Sizes.{Grid, points, knots-length, samples-length}
+use Rattle.rules.specs.Outside.{with-axes, ButForModes}
+use Rattle.rules.specs.declared.Axis.{Axis}
 use Rattle.rules.proofs.Refused.{or-else-passed}
+use Rattle.rules.proofs.WithoutModes.{knots-length-same, samples-length-same, build-without-modes}
 use Rattle.checks.proofs.Rows.{axes-few}
 use Rattle.tensor.proofs.Demand3.{Stands, built-stands}
 use Rattle.sheet.specs.Fields.{axes as axes-said, sheet-grid}
@@ -62,10 +65,19 @@ module _
     unfolding sheet-tensor-refusal
     reading-none = or-else-passed reading _ (both .1) .0
 
-    -- the axes handed over are those that were read
-    again : axes-given (answer .axes) (points-found (answer .all)) (kinds-found (answer .all)) (values-found (answer .all)) ≡ answer .all
+    -- the axes handed over are those that were read, but for their modes, which neither a build nor a change reads
+    abbrev handed : List Axis
+    handed = axes-given (answer .axes) (points-found (answer .all)) (kinds-found (answer .all)) (values-found (answer .all))
+
+    again : ButForModes (grid-made answer k) handed
     unfolding sheet-grid
-    again = rw reading-none (sheet-axes-again bytes (axes-said bytes))
+    again = rw reading-none (sheet-axes-again bytes (axes-said bytes) _)
+
+    stands-handed : Stands (with-axes (grid-made answer k) handed) (samples-made answer s) (tensor-made answer t)
+    stands-handed =
+        built-stands _ _ _ _ _ _
+        (build-without-modes (grid-made answer k) handed again _ _ _
+        (sheet-is-built bytes knots-lent samples-lent tensor-lent scratch-lent answer k s t w as-sheet none))
 
     handed-fine : Fine (answer .axes) (points-found (answer .all)) (kinds-found (answer .all)) (values-found (answer .all))
     unfolding sheet-grid
@@ -82,4 +94,7 @@ module _
         let kinds-are : n ≡ kinds-found (answer .all) = rw (both .0) at (called .found .kinds) in
         let values-are : v ≡ values-found (answer .all) = rw (both .0) at (called .found .values) in
         let length-is : l ≡ answer .length ∷ [] = rw (both .0) at (called .slot) in
-        rw (axes-are, points-are, kinds-are, values-are, length-is) (record { fine = handed-fine; stands = rw again stands-made })
+        rw (axes-are, points-are, kinds-are, values-are, length-is) (record {
+          fine = handed-fine;
+          stands = rw (← knots-length-same (grid-made answer k) handed again, ← samples-length-same (grid-made answer k) handed again) stands-handed;
+        })

@@ -1,11 +1,13 @@
--- What a read leaves in points, kinds and values are the sheet's axes to the calls that take them, and the host itself accepts them.
+-- What a read leaves in points, kinds and values are the sheet's axes, but for their modes, to the calls that take them, and the host itself accepts them.
 use mathlib.Core.Path.{_≡_, refl}
 use mathlib.Core.Bool.{false}
 use mathlib.Core.List.{List}
 use Prim.Native.Nat.{ℕ, zero, suc, _<_, _≤_}
 use native.Mathlib.Omega.{arith}
 use lib.ListN.{getD}
+use lib.Ieee.{Float}
 use Rattle.rules.specs.Sizes.{unused-axis}
+use Rattle.rules.specs.Outside.{ButForModes}
 use Rattle.rules.specs.declared.End.the-variants.{NotAKnot, FirstDerivative, SecondDerivative}
 use Rattle.rules.specs.declared.Condition.{Condition}
 use Rattle.rules.specs.declared.Condition.the-variants.{Endpoints, Periodic}
@@ -17,10 +19,10 @@ use Rattle.plain_axes.proofs.Found.{axes-again}
 use Rattle.tensor_exports.proofs.Accepted.{Fine}
 
 pub sheet-axes-again :
-    (bytes : List ℕ) (n : ℕ)
-    → axes-given n (points-found (entries bytes n)) (kinds-found (entries bytes n)) (values-found (entries bytes n)) ≡ entries bytes n
-unfolding entries axis-at
-sheet-axes-again bytes n = axes-again (λ i. axis-at bytes (axis-begin bytes i)) n (λ i. refl)
+    (bytes : List ℕ) (n : ℕ) (x : List Float)
+    → ButForModes (record { axes = n; entries = entries bytes n; flat-knots = x }) (axes-given n (points-found (entries bytes n)) (kinds-found (entries bytes n)) (values-found (entries bytes n)))
+unfolding entries
+sheet-axes-again bytes n x = axes-again (λ i. axis-at bytes (axis-begin bytes i)) n x
 
 -- the kinds of a condition are never refused
 told-stands : (c : Condition) → kinds-refused (lower-kind-of c) (upper-kind-of c) ≡ false

@@ -14,15 +14,15 @@ returns c =
 axes-without-ends-requires : tie.Need-axes-without-ends-requires
 axes-without-ends-requires c κs = even-query-lengths _ _ _ _ _ _ _ _ _ (sym (c .before .even-query-own-refusal .ensures) ∙ c .if1 .left) .0
 
-modes-given-requires : tie.Need-modes-given-requires
-modes-given-requires c κs = even-query-lengths _ _ _ _ _ _ _ _ _ (sym (c .before .before .even-query-own-refusal .ensures) ∙ c .before .if1 .left) .1
+axes-in-modes-requires : tie.Need-axes-in-modes-requires
+axes-in-modes-requires c κs = even-query-lengths _ _ _ _ _ _ _ _ _ (sym (c .before .before .even-query-own-refusal .ensures) ∙ c .before .if1 .left) .1
 
 returns-2 : tie.Need-returns-2
 returns-2 c =
     let stored = c .before .before .before .before .before .before in
     let answered = stored .before .before .before .before .before in
     let passed = answered .before .before .before in
-    even-query-called _ _ _ _ _ _ _ _ _ (passed .before .even-query-own-refusal .ensures) (passed .if1 .left) _ (answered .before .before .axes-without-ends .ensures) _ (answered .before .modes-given .ensures) _ (answered .even-query .ensures) (stored .store-even-query2 .ensures)
+    even-query-called _ _ _ _ _ _ _ _ _ (passed .before .even-query-own-refusal .ensures) (passed .if1 .left) _ (answered .before .before .axes-without-ends .ensures) _ (answered .before .axes-in-modes .ensures) _ (answered .even-query .ensures) (stored .store-even-query2 .ensures)
 
 pub even-query-spec : {M : Type 1} → statement M
 even-query-spec =
@@ -35,7 +35,7 @@ even-query-spec =
     (λ c. search needs)
     returns
     axes-without-ends-requires
-    modes-given-requires
+    axes-in-modes-requires
     (λ c κs. search needs)
     (λ c κs. search needs)
     (λ c. search needs)
