@@ -167,9 +167,6 @@ module _ (bytes : List ℕ) where
       rw (is, drop-at first (here ++ all .0) a e) (take-at here (all .0) p f)
 
 module _ (bytes : List ℕ) (ok : Accepted bytes) (samples : List Float) (fine : WithoutNan (sheet-grid bytes) samples) where
-  abbrev width : ℕ
-  width = mode-bits bytes
-
   abbrev n : ℕ
   n = axes bytes
 
@@ -211,25 +208,25 @@ module _ (bytes : List ℕ) (ok : Accepted bytes) (samples : List Float) (fine :
   mode : (i : ℕ) → i < n → unknown-mode (mode-said bytes (axis-begin bytes i)) ≡ false
   mode i l = faultless-axis bytes (axis-begin bytes i) (each-faultless bytes n i (ok .faultless) l) .3
 
-  fields-are : (i : ℕ) → i < n → axis-fields width (entry g i) (knots g i) ≡ axis-fields width (axis-at bytes (axis-begin bytes i)) (knots-at bytes (axis-begin bytes i))
-  fields-are i l = ap₂ (axis-fields width) (entry-is i l) (knots-is i l)
+  fields-are : (i : ℕ) → i < n → axis-fields (mode-bits bytes) (entry g i) (knots g i) ≡ axis-fields (mode-bits bytes) (axis-at bytes (axis-begin bytes i)) (knots-at bytes (axis-begin bytes i))
+  fields-are i l = ap₂ (axis-fields (mode-bits bytes)) (entry-is i l) (knots-is i l)
 
-  pub end-is : (i : ℕ) → i ≤ n → 7 + bits-in (axes-fields width g i) ≡ axis-begin bytes i
-  end-is zero l = (let e = axes-none width g in omega arith) ∙ sym (begin-first bytes)
+  pub end-is : (i : ℕ) → i ≤ n → 7 + bits-in (axes-fields (mode-bits bytes) g i) ≡ axis-begin bytes i
+  end-is zero l = (let e = axes-none (mode-bits bytes) g in omega arith) ∙ sym (begin-first bytes)
   end-is (suc i) l =
       let before = end-is i (omega arith) in
-      let next = axes-next width g i in
+      let next = axes-next (mode-bits bytes) g i in
       let bits = ap bits-in (fields-are i l) in
       let here = end-back bytes (axis-begin bytes i) (kinds i l) (mode i l) in
-      (let e : 7 + bits-in (axes-fields width g (suc i)) ≡ axis-end bytes (axis-begin bytes i) = omega arith in e) ∙ sym (begin-next bytes i)
+      (let e : 7 + bits-in (axes-fields (mode-bits bytes) g (suc i)) ≡ axis-end bytes (axis-begin bytes i) = omega arith in e) ∙ sym (begin-next bytes i)
 
-  none-stand : Stand bytes 7 (axes-fields width g 0)
+  none-stand : Stand bytes 7 (axes-fields (mode-bits bytes) g 0)
   unfolding Stand axes-fields
   none-stand = tt
 
-  pub axes-stand : (i : ℕ) → i ≤ n → Stand bytes 7 (axes-fields width g i)
+  pub axes-stand : (i : ℕ) → i ≤ n → Stand bytes 7 (axes-fields (mode-bits bytes) g i)
   axes-stand zero l = none-stand
   axes-stand (suc i) l =
-      rw (axes-append width g i)
-      (stand-append bytes 7 (axes-fields width g i) (axis-fields width (entry g i) (knots g i)) (axes-stand i (omega arith))
+      rw (axes-append (mode-bits bytes) g i)
+      (stand-append bytes 7 (axes-fields (mode-bits bytes) g i) (axis-fields (mode-bits bytes) (entry g i) (knots g i)) (axes-stand i (omega arith))
       (rw (end-is i (omega arith), fields-are i l) (axis-stands bytes (axis-begin bytes i) (kinds i l) (mode i l) (fine-ends i l) (fine-knots i l))))

@@ -18,12 +18,12 @@ use Rattle.sheet_write.specs.SheetOf.{sheet-of}
 use Rattle.sheet_write.specs.Write.{no-sheet-refusal, some-mode-refused, edition-refusal, write-refusal}
 
 -- a number whose class is one of those before Unknown
-abbrev Told : ℕ → Type 0
-Told number = place (class number) < 4
+record Told (number : ℕ) : Type 0 where
+  few : place (class number) < 4
 
 none : Told 0
 unfolding class
-none = lit< tt
+none = record { few = lit< tt }
 
 tested : (test : Bool) {number later : ℕ} → Told number → Told later → Told (cond test number later)
 tested true n l = n
@@ -36,21 +36,21 @@ one-or-other (suc first) f l = f
 of-parts : (g : Grid) (samples : List Float) → Told (no-sheet-refusal g samples)
 unfolding no-sheet-refusal class
 of-parts g samples =
-    tested (axes-refused g) (lit< tt)
-    (tested (some-points-refused g) (lit< tt)
-    (tested (tensor-refused g) (lit< tt)
-    (tested (length-refused (length (g .flat-knots)) (knots-length g) || length-refused (length samples) (samples-length g)) (lit< tt)
-    (tested (some-number-refused (g .flat-knots) || some-ends-refused g || some-number-refused samples) (lit< tt)
-    (tested (some-knots-refused g) (lit< tt)
-    (tested (some-fewness-refused g) (lit< tt) none))))))
+    tested (axes-refused g) (record { few = lit< tt })
+    (tested (some-points-refused g) (record { few = lit< tt })
+    (tested (tensor-refused g) (record { few = lit< tt })
+    (tested (length-refused (length (g .flat-knots)) (knots-length g) || length-refused (length samples) (samples-length g)) (record { few = lit< tt })
+    (tested (some-number-refused (g .flat-knots) || some-ends-refused g || some-number-refused samples) (record { few = lit< tt })
+    (tested (some-knots-refused g) (record { few = lit< tt })
+    (tested (some-fewness-refused g) (record { few = lit< tt }) none))))))
 
 of-edition : (edition : ℕ) (g : Grid) → Told (edition-refusal edition g)
 unfolding edition-refusal class
-of-edition edition g = tested (unknown-edition edition) (lit< tt) (tested (some-mode-refused edition g) (lit< tt) none)
+of-edition edition g = tested (unknown-edition edition) (record { few = lit< tt }) (tested (some-mode-refused edition g) (record { few = lit< tt }) none)
 
 of-buffer : (edition : ℕ) (g : Grid) (samples : List Float) (buffer : List ℕ) → Told (cond (ltb (length buffer) (length (sheet-of edition g samples))) 15 0)
 unfolding class
-of-buffer edition g samples buffer = tested (ltb (length buffer) (length (sheet-of edition g samples))) (lit< tt) none
+of-buffer edition g samples buffer = tested (ltb (length buffer) (length (sheet-of edition g samples))) (record { few = lit< tt }) none
 
 told : (edition : ℕ) (g : Grid) (samples : List Float) (buffer : List ℕ) → Told (write-refusal edition g samples buffer)
 unfolding write-refusal
@@ -59,4 +59,4 @@ told edition g samples buffer =
     (one-or-other (edition-refusal edition g) (of-edition edition g) (of-buffer edition g samples buffer))
 
 pub write-refusal-known : (edition : ℕ) (g : Grid) (samples : List Float) (buffer : List ℕ) → class (write-refusal edition g samples buffer) ≡ Unknown → ⊥
-write-refusal-known edition g samples buffer e = let places = ap place e in let few = told edition g samples buffer in omega arith
+write-refusal-known edition g samples buffer e = let places = ap place e in let few = told edition g samples buffer .few in omega arith

@@ -9,6 +9,8 @@ use lib.ListN.{length}
 use lib.Ieee.{Float}
 use Rattle.rules.specs.Sizes.{Grid}
 use Rattle.rules.specs.Calls.{or-else, stored, counted}
+use Rattle.rules.specs.declared.Axis.{Axis}
+use Rattle.grid.specs.Given.{grid, sizes-of}
 use Rattle.rules.proofs.Refused.{or-else-met, unchanged}
 use Rattle.bits.specs.Within.{Within}
 use Rattle.bits.specs.Written.{bits-in, with-fields, bytes-for}
@@ -28,6 +30,11 @@ use Rattle.sheet_write.proofs.Largest.{part-count, bits-most}
 none-counted : (refusal count : ℕ) → (refusal ≡ 0 → ⊥) → 0 ≡ counted refusal count
 none-counted zero count met = absurd (met refl)
 none-counted (suc refusal) count met = refl
+
+-- the edition is judged by the axes alone
+pub edition-of-axes : (edition axes : ℕ) (all : List Axis) (knots : List Float) → edition-refusal edition (sizes-of axes all) ≡ edition-refusal edition (grid axes all knots)
+unfolding edition-refusal
+edition-of-axes edition axes all knots = refl
 
 module _ (edition : ℕ) (g : Grid) (samples : List Float) (buffer : List ℕ) where
   -- an answer with this refusal, and nothing written

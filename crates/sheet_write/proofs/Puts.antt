@@ -22,8 +22,9 @@ use Rattle.bits.specs.Within.{Within}
 use Rattle.bits.specs.Written.{with-field, Field, wide, number-field, number-fields, bits-in, with-fields, filler}
 use Rattle.bits.proofs.Rows.{bits-in-append, with-fields-append, fields-length}
 use Rattle.bits.proofs.Numbers.{numbers-bits}
+use Rattle.sheet.proofs.Extents.{width-most}
 use Rattle.sheet_write.specs.SheetOf.{ends-fields, axis-fields, axes-fields, part-fields, sheet-fields}
-use Rattle.sheet_write.specs.Within.{AxisGiven, FieldsGiven, AxesGiven}
+use Rattle.sheet_write.specs.Within.{HeadGiven, with-head, AxisGiven, FieldsGiven, AxesGiven, SheetGiven}
 use Rattle.sheet_write.proofs.Ends.{ends-bits}
 use Rattle.sheet_write.proofs.Lengths.{axis-bits, axes-next, part-bits}
 use Rattle.sheet_write.proofs.Axes.{entry, axes-append, first-bits}
@@ -74,29 +75,35 @@ module _ (b : List ℕ) (p : ℕ) where
 
 module _ (b : List ℕ) (p width : ℕ) (axis : Axis) (x : List Float) where
   pub axis-put :
-      (b1 b2 b3 b4 b5 later : List ℕ) (next : ℕ)
-      → b1 ≡ with-field b p 8 (axis .points - 1)
-      → b2 ≡ with-field b1 (p + 8) 2 (lower-kind-of (axis .condition))
-      → b3 ≡ with-field b2 (p + 10) 2 (upper-kind-of (axis .condition))
-      → b4 ≡ with-field b3 (p + 12) width (mode-number (axis .mode))
+      (b4 b5 later : List ℕ) (next : ℕ)
+      → b4 ≡ with-head b p width axis
       → next ≡ p + 12 + width + bits-in (ends-fields (axis .condition))
       → b5 ≡ with-fields b4 (p + 12 + width) (ends-fields (axis .condition))
       → later ≡ with-fields b5 next (number-fields x)
       → (next + 64 * length x ≡ p + bits-in (axis-fields width axis x)) × (later ≡ with-fields b p (axis-fields width axis x))
   unfolding axis-fields with-fields
-  axis-put b1 b2 b3 b4 b5 later next e1 e2 e3 e4 n e5 e6 =
+  axis-put b4 b5 later next e4 n e5 e6 =
       let ten : p + 8 + 2 ≡ p + 10 = omega arith in
+      let last : p + 10 + 2 ≡ p + 12 = omega arith in
       let twelve : p + 8 + 2 + 2 ≡ p + 12 = omega arith in
       let bits = axis-bits width axis x in
       let ends = ends-bits (axis .condition) in
       let row : List Field = ends-fields (axis .condition) ++ number-fields x in
       let rest : with-fields b4 (p + 12 + width) row ≡ later =
       with-fields-append b4 (p + 12 + width) (ends-fields (axis .condition)) (number-fields x) ∙ rw (← n, ← e5) (sym e6) in
-      let kinds : b3 ≡ with-field (with-field (with-field b p 8 (axis .points - 1)) (p + 8) 2 (lower-kind-of (axis .condition))) (p + 8 + 2) 2 (upper-kind-of (axis .condition)) =
-      rw (ten, ← e1, ← e2) e3 in
-      let mode : b4 ≡ with-field (with-field (with-field (with-field b p 8 (axis .points - 1)) (p + 8) 2 (lower-kind-of (axis .condition))) (p + 8 + 2) 2 (upper-kind-of (axis .condition))) (p + 8 + 2 + 2) width (mode-number (axis .mode)) =
-      rw (twelve, ← kinds) e4 in
-      (omega arith, sym rest ∙ ap₂ (λ (d : List ℕ) (q : ℕ). with-fields d (q + width) row) mode (sym twelve))
+      let head : with-field (with-field (with-field (with-field b p 8 (axis .points - 1)) (p + 8) 2 (lower-kind-of (axis .condition))) (p + 8 + 2) 2 (upper-kind-of (axis .condition))) (p + 8 + 2 + 2) width (mode-number (axis .mode)) ≡ b4 =
+      rw (ten, last) (sym e4) in
+      (omega arith, sym rest ∙ ap₂ (λ (d : List ℕ) (q : ℕ). with-fields d (q + width) row) (sym head) (sym twelve))
+
+  -- there is room for what comes before the numbers
+  pub head-given : AxisGiven b p width axis x → HeadGiven b p width axis
+  head-given given =
+      let bits = axis-bits width axis x in
+      record {
+        narrow = given .narrow;
+        some-points = given .some-points;
+        within = part-within b b p (bits-in (axis-fields width axis x)) p (12 + width) (given .within) refl (omega arith);
+      }
 
 -- ---- the axes
 
@@ -187,6 +194,24 @@ module _ (b : List ℕ) (edition : ℕ) (g : Grid) (samples : List Float) where
         let two = bits-in-append (part-fields edition g samples) (filler (bits-in (part-fields edition g samples)) ∷ []) in
         let one = last-bits (bits-in (part-fields edition g samples)) in omega arith;
   }
+
+  -- there is room for the axes, after edition and number of axes
+  pub axes-given : (d : List ℕ) (width : ℕ) → width ≡ mode-width edition → length d ≡ length b → SheetGiven b edition g samples → AxesGiven d width g
+  axes-given d width is same given =
+      let all = ends in
+      rw is
+      (record {
+        narrow = width-most edition;
+        fields = given .fields;
+        within = part-within b d 0 (bits-in (sheet-fields edition g samples)) 7 (bits-in (axes-fields (mode-width edition) g (g .axes))) (given .within) same (omega arith);
+      })
+
+  -- what was put with that many bits for a mode
+  pub axes-end-is : (width next : ℕ) → width ≡ mode-width edition → next ≡ 7 + bits-in (axes-fields width g (g .axes)) → next ≡ 7 + bits-in (axes-fields (mode-width edition) g (g .axes))
+  axes-end-is width next is n = rw is at n
+
+  pub axes-put-is : (width : ℕ) (d later : List ℕ) → width ≡ mode-width edition → later ≡ with-fields d 7 (axes-fields width g (g .axes)) → later ≡ with-fields d 7 (axes-fields (mode-width edition) g (g .axes))
+  axes-put-is width d later is put = rw is at put
 
   -- there is room for what fills the last byte
   pub last-within : (d : List ℕ) (next : ℕ) → length d ≡ length b → next ≡ 7 + bits-in (axes-fields (mode-width edition) g (g .axes)) → Within b 0 (bits-in (sheet-fields edition g samples))

@@ -8,7 +8,7 @@ ghost use Rattle.grid.specs.Given.{grid};
 ghost use Rattle.bits.specs.Within.{Within};
 ghost use Rattle.bits.specs.Written.{bits-in, with-fields};
 ghost use Rattle.sheet_write.specs.SheetOf.{end-fields, ends-fields, axis-fields, axes-fields, sheet-fields};
-ghost use Rattle.sheet_write.specs.Within.{AxisGiven, AxesGiven, SheetGiven};
+ghost use Rattle.sheet_write.specs.Within.{HeadGiven, with-head, AxisGiven, AxesGiven, SheetGiven};
 use bits::writing::put_field;
 use bits::writing::put_number;
 use bits::writing::put_numbers;
@@ -53,16 +53,26 @@ fn put_ends(bytes: &mut [u8], at: usize, condition: Condition) -> usize
     }
 }
 
-// An axis: its points less 1, the kinds of its ends, its mode in `width` bits, the numbers of its ends, its knots.
+// What an axis has before its numbers: its points less 1, the kinds of its ends, and its mode in `width` bits.
+fn put_head(bytes: &mut [u8], at: usize, width: usize, axis: Axis)
+    requires { ⌜ HeadGiven (now bytes) at width axis ⌝ }
+    ensures { λ _. ⌜ now (bytes .exit) ≡ with-head (now (bytes .entry)) at width axis ⌝ }
+{
+    let condition = axis.condition;
+    let mode = axis.mode;
+    put_field(bytes, at, 8, (axis.points - 1) as u64);
+    put_field(bytes, at + 8, 2, wide(lower_kind(condition)));
+    put_field(bytes, at + 10, 2, wide(upper_kind(condition)));
+    put_field(bytes, at + 12, width, wide(mode_number(mode)))
+}
+
+// An axis: what it has before its numbers, the numbers of its ends, its knots.
 fn put_axis(bytes: &mut [u8], at: usize, width: usize, axis: Axis, knots: &[f64]) -> usize
     requires { ⌜ AxisGiven (now bytes) at width axis (now knots) ⌝ }
     ensures { λ r. ⌜ (r ≡ at + bits-in (axis-fields width axis (now (knots .entry)))) × (now (bytes .exit) ≡ with-fields (now (bytes .entry)) at (axis-fields width axis (now (knots .entry)))) ⌝ }
 {
     let condition = axis.condition;
-    put_field(bytes, at, 8, (axis.points - 1) as u64);
-    put_field(bytes, at + 8, 2, wide(lower_kind(condition)));
-    put_field(bytes, at + 10, 2, wide(upper_kind(condition)));
-    put_field(bytes, at + 12, width, wide(mode_number(axis.mode)));
+    put_head(bytes, at, width, axis);
     let next = put_ends(bytes, at + 12 + width, condition);
     put_numbers(bytes, next, knots);
     next + 64 * knots.len()

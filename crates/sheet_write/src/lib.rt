@@ -41,7 +41,8 @@ fn some_mode_refused(edition: usize, axes: usize, all: [Axis; 4]) -> bool
     let mut i = 0;
     while i < axes {
         let axis = all[i];
-        if mode_refused(edition, axis.mode) {
+        let mode = axis.mode;
+        if mode_refused(edition, mode) {
             return true;
         }
         i += 1;
