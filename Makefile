@@ -51,15 +51,17 @@ archive:
 bench: archive
 	cd oracle && cargo run --offline --release -p bench
 
-# The two example hosts on one sheet, each held against the output and against the changed sheet that are kept beside them.
+# The example hosts on one sheet, each held against the output that is kept beside it, and those that write the sheet back against the changed sheet.
 examples: archive
 	mkdir -p target/examples
 	python3 examples/gain_sheet.py | cmp - examples/gain.sheet
 	python3 examples/gain_sheet.py changed | cmp - examples/changed.sheet
 	gcc -std=c11 -Wall -Wextra -Werror -O2 -Iinclude examples/host.c target/staticlib/libhost.a -o target/examples/host_in_c
+	gcc -std=c11 -Wall -Wextra -Werror -O2 -Iinclude examples/firmware.c target/staticlib/libhost.a -o target/examples/firmware
 	rustc --edition 2021 -O examples/host.rs -L native=target/staticlib -l static=host -o target/examples/host_in_rust
 	target/examples/host_in_c examples/gain.sheet target/examples/c.sheet | diff examples/expected.txt -
 	target/examples/host_in_rust examples/gain.sheet target/examples/rust.sheet | diff examples/expected.txt -
+	target/examples/firmware examples/gain.sheet | diff examples/firmware_expected.txt -
 	cmp examples/changed.sheet target/examples/c.sheet
 	cmp examples/changed.sheet target/examples/rust.sheet
 
