@@ -156,4 +156,11 @@ extern "C" {
         value: *mut f64, value_length: usize,
         indices: *mut usize, indices_length: usize,
     ) -> usize;
+    pub fn hullashlar_surface(
+        bytes: *const u8, bytes_length: usize,
+        c0: u64,
+        c1: u64,
+        c2: u64,
+        c3: u64,
+    ) -> u64;
 }

@@ -1,6 +1,8 @@
 //! A call with everything that it is given and lent.
 
 use crate::lent::{Lent, Word};
+use crate::report::NUMBERS;
+use reading::REFUSED;
 
 /// The calls of the archive.
 #[derive(Debug, Clone, Copy, PartialEq, Eq)]
@@ -21,6 +23,7 @@ pub enum Call {
     LocateStepIndex,
     Stepped,
     ReadEdition1,
+    Surface,
 }
 
 impl Call {
@@ -88,6 +91,7 @@ impl Call {
                 "value",
                 "indices",
             ],
+            Call::Surface => &["bytes", "c0", "c1", "c2", "c3"],
         }
     }
 
@@ -114,12 +118,30 @@ impl Call {
             Call::LocateAxis => &["location", "fraction"],
             Call::LocateStepIndex => &["index"],
             Call::Stepped => &["value", "indices"],
+            Call::Surface => &[],
+        }
+    }
+
+    /// The refusal, 0 for none, in what the call returns. The one that returns a pattern has an
+    /// answer or a refusal in it.
+    pub fn refusal(self, returned: usize) -> usize {
+        match self {
+            Call::Surface => match returned.checked_sub(REFUSED as usize) {
+                Some(number @ 1..NUMBERS) => number,
+                _ => 0,
+            },
+            _ => returned,
         }
     }
 
     /// Whether a tensor is asked at a point.
     pub fn is_query(self) -> bool {
         matches!(self, Call::Query | Call::QuickQuery | Call::EvenQuery)
+    }
+
+    /// Whether the call is given a sheet.
+    pub fn takes_a_sheet(self) -> bool {
+        self.reads_patterns() || self == Call::Surface
     }
 
     /// Whether floats come from patterns, of which a NaN keeps no payload.
@@ -314,7 +336,7 @@ impl Case {
 
 /// Something that answers calls.
 pub trait Calls {
-    /// The refusal number, with the lent slices as the call leaves them; or none
-    /// where this call is not answered at all.
+    /// What the call returns, with the lent slices as it leaves them; or none where this call is
+    /// not answered at all.
     fn run(&self, case: &mut Case) -> Option<usize>;
 }

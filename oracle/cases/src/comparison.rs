@@ -111,7 +111,8 @@ impl Run<'_> {
     /// it (the reading where there is no subject), and whether they are the same.
     fn compare(&mut self, given: &Case) -> (usize, Case, bool) {
         let mut expected = given.clone();
-        let refusal = Reading.run(&mut expected).expect("the reading answers all");
+        let returned = Reading.run(&mut expected).expect("the reading answers all");
+        let refusal = given.call.refusal(returned);
         let counts = self.report.of_mut(self.kind);
         counts.calls += 1;
         counts.refusals[refusal] += 1;
@@ -126,11 +127,11 @@ impl Run<'_> {
             return (refusal, expected, true);
         };
         self.report.of_mut(self.kind).compared += 1;
-        let same = answer == refusal && same_arguments(&expected, &found);
+        let same = answer == returned && same_arguments(&expected, &found);
         if !same {
             let title = self.title.as_str();
             self.report.difference(self.kind, || {
-                describe(title, given, (refusal, &expected), (answer, &found))
+                describe(title, given, (returned, &expected), (answer, &found))
             });
         }
         (refusal, found, same)

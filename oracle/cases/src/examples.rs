@@ -36,6 +36,7 @@ pub fn examples() -> Vec<Case> {
     cases.extend(written(random));
     cases.extend(written_in_edition_2(random));
     cases.extend(largest_sheets(random));
+    cases.extend(surfaces(random));
     cases
 }
 
@@ -280,6 +281,34 @@ fn largest_sheets(random: &mut Random) -> Vec<Case> {
         cases.extend([written, short]);
     }
     cases
+}
+
+/// The sheet of the example in an edition and a mode, asked inside and outside its knots, at no
+/// number, with minus zero as an unused coordinate; cut; and tensors of 512 and 516 numbers.
+fn surfaces(random: &mut Random) -> Vec<Case> {
+    let example = example_sheet(1);
+    let mut held = example_sheet(2);
+    held[2] |= HOLD << 3;
+    let mut at = |shape: [usize; 2]| {
+        let knots: Vec<f64> = (0..43).map(|knot| knot as f64).collect();
+        let grid = grid(&[&knots[..shape[0]], &knots[..shape[1]]], [SECOND; 2]);
+        let samples = vec![1.0; grid.samples()];
+        let mut write = lending::write(random, &grid, [EXTEND; 4], &samples, 1, 2000);
+        Reading.run(&mut write);
+        let length = write.argument("length").numbers()[0];
+        lending::surface(&write.argument("bytes").bytes()[..length], &[0.5, 0.5])
+    };
+    let (longest, too_long) = (at([16, 8]), at([3, 43]));
+    vec![
+        lending::surface(&example, &[0.5]),
+        lending::surface(&example, &[2.0]),
+        lending::surface(&held, &[2.0]),
+        lending::surface(&example, &[f64::NAN]),
+        lending::surface(&example, &[0.5, 0.0, 0.0, -0.0]),
+        lending::surface(&example[..50], &[0.5, 1.0]),
+        longest,
+        too_long,
+    ]
 }
 
 /// NotAKnot with one point too few, and with just enough.

@@ -7,7 +7,7 @@
 //! - the number of its call, in the order of [`CALLS`];
 //! - its arguments in order: a number or a float is one word; a slice is its
 //!   length, a form and what the form wants;
-//! - the refusal;
+//! - what it returns;
 //! - for each slice that the call may write, in order, a form and what it wants:
 //!   the slice after the call.
 //!
@@ -24,7 +24,7 @@ use crate::reading_calls::Reading;
 use crate::report::NUMBERS;
 
 /// The calls in the order of their numbers.
-pub const CALLS: [Call; 16] = [
+pub const CALLS: [Call; 17] = [
     Call::Moments,
     Call::Curve,
     Call::Slopes,
@@ -41,6 +41,7 @@ pub const CALLS: [Call; 16] = [
     Call::LocateStepIndex,
     Call::Stepped,
     Call::ReadEdition1,
+    Call::Surface,
 ];
 
 /// The seed of the list; another one makes another list.
@@ -102,17 +103,18 @@ fn few_bytes(case: &Case) -> bool {
 /// The refusal and the words of a case.
 fn answered(given: &Case) -> (usize, Vec<u64>) {
     let mut after = given.clone();
-    let refusal = Reading.run(&mut after).expect("the reading answers all");
-    (refusal, words(given, refusal, &after))
+    let returned = Reading.run(&mut after).expect("the reading answers all");
+    let refusal = given.call.refusal(returned);
+    (refusal, words(given, returned, &after))
 }
 
-fn words(given: &Case, refusal: usize, after: &Case) -> Vec<u64> {
+fn words(given: &Case, returned: usize, after: &Case) -> Vec<u64> {
     let number = CALLS.iter().position(|call| *call == given.call);
     let mut words = vec![number.expect("every call has a number") as u64];
     for argument in &given.arguments {
         words.extend(argument_words(argument));
     }
-    words.push(refusal as u64);
+    words.push(returned as u64);
     for name in given.call.written() {
         let (given, after) = (given.argument(name).words(), after.argument(name).words());
         words.extend(after_words(&given, &after));

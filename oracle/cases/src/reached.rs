@@ -392,7 +392,7 @@ impl Default for Reached {
 impl Reached {
     /// Counts a case for each edge that it reaches.
     pub fn count(&mut self, case: &Case, refusal: usize) {
-        let (cases, edges) = if case.call.reads_patterns() {
+        let (cases, edges) = if case.call.takes_a_sheet() {
             (self.sheets.as_mut_slice(), SHEET_EDGES.as_slice())
         } else {
             (self.cases.as_mut_slice(), EDGES.as_slice())

@@ -14,7 +14,7 @@ impl Calls for Nobody {
 /// The refusals that the calls of a kind have.
 fn refusals(kind: Kind) -> &'static [usize] {
     match kind {
-        Kind::Example => &[1, 3, 6, 7, 8, 9, 10, 11, 12, 15, 18, 21, 22, 23],
+        Kind::Example => &[1, 3, 6, 7, 8, 9, 10, 11, 12, 15, 16, 17, 18, 21, 22, 23],
         Kind::Moments => &[2, 4, 5, 7, 8, 9, 10, 13],
         Kind::Curve | Kind::Slopes => &[2, 4, 7, 8, 10],
         Kind::Build => &[1, 2, 3, 4, 5, 7, 8, 9, 10, 13],
@@ -33,6 +33,7 @@ fn refusals(kind: Kind) -> &'static [usize] {
         Kind::LocateStepIndex => &[2, 4, 7, 8, 22],
         Kind::Stepped => &[1, 2, 3, 4, 7, 8, 22],
         Kind::AtEveryPlace => &[5, 6, 7, 10],
+        Kind::Surface => &[1, 2, 3, 7, 8, 9, 10, 11, 12, 13, 14, 16, 17, 18, 22],
     }
 }
 

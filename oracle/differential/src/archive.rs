@@ -39,6 +39,7 @@ impl Calls for Archive {
             Call::LocateStepIndex => locate_step_index(arguments),
             Call::Stepped => stepped(arguments),
             Call::ReadEdition1 => read_edition_1(arguments),
+            Call::Surface => surface(arguments),
         };
         Some(refusal)
     }
@@ -378,4 +379,15 @@ fn stepped(arguments: &mut [Argument]) -> usize {
             indices.0, indices.1,
         )
     }
+}
+
+fn surface(arguments: &mut [Argument]) -> usize {
+    let [bytes, c0, c1, c2, c3] = arguments else {
+        panic!("a case has the arguments of its call")
+    };
+    let bytes = lent(bytes.bytes());
+    let [c0, c1, c2, c3] = [c0, c1, c2, c3].map(|pattern| pattern.number() as u64);
+    // SAFETY: the pair is a live slice.
+    let answer = unsafe { hullashlar_surface(bytes.0, bytes.1, c0, c1, c2, c3) };
+    answer as usize
 }
