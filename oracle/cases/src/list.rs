@@ -48,13 +48,13 @@ pub const CALLS: [Call; 17] = [
 const SEED: u64 = 1;
 
 /// How many accepted cases of each call the list has.
-const ACCEPTED: usize = 24;
+const ACCEPTED: usize = 20;
 
 /// How many cases of each refusal of each call.
 const REFUSED: usize = 2;
 
 /// The most words of a case.
-const LONGEST_CASE: usize = 200;
+const LONGEST_CASE: usize = 180;
 
 /// The most bytes that a slice of them has.
 const MOST_BYTES: usize = 256;

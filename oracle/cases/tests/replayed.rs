@@ -110,7 +110,7 @@ fn the_list_gives_the_readings_answers_back() {
     assert_eq!(words.words.len(), 0);
     assert!((300..=1000).contains(&count), "{count}");
     assert!(STORED.len() < ROOM, "{}", STORED.len());
-    assert!(seen.iter().all(|refusals| refusals[0] >= 24));
+    assert!(seen.iter().all(|refusals| refusals[0] >= 20));
     let refused = |number: usize| seen.iter().any(|refusals| refusals[number] > 0);
     assert!((1..=18).chain([21, 22, 23]).all(refused));
 }
