@@ -53,19 +53,23 @@ const ACCEPTED: usize = 20;
 /// How many cases of each refusal of each call.
 const REFUSED: usize = 2;
 
-/// The most words of a case.
+/// The most words of a generated case, and of an example: a sheet whose tensor is too long for a
+/// surface has 375 bytes at least, and each is a word.
 const LONGEST_CASE: usize = 180;
+const LONGEST_EXAMPLE: usize = 400;
 
-/// The most bytes that a slice of them has.
-const MOST_BYTES: usize = 256;
+/// The most bytes that a slice has, which the program `replay` has room for.
+const MOST_BYTES: usize = 512;
 
 /// How many generated cases of a kind are looked at.
 const LOOKED_AT: u64 = 3_000;
 
 /// The words of the list: the worked examples, and generated cases of every call.
 pub fn list() -> Vec<u64> {
-    let mut cases: Vec<Vec<u64>> = examples().iter().map(|case| answered(case).1).collect();
-    cases.retain(|words| words.len() <= LONGEST_CASE);
+    let mut examples = examples();
+    examples.retain(few_bytes);
+    let mut cases: Vec<Vec<u64>> = examples.iter().map(|case| answered(case).1).collect();
+    cases.retain(|words| words.len() <= LONGEST_EXAMPLE);
     for kind in KINDS.into_iter().filter(|kind| kind.is_single_call()) {
         cases.extend(chosen(kind));
     }
