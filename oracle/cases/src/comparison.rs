@@ -147,6 +147,7 @@ impl Run<'_> {
     fn compare_sheet(&mut self, random: &mut Random, bytes: &[u8]) {
         self.compare(&lending::read(random, bytes));
         self.compare(&lending::read_edition_1(random, bytes));
+        self.compare(&lending::surface(bytes, &[]));
         self.compare(&lending::sheet_tensor(random, bytes, LONGEST_TENSOR));
     }
 
