@@ -139,8 +139,8 @@ const FAULTY_TO_WRITE: usize = 52;
 
 /// Of surfaces some sheets are damaged, and some coordinates off, often both; some tensors are too
 /// long without either.
-const DAMAGED_SURFACES: usize = 16;
-const FAULTY_SURFACES: usize = 16;
+const DAMAGED_SURFACES: usize = 12;
+const FAULTY_SURFACES: usize = 9;
 const FAULTY_BESIDE_DAMAGE: usize = 60;
 
 /// Axes that are not even are refused without another fault.

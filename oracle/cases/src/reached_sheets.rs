@@ -65,15 +65,15 @@ pub const SHEET_EDGES: [Edge; SHEET_COUNT] = [
         },
     },
     Edge {
-        name: "a tensor too long for a surface beside a fourth coordinate that is not 0",
-        is_reached: |case, refusal| asked(case) && refusal == 16 && pattern(case, 3) != 0,
+        name: "a tensor too long for a surface beside a coordinate that is not in use and not 0",
+        is_reached: |case, refusal| asked(case) && refusal == 16 && unused_not_zero(case),
     },
     Edge {
         name: "minus zero as a coordinate that is not in use",
         is_reached: |case, refusal| asked(case) && refusal == 17 && pattern(case, 3) == 1 << 63,
     },
     Edge {
-        name: "a coordinate that is not in use beside a build that is refused",
+        name: "a coordinate that is not in use and not 0 beside a build that is refused",
         is_reached: |case, refusal| asked(case) && refusal == 17 && refused_by_build(case),
     },
     Edge {
@@ -93,6 +93,12 @@ fn asked(case: &Case) -> bool {
 /// A coordinate of a surface.
 fn pattern(case: &Case, axis: usize) -> u64 {
     case.arguments[1 + axis].number() as u64
+}
+
+/// Whether a coordinate past the axes of a sheet is not the pattern 0.
+fn unused_not_zero(case: &Case) -> bool {
+    let axes = bits(case.argument("bytes").bytes(), 4, 3).unwrap_or(4);
+    (axes..4).any(|axis| pattern(case, axis) != 0)
 }
 
 fn is_nan(pattern: u64) -> bool {
