@@ -8,9 +8,13 @@ import sys
 # Kinds of an end.
 NOT_A_KNOT, FIRST_DERIVATIVE, SECOND_DERIVATIVE, PERIODIC = range(4)
 
+# What becomes of a coordinate outside the knots; edition 1 has no place for it, and extends.
+EXTEND, HOLD, REFUSE = range(3)
+
 # Each axis: its knots, its two kinds, and a value for each kind that has one.
 FREQUENCY = ([0.25, 0.5, 1.0, 2.0, 4.0], [NOT_A_KNOT, NOT_A_KNOT], [])
 LEVEL = ([40.0, 55.0, 65.0, 80.0, 95.0], [SECOND_DERIVATIVE, SECOND_DERIVATIVE], [0.0, 0.0])
+MODES = [HOLD, HOLD]
 
 # A row for each frequency, a column for each level.
 GAIN = [
@@ -35,9 +39,10 @@ def floats(numbers):
     return "".join(field(struct.unpack(">Q", struct.pack(">d", number))[0], 64) for number in numbers)
 
 
-def axis_fields(knots, kinds, values):
-    """Points minus 1, the two kinds, the end values, the knots."""
-    return field(len(knots) - 1, 8) + "".join(field(kind, 2) for kind in kinds) + floats(values) + floats(knots)
+def axis_fields(knots, kinds, values, mode=None):
+    """Points minus 1, the two kinds, in edition 2 the mode, the end values, the knots."""
+    small = kinds if mode is None else [*kinds, mode]
+    return field(len(knots) - 1, 8) + "".join(field(number, 2) for number in small) + floats(values) + floats(knots)
 
 
 def whole_bytes(bits):
@@ -46,10 +51,11 @@ def whole_bytes(bits):
     return int(bits, 2).to_bytes(len(bits) // 8, "big")
 
 
-def packed(axes, samples):
-    """Edition 1, the axes and the samples."""
-    bits = field(1, 4) + field(len(axes), 3)
-    bits += "".join(axis_fields(*axis) for axis in axes)
+def packed(axes, samples, modes=None):
+    """The axes and the samples; with modes in edition 2, and without any in edition 1."""
+    bits = field(1 if modes is None else 2, 4) + field(len(axes), 3)
+    modes = modes or [None] * len(axes)
+    bits += "".join(axis_fields(*axis, mode) for axis, mode in zip(axes, modes, strict=True))
     return whole_bytes(bits + floats(samples))
 
 
@@ -58,4 +64,4 @@ if __name__ == "__main__":
         row, column, gain = CHANGE
         GAIN[row][column] = gain
     samples = [gain for row in GAIN for gain in row]
-    sys.stdout.buffer.write(packed([FREQUENCY, LEVEL], samples))
+    sys.stdout.buffer.write(packed([FREQUENCY, LEVEL], samples, MODES))

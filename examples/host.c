@@ -9,10 +9,12 @@
 
 /* What a sheet says. */
 struct sheet {
+    size_t edition;
     size_t axes;
     size_t points[HULLASHLAR_AXES];
     uint8_t kinds[HULLASHLAR_ENDS];
     double values[HULLASHLAR_ENDS];
+    uint8_t modes[HULLASHLAR_AXES];
     double knots[HULLASHLAR_BUFFER];
     double samples[HULLASHLAR_BUFFER];
 };
@@ -66,8 +68,8 @@ static void load(const char *path, struct sheet *sheet, size_t *numbers)
     accept("sheet_tensor", hullashlar_sheet_tensor(bytes, length, sheet->knots, HULLASHLAR_BUFFER, sheet->samples,
                                                    HULLASHLAR_BUFFER, &sheet->axes, 1, sheet->points, HULLASHLAR_AXES,
                                                    sheet->kinds, HULLASHLAR_ENDS, sheet->values, HULLASHLAR_ENDS,
-                                                   tensor, HULLASHLAR_TENSOR, scratch, HULLASHLAR_MOST_SCRATCH,
-                                                   numbers, 1));
+                                                   sheet->modes, HULLASHLAR_AXES, &sheet->edition, 1, tensor,
+                                                   HULLASHLAR_TENSOR, scratch, HULLASHLAR_MOST_SCRATCH, numbers, 1));
 }
 
 static void build_fresh(const struct sheet *sheet)
@@ -90,21 +92,21 @@ static size_t change(const struct sheet *sheet, const size_t place[HULLASHLAR_AX
 
 static size_t query(const struct sheet *sheet, const double *coordinates, double *value, size_t labels[HULLASHLAR_AXES])
 {
-    /* Outside what was measured the gain is that of the nearest end. */
-    const uint8_t modes[HULLASHLAR_AXES] = {HULLASHLAR_HOLD, HULLASHLAR_HOLD};
-    return hullashlar_query(sheet->axes, sheet->points, HULLASHLAR_AXES, modes, HULLASHLAR_AXES, sheet->knots,
+    /* The sheet says what becomes of a point outside what was measured: the gain is that of the nearest end. */
+    return hullashlar_query(sheet->axes, sheet->points, HULLASHLAR_AXES, sheet->modes, HULLASHLAR_AXES, sheet->knots,
                             knots_length(sheet), tensor, tensor_length(sheet), coordinates, sheet->axes, value, 1,
                             labels, HULLASHLAR_AXES);
 }
 
-/* The sheet with the samples that stand now, in a file. */
+/* The sheet with the samples that stand now, in its own edition, in a file. */
 static void write_back(const char *path, const struct sheet *sheet)
 {
     static uint8_t bytes[HULLASHLAR_SHEET];
     size_t length;
     accept("write", hullashlar_write(sheet->axes, sheet->points, HULLASHLAR_AXES, sheet->kinds, HULLASHLAR_ENDS,
-                                     sheet->values, HULLASHLAR_ENDS, sheet->knots, knots_length(sheet), sheet->samples,
-                                     samples_length(sheet), bytes, HULLASHLAR_SHEET, &length, 1));
+                                     sheet->values, HULLASHLAR_ENDS, sheet->modes, HULLASHLAR_AXES, sheet->knots,
+                                     knots_length(sheet), sheet->samples, samples_length(sheet), sheet->edition, bytes,
+                                     HULLASHLAR_SHEET, &length, 1));
     FILE *file = fopen(path, "wb");
     if (file == NULL || fwrite(bytes, 1, length, file) != length || fclose(file) != 0) {
         perror(path);

@@ -3,12 +3,13 @@
 
 mod hullashlar;
 
-use hullashlar::{Axes, Refusal, BUFFER, LONGEST_SHEET, LONGEST_TENSOR, SCRATCH};
+use hullashlar::{Axes, Refusal, Sheet, BUFFER, LONGEST_SHEET, LONGEST_TENSOR, SCRATCH};
 use std::process::ExitCode;
 use std::{env, fs};
 
 /// A surface, and every slice that its calls are lent.
 struct Surface {
+    edition: usize,
     axes: Axes,
     knots: [f64; BUFFER],
     samples: [f64; BUFFER],
@@ -22,7 +23,7 @@ impl Surface {
         let (mut knots, mut samples) = ([0.0; BUFFER], [0.0; BUFFER]);
         let mut tensor = [0.0; LONGEST_TENSOR];
         let mut scratch = [0.0; LONGEST_TENSOR + SCRATCH];
-        let (axes, _) = hullashlar::sheet_tensor(
+        let (Sheet { edition, axes }, _) = hullashlar::sheet_tensor(
             sheet,
             &mut knots,
             &mut samples,
@@ -30,6 +31,7 @@ impl Surface {
             &mut scratch,
         )?;
         Ok(Self {
+            edition,
             axes,
             knots,
             samples,
@@ -62,22 +64,22 @@ impl Surface {
         Ok(lanes)
     }
 
-    /// The gain at a frequency and a level, outside what was measured that of the nearest end, and
-    /// the cell it lies in.
+    /// The gain at a frequency and a level, and the cell it lies in. The sheet says what becomes of
+    /// a point outside what was measured: the gain is that of the nearest end.
     fn gain(&self, coordinates: [f64; 2]) -> Result<(f64, [usize; 4]), Refusal> {
         hullashlar::query(
             &self.axes,
-            hullashlar::HOLD,
             &self.knots[..self.axes.knots_length()],
             &self.tensor[..self.axes.tensor_length()],
             &coordinates,
         )
     }
 
-    /// The sheet with the samples that stand now.
+    /// The sheet with the samples that stand now, in its own edition.
     fn sheet(&self) -> Result<Vec<u8>, Refusal> {
         let mut bytes = vec![0; LONGEST_SHEET];
         let length = hullashlar::write(
+            self.edition,
             &self.axes,
             &self.knots[..self.axes.knots_length()],
             &self.samples[..self.axes.samples_length()],

@@ -23,13 +23,8 @@ pub const BUFFER: usize = 1024;
 /// The most numbers that a tensor holds.
 pub const LONGEST_TENSOR: usize = 4096;
 
-/// The modes of four axes that are all extended beyond their knots.
-pub const EXTEND: [u8; 4] = [0; 4];
-
-/// The modes of four axes that are all held at their end knots.
-pub const HOLD: [u8; 4] = [1; 4];
 /// The bytes of the longest sheet.
-pub const LONGEST_SHEET: usize = 10308;
+pub const LONGEST_SHEET: usize = 10309;
 
 /// The axes as the calls take them; what stands past the axes in use is not read.
 #[derive(Debug, Clone, Default)]
@@ -42,6 +37,8 @@ pub struct Axes {
     pub kinds: [u8; 8],
     /// The values that go with the kinds.
     pub values: [f64; 8],
+    /// What becomes of a coordinate outside the knots of each axis.
+    pub modes: [u8; 4],
 }
 
 impl Axes {
@@ -197,7 +194,6 @@ pub fn change(
 #[rustfmt::skip]
 pub fn query(
     axes: &Axes,
-    modes: [u8; 4],
     knots: &[f64],
     tensor: &[f64],
     coordinates: &[f64],
@@ -209,7 +205,7 @@ pub fn query(
         hullashlar_query(
             axes.count,
             axes.points.as_ptr(), axes.points.len(),
-            modes.as_ptr(), modes.len(),
+            axes.modes.as_ptr(), axes.modes.len(),
             knots.as_ptr(), knots.len(),
             tensor.as_ptr(), tensor.len(),
             coordinates.as_ptr(), coordinates.len(),
@@ -224,7 +220,6 @@ pub fn query(
 #[rustfmt::skip]
 pub fn quick_query(
     axes: &Axes,
-    modes: [u8; 4],
     knots: &[f64],
     tensor: &[f64],
     coordinates: &[f64],
@@ -236,7 +231,7 @@ pub fn quick_query(
         hullashlar_quick_query(
             axes.count,
             axes.points.as_ptr(), axes.points.len(),
-            modes.as_ptr(), modes.len(),
+            axes.modes.as_ptr(), axes.modes.len(),
             knots.as_ptr(), knots.len(),
             tensor.as_ptr(), tensor.len(),
             coordinates.as_ptr(), coordinates.len(),
@@ -252,7 +247,6 @@ pub fn quick_query(
 #[rustfmt::skip]
 pub fn even_query(
     axes: &Axes,
-    modes: [u8; 4],
     knots: &[f64],
     tensor: &[f64],
     coordinates: &[f64],
@@ -265,7 +259,7 @@ pub fn even_query(
         hullashlar_even_query(
             axes.count,
             axes.points.as_ptr(), axes.points.len(),
-            modes.as_ptr(), modes.len(),
+            axes.modes.as_ptr(), axes.modes.len(),
             knots.as_ptr(), knots.len(),
             tensor.as_ptr(), tensor.len(),
             coordinates.as_ptr(), coordinates.len(),
@@ -370,9 +364,45 @@ pub fn stepped(
     outcome(refusal, (value[0], indices))
 }
 
-/// The axes of a packed sheet, once its knots and samples stand in the lent buffers.
+/// What a packed sheet says beside its knots and samples.
+#[derive(Debug, Clone, Default)]
+pub struct Sheet {
+    /// The edition, in which it can be written back as it came.
+    pub edition: usize,
+    /// The axes.
+    pub axes: Axes,
+}
+
+/// The edition and the axes of a packed sheet, once its knots and samples stand in the lent buffers.
 #[rustfmt::skip]
 pub fn read(
+    bytes: &[u8],
+    knots: &mut [f64],
+    samples: &mut [f64],
+) -> Result<Sheet, Refusal> {
+    let mut axes = Axes::default();
+    let (mut count, mut edition) = ([0], [0]);
+    // SAFETY: each pointer goes with the length of a live slice, and no two slices overlap.
+    let refusal = unsafe {
+        hullashlar_read(
+            bytes.as_ptr(), bytes.len(),
+            knots.as_mut_ptr(), knots.len(),
+            samples.as_mut_ptr(), samples.len(),
+            count.as_mut_ptr(), count.len(),
+            axes.points.as_mut_ptr(), axes.points.len(),
+            axes.kinds.as_mut_ptr(), axes.kinds.len(),
+            axes.values.as_mut_ptr(), axes.values.len(),
+            axes.modes.as_mut_ptr(), axes.modes.len(),
+            edition.as_mut_ptr(), edition.len(),
+        )
+    };
+    axes.count = count[0];
+    outcome(refusal, Sheet { edition: edition[0], axes })
+}
+
+/// The axes of a packed sheet of edition 1, once its knots and samples stand in the lent buffers.
+#[rustfmt::skip]
+pub fn read_edition_1(
     bytes: &[u8],
     knots: &mut [f64],
     samples: &mut [f64],
@@ -381,7 +411,7 @@ pub fn read(
     let mut count = [0];
     // SAFETY: each pointer goes with the length of a live slice, and no two slices overlap.
     let refusal = unsafe {
-        hullashlar_read(
+        hullashlar_read_edition_1(
             bytes.as_ptr(), bytes.len(),
             knots.as_mut_ptr(), knots.len(),
             samples.as_mut_ptr(), samples.len(),
@@ -395,8 +425,8 @@ pub fn read(
     outcome(refusal, axes)
 }
 
-/// The axes of a packed sheet and the length of its tensor, once its knots, its samples and the
-/// tensor stand in the lent buffers, of which the tensor's is 4,096 long.
+/// The edition and the axes of a packed sheet and the length of its tensor, once its knots, its
+/// samples and the tensor stand in the lent buffers, of which the tensor's is 4,096 long.
 #[rustfmt::skip]
 pub fn sheet_tensor(
     bytes: &[u8],
@@ -404,9 +434,9 @@ pub fn sheet_tensor(
     samples: &mut [f64],
     tensor: &mut [f64],
     scratch: &mut [f64],
-) -> Result<(Axes, usize), Refusal> {
+) -> Result<(Sheet, usize), Refusal> {
     let mut axes = Axes::default();
-    let (mut count, mut length) = ([0], [0]);
+    let (mut count, mut edition, mut length) = ([0], [0], [0]);
     // SAFETY: each pointer goes with the length of a live slice, and no two slices overlap.
     let refusal = unsafe {
         hullashlar_sheet_tensor(
@@ -417,18 +447,21 @@ pub fn sheet_tensor(
             axes.points.as_mut_ptr(), axes.points.len(),
             axes.kinds.as_mut_ptr(), axes.kinds.len(),
             axes.values.as_mut_ptr(), axes.values.len(),
+            axes.modes.as_mut_ptr(), axes.modes.len(),
+            edition.as_mut_ptr(), edition.len(),
             tensor.as_mut_ptr(), tensor.len(),
             scratch.as_mut_ptr(), scratch.len(),
             length.as_mut_ptr(), length.len(),
         )
     };
     axes.count = count[0];
-    outcome(refusal, (axes, length[0]))
+    outcome(refusal, (Sheet { edition: edition[0], axes }, length[0]))
 }
 
-/// Writes the packed sheet of axes, knots and samples to the first of the bytes; gives how many it has.
+/// Writes the packed sheet of axes, knots and samples in an edition to the first of the bytes; gives how many it has.
 #[rustfmt::skip]
 pub fn write(
+    edition: usize,
     axes: &Axes,
     knots: &[f64],
     samples: &[f64],
@@ -442,8 +475,10 @@ pub fn write(
             axes.points.as_ptr(), axes.points.len(),
             axes.kinds.as_ptr(), axes.kinds.len(),
             axes.values.as_ptr(), axes.values.len(),
+            axes.modes.as_ptr(), axes.modes.len(),
             knots.as_ptr(), knots.len(),
             samples.as_ptr(), samples.len(),
+            edition,
             bytes.as_mut_ptr(), bytes.len(),
             length.as_mut_ptr(), length.len(),
         )

@@ -87,6 +87,17 @@ extern "C" {
         points: *mut usize, points_length: usize,
         kinds: *mut u8, kinds_length: usize,
         values: *mut f64, values_length: usize,
+        modes: *mut u8, modes_length: usize,
+        edition: *mut usize, edition_length: usize,
+    ) -> usize;
+    pub fn hullashlar_read_edition_1(
+        bytes: *const u8, bytes_length: usize,
+        knots: *mut f64, knots_length: usize,
+        samples: *mut f64, samples_length: usize,
+        axes: *mut usize, axes_length: usize,
+        points: *mut usize, points_length: usize,
+        kinds: *mut u8, kinds_length: usize,
+        values: *mut f64, values_length: usize,
     ) -> usize;
     pub fn hullashlar_sheet_tensor(
         bytes: *const u8, bytes_length: usize,
@@ -96,6 +107,8 @@ extern "C" {
         points: *mut usize, points_length: usize,
         kinds: *mut u8, kinds_length: usize,
         values: *mut f64, values_length: usize,
+        modes: *mut u8, modes_length: usize,
+        edition: *mut usize, edition_length: usize,
         tensor: *mut f64, tensor_length: usize,
         scratch: *mut f64, scratch_length: usize,
         length: *mut usize, length_length: usize,
@@ -105,8 +118,10 @@ extern "C" {
         points: *const usize, points_length: usize,
         kinds: *const u8, kinds_length: usize,
         values: *const f64, values_length: usize,
+        modes: *const u8, modes_length: usize,
         knots: *const f64, knots_length: usize,
         samples: *const f64, samples_length: usize,
+        edition: usize,
         bytes: *mut u8, bytes_length: usize,
         length: *mut usize, length_length: usize,
     ) -> usize;

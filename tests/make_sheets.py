@@ -2,7 +2,7 @@
 """Makes the sheets that the sheet programs are run on, each as the stdin of its crate:
 
 sheet_tensor         the example sheet
-sheet_largest        a sheet of as many bytes as an accepted one can have
+sheet_largest        a sheet of as many bytes as an accepted one can have, in edition 2
 sheet_one_byte_more  the same, and a zero byte
 sheet_cases          a list of sheets, each after its length in two bytes, the higher first
 
@@ -17,6 +17,7 @@ ROOT = Path(__file__).resolve().parent.parent
 sys.dont_write_bytecode = True
 sys.path.insert(0, str(ROOT / "examples"))
 
+from gain_sheet import EXTEND, HOLD, REFUSE  # noqa: E402
 from gain_sheet import FIRST_DERIVATIVE, NOT_A_KNOT, PERIODIC, SECOND_DERIVATIVE  # noqa: E402
 from gain_sheet import axis_fields, field, floats, packed, whole_bytes  # noqa: E402
 
@@ -38,6 +39,10 @@ def counted(points):
 
 UNIT = natural([0.0, 1.0])
 EXAMPLE = packed([UNIT], [0.0, 1.0])
+EXAMPLE_IN_EDITION_2 = packed([UNIT], [0.0, 1.0], [EXTEND])
+
+# The bits of a mode that there is not.
+NO_MODE = 3
 
 
 # The largest sheet.
@@ -63,9 +68,9 @@ def accepted_shapes():
 
 
 def length(shape):
-    """The bytes of a sheet with two values on each axis, which is the most."""
+    """The bytes of a sheet of edition 2 with two values on each axis, which is the most."""
     numbers = sum(points + 2 for points in shape) + math.prod(shape)
-    bits = 4 + 3 + len(shape) * (8 + 2 + 2) + 64 * numbers
+    bits = 4 + 3 + len(shape) * (8 + 2 + 2 + 2) + 64 * numbers
     return -(-bits // 8)
 
 
@@ -81,7 +86,7 @@ def largest_sheet():
     values = [[0.75, -1.5], [0.1, -0.3]]
     knots = [[knot + spread(knot) / 2 for knot in range(points)] for points in shape]
     samples = [10 * spread(number) for number in range(math.prod(shape))]
-    sheet = packed(list(zip(knots, kinds, values, strict=True)), samples)
+    sheet = packed(list(zip(knots, kinds, values, strict=True)), samples, [HOLD, REFUSE])
     assert len(sheet) == max(map(length, accepted_shapes()))
     return sheet
 
@@ -98,7 +103,7 @@ def reader_faults():
     """Each fault that the reader finds."""
     return [
         example_with(edition=0),
-        example_with(edition=2),
+        example_with(edition=3),
         example_with(axes=0),
         example_with(axes=5),
         example_with(axes=7),
@@ -131,7 +136,7 @@ def build_faults():
 def two_faults():
     """Sheets with two faults, of which the first in reading order counts."""
     return [
-        whole_bytes(field(2, 4) + field(0, 3)),
+        whole_bytes(field(3, 4) + field(0, 3)),
         whole_bytes(field(1, 4) + field(5, 3)),
         packed([([0.0], [PERIODIC, SECOND_DERIVATIVE], [0.0])], [0.0]),
         whole_bytes(field(1, 4) + field(1, 3) + field(1, 8) + field(PERIODIC, 2) + field(NOT_A_KNOT, 2)),
@@ -158,14 +163,51 @@ def accepted():
     ]
 
 
+def edition_2_faults():
+    """Modes that there are not, in each place and beside other faults; faults of the build, and bits that go on."""
+    head = field(2, 4) + field(1, 3) + field(1, 8)
+    return [
+        packed([UNIT], [0.0, 1.0], [NO_MODE]),
+        packed([UNIT, UNIT], [0.0, 0.0, 0.0, 1.0], [HOLD, NO_MODE]),
+        packed([([0.0, 1.0], [PERIODIC, SECOND_DERIVATIVE], [0.0])], [0.0, 1.0], [NO_MODE]),
+        packed([([0.0, 1.0], [NOT_A_KNOT, PERIODIC], [])], [0.0, 1.0], [REFUSE]),
+        whole_bytes(head + field(SECOND_DERIVATIVE, 2) * 2 + field(NO_MODE, 2)),
+        whole_bytes(head + field(PERIODIC, 2) + field(NOT_A_KNOT, 2) + field(NO_MODE, 2)),
+        packed([natural([0.0])], [0.0], [NO_MODE]),
+        packed([natural(counted(25)), natural(counted(41))], [], [HOLD, HOLD]),
+        packed([(counted(2), [NOT_A_KNOT, SECOND_DERIVATIVE], [0.0])], [0.0, 1.0], [HOLD]),
+        packed([UNIT], [0.0, NAN], [REFUSE]),
+        EXAMPLE_IN_EDITION_2 + b"\0",
+        EXAMPLE_IN_EDITION_2[:-1] + bytes([EXAMPLE_IN_EDITION_2[-1] | 1]),
+        example_with(edition=2),
+    ]
+
+
+def accepted_in_edition_2():
+    """Each mode, on axes with and without values at their ends."""
+    periodic = ([0.0, 0.5, 2.0], [PERIODIC, PERIODIC], [])
+    return [
+        packed([UNIT], [0.0, 1.0], [HOLD]),
+        packed([UNIT], [0.0, 1.0], [REFUSE]),
+        packed([periodic, UNIT], [0.1, 0.2, 0.7, -0.3, 0.1, 0.2], [REFUSE, HOLD]),
+        packed([UNIT, UNIT, UNIT, UNIT], [float(5 * n % 11) for n in range(16)], [HOLD, EXTEND, REFUSE, HOLD]),
+    ]
+
+
 def listed(sheets):
     return b"".join(len(sheet).to_bytes(2, "big") + sheet for sheet in sheets)
 
 
+def cuts(sheet):
+    """A sheet cut at every length, from no bytes to all."""
+    return [sheet[:end] for end in range(len(sheet) + 1)]
+
+
 def cases():
-    """Every cut of the example, from no bytes to all, and then the sheets above."""
-    cuts = [EXAMPLE[:end] for end in range(len(EXAMPLE) + 1)]
-    return listed(cuts + reader_faults() + build_faults() + two_faults() + accepted())
+    """Every cut of the example, and the sheets above; then the same in edition 2."""
+    edition_1 = cuts(EXAMPLE) + reader_faults() + build_faults() + two_faults() + accepted()
+    edition_2 = cuts(EXAMPLE_IN_EDITION_2) + edition_2_faults() + accepted_in_edition_2()
+    return listed(edition_1 + edition_2)
 
 
 def main():

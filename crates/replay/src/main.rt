@@ -10,7 +10,9 @@ use replay_items::words::after;
 use replay_items::words::held;
 use replay_items::words::word;
 use replay_sheets::read;
+use replay_sheets::read_edition_1;
 use replay_sheets::sheet_tensor;
+use replay_sheets::surface;
 use replay_sheets::write;
 use replay_steps::exact_index;
 use replay_steps::locate_axis;
@@ -41,6 +43,8 @@ fn case_at(list: &[u8], place: usize) -> Replayed {
         12 => locate_axis(list, begin),
         13 => locate_step_index(list, begin),
         14 => stepped(list, begin),
+        15 => read_edition_1(list, begin),
+        16 => surface(list, begin),
         _ => Replayed {
             same: false,
             next: begin,

@@ -1,4 +1,4 @@
-// The cases of a sheet (what is read of it, its tensor, what is written), each replayed through the exported call: whether it answers as the list says, and leaves every slice so. No list makes a function here trap.
+// The cases of a sheet (what is read of it, its tensor, what is written, its surface at a point), each replayed through the exported call: whether it answers as the list says, and leaves every slice so. No list makes a function here trap.
 use replay_items::Replayed;
 use replay_items::items::after_given;
 use replay_items::items::after_left;
@@ -58,8 +58,28 @@ fn read_left(
     }
 }
 
-// The call on the sheet that the list gives at a place and on the slices that it writes, of which the first is given at another; the arguments end at `answer`.
-fn read_answered(
+// Whether the slots of a sheet's modes and of its edition are left as the list says: those after the slices of its parts, the first given at a place, and what it is left with at another.
+fn edition_left(
+    list: &[u8],
+    given: usize,
+    left: usize,
+    modes: &[u8],
+    edition: &[usize],
+) -> Replayed {
+    let given_edition = after_given(list, given);
+    let left_edition = after_left(list, left);
+    let next = after_left(list, left_edition);
+    if !bytes_left(list, given, left, modes) {
+        return Replayed { same: false, next };
+    }
+    Replayed {
+        same: numbers_left(list, given_edition, left_edition, edition),
+        next,
+    }
+}
+
+// The call of the reader of edition 1 on the sheet that the list gives at a place and on the slices that it writes, of which the first is given at another; the arguments end at `answer`.
+fn read_edition_1_answered(
     list: &[u8],
     begin: usize,
     given: usize,
@@ -73,7 +93,7 @@ fn read_answered(
 ) -> Replayed {
     let bytes = bytes_given(list, begin);
     let bytes_end = bytes_at(list, begin);
-    let refusal = host::hullashlar_read(
+    let refusal = host::hullashlar_read_edition_1(
         &bytes[0..bytes_end],
         knots,
         samples,
@@ -103,8 +123,8 @@ fn read_answered(
     replayed
 }
 
-// A case of a sheet that is read, whose arguments begin at a place.
-pub fn read(list: &[u8], begin: usize) -> Replayed {
+// A case of a sheet for the reader of edition 1, whose arguments begin at a place.
+pub fn read_edition_1(list: &[u8], begin: usize) -> Replayed {
     let at_knots = after_given(list, begin);
     let at_samples = after_given(list, at_knots);
     let at_axes = after_given(list, at_samples);
@@ -124,7 +144,7 @@ pub fn read(list: &[u8], begin: usize) -> Replayed {
     let points_end = numbers_at(list, at_points);
     let kinds_end = bytes_at(list, at_kinds);
     let values_end = floats_at(list, at_values);
-    read_answered(
+    read_edition_1_answered(
         list,
         begin,
         at_knots,
@@ -135,6 +155,159 @@ pub fn read(list: &[u8], begin: usize) -> Replayed {
         &mut points[0..points_end],
         &mut kinds[0..kinds_end],
         &mut values[0..values_end],
+    )
+}
+
+// The refusal of a read of the sheet that the list gives at a place.
+fn read_refusal(
+    list: &[u8],
+    begin: usize,
+    knots: &mut [f64],
+    samples: &mut [f64],
+    axes: &mut [usize],
+    points: &mut [usize],
+    kinds: &mut [u8],
+    values: &mut [f64],
+    modes: &mut [u8],
+    edition: &mut [usize],
+) -> usize {
+    let bytes = bytes_given(list, begin);
+    let bytes_end = bytes_at(list, begin);
+    host::hullashlar_read(
+        &bytes[0..bytes_end],
+        knots,
+        samples,
+        axes,
+        points,
+        kinds,
+        values,
+        modes,
+        edition,
+    )
+}
+
+// The call on the sheet that the list gives at a place and on the slices that it writes, of which the first is given at another and the modes at a third; the arguments end at `answer`.
+fn read_answered(
+    list: &[u8],
+    begin: usize,
+    given: usize,
+    given_modes: usize,
+    answer: usize,
+    knots: &mut [f64],
+    samples: &mut [f64],
+    axes: &mut [usize],
+    points: &mut [usize],
+    kinds: &mut [u8],
+    values: &mut [f64],
+    modes: &mut [u8],
+    edition: &mut [usize],
+) -> Replayed {
+    let refusal = read_refusal(
+        list,
+        begin,
+        knots,
+        samples,
+        axes,
+        points,
+        kinds,
+        values,
+        modes,
+        edition,
+    );
+    let left = after(answer, 1);
+    let parts = read_left(
+        list,
+        given,
+        left,
+        knots,
+        samples,
+        axes,
+        points,
+        kinds,
+        values,
+    );
+    let told = edition_left(list, given_modes, parts.next, modes, edition);
+    let next = told.next;
+    if refusal as u64 != word(list, answer) {
+        return Replayed { same: false, next };
+    }
+    if !parts.same {
+        return Replayed { same: false, next };
+    }
+    told
+}
+
+// The same on the slots of modes and edition alone: the slices of the parts are as the list gives them.
+fn read_parts(
+    list: &[u8],
+    begin: usize,
+    at_modes: usize,
+    answer: usize,
+    modes: &mut [u8],
+    edition: &mut [usize],
+) -> Replayed {
+    let at_knots = after_given(list, begin);
+    let at_samples = after_given(list, at_knots);
+    let at_axes = after_given(list, at_samples);
+    let at_points = after_given(list, at_axes);
+    let at_kinds = after_given(list, at_points);
+    let at_values = after_given(list, at_kinds);
+    let mut knots = floats_given(list, at_knots);
+    let mut samples = floats_given(list, at_samples);
+    let mut axes = numbers_given(list, at_axes);
+    let mut points = numbers_given(list, at_points);
+    let mut kinds = bytes_given(list, at_kinds);
+    let mut values = floats_given(list, at_values);
+    let knots_end = floats_at(list, at_knots);
+    let samples_end = floats_at(list, at_samples);
+    let axes_end = numbers_at(list, at_axes);
+    let points_end = numbers_at(list, at_points);
+    let kinds_end = bytes_at(list, at_kinds);
+    let values_end = floats_at(list, at_values);
+    read_answered(
+        list,
+        begin,
+        at_knots,
+        at_modes,
+        answer,
+        &mut knots[0..knots_end],
+        &mut samples[0..samples_end],
+        &mut axes[0..axes_end],
+        &mut points[0..points_end],
+        &mut kinds[0..kinds_end],
+        &mut values[0..values_end],
+        modes,
+        edition,
+    )
+}
+
+// The place after a sheet, and after the slices of its parts.
+fn after_parts(list: &[u8], begin: usize) -> usize {
+    let at_knots = after_given(list, begin);
+    let at_samples = after_given(list, at_knots);
+    let at_axes = after_given(list, at_samples);
+    let at_points = after_given(list, at_axes);
+    let at_kinds = after_given(list, at_points);
+    let at_values = after_given(list, at_kinds);
+    after_given(list, at_values)
+}
+
+// A case of a sheet that is read, whose arguments begin at a place.
+pub fn read(list: &[u8], begin: usize) -> Replayed {
+    let at_modes = after_parts(list, begin);
+    let at_edition = after_given(list, at_modes);
+    let answer = after_given(list, at_edition);
+    let mut modes = bytes_given(list, at_modes);
+    let mut edition = numbers_given(list, at_edition);
+    let modes_end = bytes_at(list, at_modes);
+    let edition_end = numbers_at(list, at_edition);
+    read_parts(
+        list,
+        begin,
+        at_modes,
+        answer,
+        &mut modes[0..modes_end],
+        &mut edition[0..edition_end],
     )
 }
 
@@ -174,6 +347,8 @@ fn sheet_tensor_refusal(
     points: &mut [usize],
     kinds: &mut [u8],
     values: &mut [f64],
+    modes: &mut [u8],
+    edition: &mut [usize],
     tensor: &mut [f64],
     scratch: &mut [f64],
     length: &mut [usize],
@@ -188,16 +363,19 @@ fn sheet_tensor_refusal(
         points,
         kinds,
         values,
+        modes,
+        edition,
         tensor,
         scratch,
         length,
     )
 }
 
-// Whether the call refused and left its slices as the list says, of which the first is given at a place and the tensor at another; the arguments end at `answer`.
+// Whether the call refused and left its slices as the list says, of which the first is given at a place, the modes at another and the tensor at a third; the arguments end at `answer`.
 fn sheet_tensor_left(
     list: &[u8],
     given: usize,
+    given_modes: usize,
     given_tensor: usize,
     answer: usize,
     refusal: usize,
@@ -207,6 +385,8 @@ fn sheet_tensor_left(
     points: &[usize],
     kinds: &[u8],
     values: &[f64],
+    modes: &[u8],
+    edition: &[usize],
     tensor: &[f64],
     scratch: &[f64],
     length: &[usize],
@@ -223,7 +403,8 @@ fn sheet_tensor_left(
         kinds,
         values,
     );
-    let built = tensor_left(list, given_tensor, read.next, tensor, scratch, length);
+    let told = edition_left(list, given_modes, read.next, modes, edition);
+    let built = tensor_left(list, given_tensor, told.next, tensor, scratch, length);
     let next = built.next;
     if refusal as u64 != word(list, answer) {
         return Replayed { same: false, next };
@@ -231,14 +412,18 @@ fn sheet_tensor_left(
     if !read.same {
         return Replayed { same: false, next };
     }
+    if !told.same {
+        return Replayed { same: false, next };
+    }
     built
 }
 
-// The call on the sheet that the list gives at a place and on the slices that it writes, of which the first is given at another and the tensor at a third; the arguments end at `answer`.
+// The call on the sheet that the list gives at a place and on the slices that it writes, of which the first is given at another, the modes at a third and the tensor at a fourth; the arguments end at `answer`.
 fn sheet_tensor_answered(
     list: &[u8],
     begin: usize,
     given: usize,
+    given_modes: usize,
     given_tensor: usize,
     answer: usize,
     knots: &mut [f64],
@@ -247,6 +432,8 @@ fn sheet_tensor_answered(
     points: &mut [usize],
     kinds: &mut [u8],
     values: &mut [f64],
+    modes: &mut [u8],
+    edition: &mut [usize],
     tensor: &mut [f64],
     scratch: &mut [f64],
     length: &mut [usize],
@@ -260,6 +447,8 @@ fn sheet_tensor_answered(
         points,
         kinds,
         values,
+        modes,
+        edition,
         tensor,
         scratch,
         length,
@@ -267,6 +456,7 @@ fn sheet_tensor_answered(
     sheet_tensor_left(
         list,
         given,
+        given_modes,
         given_tensor,
         answer,
         refusal,
@@ -276,18 +466,23 @@ fn sheet_tensor_answered(
         points,
         kinds,
         values,
+        modes,
+        edition,
         tensor,
         scratch,
         length,
     )
 }
 
-// The same on the slices of the tensor alone: those that a read writes too are as the list gives them.
-fn sheet_tensor_read(
+// The same on the slots of modes and edition and on the slices of the tensor: those of the parts are as the list gives them.
+fn sheet_tensor_parts(
     list: &[u8],
     begin: usize,
+    at_modes: usize,
     at_tensor: usize,
     answer: usize,
+    modes: &mut [u8],
+    edition: &mut [usize],
     tensor: &mut [f64],
     scratch: &mut [f64],
     length: &mut [usize],
@@ -314,6 +509,7 @@ fn sheet_tensor_read(
         list,
         begin,
         at_knots,
+        at_modes,
         at_tensor,
         answer,
         &mut knots[0..knots_end],
@@ -322,40 +518,40 @@ fn sheet_tensor_read(
         &mut points[0..points_end],
         &mut kinds[0..kinds_end],
         &mut values[0..values_end],
+        modes,
+        edition,
         tensor,
         scratch,
         length,
     )
 }
 
-// The place after a sheet, and after the slices that a read writes.
-fn after_read(list: &[u8], begin: usize) -> usize {
-    let at_knots = after_given(list, begin);
-    let at_samples = after_given(list, at_knots);
-    let at_axes = after_given(list, at_samples);
-    let at_points = after_given(list, at_axes);
-    let at_kinds = after_given(list, at_points);
-    let at_values = after_given(list, at_kinds);
-    after_given(list, at_values)
-}
-
 // A case of a sheet's tensor, whose arguments begin at a place.
 pub fn sheet_tensor(list: &[u8], begin: usize) -> Replayed {
-    let at_tensor = after_read(list, begin);
+    let at_modes = after_parts(list, begin);
+    let at_edition = after_given(list, at_modes);
+    let at_tensor = after_given(list, at_edition);
     let at_scratch = after_given(list, at_tensor);
     let at_length = after_given(list, at_scratch);
     let answer = after_given(list, at_length);
+    let mut modes = bytes_given(list, at_modes);
+    let mut edition = numbers_given(list, at_edition);
     let mut tensor = floats_given(list, at_tensor);
     let mut scratch = floats_given(list, at_scratch);
     let mut length = numbers_given(list, at_length);
+    let modes_end = bytes_at(list, at_modes);
+    let edition_end = numbers_at(list, at_edition);
     let tensor_end = floats_at(list, at_tensor);
     let scratch_end = floats_at(list, at_scratch);
     let length_end = numbers_at(list, at_length);
-    sheet_tensor_read(
+    sheet_tensor_parts(
         list,
         begin,
+        at_modes,
         at_tensor,
         answer,
+        &mut modes[0..modes_end],
+        &mut edition[0..edition_end],
         &mut tensor[0..tensor_end],
         &mut scratch[0..scratch_end],
         &mut length[0..length_end],
@@ -372,8 +568,10 @@ fn write_answered(
     points: &[usize],
     kinds: &[u8],
     values: &[f64],
+    modes: &[u8],
     knots: &[f64],
     samples: &[f64],
+    edition: usize,
     bytes: &mut [u8],
     length: &mut [usize],
 ) -> Replayed {
@@ -382,8 +580,10 @@ fn write_answered(
         points,
         kinds,
         values,
+        modes,
         knots,
         samples,
+        edition,
         bytes,
         length,
     );
@@ -415,14 +615,18 @@ fn write_on(
     let at_points = after(begin, 1);
     let at_kinds = after_given(list, at_points);
     let at_values = after_given(list, at_kinds);
-    let at_knots = after_given(list, at_values);
+    let at_modes = after_given(list, at_values);
+    let at_knots = after_given(list, at_modes);
     let at_samples = after_given(list, at_knots);
+    let at_edition = after_given(list, at_samples);
     let points = numbers_given(list, at_points);
     let points_end = numbers_at(list, at_points);
     let kinds = bytes_given(list, at_kinds);
     let kinds_end = bytes_at(list, at_kinds);
     let values = floats_given(list, at_values);
     let values_end = floats_at(list, at_values);
+    let modes = bytes_given(list, at_modes);
+    let modes_end = bytes_at(list, at_modes);
     let knots = floats_given(list, at_knots);
     let knots_end = floats_at(list, at_knots);
     let samples = floats_given(list, at_samples);
@@ -436,8 +640,10 @@ fn write_on(
         &points[0..points_end],
         &kinds[0..kinds_end],
         &values[0..values_end],
+        &modes[0..modes_end],
         &knots[0..knots_end],
         &samples[0..samples_end],
+        word(list, at_edition) as usize,
         bytes,
         length,
     )
@@ -448,9 +654,11 @@ pub fn write(list: &[u8], begin: usize) -> Replayed {
     let at_points = after(begin, 1);
     let at_kinds = after_given(list, at_points);
     let at_values = after_given(list, at_kinds);
-    let at_knots = after_given(list, at_values);
+    let at_modes = after_given(list, at_values);
+    let at_knots = after_given(list, at_modes);
     let at_samples = after_given(list, at_knots);
-    let at_bytes = after_given(list, at_samples);
+    let at_edition = after_given(list, at_samples);
+    let at_bytes = after(at_edition, 1);
     let at_length = after_given(list, at_bytes);
     let answer = after_given(list, at_length);
     let mut bytes = bytes_given(list, at_bytes);
@@ -466,4 +674,26 @@ pub fn write(list: &[u8], begin: usize) -> Replayed {
         &mut bytes[0..bytes_end],
         &mut length[0..length_end],
     )
+}
+
+// A case of a surface for firmware, whose arguments begin at a place: a sheet and four coordinates. What it returns is compared whole.
+pub fn surface(list: &[u8], begin: usize) -> Replayed {
+    let bytes = bytes_given(list, begin);
+    let bytes_end = bytes_at(list, begin);
+    let first = after_given(list, begin);
+    let second = after(first, 1);
+    let third = after(second, 1);
+    let fourth = after(third, 1);
+    let answer = after(fourth, 1);
+    let returned = host::hullashlar_surface(
+        &bytes[0..bytes_end],
+        word(list, first),
+        word(list, second),
+        word(list, third),
+        word(list, fourth),
+    );
+    Replayed {
+        same: returned == word(list, answer),
+        next: after(answer, 1),
+    }
 }

@@ -1,6 +1,7 @@
 // Reads a list of sheets, each after its length in two bytes, the higher first, and prints the text of each. The list: every cut of
 // the example sheet, from no bytes to all 51; each fault of the reader, 12 1 2 13 3 11 14, and of the build, 7 8 9 10; sheets with
-// two faults, of which the first in reading order counts; and sheets of one to four axes with every kind of end.
+// two faults, of which the first in reading order counts; and sheets of one to four axes with every kind of end. Then edition 2:
+// every cut of the example; modes that there are not, 22, alone and beside other faults; and sheets in every mode.
 ghost use Prim.Native.Nat.{_+_, _<_, _≤_};
 ghost use lib.ListN.{length};
 

@@ -1,7 +1,7 @@
 //! The lines of the table: what we measure, and what it is held against. Each
 //! side keeps its buffers from call to call, and nothing is cleared between.
 
-use crate::hullashlar::{self, BUFFER, EXTEND, SCRATCH};
+use crate::hullashlar::{self, BUFFER, SCRATCH};
 use crate::inputs::{Inputs, Surface, CHANGED};
 use ninterp_quick::{
     compute_corner_cache, compute_m, evaluate_spline_corner_cached, evaluate_spline_from_m,
@@ -118,7 +118,7 @@ fn our_query(surface: &Surface) -> Work<'_> {
     let tensor: Vec<f64> = surface.tensor().iter().copied().collect();
     let point = surface.middle_point();
     Box::new(move || {
-        let answer = hullashlar::query(&surface.axes, EXTEND, &surface.knots, &tensor, &point);
+        let answer = hullashlar::query(&surface.axes, &surface.knots, &tensor, &point);
         answer.expect(ACCEPTED).0
     })
 }
@@ -148,8 +148,7 @@ fn our_quick_query(surface: &Surface) -> Work<'_> {
     let tensor: Vec<f64> = surface.tensor().iter().copied().collect();
     let point = surface.middle_point();
     Box::new(move || {
-        let answer =
-            hullashlar::quick_query(&surface.axes, EXTEND, &surface.knots, &tensor, &point);
+        let answer = hullashlar::quick_query(&surface.axes, &surface.knots, &tensor, &point);
         answer.expect(ACCEPTED).0
     })
 }
@@ -177,7 +176,7 @@ fn our_even_query(surface: &Surface) -> Work<'_> {
     let tensor: Vec<f64> = surface.tensor().iter().copied().collect();
     let point = surface.middle_point();
     Box::new(move || {
-        let answer = hullashlar::even_query(&surface.axes, EXTEND, &surface.knots, &tensor, &point);
+        let answer = hullashlar::even_query(&surface.axes, &surface.knots, &tensor, &point);
         answer.expect(ACCEPTED).0
     })
 }
@@ -314,6 +313,8 @@ fn oracle_read(sheet: &[u8], knots: &mut [f64], samples: &mut [f64]) {
         &mut points,
         &mut kinds,
         &mut values,
+        &mut [0; 4],
+        &mut [0],
     );
     assert_eq!(refusal, 0, "{ACCEPTED}");
 }
@@ -341,7 +342,7 @@ fn our_write(surface: &Surface) -> Work<'_> {
     } = surface;
     let mut sheet = vec![0; surface.sheet().len()];
     Box::new(move || {
-        hullashlar::write(axes, knots, samples, &mut sheet).expect(ACCEPTED);
+        hullashlar::write(1, axes, knots, samples, &mut sheet).expect(ACCEPTED);
         last_sample(&sheet)
     })
 }
@@ -360,8 +361,10 @@ fn oracle_write(surface: &Surface) -> Work<'_> {
             &axes.points,
             &axes.kinds,
             &axes.values,
+            &axes.modes,
             knots,
             samples,
+            1,
             &mut sheet,
             &mut [0],
         );

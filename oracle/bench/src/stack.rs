@@ -1,7 +1,7 @@
 //! Stack bytes of each exported call: it runs on a stack of its own that was
 //! painted before, and the lowest number that lost its paint says how deep it went.
 
-use crate::hullashlar::{self, BUFFER, EXTEND, LONGEST_TENSOR, SCRATCH};
+use crate::hullashlar::{self, BUFFER, LONGEST_TENSOR, SCRATCH};
 use crate::inputs::{Inputs, Surface, CHANGED};
 use std::arch::asm;
 use std::hint::black_box;
@@ -65,23 +65,19 @@ fn change(surface: &Surface) -> usize {
 fn query(surface: &Surface) -> usize {
     let tensor: Vec<f64> = surface.tensor().iter().copied().collect();
     let point = surface.middle_point();
-    bytes_of(|| hullashlar::query(&surface.axes, EXTEND, &surface.knots, &tensor, &point).is_ok())
+    bytes_of(|| hullashlar::query(&surface.axes, &surface.knots, &tensor, &point).is_ok())
 }
 
 fn quick_query(surface: &Surface) -> usize {
     let tensor: Vec<f64> = surface.tensor().iter().copied().collect();
     let point = surface.middle_point();
-    bytes_of(|| {
-        hullashlar::quick_query(&surface.axes, EXTEND, &surface.knots, &tensor, &point).is_ok()
-    })
+    bytes_of(|| hullashlar::quick_query(&surface.axes, &surface.knots, &tensor, &point).is_ok())
 }
 
 fn even_query(surface: &Surface) -> usize {
     let tensor: Vec<f64> = surface.tensor().iter().copied().collect();
     let point = surface.middle_point();
-    bytes_of(|| {
-        hullashlar::even_query(&surface.axes, EXTEND, &surface.knots, &tensor, &point).is_ok()
-    })
+    bytes_of(|| hullashlar::even_query(&surface.axes, &surface.knots, &tensor, &point).is_ok())
 }
 
 fn read(surface: &Surface) -> usize {
@@ -109,7 +105,7 @@ fn write(surface: &Surface) -> usize {
         samples,
         ..
     } = surface;
-    bytes_of(|| hullashlar::write(axes, knots, samples, &mut bytes).is_ok())
+    bytes_of(|| hullashlar::write(1, axes, knots, samples, &mut bytes).is_ok())
 }
 
 fn moments(line: &Surface) -> usize {

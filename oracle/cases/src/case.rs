@@ -1,6 +1,8 @@
 //! A call with everything that it is given and lent.
 
 use crate::lent::{Lent, Word};
+use crate::report::NUMBERS;
+use reading::REFUSED;
 
 /// The calls of the archive.
 #[derive(Debug, Clone, Copy, PartialEq, Eq)]
@@ -20,6 +22,8 @@ pub enum Call {
     LocateAxis,
     LocateStepIndex,
     Stepped,
+    ReadEdition1,
+    Surface,
 }
 
 impl Call {
@@ -60,14 +64,19 @@ impl Call {
                 "uneven",
             ],
             Call::Read => &[
+                "bytes", "knots", "samples", "axes", "points", "kinds", "values", "modes",
+                "edition",
+            ],
+            Call::ReadEdition1 => &[
                 "bytes", "knots", "samples", "axes", "points", "kinds", "values",
             ],
             Call::SheetTensor => &[
-                "bytes", "knots", "samples", "axes", "points", "kinds", "values", "tensor",
-                "scratch", "length",
+                "bytes", "knots", "samples", "axes", "points", "kinds", "values", "modes",
+                "edition", "tensor", "scratch", "length",
             ],
             Call::Write => &[
-                "axes", "points", "kinds", "values", "knots", "samples", "bytes", "length",
+                "axes", "points", "kinds", "values", "modes", "knots", "samples", "edition",
+                "bytes", "length",
             ],
             Call::ExactIndex => &["points", "knots", "lower", "point", "found"],
             Call::LocateAxis => &["points", "knots", "point", "location", "fraction"],
@@ -82,6 +91,7 @@ impl Call {
                 "value",
                 "indices",
             ],
+            Call::Surface => &["bytes", "c0", "c1", "c2", "c3"],
         }
     }
 
@@ -95,16 +105,32 @@ impl Call {
             Call::Change => &["tensor", "scratch", "lanes"],
             Call::Query | Call::QuickQuery => &["value", "labels"],
             Call::EvenQuery => &["value", "labels", "uneven"],
-            Call::Read => &["knots", "samples", "axes", "points", "kinds", "values"],
+            Call::Read => &[
+                "knots", "samples", "axes", "points", "kinds", "values", "modes", "edition",
+            ],
+            Call::ReadEdition1 => &["knots", "samples", "axes", "points", "kinds", "values"],
             Call::SheetTensor => &[
-                "knots", "samples", "axes", "points", "kinds", "values", "tensor", "scratch",
-                "length",
+                "knots", "samples", "axes", "points", "kinds", "values", "modes", "edition",
+                "tensor", "scratch", "length",
             ],
             Call::Write => &["bytes", "length"],
             Call::ExactIndex => &["found"],
             Call::LocateAxis => &["location", "fraction"],
             Call::LocateStepIndex => &["index"],
             Call::Stepped => &["value", "indices"],
+            Call::Surface => &[],
+        }
+    }
+
+    /// The refusal, 0 for none, in what the call returns. The one that returns a pattern has an
+    /// answer or a refusal in it.
+    pub fn refusal(self, returned: usize) -> usize {
+        match self {
+            Call::Surface => match returned.checked_sub(REFUSED as usize) {
+                Some(number @ 1..NUMBERS) => number,
+                _ => 0,
+            },
+            _ => returned,
         }
     }
 
@@ -113,9 +139,14 @@ impl Call {
         matches!(self, Call::Query | Call::QuickQuery | Call::EvenQuery)
     }
 
+    /// Whether the call is given a sheet.
+    pub fn takes_a_sheet(self) -> bool {
+        self.reads_patterns() || self == Call::Surface
+    }
+
     /// Whether floats come from patterns, of which a NaN keeps no payload.
     pub fn reads_patterns(self) -> bool {
-        matches!(self, Call::Read | Call::SheetTensor)
+        matches!(self, Call::Read | Call::ReadEdition1 | Call::SheetTensor)
     }
 }
 
@@ -305,7 +336,7 @@ impl Case {
 
 /// Something that answers calls.
 pub trait Calls {
-    /// The refusal number, with the lent slices as the call leaves them; or none
-    /// where this call is not answered at all.
+    /// What the call returns, with the lent slices as it leaves them; or none where this call is
+    /// not answered at all.
     fn run(&self, case: &mut Case) -> Option<usize>;
 }

@@ -1,6 +1,7 @@
 //! Runs cases against the reading and against a subject, and compares.
 
 mod either_order;
+mod places;
 mod sheets;
 
 use crate::case::{Argument, Call, Calls, Case};
@@ -33,6 +34,9 @@ const CALLS_IN_TWO_ORDERS: u64 = 8;
 /// A quick query and a full one.
 const CALLS_BESIDE: u64 = 2;
 
+/// A surface is asked at some 60 places, by 6 calls each.
+const CALLS_AT_EVERY_PLACE: u64 = 360;
+
 impl Plan {
     /// About so many calls of each kind, the examples once, and no sheet of up to
     /// two bytes twice.
@@ -43,6 +47,7 @@ impl Plan {
             Kind::ChangeList => calls.div_ceil(CHANGES_IN_A_LIST),
             Kind::EitherOrder => calls.div_ceil(CALLS_IN_TWO_ORDERS),
             Kind::QuickBesideFull => calls.div_ceil(CALLS_BESIDE),
+            Kind::AtEveryPlace => calls.div_ceil(CALLS_AT_EVERY_PLACE),
             _ => calls,
         });
         Self { seed, cases }
@@ -83,6 +88,7 @@ fn compare_kind(subject: &dyn Calls, plan: &Plan, kind: Kind, report: &mut Repor
                 run.either_order(random);
             }
             Kind::QuickBesideFull => run.quick_beside_full(random),
+            Kind::AtEveryPlace => run.at_every_place(random),
             Kind::Write => run.write_and_read(random),
             Kind::WrittenBack => run.written_back(plan.seed, number),
             _ => {
@@ -105,7 +111,8 @@ impl Run<'_> {
     /// it (the reading where there is no subject), and whether they are the same.
     fn compare(&mut self, given: &Case) -> (usize, Case, bool) {
         let mut expected = given.clone();
-        let refusal = Reading.run(&mut expected).expect("the reading answers all");
+        let returned = Reading.run(&mut expected).expect("the reading answers all");
+        let refusal = given.call.refusal(returned);
         let counts = self.report.of_mut(self.kind);
         counts.calls += 1;
         counts.refusals[refusal] += 1;
@@ -120,11 +127,11 @@ impl Run<'_> {
             return (refusal, expected, true);
         };
         self.report.of_mut(self.kind).compared += 1;
-        let same = answer == refusal && same_arguments(&expected, &found);
+        let same = answer == returned && same_arguments(&expected, &found);
         if !same {
             let title = self.title.as_str();
             self.report.difference(self.kind, || {
-                describe(title, given, (refusal, &expected), (answer, &found))
+                describe(title, given, (returned, &expected), (answer, &found))
             });
         }
         (refusal, found, same)
@@ -136,9 +143,11 @@ impl Run<'_> {
         }
     }
 
-    /// A sheet through both of its calls.
+    /// A sheet through all of its calls.
     fn compare_sheet(&mut self, random: &mut Random, bytes: &[u8]) {
         self.compare(&lending::read(random, bytes));
+        self.compare(&lending::read_edition_1(random, bytes));
+        self.compare(&lending::surface(bytes, &[]));
         self.compare(&lending::sheet_tensor(random, bytes, LONGEST_TENSOR));
     }
 

@@ -29,16 +29,14 @@ pub fn examples() -> Vec<Case> {
     cases.extend(knots_that_do_not_rise(random));
     cases.extend(limits(random));
     cases.extend(steps(random));
-    cases.extend([
-        lending::read(random, &example_sheet()),
-        lending::sheet_tensor(random, &example_sheet(), 4),
-        lending::read(random, &[]),
-        lending::sheet_tensor(random, &[], 4),
-    ]);
+    cases.extend(sheets(random));
     cases.extend(quick_queries(random));
     cases.extend(outside(random));
     cases.extend(even_queries(random));
     cases.extend(written(random));
+    cases.extend(written_in_edition_2(random));
+    cases.extend(largest_sheets(random));
+    cases.extend(surfaces(random));
     cases
 }
 
@@ -210,6 +208,19 @@ fn even_queries(random: &mut Random) -> Vec<Case> {
     cases
 }
 
+/// The example sheet in each edition, and no bytes, through each call of a sheet.
+fn sheets(random: &mut Random) -> Vec<Case> {
+    let sheets = [example_sheet(1), example_sheet(2), Vec::new()];
+    let mut through = |sheet: &Vec<u8>| {
+        [
+            lending::read(random, sheet),
+            lending::sheet_tensor(random, sheet, 4),
+            lending::read_edition_1(random, sheet),
+        ]
+    };
+    sheets.iter().flat_map(&mut through).collect()
+}
+
 /// The example sheet written to as many bytes, to one fewer and to more; and one that is
 /// refused before its bytes are counted.
 fn written(random: &mut Random) -> Vec<Case> {
@@ -217,14 +228,87 @@ fn written(random: &mut Random) -> Vec<Case> {
     let natural = line(&samples, [SECOND; 2]);
     let too_few = line(&samples, [NOT_A_KNOT; 2]);
     let no_number = [0.0, f64::NAN];
-    let mut write =
-        |line: &Grid, samples: &[f64], room| lending::write(random, line, samples, room);
+    let mut write = |line: &Grid, samples: &[f64], room| {
+        lending::write(random, line, [EXTEND; 4], samples, 1, room)
+    };
     vec![
         write(&natural, &samples, 51),
         write(&natural, &samples, 50),
         write(&natural, &samples, 53),
         write(&too_few, &samples, 0),
         write(&natural, &no_number, 51),
+    ]
+}
+
+/// The example in each mode, in edition 2 and where it has no room for the mode, in an edition that
+/// there is not, and in a mode that there is not. Past the axis in use stands no mode at all.
+fn written_in_edition_2(random: &mut Random) -> Vec<Case> {
+    let samples = [0.0, 1.0];
+    let natural = line(&samples, [SECOND; 2]);
+    let mut write = |mode: u8, edition: usize, room: usize| {
+        let modes = [mode, 3, HOLD, 255];
+        lending::write(random, &natural, modes, &samples, edition, room)
+    };
+    vec![
+        write(EXTEND, 2, 51),
+        write(HOLD, 2, 51),
+        write(REFUSE, 2, 52),
+        write(REFUSE, 2, 50),
+        write(EXTEND, 1, 51),
+        write(HOLD, 1, 51),
+        write(REFUSE, 1, 50),
+        write(HOLD, 0, 51),
+        write(EXTEND, 3, 50),
+        write(3, 1, 51),
+    ]
+}
+
+/// The sheets of the most bytes, 10,308 in edition 1 and 10,309 in edition 2: written to as many
+/// bytes and to one fewer, and read.
+fn largest_sheets(random: &mut Random) -> Vec<Case> {
+    let knots: Vec<f64> = (0..256).map(|knot| knot as f64).collect();
+    let grid = grid(&[&knots, &knots[..4]], [FIRST, SECOND]);
+    let samples: Vec<f64> = (0..1024).map(|sample| sample as f64).collect();
+    let mut cases = Vec::new();
+    for (edition, length) in [(1, 10_308), (2, 10_309)] {
+        let mut write = |room| lending::write(random, &grid, [EXTEND; 4], &samples, edition, room);
+        let (written, short) = (write(length), write(length - 1));
+        let mut answered = written.clone();
+        Reading.run(&mut answered);
+        let sheet = answered.argument("bytes").bytes();
+        cases.push(lending::read(random, sheet));
+        cases.push(lending::sheet_tensor(random, sheet, 4096));
+        cases.extend([written, short]);
+    }
+    cases
+}
+
+/// The sheet of the example in an edition and a mode, asked inside and outside its knots, at no
+/// number, with minus zero as an unused coordinate; cut; and tensors of 512 numbers and of 576, which
+/// has the fewest bytes of all that are too long.
+fn surfaces(random: &mut Random) -> Vec<Case> {
+    let example = example_sheet(1);
+    let mut held = example_sheet(2);
+    held[2] |= HOLD << 3;
+    let mut at = |points: [usize; 4]| {
+        let knots = points.map(|count| &[0.0, 1.0, 2.0, 3.0][..count]);
+        let grid = grid(&knots, [PERIODIC; 2]);
+        let samples: Vec<f64> = (0..grid.samples()).map(|sample| sample as f64).collect();
+        let mut write = lending::write(random, &grid, [EXTEND; 4], &samples, 1, 400);
+        Reading.run(&mut write);
+        let length = write.argument("length").numbers()[0];
+        lending::surface(&write.argument("bytes").bytes()[..length], &[0.5; 4])
+    };
+    let (longest, too_long) = (at([2, 2, 2, 4]), at([2, 2, 3, 3]));
+    vec![
+        lending::surface(&example, &[0.5]),
+        lending::surface(&example, &[2.0]),
+        lending::surface(&held, &[2.0]),
+        lending::surface(&example, &[f64::NAN]),
+        lending::surface(&example, &[0.5, 0.0, 0.0, -0.0]),
+        lending::surface(&example[..50], &[0.5, 1.0]),
+        longest,
+        too_long,
     ]
 }
 

@@ -23,7 +23,7 @@ const TOO_LARGE: [&[usize]; 8] = [
 const OFF_POINTS: [usize; 6] = [0, 1, 1, 257, 257, usize::MAX];
 
 /// Numbers so large that what follows from them seldom stays finite.
-const LARGEST: [f64; 4] = [f64::MAX, -f64::MAX, 1.1e308, -1e307];
+pub const LARGEST: [f64; 4] = [f64::MAX, -f64::MAX, 1.1e308, -1e307];
 
 /// The faults of moments.
 const OF_MOMENTS: &[Fault] = &[
@@ -99,6 +99,8 @@ const OF_WRITE: &[Fault] = &[
     step_overflowing,
     too_few_points,
     kind_off,
+    mode_off,
+    edition_off,
     too_few_bytes,
 ];
 
@@ -132,6 +134,9 @@ const OF_STEPPED: &[Fault] = &[
     step_overflowing,
 ];
 
+/// The faults of a surface's coordinates.
+const OF_SURFACE: &[Fault] = &[unused_not_zero, pattern_not_finite, pattern_of_any_number];
+
 /// The faults of a call, apart from lists of a fixed length and damaged sheets.
 fn faults_of(call: Call) -> &'static [Fault] {
     match call {
@@ -142,7 +147,8 @@ fn faults_of(call: Call) -> &'static [Fault] {
         Call::QuickQuery => OF_QUICK_QUERY,
         Call::EvenQuery => OF_QUERY,
         Call::Write => OF_WRITE,
-        Call::Read => &[length_off],
+        Call::Read | Call::ReadEdition1 => &[length_off],
+        Call::Surface => OF_SURFACE,
         Call::SheetTensor => &[length_off, scratch_short],
         Call::ExactIndex => OF_EXACT_INDEX,
         Call::LocateAxis => OF_CURVE,
@@ -240,6 +246,7 @@ fn fixed_length_off(random: &mut Random, case: &mut Case) {
         "fraction",
         "index",
         "indices",
+        "edition",
     ];
     let mut fixed = present(case, &names);
     fixed.retain(|name| !matches!(case.argument(name), Argument::Number(_)));
@@ -250,7 +257,7 @@ fn fixed_length_off(random: &mut Random, case: &mut Case) {
 }
 
 /// One short where the scratch was exact; else anything shorter.
-fn scratch_short(random: &mut Random, case: &mut Case) {
+pub fn scratch_short(random: &mut Random, case: &mut Case) {
     let scratch = case.argument_mut("scratch");
     let length = scratch.length();
     if length > 0 {
@@ -269,7 +276,7 @@ fn too_few_bytes(random: &mut Random, case: &mut Case) {
     }
 }
 
-fn place_off(random: &mut Random, case: &mut Case) {
+pub fn place_off(random: &mut Random, case: &mut Case) {
     let axes = axes_in_use(case);
     if !case.has("place") || axes == 0 {
         return;
@@ -384,6 +391,12 @@ fn mode_off(random: &mut Random, case: &mut Case) {
     }
 }
 
+/// A number that is no edition, though its lowest bits may be those of one.
+fn edition_off(random: &mut Random, case: &mut Case) {
+    let numbers = [0, 3, 3, 15, 16, 17, 18, 257, 258, (1 << 32) + 1, usize::MAX];
+    *case.argument_mut("edition") = Argument::Number(random.pick(&numbers));
+}
+
 /// A lower index that has no knot after it.
 fn lower_off(random: &mut Random, case: &mut Case) {
     let points = case.argument("points").number();
@@ -402,4 +415,31 @@ fn direction_off(random: &mut Random, case: &mut Case) {
         let axis = random.below(axes);
         case.argument_mut("directions").bytes_mut()[axis] = number as u8;
     }
+}
+
+/// The coordinates of a surface.
+const COORDINATES: [&str; 4] = ["c0", "c1", "c2", "c3"];
+
+/// Gives a coordinate of a surface a pattern that is not 0. The last are most often not in use.
+fn unused_not_zero(random: &mut Random, case: &mut Case) {
+    let (digits, float) = (random.word(), not_finite(random).to_bits());
+    let patterns = [1 << 63, 1 << 63, 1, 1.0f64.to_bits(), digits, float];
+    let name = random.pick(&["c1", "c2", "c3", "c3", "c3"]);
+    *case.argument_mut(name) = Argument::Number(random.pick(&patterns) as usize);
+}
+
+/// An infinity, or a NaN with any payload, quiet or not.
+fn pattern_not_finite(random: &mut Random, case: &mut Case) {
+    let payload = 0x7FF0_0000_0000_0000 | random.word() >> random.between(12, 63);
+    let sign = random.word() & 1 << 63;
+    let name = random.pick(&COORDINATES[..2]);
+    *case.argument_mut(name) = Argument::Number((payload | sign) as usize);
+}
+
+/// Any number at all, most often far outside the knots.
+fn pattern_of_any_number(random: &mut Random, case: &mut Case) {
+    let any = random.word();
+    let number = random.pick(&[f64::MAX, -1e300, 1e200, 5e-324]).to_bits();
+    let pattern = random.pick(&[number, any]);
+    *case.argument_mut("c0") = Argument::Number(pattern as usize);
 }

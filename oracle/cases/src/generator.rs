@@ -10,11 +10,11 @@ use crate::numbers::list;
 use crate::overflow::take_an_end_to_the_edge;
 use crate::random::Random;
 use crate::sheet::{damaged_sheet, good_sheet, length_of, swept_sheet};
-use reading::CURVE_SCRATCH;
+use reading::{CURVE_SCRATCH, EDITIONS, EXTEND, LONGEST_TENSOR};
 
 /// The kinds of cases: the worked examples, one kind for each call, lists
 /// of changes, the sheets of up to two bytes, changes in two orders, quick queries
-/// beside full ones, and the reader's sheets written back.
+/// beside full ones, the reader's sheets written back, and surfaces asked at every place.
 #[derive(Debug, Clone, Copy, PartialEq, Eq)]
 pub enum Kind {
     Example,
@@ -38,10 +38,13 @@ pub enum Kind {
     LocateAxis,
     LocateStepIndex,
     Stepped,
+    AtEveryPlace,
+    ReadEdition1,
+    Surface,
 }
 
 /// Every kind, in the order of the report.
-pub const KINDS: [Kind; 21] = [
+pub const KINDS: [Kind; 24] = [
     Kind::Example,
     Kind::Moments,
     Kind::Curve,
@@ -63,6 +66,9 @@ pub const KINDS: [Kind; 21] = [
     Kind::LocateAxis,
     Kind::LocateStepIndex,
     Kind::Stepped,
+    Kind::AtEveryPlace,
+    Kind::ReadEdition1,
+    Kind::Surface,
 ];
 
 impl Kind {
@@ -90,6 +96,9 @@ impl Kind {
             Kind::LocateAxis => "locate_axis",
             Kind::LocateStepIndex => "locate_step_index",
             Kind::Stepped => "stepped",
+            Kind::AtEveryPlace => "at_every_place",
+            Kind::ReadEdition1 => "read_edition_1",
+            Kind::Surface => "surface",
         }
     }
 
@@ -103,6 +112,7 @@ impl Kind {
                 | Kind::EitherOrder
                 | Kind::QuickBesideFull
                 | Kind::WrittenBack
+                | Kind::AtEveryPlace
         )
     }
 }
@@ -127,6 +137,12 @@ const FAULTY_BESIDE: usize = 4;
 /// once more.
 const FAULTY_TO_WRITE: usize = 52;
 
+/// Of surfaces some sheets are damaged, and some coordinates off, often both; some tensors are too
+/// long without either.
+const DAMAGED_SURFACES: usize = 12;
+const FAULTY_SURFACES: usize = 9;
+const FAULTY_BESIDE_DAMAGE: usize = 60;
+
 /// Axes that are not even are refused without another fault.
 const FAULTY_EVEN: usize = 18;
 
@@ -148,12 +164,15 @@ pub fn single(kind: Kind, number: usize, random: &mut Random) -> Case {
         Kind::LocateAxis => locate_axis(random),
         Kind::LocateStepIndex => locate_step_index(random),
         Kind::Stepped => stepped(random),
+        Kind::ReadEdition1 => read_edition_1(random, number),
+        Kind::Surface => surface(random, number),
         Kind::Example
         | Kind::ChangeList
         | Kind::ShortSheet
         | Kind::EitherOrder
         | Kind::QuickBesideFull
-        | Kind::WrittenBack => {
+        | Kind::WrittenBack
+        | Kind::AtEveryPlace => {
             panic!("more than one call: {}", kind.name())
         }
     }
@@ -309,14 +328,26 @@ fn stepped(random: &mut Random) -> Case {
     altered_at_times(random, case)
 }
 
-/// A sheet to be read: first every cut and every single damaged bit of a small
-/// one, by the number of the case, and then generated ones.
+/// A sheet to be read: first a small one with all that a sweep does to it, by the number of the
+/// case, and then generated ones.
 fn read(random: &mut Random, number: usize) -> Case {
-    if let Some(bytes) = swept_sheet(number) {
-        return lending::read(random, &bytes);
+    swept_or_generated(random, number, |random, bytes, _| {
+        lending::read(random, bytes)
+    })
+}
+
+/// The same for the reader of edition 1.
+fn read_edition_1(random: &mut Random, number: usize) -> Case {
+    swept_or_generated(random, number, |random, bytes, _| {
+        lending::read_edition_1(random, bytes)
+    })
+}
+
+fn swept_or_generated(random: &mut Random, number: usize, lend: LendSheet) -> Case {
+    match swept_sheet(number) {
+        Some(bytes) => lend(random, &bytes, LONGEST_TENSOR),
+        None => sheet_case(random, number, FAULTY_TO_READ, lend),
     }
-    let lend = |random: &mut Random, bytes: &[u8], _| lending::read(random, bytes);
-    sheet_case(random, number, FAULTY_TO_READ, lend)
 }
 
 /// A sheet to be read and built.
@@ -324,13 +355,37 @@ fn sheet_tensor(random: &mut Random, number: usize) -> Case {
     sheet_case(random, number, FAULTY_TO_BUILD, lending::sheet_tensor)
 }
 
-/// A sheet to be written.
+/// A sheet that is asked at a point: first the small one with all that a sweep does to it.
+fn surface(random: &mut Random, number: usize) -> Case {
+    if let Some(bytes) = swept_sheet(number) {
+        return lending::surface(&bytes, &[0.5]);
+    }
+    let grid = Grid::around_the_longest_of_a_surface(random);
+    let (bytes, faulty) = if random.percent(DAMAGED_SURFACES) {
+        let bytes = damaged_sheet(random, number, &grid);
+        (bytes, FAULTY_BESIDE_DAMAGE)
+    } else {
+        (good_sheet(random, number, &grid), FAULTY_SURFACES)
+    };
+    let mut case = lending::surface(&bytes, &grid.coordinates(random));
+    if random.percent(faulty) {
+        spoil(random, &mut case);
+    }
+    case
+}
+
+/// A sheet to be written, in edition 1 most often with no mode that it has no room for.
 pub fn write(random: &mut Random) -> Case {
     let grid = Grid::generate(random);
     let samples = list(random, grid.samples());
-    let length = length_of(&grid.points[..grid.axes], &grid.kinds[..2 * grid.axes]);
-    let room = room(random, length);
-    let mut case = lending::write(random, &grid, &samples, room);
+    let edition = random.pick(&EDITIONS);
+    let mut modes = grid.modes(random);
+    if edition == 1 && random.percent(85) {
+        modes[..grid.axes].fill(EXTEND);
+    }
+    let (points, kinds) = (&grid.points[..grid.axes], &grid.kinds[..2 * grid.axes]);
+    let room = room(random, length_of(edition, points, kinds));
+    let mut case = lending::write(random, &grid, modes, &samples, edition, room);
     if random.percent(FAULTY_TO_WRITE) {
         spoil(random, &mut case);
     }
@@ -358,21 +413,20 @@ fn altered_at_times(random: &mut Random, mut case: Case) -> Case {
     case
 }
 
+/// Makes a case of a sheet, whose tensor has a length.
+type LendSheet = fn(&mut Random, &[u8], usize) -> Case;
+
 /// A case of a sheet that is good or damaged, or whose other arguments are.
-fn sheet_case(
-    random: &mut Random,
-    number: usize,
-    faulty: usize,
-    lend: fn(&mut Random, &[u8], usize) -> Case,
-) -> Case {
+fn sheet_case(random: &mut Random, number: usize, faulty: usize, lend: LendSheet) -> Case {
     let faulty = random.percent(faulty);
     let damaged = faulty && random.percent(80);
-    let (bytes, tensor) = if damaged {
-        damaged_sheet(random, number)
+    let grid = Grid::generate(random);
+    let bytes = if damaged {
+        damaged_sheet(random, number, &grid)
     } else {
-        good_sheet(random)
+        good_sheet(random, number, &grid)
     };
-    let mut case = lend(random, &bytes, tensor);
+    let mut case = lend(random, &bytes, grid.tensor());
     if faulty && (!damaged || random.percent(10)) {
         spoil(random, &mut case);
     }

@@ -232,14 +232,29 @@ fn sheet_arguments(random: &mut Random, bytes: &[u8]) -> Vec<Argument> {
     ]
 }
 
+/// The same, and room for the modes and the edition.
+fn edition_arguments(random: &mut Random, bytes: &[u8]) -> Vec<Argument> {
+    let mut arguments = sheet_arguments(random, bytes);
+    arguments.extend([
+        Argument::of_bytes(&[81, 82, 83, 84]),
+        Argument::of_numbers(&[80]),
+    ]);
+    arguments
+}
+
 /// A sheet to be read.
 pub fn read(random: &mut Random, bytes: &[u8]) -> Case {
-    Case::new(Call::Read, sheet_arguments(random, bytes))
+    Case::new(Call::Read, edition_arguments(random, bytes))
+}
+
+/// A sheet for the reader of edition 1.
+pub fn read_edition_1(random: &mut Random, bytes: &[u8]) -> Case {
+    Case::new(Call::ReadEdition1, sheet_arguments(random, bytes))
 }
 
 /// A sheet to be read and built, with scratch for a tensor of a length.
 pub fn sheet_tensor(random: &mut Random, bytes: &[u8], tensor: usize) -> Case {
-    let mut arguments = sheet_arguments(random, bytes);
+    let mut arguments = edition_arguments(random, bytes);
     arguments.extend([
         Argument::of_floats(&fill(random, LONGEST_TENSOR, false)),
         scratch(random, tensor + CURVE_SCRATCH),
@@ -248,21 +263,40 @@ pub fn sheet_tensor(random: &mut Random, bytes: &[u8], tensor: usize) -> Case {
     Case::new(Call::SheetTensor, arguments)
 }
 
-/// The sheet of a grid and its samples, to be written to so many bytes.
-pub fn write(random: &mut Random, grid: &Grid, samples: &[f64], room: usize) -> Case {
+/// A sheet to be asked at coordinates; the patterns behind them are 0.
+pub fn surface(bytes: &[u8], coordinates: &[f64]) -> Case {
+    let mut patterns = [0; 4];
+    for (pattern, coordinate) in patterns.iter_mut().zip(coordinates) {
+        *pattern = coordinate.to_bits() as usize;
+    }
+    let mut arguments = vec![Argument::of_bytes(bytes)];
+    arguments.extend(patterns.map(Argument::Number));
+    Case::new(Call::Surface, arguments)
+}
+
+/// The sheet of a grid, its modes and its samples, to be written in an edition to so many bytes.
+pub fn write(
+    random: &mut Random,
+    grid: &Grid,
+    modes: [u8; 4],
+    samples: &[f64],
+    edition: usize,
+    room: usize,
+) -> Case {
     let parts = vec![
         Argument::Number(grid.axes),
         Argument::of_numbers(&grid.points),
         Argument::of_bytes(&grid.kinds),
         Argument::of_floats(&grid.values),
+        Argument::of_bytes(&modes),
         Argument::of_floats(&grid.knots),
         Argument::of_floats(samples),
     ];
-    write_case(random, parts, room)
+    write_case(random, parts, edition, room)
 }
 
-/// The parts of a sheet that was read, to be written to so many bytes.
-pub fn write_parts(random: &mut Random, read: &Case, room: usize) -> Case {
+/// The parts of a sheet that was read, to be written in an edition to so many bytes.
+pub fn write_parts(random: &mut Random, read: &Case, edition: usize, room: usize) -> Case {
     let axes = read.argument("axes").numbers()[0];
     let points = &read.argument("points").numbers()[..axes];
     let (knots, samples) = (points.iter().sum(), points.iter().product());
@@ -272,16 +306,23 @@ pub fn write_parts(random: &mut Random, read: &Case, room: usize) -> Case {
         read.argument("points").clone(),
         read.argument("kinds").clone(),
         read.argument("values").clone(),
+        read.argument("modes").clone(),
         front("knots", knots),
         front("samples", samples),
     ];
-    write_case(random, parts, room)
+    write_case(random, parts, edition, room)
 }
 
 /// The bytes are all alike before, and not all zero, so that what is cleared is seen.
-fn write_case(random: &mut Random, mut arguments: Vec<Argument>, room: usize) -> Case {
+fn write_case(
+    random: &mut Random,
+    mut arguments: Vec<Argument>,
+    edition: usize,
+    room: usize,
+) -> Case {
     let filling = random.pick(&[0xFF, 0x96, 0x01, 0]);
     arguments.extend([
+        Argument::Number(edition),
         Argument::of_bytes(&vec![filling; room]),
         Argument::of_numbers(&[78]),
     ]);

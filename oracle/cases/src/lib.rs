@@ -15,6 +15,7 @@ mod numbers;
 mod overflow;
 mod random;
 mod reached;
+mod reached_sheets;
 mod reading_calls;
 mod report;
 mod sheet;

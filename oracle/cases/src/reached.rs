@@ -2,6 +2,7 @@
 
 use crate::case::{Call, Case};
 use crate::overflow::{numbered_ends, refusal_with};
+use crate::reached_sheets::{SHEET_COUNT, SHEET_EDGES};
 use crate::sheet::length_of;
 use ninterp_unchanged::{
     locate_lower_index, locate_lower_index_uniform, validate_uniform_grid_epsilon,
@@ -9,13 +10,13 @@ use ninterp_unchanged::{
 use reading::{EXTEND, HOLD, REFUSE};
 
 /// An edge in words, and whether a case with its refusal reaches it.
-struct Edge {
-    name: &'static str,
-    is_reached: fn(&Case, usize) -> bool,
+pub struct Edge {
+    pub name: &'static str,
+    pub is_reached: fn(&Case, usize) -> bool,
 }
 
-/// How many edges there are.
-const COUNT: usize = 41;
+/// How many edges there are, beside those of sheets that are read.
+const COUNT: usize = 47;
 
 const EDGES: [Edge; COUNT] = [
     Edge {
@@ -133,6 +134,14 @@ const EDGES: [Edge; COUNT] = [
         is_reached: |case, refusal| refusal == 0 && in_mode(case, HOLD, below_and_above),
     },
     Edge {
+        name: "on every axis a coordinate at a knot between two cells",
+        is_reached: |case, refusal| refusal == 0 && between_cells_on_every_axis(case),
+    },
+    Edge {
+        name: "a coordinate at a knot that is the zero of the other sign",
+        is_reached: |case, refusal| refusal == 0 && at_a_knot_of_the_other_zero(case),
+    },
+    Edge {
         name: "an even query in another cell than the search finds",
         is_reached: |case, refusal| is_even(case) && refusal == 0 && in_another_cell(case),
     },
@@ -170,6 +179,22 @@ const EDGES: [Edge; COUNT] = [
         },
     },
     Edge {
+        name: "a sheet of edition 2 written with other modes on two axes",
+        is_reached: |case, refusal| refusal == 0 && in_edition(case, 2) && modes_differ(case),
+    },
+    Edge {
+        name: "a sheet of edition 1 written beside modes that are not read",
+        is_reached: |case, refusal| refusal == 0 && in_edition(case, 1) && other_modes_behind(case),
+    },
+    Edge {
+        name: "a mode that edition 1 has no room for beside a buffer that is too short",
+        is_reached: |case, refusal| refusal == 23 && too_short(case),
+    },
+    Edge {
+        name: "an edition that is none beside a buffer that is too short",
+        is_reached: |case, refusal| refusal == 12 && too_short(case),
+    },
+    Edge {
         name: "a step upward from below all knots",
         is_reached: |case, refusal| refusal == 0 && a_step(case, 1, |knots, p| p < knots[0]),
     },
@@ -191,6 +216,31 @@ const EDGES: [Edge; COUNT] = [
     },
 ];
 
+/// The modes of the axes in use, and those behind them.
+fn modes(case: &Case) -> (&[u8], &[u8]) {
+    let axes = case.argument("axes").number();
+    case.argument("modes").bytes().split_at(axes)
+}
+
+/// Whether a sheet is written in an edition.
+fn in_edition(case: &Case, edition: usize) -> bool {
+    case.call == Call::Write && case.argument("edition").number() == edition
+}
+
+fn modes_differ(case: &Case) -> bool {
+    let (modes, _) = modes(case);
+    modes.iter().any(|mode| *mode != modes[0])
+}
+
+fn other_modes_behind(case: &Case) -> bool {
+    let (_, behind) = modes(case);
+    behind.iter().any(|mode| *mode != EXTEND)
+}
+
+fn too_short(case: &Case) -> bool {
+    bytes_past_the_sheet(case).is_some_and(|past| past < 0)
+}
+
 /// By how many bytes the buffer that a sheet is written to is longer than the sheet.
 fn bytes_past_the_sheet(case: &Case) -> Option<isize> {
     if case.call != Call::Write {
@@ -199,7 +249,8 @@ fn bytes_past_the_sheet(case: &Case) -> Option<isize> {
     let axes = case.argument("axes").number();
     let points = &case.argument("points").numbers()[..axes];
     let kinds = &case.argument("kinds").bytes()[..2 * axes];
-    Some(case.argument("bytes").length() as isize - length_of(points, kinds) as isize)
+    let length = length_of(case.argument("edition").number(), points, kinds);
+    Some(case.argument("bytes").length() as isize - length as isize)
 }
 
 fn is_even(case: &Case) -> bool {
@@ -282,6 +333,19 @@ fn below_and_above(knots: &[f64], point: f64) -> bool {
     point < first && point > last
 }
 
+fn between_cells_on_every_axis(case: &Case) -> bool {
+    let inner = |knots: &[f64], point: f64| knots[1..knots.len() - 1].contains(&point);
+    let mut axes = knots_by_axis(case).into_iter().zip(coordinates(case));
+    case.call.is_query() && axes.all(|(knots, point)| inner(knots, point))
+}
+
+fn at_a_knot_of_the_other_zero(case: &Case) -> bool {
+    let other_zero = |knot: f64, point: f64| knot == point && knot.to_bits() != point.to_bits();
+    let mut axes = knots_by_axis(case).into_iter().zip(coordinates(case));
+    case.call.is_query()
+        && axes.any(|(knots, point)| knots.iter().any(|knot| other_zero(*knot, point)))
+}
+
 fn is_quick(case: &Case) -> bool {
     case.call == Call::QuickQuery
 }
@@ -313,29 +377,36 @@ fn is_held(case: &Case) -> bool {
 #[derive(Debug)]
 pub struct Reached {
     cases: [u64; COUNT],
+    sheets: [u64; SHEET_COUNT],
 }
 
 impl Default for Reached {
     fn default() -> Self {
-        Self { cases: [0; COUNT] }
+        Self {
+            cases: [0; COUNT],
+            sheets: [0; SHEET_COUNT],
+        }
     }
 }
 
 impl Reached {
     /// Counts a case for each edge that it reaches.
     pub fn count(&mut self, case: &Case, refusal: usize) {
-        if matches!(case.call, Call::Read | Call::SheetTensor) {
-            return;
-        }
-        for (cases, edge) in self.cases.iter_mut().zip(&EDGES) {
+        let (cases, edges) = if case.call.takes_a_sheet() {
+            (self.sheets.as_mut_slice(), SHEET_EDGES.as_slice())
+        } else {
+            (self.cases.as_mut_slice(), EDGES.as_slice())
+        };
+        for (cases, edge) in cases.iter_mut().zip(edges) {
             *cases += u64::from((edge.is_reached)(case, refusal));
         }
     }
 
     /// Every edge, and how many cases have reached it.
     pub fn edges(&self) -> impl Iterator<Item = (&'static str, u64)> + '_ {
-        let names = EDGES.iter().map(|edge| edge.name);
-        names.zip(self.cases.iter().copied())
+        let names = EDGES.iter().chain(&SHEET_EDGES).map(|edge| edge.name);
+        let cases = self.cases.iter().chain(&self.sheets);
+        names.zip(cases.copied())
     }
 }
 

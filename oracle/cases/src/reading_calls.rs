@@ -13,7 +13,10 @@ impl Calls for Reading {
             Call::Build | Call::Change => on_a_grid(case.call, arguments),
             Call::Query | Call::QuickQuery => of_a_tensor(case.call, arguments),
             Call::EvenQuery => on_even_axes(arguments),
-            Call::Read | Call::SheetTensor | Call::Write => on_a_sheet(case.call, arguments),
+            Call::Read | Call::ReadEdition1 | Call::SheetTensor | Call::Write => {
+                on_a_sheet(case.call, arguments)
+            }
+            Call::Surface => of_a_sheet(arguments),
             Call::ExactIndex | Call::LocateAxis | Call::LocateStepIndex | Call::Stepped => {
                 by_steps(case.call, arguments)
             }
@@ -90,26 +93,50 @@ fn on_even_axes(arguments: &mut [Argument]) -> usize {
 #[rustfmt::skip]
 fn on_a_sheet(call: Call, arguments: &mut [Argument]) -> usize {
     match (call, arguments) {
-        (Call::Read, [bytes, knots, samples, axes, points, kinds, values]) => reading::read(
-            bytes.bytes(), knots.floats_mut(), samples.floats_mut(), axes.numbers_mut(),
-            points.numbers_mut(), kinds.bytes_mut(), values.floats_mut(),
-        ),
         (
-            Call::SheetTensor,
-            [bytes, knots, samples, axes, points, kinds, values, tensor, scratch, length],
-        ) => reading::sheet_tensor(
+            Call::Read,
+            [bytes, knots, samples, axes, points, kinds, values, modes, edition],
+        ) => reading::read(
             bytes.bytes(), knots.floats_mut(), samples.floats_mut(), axes.numbers_mut(),
-            points.numbers_mut(), kinds.bytes_mut(), values.floats_mut(), tensor.floats_mut(),
-            scratch.floats_mut(), length.numbers_mut(),
+            points.numbers_mut(), kinds.bytes_mut(), values.floats_mut(), modes.bytes_mut(),
+            edition.numbers_mut(),
         ),
-        (Call::Write, [axes, points, kinds, values, knots, samples, bytes, length]) => {
-            reading::write(
-                axes.number(), points.numbers(), kinds.bytes(), values.floats(),
-                knots.floats(), samples.floats(), bytes.bytes_mut(), length.numbers_mut(),
+        (Call::ReadEdition1, [bytes, knots, samples, axes, points, kinds, values]) => {
+            reading::read_edition_1(
+                bytes.bytes(), knots.floats_mut(), samples.floats_mut(), axes.numbers_mut(),
+                points.numbers_mut(), kinds.bytes_mut(), values.floats_mut(),
             )
         }
+        (
+            Call::SheetTensor,
+            [
+                bytes, knots, samples, axes, points, kinds, values, modes, edition, tensor,
+                scratch, length,
+            ],
+        ) => reading::sheet_tensor(
+            bytes.bytes(), knots.floats_mut(), samples.floats_mut(), axes.numbers_mut(),
+            points.numbers_mut(), kinds.bytes_mut(), values.floats_mut(), modes.bytes_mut(),
+            edition.numbers_mut(), tensor.floats_mut(), scratch.floats_mut(),
+            length.numbers_mut(),
+        ),
+        (
+            Call::Write,
+            [axes, points, kinds, values, modes, knots, samples, edition, bytes, length],
+        ) => reading::write(
+            axes.number(), points.numbers(), kinds.bytes(), values.floats(), modes.bytes(),
+            knots.floats(), samples.floats(), edition.number(), bytes.bytes_mut(),
+            length.numbers_mut(),
+        ),
         _ => panic!("a case has the arguments of its call"),
     }
+}
+
+fn of_a_sheet(arguments: &mut [Argument]) -> usize {
+    let [bytes, coordinates @ ..] = arguments else {
+        panic!("a case has the arguments of its call")
+    };
+    let patterns = [0, 1, 2, 3].map(|axis: usize| coordinates[axis].number() as u64);
+    reading::surface(bytes.bytes(), patterns) as usize
 }
 
 #[rustfmt::skip]

@@ -15,7 +15,7 @@ const PRINTED: u64 = 2;
 pub const PERIODIC_POINTS: [usize; 2] = [2, 3];
 
 /// One more than the largest number of a refusal.
-pub const NUMBERS: usize = 23;
+pub const NUMBERS: usize = 24;
 
 /// What was seen of one kind of case.
 #[derive(Debug, Clone, Default)]
@@ -28,6 +28,8 @@ pub struct Counts {
     pub refusals: [u64; NUMBERS],
     /// Periodic axes of accepted calls, by their points.
     pub periodic: [u64; PERIODIC_POINTS.len()],
+    /// Places at which a surface was asked, and its answers held against the sample.
+    pub places: u64,
     /// Compared calls that were not the same.
     pub differences: u64,
 }
@@ -58,6 +60,7 @@ impl Report {
             total.calls += counts.calls;
             total.compared += counts.compared;
             total.differences += counts.differences;
+            total.places += counts.places;
             for (sum, seen) in total.refusals.iter_mut().zip(counts.refusals) {
                 *sum += seen;
             }
@@ -123,6 +126,9 @@ fn write_counts(formatter: &mut fmt::Formatter<'_>, name: &str, counts: &Counts)
             write!(formatter, " of {points} points:{seen}")?;
         }
     }
+    if counts.places > 0 {
+        write!(formatter, "; asked at {} places", counts.places)?;
+    }
     writeln!(
         formatter,
         "; {} compared, {} differences",
@@ -137,9 +143,13 @@ pub(crate) fn describe(
     expected: (usize, &Case),
     found: (usize, &Case),
 ) -> String {
+    let returned = [expected.0, found.0].map(|returned| match returned {
+        0..NUMBERS => returned.to_string(),
+        pattern => format!("{pattern:016X}"),
+    });
     let mut text = format!(
-        "DIFFERENCE in {title}: {:?}\n  refusal: expected {}, found {}\n",
-        given.call, expected.0, found.0
+        "DIFFERENCE in {title}: {:?}\n  returned: expected {}, found {}\n",
+        given.call, returned[0], returned[1]
     );
     for (position, name) in given.call.arguments().iter().enumerate() {
         let patterns = abbreviated(&given.arguments[position].words());

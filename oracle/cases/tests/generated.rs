@@ -14,23 +14,26 @@ impl Calls for Nobody {
 /// The refusals that the calls of a kind have.
 fn refusals(kind: Kind) -> &'static [usize] {
     match kind {
-        Kind::Example => &[1, 3, 6, 7, 8, 9, 10, 11, 15, 18, 21],
+        Kind::Example => &[1, 3, 6, 7, 8, 9, 10, 11, 12, 15, 16, 17, 18, 21, 22, 23],
         Kind::Moments => &[2, 4, 5, 7, 8, 9, 10, 13],
         Kind::Curve | Kind::Slopes => &[2, 4, 7, 8, 10],
         Kind::Build => &[1, 2, 3, 4, 5, 7, 8, 9, 10, 13],
         Kind::Change | Kind::ChangeList | Kind::EitherOrder => &[1, 2, 3, 4, 5, 6, 7, 8, 9, 10, 13],
         Kind::Query | Kind::QuickQuery => &[1, 2, 3, 4, 7, 8, 10, 18, 22],
-        Kind::Read => &[1, 2, 3, 4, 11, 12, 13, 14],
-        Kind::SheetTensor => &[1, 2, 3, 4, 5, 7, 8, 9, 10, 11, 12, 13, 14],
+        Kind::Read => &[1, 2, 3, 4, 11, 12, 13, 14, 22],
+        Kind::ReadEdition1 => &[1, 2, 3, 4, 11, 12, 13, 14],
+        Kind::SheetTensor => &[1, 2, 3, 4, 5, 7, 8, 9, 10, 11, 12, 13, 14, 22],
         Kind::ShortSheet => &[1, 11, 12],
         Kind::EvenQuery => &[1, 2, 3, 4, 7, 8, 10, 18, 21, 22],
-        Kind::Write => &[1, 2, 3, 4, 7, 8, 9, 13, 15],
-        Kind::WrittenBack => &[1, 2, 3, 4, 7, 8, 9, 11, 12, 13, 14, 15],
+        Kind::Write => &[1, 2, 3, 4, 7, 8, 9, 12, 13, 15, 22, 23],
+        Kind::WrittenBack => &[1, 2, 3, 4, 7, 8, 9, 11, 12, 13, 14, 15, 22, 23],
         Kind::QuickBesideFull => &[1, 2, 3, 4, 7, 10, 18, 22],
         Kind::ExactIndex => &[2, 4, 6, 7, 8],
         Kind::LocateAxis => &[2, 4, 7, 8, 10],
         Kind::LocateStepIndex => &[2, 4, 7, 8, 22],
         Kind::Stepped => &[1, 2, 3, 4, 7, 8, 22],
+        Kind::AtEveryPlace => &[5, 6, 7, 10],
+        Kind::Surface => &[1, 2, 3, 7, 8, 9, 10, 11, 12, 13, 14, 16, 17, 18, 22],
     }
 }
 
@@ -47,11 +50,16 @@ fn every_refusal_is_seen_and_no_other() {
 #[test]
 fn about_sixty_in_a_hundred_are_accepted() {
     let report = compare_all(&Nobody, &Plan::of_each_kind(2, 4000));
-    // Quick queries beside full ones are nearly all accepted, so that the answers are compared.
+    // Quick queries beside full ones, and queries at places, are nearly all accepted, so that the
+    // answers are compared; the reader of edition 1 is given half of its sheets in edition 2.
     let generated = |kind: &Kind| {
         !matches!(
             kind,
-            Kind::Example | Kind::ShortSheet | Kind::QuickBesideFull
+            Kind::Example
+                | Kind::ShortSheet
+                | Kind::QuickBesideFull
+                | Kind::AtEveryPlace
+                | Kind::ReadEdition1
         )
     };
     let (mut calls, mut accepted) = (0, 0);
@@ -80,18 +88,20 @@ fn periodic_axes_of_one_interval_and_of_two_are_among_them() {
     }
 }
 
-/// Of the sheets of two bytes a sixteenth has edition 1; half of these have 1 to
+/// Of the sheets of two bytes a sixteenth has an edition; half of these have 1 to
 /// 4 axes, and each number of axes has two with 1 point. Of those of one byte 16
-/// have edition 1, and 8 of them such axes.
+/// have that edition, and 8 of them such axes. One reader of four knows edition 1 alone.
 #[test]
 fn every_sheet_of_up_to_two_bytes_is_there() {
     let plan = Plan::of_kind(5, Kind::ShortSheet, SHORT_SHEETS);
     let seen = compare_all(&Nobody, &plan).total().refusals;
     let mut expected = [0; NUMBERS];
-    expected[1] = 2 * (8 + 2048);
-    expected[2] = 2 * (4 * 2);
-    expected[11] = 2 * (1 + 8 + 2048 - 4 * 2);
-    expected[12] = 2 * (240 + 61_440);
+    let (both, one) = (3, 1);
+    let read = both * 2 + one;
+    expected[1] = read * (8 + 2048);
+    expected[2] = read * (4 * 2);
+    expected[11] = 4 + read * (8 + 2048 - 4 * 2);
+    expected[12] = 4 * (256 + 65_536) - read * (16 + 4096);
     assert_eq!(seen, expected);
 }
 

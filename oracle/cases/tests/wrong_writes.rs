@@ -72,8 +72,9 @@ fn a_tail_that_is_not_cleared_is_found() {
         let last = length(answered) - 1;
         let before = given.argument("bytes").bytes()[last];
         let axes = given.argument("axes").number();
-        // Edition, number of axes and 12 bits for each axis; all else is whole bytes.
-        let bits = (7 + 12 * axes) % 8;
+        let of_an_axis = [12, 14][given.argument("edition").number() - 1];
+        // Edition, number of axes and the bits of each axis; all else is whole bytes.
+        let bits = (7 + of_an_axis * axes) % 8;
         let tail = if bits == 0 { 0 } else { 0xFF >> bits };
         answered.argument_mut("bytes").bytes_mut()[last] |= before & tail;
     }));

@@ -38,6 +38,8 @@ impl Calls for Archive {
             Call::LocateAxis => locate_axis(arguments),
             Call::LocateStepIndex => locate_step_index(arguments),
             Call::Stepped => stepped(arguments),
+            Call::ReadEdition1 => read_edition_1(arguments),
+            Call::Surface => surface(arguments),
         };
         Some(refusal)
     }
@@ -212,6 +214,30 @@ fn even_query(arguments: &mut [Argument]) -> usize {
 
 #[rustfmt::skip]
 fn read(arguments: &mut [Argument]) -> usize {
+    let [bytes, knots, samples, axes, points, kinds, values, modes, edition] = arguments else {
+        panic!("a case has the arguments of its call")
+    };
+    let bytes = lent(bytes.bytes());
+    let knots = lent_mut(knots.floats_mut());
+    let samples = lent_mut(samples.floats_mut());
+    let axes = lent_mut(axes.numbers_mut());
+    let points = lent_mut(points.numbers_mut());
+    let kinds = lent_mut(kinds.bytes_mut());
+    let values = lent_mut(values.floats_mut());
+    let modes = lent_mut(modes.bytes_mut());
+    let edition = lent_mut(edition.numbers_mut());
+    // SAFETY: each pair is a live slice; no two of them overlap.
+    unsafe {
+        hullashlar_read(
+            bytes.0, bytes.1, knots.0, knots.1, samples.0, samples.1, axes.0, axes.1,
+            points.0, points.1, kinds.0, kinds.1, values.0, values.1, modes.0, modes.1,
+            edition.0, edition.1,
+        )
+    }
+}
+
+#[rustfmt::skip]
+fn read_edition_1(arguments: &mut [Argument]) -> usize {
     let [bytes, knots, samples, axes, points, kinds, values] = arguments else {
         panic!("a case has the arguments of its call")
     };
@@ -224,7 +250,7 @@ fn read(arguments: &mut [Argument]) -> usize {
     let values = lent_mut(values.floats_mut());
     // SAFETY: each pair is a live slice; no two of them overlap.
     unsafe {
-        hullashlar_read(
+        hullashlar_read_edition_1(
             bytes.0, bytes.1, knots.0, knots.1, samples.0, samples.1, axes.0, axes.1,
             points.0, points.1, kinds.0, kinds.1, values.0, values.1,
         )
@@ -233,7 +259,9 @@ fn read(arguments: &mut [Argument]) -> usize {
 
 #[rustfmt::skip]
 fn sheet_tensor(arguments: &mut [Argument]) -> usize {
-    let [bytes, knots, samples, axes, points, kinds, values, tensor, scratch, length] = arguments
+    let [
+        bytes, knots, samples, axes, points, kinds, values, modes, edition, tensor, scratch, length,
+    ] = arguments
     else {
         panic!("a case has the arguments of its call")
     };
@@ -244,6 +272,8 @@ fn sheet_tensor(arguments: &mut [Argument]) -> usize {
     let points = lent_mut(points.numbers_mut());
     let kinds = lent_mut(kinds.bytes_mut());
     let values = lent_mut(values.floats_mut());
+    let modes = lent_mut(modes.bytes_mut());
+    let edition = lent_mut(edition.numbers_mut());
     let tensor = lent_mut(tensor.floats_mut());
     let scratch = lent_mut(scratch.floats_mut());
     let length = lent_mut(length.numbers_mut());
@@ -251,20 +281,22 @@ fn sheet_tensor(arguments: &mut [Argument]) -> usize {
     unsafe {
         hullashlar_sheet_tensor(
             bytes.0, bytes.1, knots.0, knots.1, samples.0, samples.1, axes.0, axes.1,
-            points.0, points.1, kinds.0, kinds.1, values.0, values.1, tensor.0, tensor.1,
-            scratch.0, scratch.1, length.0, length.1,
+            points.0, points.1, kinds.0, kinds.1, values.0, values.1, modes.0, modes.1,
+            edition.0, edition.1, tensor.0, tensor.1, scratch.0, scratch.1, length.0, length.1,
         )
     }
 }
 
 #[rustfmt::skip]
 fn write(arguments: &mut [Argument]) -> usize {
-    let [axes, points, kinds, values, knots, samples, bytes, length] = arguments else {
+    let [axes, points, kinds, values, modes, knots, samples, edition, bytes, length] = arguments
+    else {
         panic!("a case has the arguments of its call")
     };
     let points = lent(points.numbers());
     let kinds = lent(kinds.bytes());
     let values = lent(values.floats());
+    let modes = lent(modes.bytes());
     let knots = lent(knots.floats());
     let samples = lent(samples.floats());
     let bytes = lent_mut(bytes.bytes_mut());
@@ -273,7 +305,8 @@ fn write(arguments: &mut [Argument]) -> usize {
     unsafe {
         hullashlar_write(
             axes.number(), points.0, points.1, kinds.0, kinds.1, values.0, values.1,
-            knots.0, knots.1, samples.0, samples.1, bytes.0, bytes.1, length.0, length.1,
+            modes.0, modes.1, knots.0, knots.1, samples.0, samples.1, edition.number(),
+            bytes.0, bytes.1, length.0, length.1,
         )
     }
 }
@@ -346,4 +379,15 @@ fn stepped(arguments: &mut [Argument]) -> usize {
             indices.0, indices.1,
         )
     }
+}
+
+fn surface(arguments: &mut [Argument]) -> usize {
+    let [bytes, c0, c1, c2, c3] = arguments else {
+        panic!("a case has the arguments of its call")
+    };
+    let bytes = lent(bytes.bytes());
+    let [c0, c1, c2, c3] = [c0, c1, c2, c3].map(|pattern| pattern.number() as u64);
+    // SAFETY: the pair is a live slice.
+    let answer = unsafe { hullashlar_surface(bytes.0, bytes.1, c0, c1, c2, c3) };
+    answer as usize
 }

@@ -49,6 +49,7 @@ fn of_c(argument: &str) -> Vec<String> {
     let rust_type = match c_type.trim() {
         "size_t" => "usize",
         "uint8_t" => "u8",
+        "uint64_t" => "u64",
         "double" => "f64",
         "const double *" => "*const f64",
         "const size_t *" => "*const usize",

@@ -95,13 +95,18 @@ impl Grid {
         (refusal, lanes[0])
     }
 
-    /// The refusal of a query with one mode for every axis, its value and its labels.
-    pub fn query(&self, mode: u8, tensor: &[f64], coordinates: &[f64]) -> (usize, f64, [usize; 4]) {
+    /// The refusal of a query in the modes of the axes, its value and its labels.
+    pub fn query(
+        &self,
+        modes: [u8; 4],
+        tensor: &[f64],
+        coordinates: &[f64],
+    ) -> (usize, f64, [usize; 4]) {
         let (mut value, mut labels) = ([0.0], [0; 4]);
         let refusal = reading::query(
             self.axes,
             &self.points,
-            &[mode; 4],
+            &modes,
             &self.knots,
             tensor,
             coordinates,

@@ -1,16 +1,16 @@
 //! What the example hosts print of the sheet of a gain surface.
 
 use crate::grid::Grid;
-use reading::{BUFFER, CURVE_SCRATCH, HOLD};
+use reading::{BUFFER, CURVE_SCRATCH};
 
 /// The gain at a frequency and a level, the changed sample, and the gain after it.
 pub fn host(sheet: &[u8]) -> String {
-    let (grid, samples) = read(sheet);
+    let (grid, modes, samples) = read(sheet);
     let mut scratch = vec![0.0; (samples.len() << 2) + CURVE_SCRATCH];
     let mut tensor = vec![0.0; samples.len() << 2];
     accepted(grid.build(&samples, &mut tensor, &mut scratch));
     let (rows, columns) = (grid.points[0], grid.points[1]);
-    let before = gain(&grid, &tensor);
+    let before = gain(&grid, modes, &tensor);
 
     let mut changed = samples.clone();
     changed[2 * columns + 2] = 15.0;
@@ -23,8 +23,8 @@ pub fn host(sheet: &[u8]) -> String {
     let same = if same { "yes" } else { "no" };
 
     let (length, old) = (tensor.len(), samples[2 * columns + 2]);
-    let after = gain(&grid, &tensor);
-    let (refusal, _, _) = grid.query(HOLD, &tensor, &[1.5, f64::NAN]);
+    let after = gain(&grid, modes, &tensor);
+    let (refusal, _, _) = grid.query(modes, &tensor, &[1.5, f64::NAN]);
     format!(
         "sheet of {} axes, {rows} and {columns} points; tensor of {length} numbers\n\
          {before}\
@@ -40,9 +40,9 @@ fn accepted(refusal: usize) {
     assert_eq!(refusal, 0, "the example's calls are accepted");
 }
 
-/// The grid and the samples of a sheet.
-fn read(sheet: &[u8]) -> (Grid, Vec<f64>) {
-    let mut grid = Grid::new(&[]);
+/// The grid, the modes and the samples of a sheet.
+fn read(sheet: &[u8]) -> (Grid, [u8; 4], Vec<f64>) {
+    let (mut grid, mut modes) = (Grid::new(&[]), [0; 4]);
     let (mut knots, mut samples, mut axes) = (vec![0.0; BUFFER], vec![0.0; BUFFER], [0]);
     accepted(reading::read(
         sheet,
@@ -52,17 +52,19 @@ fn read(sheet: &[u8]) -> (Grid, Vec<f64>) {
         &mut grid.points,
         &mut grid.kinds,
         &mut grid.values,
+        &mut modes,
+        &mut [0],
     ));
     grid.axes = axes[0];
     let points = &grid.points[..grid.axes];
     knots.truncate(points.iter().sum());
     samples.truncate(points.iter().product());
     grid.knots = knots;
-    (grid, samples)
+    (grid, modes, samples)
 }
 
-fn gain(grid: &Grid, tensor: &[f64]) -> String {
-    let (refusal, gain, cell) = grid.query(HOLD, tensor, &[1.5, 60.0]);
+fn gain(grid: &Grid, modes: [u8; 4], tensor: &[f64]) -> String {
+    let (refusal, gain, cell) = grid.query(modes, tensor, &[1.5, 60.0]);
     accepted(refusal);
     format!(
         "gain at 1.5 kHz and 60.0 dB: {gain:.6} dB, in cell {}, {}\n",

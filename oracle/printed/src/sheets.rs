@@ -14,6 +14,8 @@ pub fn tensor(sheet: &[u8]) -> String {
         &mut [0; 4],
         &mut [0; 8],
         &mut [0.0; 8],
+        &mut [0; 4],
+        &mut [0],
         &mut tensor,
         &mut vec![0.0; LONGEST_TENSOR + CURVE_SCRATCH],
         &mut length,

@@ -10,9 +10,9 @@ fn input(program: &str) -> Vec<u8> {
     fs::read(crates.join(program).join("stdin")).unwrap()
 }
 
-/// The bits of a sheet of a shape, every end of which has a value.
+/// The bits of a sheet of a shape in edition 2, every end of which has a value.
 fn bits(points: &[usize]) -> usize {
-    let axis = |count: &usize| 8 + 2 + 2 + 64 * (2 + count);
+    let axis = |count: &usize| 8 + 2 + 2 + 2 + 64 * (2 + count);
     let axes: usize = points.iter().map(axis).sum();
     4 + 3 + axes + 64 * points.iter().product::<usize>()
 }

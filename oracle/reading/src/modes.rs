@@ -27,7 +27,7 @@ fn side(knots: &[f64], point: f64) -> Side {
     }
 }
 
-/// 22 for the host's calls: a mode that there is not.
+/// 22: a mode that there is not, among the numbers of a call or in the bits of a sheet.
 pub fn modes_stand(modes: &[u8]) -> Result<(), Refusal> {
     let known = |mode: &u8| matches!(*mode, EXTEND | HOLD | REFUSE);
     require(modes.iter().all(known), 22)

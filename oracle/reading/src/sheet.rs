@@ -2,6 +2,7 @@
 
 use crate::bits::Bits;
 use crate::ends::{has_value, PERIODIC};
+use crate::modes::modes_stand;
 use crate::refusals::{points_in_range, require, Refusal};
 use crate::shape::{Shape, LONGEST_TENSOR};
 use crate::tensor::build;
@@ -9,20 +10,49 @@ use crate::tensor::build;
 /// The length of the lent buffers for knots and for samples.
 pub const BUFFER: usize = 1024;
 
+/// The editions: the first has no modes, and each axis of it is extended.
+pub const EDITIONS: [usize; 2] = [1, 2];
+
 /// What a sheet says; axes not in use stay as they are here at first, and so do all of a
 /// sheet that is not read.
 #[derive(Default)]
-struct Sheet {
-    axes: usize,
-    points: [usize; 4],
+pub struct Sheet {
+    edition: usize,
+    pub axes: usize,
+    pub points: [usize; 4],
     kinds: [u8; 8],
     values: [f64; 8],
-    knots: Vec<f64>,
-    samples: Vec<f64>,
+    pub modes: [u8; 4],
+    pub knots: Vec<f64>,
+    pub samples: Vec<f64>,
 }
 
-/// Reads a sheet into lent buffers.
+/// Reads a sheet of either edition into lent buffers.
+#[allow(clippy::too_many_arguments)]
 pub fn read(
+    bytes: &[u8],
+    knots: &mut [f64],
+    samples: &mut [f64],
+    axes: &mut [usize],
+    points: &mut [usize],
+    kinds: &mut [u8],
+    values: &mut [f64],
+    modes: &mut [u8],
+    edition: &mut [usize],
+) -> Refusal {
+    if !slots_stand(axes, points, kinds, values) || !slots_of_edition_2_stand(modes, edition) {
+        return 4;
+    }
+    let read = read_sheet(&EDITIONS, bytes, knots, samples);
+    let refusal = read.as_ref().err().copied().unwrap_or(0);
+    let sheet = read.unwrap_or_default();
+    hand_over(&sheet, axes, points, kinds, values);
+    hand_over_edition_2(&sheet, modes, edition);
+    refusal
+}
+
+/// Reads a sheet as the reader of edition 1 does, which knows no other edition and no modes.
+pub fn read_edition_1(
     bytes: &[u8],
     knots: &mut [f64],
     samples: &mut [f64],
@@ -34,7 +64,7 @@ pub fn read(
     if !slots_stand(axes, points, kinds, values) {
         return 4;
     }
-    let read = read_sheet(bytes, knots, samples);
+    let read = read_sheet(&EDITIONS[..1], bytes, knots, samples);
     let refusal = read.as_ref().err().copied().unwrap_or(0);
     hand_over(&read.unwrap_or_default(), axes, points, kinds, values);
     refusal
@@ -43,6 +73,11 @@ pub fn read(
 /// Whether the slots for the axes of a sheet have their lengths.
 fn slots_stand(axes: &[usize], points: &[usize], kinds: &[u8], values: &[f64]) -> bool {
     axes.len() == 1 && points.len() == 4 && kinds.len() == 8 && values.len() == 8
+}
+
+/// Whether the slots for what edition 2 brought have their lengths.
+fn slots_of_edition_2_stand(modes: &[u8], edition: &[usize]) -> bool {
+    modes.len() == 4 && edition.len() == 1
 }
 
 /// Stores the axes of a sheet in their slots.
@@ -59,8 +94,14 @@ fn hand_over(
     values.copy_from_slice(&sheet.values);
 }
 
-/// Reads a sheet and builds its tensor into the first numbers of a lent one. A sheet that is
-/// read is handed over, built or not.
+/// Stores the modes and the edition of a sheet in their slots.
+fn hand_over_edition_2(sheet: &Sheet, modes: &mut [u8], edition: &mut [usize]) {
+    modes.copy_from_slice(&sheet.modes);
+    edition[0] = sheet.edition;
+}
+
+/// Reads a sheet of either edition and builds its tensor into the first numbers of a lent one. A
+/// sheet that is read is handed over, built or not.
 #[allow(clippy::too_many_arguments)]
 pub fn sheet_tensor(
     bytes: &[u8],
@@ -70,35 +111,51 @@ pub fn sheet_tensor(
     points: &mut [usize],
     kinds: &mut [u8],
     values: &mut [f64],
+    modes: &mut [u8],
+    edition: &mut [usize],
     tensor: &mut [f64],
     scratch: &mut [f64],
     length: &mut [usize],
 ) -> Refusal {
-    if !slots_stand(axes, points, kinds, values) || length.len() != 1 {
+    let slots_stand = slots_stand(axes, points, kinds, values)
+        && slots_of_edition_2_stand(modes, edition)
+        && length.len() == 1;
+    if !slots_stand {
         return 4;
     }
-    let read =
-        require(tensor.len() == LONGEST_TENSOR, 4).and_then(|()| read_sheet(bytes, knots, samples));
+    let read = require(tensor.len() == LONGEST_TENSOR, 4)
+        .and_then(|()| read_sheet(&EDITIONS, bytes, knots, samples));
     let built = match &read {
         Ok(sheet) => build_sheet(sheet, tensor, scratch),
         Err(refusal) => Err(*refusal),
     };
-    hand_over(&read.unwrap_or_default(), axes, points, kinds, values);
+    let sheet = read.unwrap_or_default();
+    hand_over(&sheet, axes, points, kinds, values);
+    hand_over_edition_2(&sheet, modes, edition);
     length[0] = built.unwrap_or(0);
     built.err().unwrap_or(0)
 }
 
-/// The sheet, once its knots and samples stand in the lent buffers.
-fn read_sheet(bytes: &[u8], knots: &mut [f64], samples: &mut [f64]) -> Result<Sheet, Refusal> {
+/// The sheet of one of some editions, once its knots and samples stand in the lent buffers.
+fn read_sheet(
+    editions: &[usize],
+    bytes: &[u8],
+    knots: &mut [f64],
+    samples: &mut [f64],
+) -> Result<Sheet, Refusal> {
     require(knots.len() == BUFFER && samples.len() == BUFFER, 4)?;
-    let sheet = parse(bytes)?;
+    let sheet = parse(editions, bytes)?;
     knots[..sheet.knots.len()].copy_from_slice(&sheet.knots);
     samples[..sheet.samples.len()].copy_from_slice(&sheet.samples);
     Ok(sheet)
 }
 
 /// The length of a sheet's tensor, once it stands in the lent one.
-fn build_sheet(sheet: &Sheet, tensor: &mut [f64], scratch: &mut [f64]) -> Result<usize, Refusal> {
+pub fn build_sheet(
+    sheet: &Sheet,
+    tensor: &mut [f64],
+    scratch: &mut [f64],
+) -> Result<usize, Refusal> {
     let length = sheet.samples.len() << sheet.axes;
     let refusal = build(
         sheet.axes,
@@ -114,10 +171,13 @@ fn build_sheet(sheet: &Sheet, tensor: &mut [f64], scratch: &mut [f64]) -> Result
 }
 
 /// The fields in reading order, each with the faults met there.
-fn parse(bytes: &[u8]) -> Result<Sheet, Refusal> {
+pub fn parse(editions: &[usize], bytes: &[u8]) -> Result<Sheet, Refusal> {
     let mut bits = Bits::new(bytes);
-    let mut sheet = Sheet::default();
-    require(bits.field(4)? == 1, 12)?;
+    let mut sheet = Sheet {
+        edition: bits.field(4)? as usize,
+        ..Sheet::default()
+    };
+    require(editions.contains(&sheet.edition), 12)?;
     let axes = bits.field(3)? as usize;
     require((1..=4).contains(&axes), 1)?;
     sheet.axes = axes;
@@ -131,13 +191,17 @@ fn parse(bytes: &[u8]) -> Result<Sheet, Refusal> {
     Ok(sheet)
 }
 
-/// Points, kinds, end values and knots of one axis.
+/// Points, kinds, in edition 2 the mode, end values and knots of one axis.
 fn parse_axis(bits: &mut Bits, axis: usize, sheet: &mut Sheet) -> Result<(), Refusal> {
     let points = bits.field(8)? as usize + 1;
     require(points_in_range(points), 2)?;
     sheet.points[axis] = points;
     let kinds = [bits.field(2)? as u8, bits.field(2)? as u8];
     require((kinds[0] == PERIODIC) == (kinds[1] == PERIODIC), 13)?;
+    if sheet.edition == 2 {
+        sheet.modes[axis] = bits.field(2)? as u8;
+        modes_stand(&sheet.modes[axis..=axis])?;
+    }
     for (end, kind) in kinds.into_iter().enumerate() {
         sheet.kinds[2 * axis + end] = kind;
         if has_value(kind) {

@@ -304,6 +304,8 @@ fn printed(bytes: &[u8]) -> String {
         &mut [9; 4],
         &mut [9; 8],
         &mut [UNTOUCHED; 8],
+        &mut [9; 4],
+        &mut [9],
         &mut tensor,
         &mut scratch,
         &mut length,

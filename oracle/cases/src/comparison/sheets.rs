@@ -6,20 +6,28 @@ use crate::generator::{self, Kind};
 use crate::lending;
 use crate::random::Random;
 use crate::report::describe;
+use reading::EXTEND;
 
 impl Run<'_> {
-    /// Parts that are written, and the sheet read back: it has the same parts.
+    /// Parts that are written, and the sheet read back.
     pub(super) fn write_and_read(&mut self, random: &mut Random) {
         let given = generator::write(random);
-        let (refusal, written, same) = self.compare(&given);
+        self.read_back(random, &given);
+    }
+
+    /// A sheet that is written and read back, where it is not refused: it has the same parts. The
+    /// reader of edition 1 is asked too.
+    fn read_back(&mut self, random: &mut Random, given: &Case) {
+        let (refusal, written, same) = self.compare(given);
         if refusal != 0 || !same {
             return;
         }
         let length = written.argument("length").numbers()[0];
         let sheet = &written.argument("bytes").bytes()[..length];
+        self.compare(&lending::read_edition_1(random, sheet));
         let read = lending::read(random, sheet);
         let (refusal, found, _) = self.compare(&read);
-        let expected = with_parts(&found, &given);
+        let expected = with_parts(&found, given);
         self.hold(
             "held against what was written",
             &read,
@@ -28,8 +36,8 @@ impl Run<'_> {
         );
     }
 
-    /// A sheet of the reader's cases, by their number, and what it says written back: the same
-    /// bytes, where nothing is refused.
+    /// A sheet of the reader's cases, by their number, and what it says written back in its own
+    /// edition: the same bytes, where nothing is refused. Then it is written in the other edition.
     pub(super) fn written_back(&mut self, seed: u64, number: u64) {
         let random = &mut Random::of_case(seed, Kind::Read as u64, number);
         let read = generator::single(Kind::Read, number as usize, random);
@@ -38,8 +46,9 @@ impl Run<'_> {
             return;
         }
         let sheet = read.argument("bytes").bytes();
+        let edition = parts.argument("edition").numbers()[0];
         let room = generator::room(random, sheet.len());
-        let given = lending::write_parts(random, &parts, room);
+        let given = lending::write_parts(random, &parts, edition, room);
         let (refusal, found, _) = self.compare(&given);
         if refusal == 0 {
             let mut expected = found.clone();
@@ -49,6 +58,9 @@ impl Run<'_> {
             let title = "held against the sheet that was read";
             self.hold(title, &given, (0, &expected), (refusal, &found));
         }
+        let room = sheet.len() + 1;
+        let given = lending::write_parts(random, &parts, 3 - edition, room);
+        self.read_back(random, &given);
     }
 
     /// Holds what a call left against something else than the reading.
@@ -81,6 +93,11 @@ fn with_parts(read: &Case, written: &Case) -> Case {
             values[end] = written.argument("values").floats()[end];
         }
     }
+    let modes = expected.argument_mut("modes").bytes_mut();
+    modes.fill(EXTEND);
+    modes[..axes].copy_from_slice(&written.argument("modes").bytes()[..axes]);
+    let edition = written.argument("edition").number();
+    expected.argument_mut("edition").numbers_mut()[0] = edition;
     for name in ["knots", "samples"] {
         let numbers = written.argument(name).floats();
         let front = &mut expected.argument_mut(name).floats_mut()[..numbers.len()];
