@@ -13,9 +13,10 @@ pub struct Stack {
 }
 
 /// The stack of every exported call.
-pub fn stacks(inputs: &Inputs) -> [Stack; 15] {
+pub fn stacks(inputs: &Inputs) -> [Stack; 16] {
     let surfaces = inputs.surfaces();
     let even_surfaces = inputs.even_surfaces();
+    let small_surfaces = inputs.small_surfaces();
     let lines = [&inputs.line_of_256, &inputs.periodic_line];
     [
         deepest("hullashlar_build", &surfaces.map(build)),
@@ -33,6 +34,7 @@ pub fn stacks(inputs: &Inputs) -> [Stack; 15] {
         deepest("hullashlar_locate_axis", &lines.map(locate_axis)),
         deepest("hullashlar_locate_step_index", &lines.map(step)),
         deepest("hullashlar_stepped", &surfaces.map(stepped)),
+        deepest("hullashlar_surface", &small_surfaces.map(surface)),
     ]
 }
 
@@ -166,6 +168,12 @@ fn stepped(surface: &Surface) -> usize {
     } = surface;
     let point = surface.middle_point();
     bytes_of(|| hullashlar::stepped(axes, [0, 1, 0, 1], knots, samples, &point).is_ok())
+}
+
+fn surface(surface: &Surface) -> usize {
+    let sheet = surface.sheet();
+    let patterns = surface.middle_patterns();
+    bytes_of(|| hullashlar::surface(&sheet, patterns).is_ok())
 }
 
 /// What the stack is painted with.
