@@ -73,11 +73,11 @@ taken f (suc (suc (suc (suc (suc n))))) few = absurd (omega arith)
 module _ (bytes patterns : List ℕ) where
   pub asked-few : asked bytes patterns .refusal ≤ 22
   unfolding asked query-answer
-  asked-few = query-few _ _ _
+  asked-few = query-few (sheet-grid bytes) (built bytes) (coordinates (sheet-grid bytes .axes) patterns)
 
   pub asked-finite : asked bytes patterns .refusal ≡ 0 → finite (asked bytes patterns .value) ≡ true
   unfolding asked query-answer
-  asked-finite none = rw none (value-finite _ _ _ none)
+  asked-finite none = rw none (value-finite (sheet-grid bytes) (built bytes) (coordinates (sheet-grid bytes .axes) patterns) none)
 
   -- the refusal of the build, and then the query's
   abbrev both : ℕ

@@ -1,16 +1,15 @@
 -- No accepted answer has the pattern of a refusal, and two refusals have different patterns: so the pattern tells the refusal.
-use mathlib.Core.Path.{_≡_, refl, sym, ap, _∙_}
-use mathlib.Core.Bool.{cond}
+use mathlib.Core.Path.{_≡_, refl, sym, _∙_}
 use mathlib.Core.List.{List}
 use Prim.Native.Nat.{ℕ, zero, suc, _<_, _≤_}
 use native.Mathlib.Omega.{arith}
 use lib.Dec.{T}
 use lib.Ieee.{binary64, fits, toBits}
-use Rattle.rules.specs.Calls.{or-else, query-answer}
-use Rattle.rules.specs.Query.{query-in-modes}
+use Rattle.rules.specs.Calls.{query-answer}
+use Rattle.rules.specs.Numbers.{at}
 use Rattle.rules.proofs.Refused.{or-else-passed}
 use Rattle.checks.proofs.Rows.{axes-few}
-use Rattle.patterns.specs.Patterns.{unused-refused, refusal-pattern, answer-pattern}
+use Rattle.patterns.specs.Patterns.{coordinates, unused-refused, refusal-pattern}
 use Rattle.patterns.proofs.Refusals.{no-number, refusals-apart}
 use Rattle.sheet.specs.Fields.{sheet-grid}
 use Rattle.sheet.specs.Faults.{sheet-refusal}
@@ -18,7 +17,7 @@ use Rattle.sheet.proofs.Walks.{passed}
 use Rattle.sheet.proofs.Parts.{parts}
 use Rattle.sheet_build.specs.SheetTensor.{building-refusal}
 use Rattle.sheet_build.proofs.Few.{at-most, or-else-few, sheet-few, build-few}
-use Rattle.surface.specs.SheetSurface.{stack-refused, asked, surface-refusal, surface}
+use Rattle.surface.specs.SheetSurface.{stack-refused, built, asked, surface-refusal, surface}
 use Rattle.surface.proofs.Values.{value-fits}
 use Rattle.surface.proofs.Answers.{asked-few, asked-finite}
 
@@ -37,14 +36,14 @@ module _ (bytes patterns : List ℕ) where
     nothing-refused =
         let read = or-else-passed (sheet-refusal bytes) _ none in
         let short = passed (stack-refused (sheet-grid bytes)) 15 _ (read .1) in
-        let zeros = passed (unused-refused (sheet-grid bytes .axes) patterns) 16 _ (short .1) in
-        let built = or-else-passed (building-refusal bytes) _ (zeros .1) in (read .0, built .1)
+        let zero-patterns = passed (unused-refused (sheet-grid bytes .axes) patterns) 16 _ (short .1) in
+        let in-turn = or-else-passed (building-refusal bytes) _ (zero-patterns .1) in (read .0, in-turn .1)
 
     held : T (fits binary64 (asked bytes patterns .value))
-    unfolding asked query-answer query-in-modes
+    unfolding asked query-answer
     held =
         let some = axes-few {axes = sheet-grid bytes .axes} (parts bytes (nothing-refused .0) .axes) .0 in
-        rw (nothing-refused .1) (value-fits _ _ _ _ some)
+        rw (nothing-refused .1) (value-fits (sheet-grid bytes) (built bytes) (at (coordinates (sheet-grid bytes .axes) patterns)) some)
 
     pub refusals-are-no-answers : (number : ℕ) → number < 0x0008_0000_0000_0000 → surface bytes patterns ≡ refusal-pattern number → ⊥
     unfolding surface

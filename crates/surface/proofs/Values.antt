@@ -5,8 +5,8 @@ use mathlib.Core.List.{List}
 use lib.Dec.{T}
 use lib.Ieee.{Float, binary64, fits}
 use lib.Ieee.Fits.{add-fits}
-use Rattle.rules.specs.Sizes.{Grid, Place}
-use Rattle.rules.specs.Query.{hermite, without-lowest, blend, value-in}
+use Rattle.rules.specs.Sizes.{Grid}
+use Rattle.rules.specs.Query.{hermite, without-lowest, blend, value-in, query-in-modes}
 
 without-fits : (size : ℕ) (width t : Float) (cell : ℕ → Float) (e : ℕ) → T (fits binary64 (without-lowest size width t cell e))
 unfolding without-lowest hermite
@@ -22,6 +22,6 @@ unfolding blend
 blended-fits zero widths ts cell some = absurd (omega arith)
 blended-fits (suc axes) widths ts cell some = blend-fits axes 1 widths ts _ (λ e. without-fits _ _ _ cell e)
 
-pub value-fits : (g : Grid) (tensor : List Float) (cells : Place) (point : ℕ → Float) → 1 ≤ g .axes → T (fits binary64 (value-in g tensor cells point))
-unfolding value-in
-value-fits g tensor cells point some = blended-fits (g .axes) _ _ _ some
+pub value-fits : (g : Grid) (tensor : List Float) (point : ℕ → Float) → 1 ≤ g .axes → T (fits binary64 (query-in-modes g tensor point))
+unfolding query-in-modes value-in
+value-fits g tensor point some = blended-fits (g .axes) _ _ _ some
