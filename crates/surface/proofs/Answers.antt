@@ -28,10 +28,10 @@ use Rattle.sheet.specs.declared.ReadAnswer.{ReadAnswer}
 use Rattle.sheet.proofs.Walks.{passed}
 use Rattle.sheet.proofs.Promises.{answer-refusal}
 use Rattle.sheet_build.specs.SheetTensor.{building-refusal}
-use Rattle.sheet_build.proofs.Few.{at-most, sheet-few}
+use Rattle.sheet_build.proofs.Few.{at-most, sheet-few, build-few}
 use Rattle.surface.specs.SheetSurface.{built, asked, surface-refusal, surface, SurfacePromise}
 use Rattle.surface.specs.Within.{ReadSheet, SmallSheet, Built}
-use Rattle.surface.proofs.Small.{axes-are, grid-is, tensor-is}
+use Rattle.surface.proofs.Small.{axes-are, grid-is, tensor-is, range}
 
 -- ---- the query
 
@@ -62,6 +62,13 @@ module _ (g : Grid) (tensor-lent coordinates-lent : List Float) where
       let v = passed (answer-refused (query-in-modes g tensor-lent (at coordinates-lent))) 9 0 (o .1) in
       not-false _ (v .0)
 
+-- as few are those of a build
+pub built-few : (bytes : List ℕ) (r : ℕ) → r ≡ building-refusal bytes → r ≤ 23
+built-few bytes r e = omega (arith, build-few bytes)
+
+pub four-long : (patterns : List ℕ) (four : List Float) → four ≡ coordinates 4 patterns → length four ≡ 4
+four-long patterns four e = ap length e
+
 taken : {A : Type 0} (f : ℕ → A) (n : ℕ) → n ≤ 4 → take n (table 4 f) ≡ table n f
 taken f zero few = refl
 taken f (suc zero) few = refl
@@ -88,7 +95,14 @@ module _ (bytes patterns : List ℕ) where
       let is : r ≡ both = rw (← e) (sym (or-else-met r _ met)) in
       refused-with r (asked bytes patterns .value) met ∙ ap (λ (k : ℕ). answer-pattern k (asked bytes patterns .value)) is
 
-  module _ (said n : ℕ) (all : List Axis) (s : SmallSheet bytes said n all) (few : n ≤ 4) where
+  module _ (a : QueryAnswer) (is : a ≡ asked bytes patterns) where
+    pub answer-fine : (a .refusal ≤ 23) × (a .refusal ≡ 0 → finite (a .value) ≡ true)
+    answer-fine = rw is (omega (arith, asked-few), asked-finite)
+
+    pub query-answered : (r : ℕ) → r ≡ building-refusal bytes → r ≡ 0 → answer-pattern (a .refusal) (a .value) ≡ answer-pattern both (asked bytes patterns .value)
+    query-answered r e none = rw (is, ← e, none)
+
+  module _ (said n : ℕ) (all : List Axis) (s : SmallSheet bytes said n all) where
     pub query-asked :
         (lent : List Float) (r : ℕ) (knots tensor : List Float) (four : List Float) (a : QueryAnswer)
         → Built bytes lent r knots tensor
@@ -100,35 +114,20 @@ module _ (bytes patterns : List ℕ) where
     query-asked lent r knots tensor four a left none four-are q =
         let t : tensor ≡ built bytes = rw none at (left .output) in
         let c : take (n - 0) four ≡ coordinates (sheet-grid bytes .axes) patterns
-        = rw (sub-zero n, four-are, taken _ n few, axes-are bytes said n all (s .read)) in
+        = rw (sub-zero n, four-are, taken _ n (range bytes said n all (s .read) .few-axes), axes-are bytes said n all (s .read)) in
         rw (left .knots, grid-is bytes said n all (s .read), t, c) at (q .answer)
-
-    pub query-answered : (a : QueryAnswer) (r : ℕ) → r ≡ building-refusal bytes → r ≡ 0 → a ≡ asked bytes patterns
-        → answer-pattern (a .refusal) (a .value) ≡ answer-pattern both (asked bytes patterns .value)
-    query-answered a r e none is = rw (is, ← e, none)
 
 -- ---- the call
 
-module _ (bytes patterns : List ℕ) (a : ReadAnswer) (read : a ≡ answer-of (sheet-refusal bytes) (edition bytes) (axes bytes) (entries bytes (axes bytes))) where
+module _ (bytes : List ℕ) (a : ReadAnswer) (read : a ≡ answer-of (sheet-refusal bytes) (edition bytes) (axes bytes) (entries bytes (axes bytes))) where
   fault-is : a .refusal ≡ sheet-refusal bytes
   fault-is = ap (λ (r : ReadAnswer). r .refusal) read ∙ answer-refusal _ _ _ _
 
-  pub fault-few : a .refusal ≤ 22
-  fault-few = rw fault-is (sheet-few bytes)
-
-  refused-by : (number : ℕ) → (number ≡ 0 → ⊥) → number ≡ surface-refusal bytes patterns → (r : ℕ) → r ≡ refusal-pattern number → SurfacePromise bytes patterns r
-  unfolding surface
-  refused-by number met is r e = record {
-    answer = e ∙ refused-with number (asked bytes patterns .value) met ∙ ap (λ (k : ℕ). answer-pattern k (asked bytes patterns .value)) is;
-  }
-
-  -- the reader refuses
-  pub reader-refuses : (a .refusal ≡ 0 → ⊥) → (r : ℕ) → r ≡ refusal-pattern (a .refusal) → SurfacePromise bytes patterns r
-  unfolding surface-refusal
-  reader-refuses met = refused-by (a .refusal) met (rw (← fault-is) (sym (or-else-met (a .refusal) _ met)))
+  pub fault-few : a .refusal ≤ 23
+  fault-few = omega (arith, fault-is, sheet-few bytes)
 
   module _ (none : a .refusal ≡ 0) where
-    abbrev accepted : sheet-refusal bytes ≡ 0
+    accepted : sheet-refusal bytes ≡ 0
     accepted = sym fault-is ∙ none
 
     pub sheet-read : ReadSheet bytes (a .edition) (a .axes) (a .all)
@@ -141,20 +140,35 @@ module _ (bytes patterns : List ℕ) (a : ReadAnswer) (read : a ≡ answer-of (s
           found = ap (λ (r : ReadAnswer). r .all) is;
         }
 
-    module _ (length : ℕ) (l : length ≡ tensor-length (sizes-of (a .axes) (a .all))) where
-      length-is : length ≡ tensor-length (sheet-grid bytes)
-      length-is = l ∙ tensor-is bytes (a .edition) (a .axes) (a .all) sheet-read
+    module _ (count : ℕ) (c : count ≡ tensor-length (sizes-of (a .axes) (a .all))) where
+      count-is : count ≡ tensor-length (sheet-grid bytes)
+      count-is = c ∙ tensor-is bytes (a .edition) (a .axes) (a .all) sheet-read
 
+      pub sheet-small : count ≤ 512 → SmallSheet bytes (a .edition) (a .axes) (a .all)
+      sheet-small short = record { read = sheet-read; small = omega (arith, count-is) }
+
+  -- ---- the ways that it ends
+
+  module _ (patterns : List ℕ) where
+    refused-by : (number : ℕ) → (number ≡ 0 → ⊥) → number ≡ surface-refusal bytes patterns → (r : ℕ) → r ≡ refusal-pattern number → SurfacePromise bytes patterns r
+    unfolding surface
+    refused-by number met is r e = record {
+      answer = e ∙ refused-with number (asked bytes patterns .value) met ∙ ap (λ (k : ℕ). answer-pattern k (asked bytes patterns .value)) is;
+    }
+
+    -- the reader refuses
+    pub reader-refuses : (a .refusal ≡ 0 → ⊥) → (r : ℕ) → r ≡ refusal-pattern (a .refusal) → SurfacePromise bytes patterns r
+    unfolding surface-refusal
+    reader-refuses met = refused-by (a .refusal) met (rw (← fault-is) (sym (or-else-met (a .refusal) _ met)))
+
+    module _ (none : a .refusal ≡ 0) (count : ℕ) (c : count ≡ tensor-length (sizes-of (a .axes) (a .all))) where
       -- the tensor is too long
-      pub stack-refuses : 512 < length → (r : ℕ) → r ≡ refusal-pattern 16 → SurfacePromise bytes patterns r
+      pub stack-refuses : 512 < count → (r : ℕ) → r ≡ refusal-pattern 16 → SurfacePromise bytes patterns r
       unfolding surface-refusal
-      stack-refuses long = refused-by 16 (λ z. omega arith) (rw (accepted, lt-ltb 512 (tensor-length (sheet-grid bytes)) (omega (arith, length-is))))
+      stack-refuses long = refused-by 16 (λ z. omega arith) (rw (accepted none, lt-ltb 512 (tensor-length (sheet-grid bytes)) (omega (arith, count-is none count c))))
 
-      module _ (short : length ≤ 512) where
-        pub sheet-small : SmallSheet bytes (a .edition) (a .axes) (a .all)
-        sheet-small = record { read = sheet-read; small = omega (arith, length-is) }
-
-        -- what is left to be met
+      -- it is not: what is left to be met
+      module _ (short : count ≤ 512) where
         abbrev left : ℕ
         left = or-else (building-refusal bytes) (asked bytes patterns .refusal)
 
@@ -162,9 +176,9 @@ module _ (bytes patterns : List ℕ) (a : ReadAnswer) (read : a ≡ answer-of (s
         unfolding surface-refusal
         short-is =
             rw (
-              accepted,
-              le-ltb 512 (tensor-length (sheet-grid bytes)) (omega (arith, length-is)),
-              ← axes-are bytes (a .edition) (a .axes) (a .all) sheet-read,
+              accepted none,
+              le-ltb 512 (tensor-length (sheet-grid bytes)) (omega (arith, count-is none count c)),
+              ← axes-are bytes (a .edition) (a .axes) (a .all) (sheet-read none),
             )
 
         -- a pattern past the axes in use is not 0
@@ -174,6 +188,6 @@ module _ (bytes patterns : List ℕ) (a : ReadAnswer) (read : a ≡ answer-of (s
         -- the sheet's tensor is built and asked
         pub sheet-asked : unused-refused (a .axes) patterns ≡ false → (r : ℕ) → r ≡ answer-pattern left (asked bytes patterns .value) → SurfacePromise bytes patterns r
         unfolding surface
-        sheet-asked none r e = record {
-          answer = e ∙ ap (λ (k : ℕ). answer-pattern k (asked bytes patterns .value)) (sym (short-is ∙ ap (λ (b : Bool). cond b 17 left) none));
+        sheet-asked zeros r e = record {
+          answer = e ∙ ap (λ (k : ℕ). answer-pattern k (asked bytes patterns .value)) (sym (short-is ∙ ap (λ (b : Bool). cond b 17 left) zeros));
         }

@@ -1,10 +1,10 @@
 -- A sheet whose tensor has at most 512 numbers has at most 256 samples and at most 256 knots, so they have places in buffers of so many.
 use mathlib.Core.Path.{_≡_, sym, _∙_}
 use mathlib.Core.List.{List, append-nil}
-use Prim.Native.Nat.{ℕ, zero, suc, _+_, _*_, _^_, _<_, _≤_}
+use Prim.Native.Nat.{ℕ, zero, suc, _+_, _-_, _*_, _^_, _<_, _≤_}
 use native.Mathlib.Nat.{mul-le-mul, le-refl}
 use native.Mathlib.Omega.{arith}
-use lib.ListN.{length, take}
+use lib.ListN.{length, take, length-append, length-take}
 use lib.Seq.{drop-length}
 use lib.Ieee.{Float}
 use Rattle.rules.specs.Sizes.{Grid, points, knots-length, samples-length, tensor-length, sum-below, product-below}
@@ -15,7 +15,7 @@ use Rattle.sheet.specs.Fields.{sheet-grid, sheet-samples, knots-below, axes}
 use Rattle.sheet.specs.Read.{over}
 use Rattle.sheet.specs.Within.{PartsRoom}
 use Rattle.sheet.proofs.Parts.{Parts, parts, take-over}
-use Rattle.surface.specs.Within.{ReadSheet, SmallSheet}
+use Rattle.surface.specs.Within.{ReadSheet, SmallSheet, Room}
 
 -- ---- sums and products of sizes that are 2 or more
 
@@ -84,6 +84,9 @@ module _ (bytes : List ℕ) (said n : ℕ) (all : List Axis) (s : ReadSheet byte
   pub samples-stored : (lent : List Float) → take (samples-length g) (over (sheet-samples bytes) lent) ≡ sheet-samples bytes
   samples-stored lent = take-over (sheet-samples bytes) lent (samples-length g) (known .samples)
 
+  pub samples-within : (count : ℕ) (samples lent : List Float) → count ≡ samples-length (sizes-of n all) → samples ≡ over (sheet-samples bytes) lent → count ≤ length samples
+  samples-within count samples lent c e = rw (e, length-append) (omega (arith, samples-are, known .samples))
+
   pub knots-stored : (lent : List Float) → length lent ≡ knots-length g → over (knots-below bytes (axes bytes)) lent ≡ g .flat-knots
   unfolding sheet-grid
   knots-stored lent e =
@@ -113,3 +116,17 @@ module _ (bytes : List ℕ) (said n : ℕ) (all : List Axis) (s : SmallSheet byt
     knots-room = omega (arith, parts bytes (s .read .faultless) .knots);
     samples-room = omega (arith, samples-most);
   }
+
+  -- and parts of slices of 256 and 512 are as long as its knots and its tensor
+  module _ (knots-end tensor-end : ℕ) (k : knots-end ≡ knots-length (sizes-of n all)) (t : tensor-end ≡ tensor-length (sizes-of n all)) where
+    pub knots-within : knots-end ≤ 256
+    knots-within = omega (arith, knots-are bytes said n all (s .read), knots-most)
+
+    pub tensor-within : tensor-end ≤ 512
+    tensor-within = omega (arith, tensor-is bytes said n all (s .read), s .small)
+
+    pub room : (knots tensor : List Float) → length knots ≡ 256 → length tensor ≡ 512 → Room bytes (take (knots-end - 0) knots) (take (tensor-end - 0) tensor)
+    room knots tensor a b = record {
+      knots-exact = rw length-take (omega (arith, knots-within, knots-are bytes said n all (s .read)));
+      tensor-exact = rw length-take (omega (arith, tensor-within, tensor-is bytes said n all (s .read)));
+    }

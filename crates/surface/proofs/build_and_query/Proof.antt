@@ -1,85 +1,58 @@
+use mathlib.Core.Path.{_≡_, _∙_}
+use native.Mathlib.Omega.{arith}
+use Rattle.surface.specs.SheetSurface.{asked}
+use Rattle.surface.proofs.Small.{range}
+use Rattle.surface.proofs.Answers.{built-few, four-long, build-refused, query-asked, answer-fine, query-answered}
 use borrow.Author.Needs.{needs}
 use Rattle.surface.proofs.build_and_query.Statement.{statement}
 use Rattle.surface.proofs.build_and_query.Tie as tie
-use Rattle.surface.proofs.build_and_query.Reads as reads
-use Rattle.surface.proofs.build_and_query.Lts as lts
-use Rattle.patterns.proofs.answer_pattern.Reads as answer-pattern-reads
-use Rattle.patterns.proofs.coordinates_of.Reads as coordinates-of-reads
-use Rattle.patterns.proofs.refusal_pattern.Reads as refusal-pattern-reads
-use Rattle.query.proofs.query.Reads as query-reads
-use Rattle.surface.proofs.build_sheet.Reads as build-sheet-reads
 
--- src/lib.rt:49:9
-build-sheet-requires : tie.Need-build-sheet-requires
-build-sheet-requires c κs = search needs
+abbrev start : tie.After-build-sheet → tie.Start
+start b = b .before .before .before .before .before .before
 
--- src/lib.rt:51:9
 refusal-pattern-requires : tie.Need-refusal-pattern-requires
-refusal-pattern-requires c κs = ?
+refusal-pattern-requires c κs = built-few _ _ (c .before .before .before .before .before .build-sheet .ensures .refused)
 
--- src/lib.rt:51:9
-same-length : tie.Need-same-length
-same-length c = search needs
-
--- src/lib.rt:51:9
-same-length-2 : tie.Need-same-length-2
-same-length-2 c = search needs
-
--- src/lib.rt:51:9
 returns : tie.Need-returns
-returns c = ?
+returns c =
+    c .refusal-pattern .ensures
+    ∙ build-refused _ (start (c .before .before .before .before .before .before) .args .patterns) _ (c .before .before .before .before .before .before .build-sheet .ensures .refused) (c .before .if1 .taken)
 
--- src/lib.rt:53:23
-coordinates-of-requires : tie.Need-coordinates-of-requires
-coordinates-of-requires c κs = search needs
-
--- src/lib.rt:54:57
-sub-query : tie.Need-sub-query
-sub-query c = search needs
-
--- src/lib.rt:54:57
-part-query-start : tie.Need-part-query-start
-part-query-start c = search needs
-
--- src/lib.rt:54:57
 part-query-end : tie.Need-part-query-end
-part-query-end c = ?
+part-query-end c =
+    let begin = start (c .before .before .before .before .before .before .before .before .before) in
+    let few = range _ _ _ _ (begin .pre .0 .read) .few-axes in
+    let long = four-long (begin .args .patterns) _ (c .before .before .before .coordinates-of .ensures) in omega arith
 
--- src/lib.rt:54:9
-query-requires : tie.Need-query-requires
-query-requires c κs = search needs
+is-asked : (c : tie.After-query) → c .query .result ≡ asked (start (c .before .before .before .before .before .before .before .before .before .before .before) .args .bytes .now) (start (c .before .before .before .before .before .before .before .before .before .before .before) .args .patterns)
+is-asked c =
+    let built = c .before .before .before .before .before .before .before .before .before .before .before in
+    query-asked _ _ _ _ _ (start built .pre .0) _ _ _ _ _ _ (built .build-sheet .ensures) (c .before .before .before .before .before .before .if1 .left) (c .before .before .before .before .before .coordinates-of .ensures) (c .query .ensures)
 
--- src/lib.rt:55:5
 answer-pattern-requires : tie.Need-answer-pattern-requires
-answer-pattern-requires c κs = ?
+answer-pattern-requires c κs = answer-fine _ _ _ (is-asked c)
 
--- src/lib.rt:37:1
-same-length-3 : tie.Need-same-length-3
-same-length-3 c = search needs
-
--- src/lib.rt:37:1
-same-length-4 : tie.Need-same-length-4
-same-length-4 c = search needs
-
--- src/lib.rt:37:1
 returns-2 : tie.Need-returns-2
-returns-2 c = ?
+returns-2 c =
+    let asked-here = c .before in
+    c .answer-pattern .ensures
+    ∙ query-answered _ _ _ (is-asked asked-here) _ (asked-here .before .before .before .before .before .before .before .before .before .before .before .build-sheet .ensures .refused) (asked-here .before .before .before .before .before .before .if1 .left)
 
 pub build-and-query-spec : {M : Type 1} → statement M
 build-and-query-spec =
     tie.close
     (tie.spec
-    build-sheet-requires
+    (λ c κs. search needs)
     refusal-pattern-requires
-    same-length
-    same-length-2
+    (λ c. search needs)
+    (λ c. search needs)
     returns
-    coordinates-of-requires
-    sub-query
-    part-query-start
+    (λ c κs. search needs)
+    (λ c. search needs)
+    (λ c. search needs)
     part-query-end
-    query-requires
+    (λ c κs. search needs)
     answer-pattern-requires
-    same-length-3
-    same-length-4
+    (λ c. search needs)
+    (λ c. search needs)
     returns-2)

@@ -1,68 +1,45 @@
+use lib.ListN.{length-replicate}
+use Rattle.rules.specs.Numbers.{plus-zero}
+use Rattle.surface.proofs.Small.{range, samples-within, parts-room}
+use Rattle.surface.proofs.Builds.{sheet-built}
 use borrow.Author.Needs.{needs}
 use Rattle.surface.proofs.build_sheet.Statement.{statement}
 use Rattle.surface.proofs.build_sheet.Tie as tie
-use Rattle.surface.proofs.build_sheet.Reads as reads
-use Rattle.surface.proofs.build_sheet.Lts as lts
-use Rattle.grid.proofs.samples_length.Reads as samples-length-reads
-use Rattle.sheet.proofs.store.store_parts.Reads as store-parts-reads
-use Rattle.tensor.proofs.build.Reads as build-reads
 
--- src/lib.rt:31:51
-slice-aggregate-store-parts : tie.Need-slice-aggregate-store-parts
-slice-aggregate-store-parts c = search needs
+abbrev start : tie.After-samples → tie.Start
+start a = a .before .before .before .before .before
 
--- src/lib.rt:31:5
 store-parts-requires : tie.Need-store-parts-requires
-store-parts-requires c κs = ?
+store-parts-requires c κs = parts-room _ _ _ _ (start c .pre .0) _ _ (start c .pre .1 .knots-exact) (length-replicate 256 plus-zero)
 
--- src/lib.rt:32:9
 samples-length-requires : tie.Need-samples-length-requires
-samples-length-requires c κs = ?
+samples-length-requires c κs = range _ _ _ _ (start (c .before .before .before .before) .pre .0 .read)
 
--- src/lib.rt:33:37
-sub-build : tie.Need-sub-build
-sub-build c = search needs
-
--- src/lib.rt:33:37
-part-build-start : tie.Need-part-build-start
-part-build-start c = search needs
-
--- src/lib.rt:33:37
 part-build-end : tie.Need-part-build-end
-part-build-end c = ?
+part-build-end c =
+    let stored = c .before .before .before .before .before .before in
+    samples-within _ _ _ _ (start (stored .before) .pre .0 .read) _ _ _ (c .before .before .samples-length .ensures .0) (stored .store-parts .ensures .1)
 
--- src/lib.rt:33:65
-slice-aggregate-build : tie.Need-slice-aggregate-build
-slice-aggregate-build c = search needs
-
--- src/lib.rt:33:5
-build-requires : tie.Need-build-requires
-build-requires c κs = search needs
-
--- src/lib.rt:18:1
-same-length : tie.Need-same-length
-same-length c = search needs
-
--- src/lib.rt:18:1
-same-length-2 : tie.Need-same-length-2
-same-length-2 c = search needs
-
--- src/lib.rt:18:1
 returns : tie.Need-returns
-returns c = ?
+returns c =
+    let built = c .before .before .before in
+    let stored = built .before .before .before .before .before .before .before .before .before .before in
+    let pre = start (stored .before) .pre in
+    sheet-built _ _ _ _ (pre .0) _ _ _ _ (pre .1) (length-replicate 2560 plus-zero) _ _ (stored .store-parts .ensures .0) (stored .store-parts .ensures .1) _
+    (built .before .before .before .before .before .before .samples-length .ensures .0) _ _ _ (built .build .ensures)
 
 pub build-sheet-spec : {M : Type 1} → statement M
 build-sheet-spec =
     tie.close
     (tie.spec
-    slice-aggregate-store-parts
+    (λ c. search needs)
     store-parts-requires
     samples-length-requires
-    sub-build
-    part-build-start
+    (λ c. search needs)
+    (λ c. search needs)
     part-build-end
-    slice-aggregate-build
-    build-requires
-    same-length
-    same-length-2
+    (λ c. search needs)
+    (λ c κs. search needs)
+    (λ c. search needs)
+    (λ c. search needs)
     returns)

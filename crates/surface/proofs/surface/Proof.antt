@@ -1,70 +1,53 @@
+use mathlib.Core.Path.{sym, _∙_}
+use Rattle.surface.proofs.Small.{range}
+use Rattle.surface.proofs.Answers.{fault-few, sheet-read, sheet-small, reader-refuses, stack-refuses, unused-refuses, sheet-asked}
 use borrow.Author.Needs.{needs}
 use Rattle.surface.proofs.surface.Statement.{statement}
 use Rattle.surface.proofs.surface.Tie as tie
-use Rattle.surface.proofs.surface.Reads as reads
-use Rattle.surface.proofs.surface.Lts as lts
-use Rattle.grid.proofs.tensor_length.Reads as tensor-length-reads
-use Rattle.patterns.proofs.is_unused_refused.Reads as is-unused-refused-reads
-use Rattle.patterns.proofs.refusal_pattern.Reads as refusal-pattern-reads
-use Rattle.sheet.proofs.look.look.Reads as look-reads
-use Rattle.surface.proofs.on_the_stack.Reads as on-the-stack-reads
 
--- src/lib.rt:91:9
-look-requires : tie.Need-look-requires
-look-requires c κs = search needs
-
--- src/lib.rt:94:9
 refusal-pattern-requires : tie.Need-refusal-pattern-requires
-refusal-pattern-requires c κs = ?
+refusal-pattern-requires c κs = fault-few _ _ (c .before .look .ensures)
 
--- src/lib.rt:94:9
 returns : tie.Need-returns
-returns c = ?
+returns c = reader-refuses _ _ (c .before .before .look .ensures) _ (c .before .if1 .taken) _ (c .refusal-pattern .ensures)
 
--- src/lib.rt:98:14
 tensor-length-requires : tie.Need-tensor-length-requires
-tensor-length-requires c κs = ?
+tensor-length-requires c κs = range _ _ _ _ (sheet-read _ _ (c .before .before .look .ensures) (c .before .if1 .left))
 
--- src/lib.rt:99:9
-refusal-pattern-requires-2 : tie.Need-refusal-pattern-requires-2
-refusal-pattern-requires-2 c κs = search needs
-
--- src/lib.rt:99:9
 returns-2 : tie.Need-returns-2
-returns-2 c = ?
+returns-2 c =
+    stack-refuses _ _ (c .before .before .before .before .before .look .ensures) _ (c .before .before .before .before .if1 .left) _ (c .before .before .tensor-length .ensures .0) (c .before .if2 .taken) _
+    (c .refusal-pattern2 .ensures)
 
--- src/lib.rt:102:8
 is-unused-refused-requires : tie.Need-is-unused-refused-requires
-is-unused-refused-requires c κs = ?
+is-unused-refused-requires c κs = range _ _ _ _ (sheet-read _ _ (c .before .before .before .before .look .ensures) (c .before .before .before .if1 .left)) .few-axes
 
--- src/lib.rt:103:9
-refusal-pattern-requires-3 : tie.Need-refusal-pattern-requires-3
-refusal-pattern-requires-3 c κs = search needs
-
--- src/lib.rt:103:9
 returns-3 : tie.Need-returns-3
-returns-3 c = ?
+returns-3 c =
+    unused-refuses _ _ (c .before .before .before .before .before .before .before .look .ensures) _ (c .before .before .before .before .before .before .if1 .left) _ (c .before .before .before .before .tensor-length .ensures .0) (c .before .before .before .if2 .left)
+    (sym (c .before .before .is-unused-refused .ensures) ∙ c .before .if3 .taken) _ (c .refusal-pattern3 .ensures)
 
--- src/lib.rt:105:5
 on-the-stack-requires : tie.Need-on-the-stack-requires
-on-the-stack-requires c κs = ?
+on-the-stack-requires c κs =
+    sheet-small _ _ (c .before .before .before .before .before .before .look .ensures) (c .before .before .before .before .before .if1 .left) _ (c .before .before .before .tensor-length .ensures .0) (c .before .before .if2 .left)
 
--- src/lib.rt:88:1
 returns-4 : tie.Need-returns-4
-returns-4 c = ?
+returns-4 c =
+    sheet-asked _ _ (c .before .before .before .before .before .before .before .look .ensures) _ (c .before .before .before .before .before .before .if1 .left) _ (c .before .before .before .before .tensor-length .ensures .0) (c .before .before .before .if2 .left)
+    (sym (c .before .before .is-unused-refused .ensures) ∙ c .before .if3 .left) _ (c .on-the-stack .ensures)
 
 pub surface-spec : {M : Type 1} → statement M
 surface-spec =
     tie.close
     (tie.spec
-    look-requires
+    (λ c κs. search needs)
     refusal-pattern-requires
     returns
     tensor-length-requires
-    refusal-pattern-requires-2
+    (λ c κs. search needs)
     returns-2
     is-unused-refused-requires
-    refusal-pattern-requires-3
+    (λ c κs. search needs)
     returns-3
     on-the-stack-requires
     returns-4)
