@@ -32,16 +32,16 @@
  *   - With axes: 1 by their number alone; 4 for points that are not four; 2; 3; 4 for every other slice and slot; 13
  *     for kinds of an axis in use that are none, or Periodic at one end only; 22 for a mode or a direction of an axis
  *     in use that is none; then the rest of the call's list, 5 and on, in the list's order. That is not always the
- *     order of the numbers: 21 and 18 stand before 10.
+ *     order of the numbers: 21 and 18 stand before 10, and 12 and 23 before 15.
  *   - On one axis: 2; 4; 13 or 22; then the rest of the list.
  *   - Of a sheet: 4; then the faults of the sheet, the first that is met on the way through it; then, where its tensor
  *     is built, 5, 7, 8, 9, 10.
  *
  * Outputs. After a refusal every output is as it was but the slots of the answer: value, labels, lanes, uneven, found,
- * location, fraction, index and indices, and of a sheet axes, points, kinds, values and length. These are then 0 or
- * +0.0, but for uneven after 21, where all slots of the call have their lengths; where one has another length, none of
- * them is written. Where a sheet is read and only its build is refused, its knots, samples, axes, points, kinds and
- * values are handed over, as after a read, and the length alone is 0.
+ * location, fraction, index and indices, and of a sheet axes, points, kinds, values, modes, edition and length. These
+ * are then 0 or +0.0, but for uneven after 21, where all slots of the call have their lengths; where one has another
+ * length, none of them is written. Where a sheet is read and only its build is refused, its knots, samples, axes,
+ * points, kinds, values, modes and edition are handed over, as after a read, and the length alone is 0.
  * All of scratch is +0.0 after success and after 10, and else as it was.
  */
 #ifndef HULLASHLAR_H
@@ -71,7 +71,7 @@ enum hullashlar_refusal {
     HULLASHLAR_REFUSED_FEWNESS = 9,  /* fewer points than NotAKnot needs: 3, or 4 where both ends are so */
     HULLASHLAR_REFUSED_OUTCOME = 10, /* what came out is infinite or NaN */
     HULLASHLAR_REFUSED_SHORT = 11,   /* a sheet ends before its fields do */
-    HULLASHLAR_REFUSED_EDITION = 12, /* a sheet of another edition than 1 */
+    HULLASHLAR_REFUSED_EDITION = 12, /* an edition that is neither 1 nor 2; for the reader of edition 1 any but 1 */
     HULLASHLAR_REFUSED_KINDS = 13,   /* Periodic at one end of an axis and not at the other, or no kind at all */
     HULLASHLAR_REFUSED_TAIL = 14,    /* a sheet goes on after its fields, by a byte or by a bit that is set */
     HULLASHLAR_REFUSED_BUFFER = 15,  /* fewer bytes than the sheet to be written has */
@@ -79,7 +79,8 @@ enum hullashlar_refusal {
     HULLASHLAR_REFUSED_UNUSED = 17,  /* hullashlar_surface: a pattern past the axes in use is not 0 */
     HULLASHLAR_REFUSED_OUTSIDE = 18, /* a coordinate outside the knots of an axis whose mode refuses it */
     HULLASHLAR_REFUSED_UNEVEN = 21,  /* the knots of an axis are not evenly spaced */
-    HULLASHLAR_REFUSED_MODE = 22     /* no mode at all, or no direction */
+    HULLASHLAR_REFUSED_MODE = 22,    /* no mode at all, or no direction */
+    HULLASHLAR_REFUSED_LOST = 23     /* edition 1, and a mode that is not extend, which it cannot hold */
 };
 
 /* The kinds of an end. Periodic stands at both ends of an axis or at neither. */
@@ -113,7 +114,7 @@ enum hullashlar_size {
     HULLASHLAR_SCRATCH = 2048,       /* the scratch that is needed beside the tensor's length */
     HULLASHLAR_MOST_SCRATCH = 6144,  /* enough scratch for every grid */
     HULLASHLAR_BUFFER = 1024,        /* the length of the buffers that a sheet is read into */
-    HULLASHLAR_SHEET = 10308         /* the bytes of the longest sheet that is accepted */
+    HULLASHLAR_SHEET = 10309         /* the bytes of the longest sheet that is accepted */
 };
 
 /* The moments of a curve on one axis: one for each point.
@@ -225,28 +226,44 @@ size_t hullashlar_even_query(size_t axes,
                              size_t *labels, size_t labels_length,
                              size_t *uneven, size_t uneven_length);
 
-/* The parts of a packed sheet: knots and samples in the first places of their buffers, whose other places are as they
- * were; how many axes there are; and of each axis the points, and the kinds and values of its ends, as the calls above
- * take them. Points, kinds and values past the axes in use are 0, and so is the value of a kind that has none. Numbers
- * are handed over as they stand in the sheet, but a NaN as some NaN: its sign and payload are lost.
- * Lengths: bytes any; knots and samples 1,024 each; axes 1; points 4; kinds and values 8.
- * Written: knots, samples, axes, points, kinds, values. Refuses by 4, and then by the first of 11, 12, 1, 2, 13, 3, 14
- * that is met on the way through the sheet. */
+/* The parts of a packed sheet of either edition: knots and samples in the first places of their buffers, whose other
+ * places are as they were; how many axes there are; of each axis the points, the kinds and values of its ends, and its
+ * mode, as the calls above take them; and the edition, so that the sheet can be written back as it came. Points, kinds,
+ * values and modes past the axes in use are 0, and so is the value of a kind that has none. Numbers are handed over as
+ * they stand in the sheet, but a NaN as some NaN: its sign and payload are lost.
+ * Lengths: bytes any; knots and samples 1,024 each; axes 1; points 4; kinds and values 8; modes 4; edition 1.
+ * Written: knots, samples, axes, points, kinds, values, modes, edition. Refuses by 4, and then by the first of 11, 12,
+ * 1, 2, 13, 22, 3, 14 that is met on the way through the sheet. */
 size_t hullashlar_read(const uint8_t *bytes, size_t bytes_length,
                        double *knots, size_t knots_length,
                        double *samples, size_t samples_length,
                        size_t *axes, size_t axes_length,
                        size_t *points, size_t points_length,
                        uint8_t *kinds, size_t kinds_length,
-                       double *values, size_t values_length);
+                       double *values, size_t values_length,
+                       uint8_t *modes, size_t modes_length,
+                       size_t *edition, size_t edition_length);
+
+/* The parts of a packed sheet of edition 1, as a read hands them over, without modes, which are all extend, and without
+ * the edition. Of a sheet of another edition nothing is handed over: it is refused by 12.
+ * Lengths: bytes any; knots and samples 1,024 each; axes 1; points 4; kinds and values 8.
+ * Written: knots, samples, axes, points, kinds, values. Refuses by 4, then by the first of 11, 12, 1, 2, 13, 3, 14
+ * that is met on the way through the sheet. */
+size_t hullashlar_read_edition_1(const uint8_t *bytes, size_t bytes_length,
+                                 double *knots, size_t knots_length,
+                                 double *samples, size_t samples_length,
+                                 size_t *axes, size_t axes_length,
+                                 size_t *points, size_t points_length,
+                                 uint8_t *kinds, size_t kinds_length,
+                                 double *values, size_t values_length);
 
 /* The tensor of a packed sheet, read and built in one call: all that a read hands over, the tensor in the first places
  * of its buffer, whose other places are as they were, and how many numbers it has. With what it hands over the tensor
  * can be queried and changed.
- * Lengths: bytes any; knots and samples 1,024 each; axes 1; points 4; kinds and values 8; tensor 4,096; scratch at
- * least 2,048 longer than the sheet's tensor, so that 6,144 is enough for every sheet; length 1.
- * Written: knots, samples, axes, points, kinds, values, tensor, scratch, length. Refuses as a read does, then as a
- * build by 5, 7, 8, 9, 10. */
+ * Lengths: bytes any; knots and samples 1,024 each; axes 1; points 4; kinds and values 8; modes 4; edition 1; tensor
+ * 4,096; scratch at least 2,048 longer than the sheet's tensor, so that 6,144 is enough for every sheet; length 1.
+ * Written: knots, samples, axes, points, kinds, values, modes, edition, tensor, scratch, length. Refuses as a read
+ * does, then as a build by 5, 7, 8, 9, 10. */
 size_t hullashlar_sheet_tensor(const uint8_t *bytes, size_t bytes_length,
                                double *knots, size_t knots_length,
                                double *samples, size_t samples_length,
@@ -254,22 +271,27 @@ size_t hullashlar_sheet_tensor(const uint8_t *bytes, size_t bytes_length,
                                size_t *points, size_t points_length,
                                uint8_t *kinds, size_t kinds_length,
                                double *values, size_t values_length,
+                               uint8_t *modes, size_t modes_length,
+                               size_t *edition, size_t edition_length,
                                double *tensor, size_t tensor_length,
                                double *scratch, size_t scratch_length,
                                size_t *length, size_t length_length);
 
-/* The packed sheet of axes, knots and samples, written to the first of the bytes, and how many it has; the others are
- * as they were. A read of the sheet hands the same parts over, and a sheet that a read accepts and whose parts a write
- * does not refuse is written again as it was, byte for byte.
- * Lengths: points 4; kinds and values 8; knots as many as the points of all axes together; samples one for each place
- * of the grid; bytes any, of which 10,308 are enough for every sheet; length 1.
- * Written: bytes, length. Refuses by 1, 2, 3, 4, 13, 7, 8, 9, 15. */
+/* The packed sheet of axes, knots and samples in an edition, 1 or 2, written to the first of the bytes, and how many it
+ * has; the others are as they were. A read of the sheet hands the same parts over, and a sheet that a read accepts and
+ * whose parts a write does not refuse is written again, in its own edition, as it was, byte for byte. Edition 1 has no
+ * place for modes: each mode of an axis in use must then be extend.
+ * Lengths: points 4; kinds and values 8; modes 4; knots as many as the points of all axes together; samples one for
+ * each place of the grid; bytes any, of which 10,309 are enough for every sheet; length 1.
+ * Written: bytes, length. Refuses by 1, 2, 3, 4, 13, 22, 7, 8, 9, 12, 23, 15. */
 size_t hullashlar_write(size_t axes,
                         const size_t *points, size_t points_length,
                         const uint8_t *kinds, size_t kinds_length,
                         const double *values, size_t values_length,
+                        const uint8_t *modes, size_t modes_length,
                         const double *knots, size_t knots_length,
                         const double *samples, size_t samples_length,
+                        size_t edition,
                         uint8_t *bytes, size_t bytes_length,
                         size_t *length, size_t length_length);
 

@@ -37,6 +37,11 @@ module _ (test : ℕ → Bool) where
   unfolding any
   any-more i before here = rw add-one (none-of-two (any test i) (test i) before here)
 
+  -- one turn further, what was found kept
+  pub any-next : (i : ℕ) → any test (i + 1) ≡ (any test i || test i)
+  unfolding any
+  any-next i = rw add-one
+
   -- found at i
   pub any-found : (i n : ℕ) → i < n → test i ≡ true → any test n ≡ true
   unfolding any

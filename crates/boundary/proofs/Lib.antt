@@ -1,4 +1,5 @@
 pub mod Rows
 pub mod Lengths
+mod Asked
 pub mod Exported
 mod EvenSlots

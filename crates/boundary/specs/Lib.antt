@@ -1,2 +1,3 @@
 pub mod OwnRefusals
 pub mod Slots
+pub mod Within

@@ -4,7 +4,8 @@ ghost use mathlib.Core.Bool.{_||_};
 ghost use Rattle.rules.specs.Sizes.{knots-length, samples-length};
 ghost use Rattle.rules.specs.Refusals.{length-refused};
 ghost use Rattle.grid.specs.Given.{sizes-of, points-of, InRange};
-ghost use Rattle.boundary.specs.OwnRefusals.{two-ends-refused, eight-ends-refused, place-or-lanes-refused, query-slots-refused, modes-or-slots-refused, found-slots-refused, moments-own-refusal, curve-own-refusal, axes-own-refusal, build-own-refusal, change-own-refusal, write-own-refusal, query-own-refusal, read-own-refusal, sheet-tensor-own-refusal, query-later-rows, even-query-own-refusal};
+ghost use Rattle.boundary.specs.OwnRefusals.{two-ends-refused, eight-ends-refused, place-or-lanes-refused, query-slots-refused, modes-or-slots-refused, found-slots-refused, moments-own-refusal, curve-own-refusal, axes-own-refusal, build-own-refusal, change-own-refusal, write-own-refusal, query-own-refusal, modes-or-slot-refused, read-edition-1-own-refusal, read-own-refusal, sheet-tensor-own-refusal, query-later-rows, even-query-own-refusal};
+ghost use Rattle.boundary.specs.Within.{Asked};
 ghost use Rattle.checks.specs.Tables.{lowest};
 use checks::lengths;
 use checks::sizes;
@@ -74,7 +75,7 @@ pub fn axes_own_refusal(axes: usize, points: &[usize]) -> usize
     if lengths::length_refused(points.len(), 4) {
         return 4;
     }
-    sizes::sizes_refusal(axes, axes_without_ends(axes, points))
+    sizes::points_refusal(axes, points)
 }
 
 // Whether kinds or values are not those of the eight ends of four axes.
@@ -168,17 +169,28 @@ fn parts_refused(axes: usize, all: [Axis; 4], knots: usize, samples: usize) -> b
     lengths::build_refused(axes, all, knots, samples, grid::tensor_length(axes, all))
 }
 
-// Of a sheet that is written: eight ends, the slot of the length, and the call's own slices.
+// Whether modes are not those of four axes, or a slot is not one number.
+fn modes_or_slot_refused(modes: &[u8], slot: &[usize]) -> bool
+    ensures { λ r. ⌜ r ≡ modes-or-slot-refused (now (modes .entry)) (now (slot .entry)) ⌝ }
+{
+    if lengths::length_refused(modes.len(), 4) {
+        return true;
+    }
+    lengths::length_refused(slot.len(), 1)
+}
+
+// Of a sheet that is written: eight ends, the modes, the slot of the length, and the call's own slices.
 pub fn write_own_refusal(
     axes: usize,
     points: &[usize],
     kinds: &[u8],
     values: &[f64],
+    modes: &[u8],
     knots: &[f64],
     samples: &[f64],
     length: &[usize],
 ) -> usize
-    ensures { λ r. ⌜ r ≡ write-own-refusal axes (now (points .entry)) (now (kinds .entry)) (now (values .entry)) (now (knots .entry)) (now (samples .entry)) (now (length .entry)) ⌝ }
+    ensures { λ r. ⌜ r ≡ write-own-refusal axes (now (points .entry)) (now (kinds .entry)) (now (values .entry)) (now (modes .entry)) (now (knots .entry)) (now (samples .entry)) (now (length .entry)) ⌝ }
 {
     let refusal = axes_own_refusal(axes, points);
     if refusal != 0 {
@@ -187,7 +199,7 @@ pub fn write_own_refusal(
     if eight_ends_refused(kinds, values) {
         return 4;
     }
-    if lengths::length_refused(length.len(), 1) {
+    if modes_or_slot_refused(modes, length) {
         return 4;
     }
     let all = axes_without_ends(axes, points);
@@ -196,6 +208,9 @@ pub fn write_own_refusal(
     }
     if some_kinds_refused(axes, kinds) {
         return 13;
+    }
+    if some_modes_refused(axes, modes) {
+        return 22;
     }
     0
 }
@@ -220,7 +235,7 @@ fn modes_or_slots_refused(modes: &[u8], value: &[f64], labels: &[usize]) -> bool
     query_slots_refused(value, labels)
 }
 
-// What a query meets after its axes: 4 for the modes, the slots of its answer and the call's own slices, which 22 comes after. Not public: what is met before is required to be nothing.
+// What a query meets after its axes: 4 for the modes and the slots of its answer, and 22. The call's own slices, which 22 comes after, are looked at where a mode is unknown; where none is, 4 for them is left to the call, which looks at them too. Not public: what is met before is required to be nothing.
 fn query_later_refusal(
     axes: usize,
     points: &[usize],
@@ -232,22 +247,27 @@ fn query_later_refusal(
     labels: &[usize],
 ) -> usize
     requires { ⌜ axes-own-refusal axes (now points) ≡ 0 ⌝ }
-    ensures { λ r. ⌜ r ≡ lowest (query-later-rows axes (now (points .entry)) (now (modes .entry)) (now (knots .entry)) (now (tensor .entry)) (now (coordinates .entry)) (now (value .entry)) (now (labels .entry))) 0 ⌝ }
+    ensures { λ r. ⌜ Asked axes (now (points .entry)) (now (modes .entry)) (now (knots .entry)) (now (tensor .entry)) (now (coordinates .entry)) (now (value .entry)) (now (labels .entry)) (lowest (query-later-rows axes (now (points .entry)) (now (modes .entry)) (now (knots .entry)) (now (tensor .entry)) (now (coordinates .entry)) (now (value .entry)) (now (labels .entry))) 0) r ⌝ }
 {
     if modes_or_slots_refused(modes, value, labels) {
         return 4;
     }
-    let all = axes_without_ends(axes, points);
-    if lengths::query_refused(axes, all, knots.len(), tensor.len(), coordinates.len()) {
-        return 4;
-    }
     if some_modes_refused(axes, modes) {
+        if lengths::query_of_points_refused(
+            axes,
+            points,
+            knots.len(),
+            tensor.len(),
+            coordinates.len(),
+        ) {
+            return 4;
+        }
         return 22;
     }
     0
 }
 
-// Of a query: its axes, and then these.
+// Of a query: its axes, and then these, with the same left to the call.
 pub fn query_own_refusal(
     axes: usize,
     points: &[usize],
@@ -258,7 +278,7 @@ pub fn query_own_refusal(
     value: &[f64],
     labels: &[usize],
 ) -> usize
-    ensures { λ r. ⌜ r ≡ query-own-refusal axes (now (points .entry)) (now (modes .entry)) (now (knots .entry)) (now (tensor .entry)) (now (coordinates .entry)) (now (value .entry)) (now (labels .entry)) ⌝ }
+    ensures { λ r. ⌜ Asked axes (now (points .entry)) (now (modes .entry)) (now (knots .entry)) (now (tensor .entry)) (now (coordinates .entry)) (now (value .entry)) (now (labels .entry)) (query-own-refusal axes (now (points .entry)) (now (modes .entry)) (now (knots .entry)) (now (tensor .entry)) (now (coordinates .entry)) (now (value .entry)) (now (labels .entry))) r ⌝ }
 {
     let refusal = axes_own_refusal(axes, points);
     if refusal != 0 {
@@ -288,7 +308,7 @@ pub fn even_query_own_refusal(
     labels: &[usize],
     uneven: &[usize],
 ) -> usize
-    ensures { λ r. ⌜ r ≡ even-query-own-refusal axes (now (points .entry)) (now (modes .entry)) (now (knots .entry)) (now (tensor .entry)) (now (coordinates .entry)) (now (value .entry)) (now (labels .entry)) (now (uneven .entry)) ⌝ }
+    ensures { λ r. ⌜ Asked axes (now (points .entry)) (now (modes .entry)) (now (knots .entry)) (now (tensor .entry)) (now (coordinates .entry)) (now (value .entry)) (now (labels .entry)) (even-query-own-refusal axes (now (points .entry)) (now (modes .entry)) (now (knots .entry)) (now (tensor .entry)) (now (coordinates .entry)) (now (value .entry)) (now (labels .entry)) (now (uneven .entry))) r ⌝ }
 {
     let refusal = axes_own_refusal(axes, points);
     if refusal != 0 {
@@ -322,9 +342,14 @@ fn found_slots_refused(axes: &[usize], points: &[usize], kinds: &[u8], values: &
     eight_ends_refused(kinds, values)
 }
 
-// Of a sheet: what is found of its axes.
-pub fn read_own_refusal(axes: &[usize], points: &[usize], kinds: &[u8], values: &[f64]) -> usize
-    ensures { λ r. ⌜ r ≡ read-own-refusal (now (axes .entry)) (now (points .entry)) (now (kinds .entry)) (now (values .entry)) ⌝ }
+// Of a sheet that is read as one of edition 1: what is found of its axes.
+pub fn read_edition_1_own_refusal(
+    axes: &[usize],
+    points: &[usize],
+    kinds: &[u8],
+    values: &[f64],
+) -> usize
+    ensures { λ r. ⌜ r ≡ read-edition-1-own-refusal (now (axes .entry)) (now (points .entry)) (now (kinds .entry)) (now (values .entry)) ⌝ }
 {
     if found_slots_refused(axes, points, kinds, values) {
         return 4;
@@ -332,17 +357,42 @@ pub fn read_own_refusal(axes: &[usize], points: &[usize], kinds: &[u8], values: 
     0
 }
 
-// Of the sheet's tensor: what is found of its axes, and the slot of its length.
+// Of a sheet: what is found of its axes, their modes among it, and its edition.
+pub fn read_own_refusal(
+    axes: &[usize],
+    points: &[usize],
+    kinds: &[u8],
+    values: &[f64],
+    modes: &[u8],
+    edition: &[usize],
+) -> usize
+    ensures { λ r. ⌜ r ≡ read-own-refusal (now (axes .entry)) (now (points .entry)) (now (kinds .entry)) (now (values .entry)) (now (modes .entry)) (now (edition .entry)) ⌝ }
+{
+    if found_slots_refused(axes, points, kinds, values) {
+        return 4;
+    }
+    if modes_or_slot_refused(modes, edition) {
+        return 4;
+    }
+    0
+}
+
+// Of a sheet's tensor: the same, and the slot of the length.
 pub fn sheet_tensor_own_refusal(
     axes: &[usize],
     points: &[usize],
     kinds: &[u8],
     values: &[f64],
+    modes: &[u8],
+    edition: &[usize],
     length: &[usize],
 ) -> usize
-    ensures { λ r. ⌜ r ≡ sheet-tensor-own-refusal (now (axes .entry)) (now (points .entry)) (now (kinds .entry)) (now (values .entry)) (now (length .entry)) ⌝ }
+    ensures { λ r. ⌜ r ≡ sheet-tensor-own-refusal (now (axes .entry)) (now (points .entry)) (now (kinds .entry)) (now (values .entry)) (now (modes .entry)) (now (edition .entry)) (now (length .entry)) ⌝ }
 {
     if found_slots_refused(axes, points, kinds, values) {
+        return 4;
+    }
+    if modes_or_slot_refused(modes, edition) {
         return 4;
     }
     if lengths::length_refused(length.len(), 1) {

@@ -7,19 +7,20 @@ use native.Mathlib.Nat.{not-suc-le-zero, le-refl}
 use native.Mathlib.Numerals.{add-one}
 use native.Mathlib.Omega.{arith}
 use lib.Dec.{ltb}
-use lib.ListN.{length, drop}
+use lib.ListN.{length, take, drop}
 use lib.Seq.{getD-take, getD-drop}
 use lib.Ieee.{Float, nan, binary64}
 use lib.Ieee.Scale.{finite}
 use borrow.Author.Tests.{ltb-true, ltb-false}
 use Rattle.rules.specs.Numbers.{at}
 use Rattle.rules.specs.Steps.{h}
-use Rattle.rules.specs.Sizes.{Grid, points, sum-below, knots, knots-length}
+use Rattle.rules.specs.Sizes.{sum-below, knots-length}
 use Rattle.rules.specs.Refusals.{points-refused, number-refused, some-number-refused, knots-refused, some-knots-refused}
 use Rattle.rules.specs.declared.Axis.{Axis}
 use Rattle.base.proofs.Scan.{neither, any-at, any-never}
 use Rattle.base.proofs.Finite.{finite-difference}
 use Rattle.checks.specs.Given.{FiniteUnless}
+use Rattle.checks.specs.Check.{knots-of-points-refused}
 use Rattle.grid.specs.Given.{grid, sizes-of, points-of, InRange}
 use Rattle.checks.proofs.Accepted.{knots-step}
 
@@ -40,27 +41,30 @@ axis-finite x n range exact is e =
     let two : 2 ≤ length x = omega (arith, ltb-false n 2 (neither (ltb n 2) (ltb 256 n) range .0)) in
     none-refused x (knot-finite x (length x) two (sym is ∙ e))
 
--- the knots of the axes in use
-module _ (g : Grid) (range : InRange (g .axes) (points g)) (rise : some-knots-refused g ≡ false) where
-  below-finite : (i : ℕ) → i ≤ g .axes → (k : ℕ) → k < sum-below (points g) i → finite (at (g .flat-knots) k) ≡ true
+-- the knots of axes with n i points on axis i
+module _ (axes : ℕ) (n : ℕ → ℕ) (x : List Float) (range : InRange axes n) where
+  below-finite : knots-of-points-refused axes n x ≡ false → (i : ℕ) → i ≤ axes → (k : ℕ) → k < sum-below n i → finite (at x k) ≡ true
   unfolding sum-below
-  below-finite zero l k h = absurd (not-suc-le-zero h)
-  below-finite (suc i) l k h = go (ltb k (sum-below (points g) i)) refl (below-finite i (omega arith) k)
+  below-finite rise zero l k h = absurd (not-suc-le-zero h)
+  below-finite rise (suc i) l k h = go (ltb k (sum-below n i)) refl (below-finite rise i (omega arith) k)
     where
-      go : (b : Bool) → ltb k (sum-below (points g) i) ≡ b → (k < sum-below (points g) i → finite (at (g .flat-knots) k) ≡ true) → finite (at (g .flat-knots) k) ≡ true
-      go true e before = before (ltb-true k (sum-below (points g) i) e)
+      go : (b : Bool) → ltb k (sum-below n i) ≡ b → (k < sum-below n i → finite (at x k) ≡ true) → finite (at x k) ≡ true
+      go true e before = before (ltb-true k (sum-below n i) e)
       go false e before =
-          let start = sum-below (points g) i in
+          let start = sum-below n i in
           let from : start ≤ k = ltb-false k start e in
           let j : ℕ = k - start in
-          let fine = knot-finite (knots g i) (points g i) (range .some-points i (omega arith)) (any-at (λ a. knots-refused (knots g a) (points g a)) (g .axes) rise i (omega arith)) j (omega arith) in
+          let fine = knot-finite (take (n i) (drop start x)) (n i) (range .some-points i (omega arith)) (any-at (λ a. knots-refused (take (n a) (drop (sum-below n a) x)) (n a)) axes rise i (omega arith)) j (omega arith) in
           let here : start + j ≡ k = omega arith in
           subst (λ (v : Float). finite v ≡ true)
-          (getD-take (points g i) (drop start (g .flat-knots)) j nan (omega arith)
-          ∙ getD-drop start (g .flat-knots) j nan
-          ∙ ap (at (g .flat-knots)) here)
+          (getD-take (n i) (drop start x) j nan (omega arith)
+          ∙ getD-drop start x j nan
+          ∙ ap (at x) here)
           fine
 
+  pub points-finite : {refused : Bool} → length x ≡ sum-below n axes → refused ≡ knots-of-points-refused axes n x → FiniteUnless refused x
+  points-finite exact is e = none-refused x (λ k l. below-finite (sym is ∙ e) axes (le-refl axes) k (omega (arith, exact)))
+
+-- the knots of a grid
 pub grid-finite : (axes : ℕ) (entries : List Axis) (x : List Float) {refused : Bool} → InRange axes (points-of entries) → length x ≡ knots-length (sizes-of axes entries) → refused ≡ some-knots-refused (grid axes entries x) → FiniteUnless refused x
-grid-finite axes entries x range exact is e =
-    none-refused x (λ k l. below-finite (grid axes entries x) range (sym is ∙ e) axes (le-refl axes) k (omega (arith, exact)))
+grid-finite axes entries x range = points-finite axes (points-of entries) x range

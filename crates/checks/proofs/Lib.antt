@@ -1,4 +1,5 @@
 pub mod Rows
+pub mod Points
 pub mod ThenOutcome
 pub mod Accepted
 pub mod FiniteKnots

@@ -1,10 +1,12 @@
 -- What each public call looks at before it works: the rows of rules' Calls without the last, which looks at an outcome. Of a slice that the call will write, only the length is given.
-use mathlib.Core.Bool.{_||_}
+use mathlib.Core.Bool.{Bool, _||_}
 use mathlib.Core.List.{List, [], _∷_, _++_}
-use Prim.Native.Nat.{ℕ}
-use lib.ListN.{length}
+use Prim.Native.Nat.{ℕ, _*_, _^_}
+use lib.Dec.{ltb}
+use lib.ListN.{length, take, drop}
 use lib.Ieee.{Float}
-use Rattle.rules.specs.Sizes.{scratch-of-rows, Grid, knots-length, samples-length, tensor-length, scratch-length, Place}
+use Rattle.rules.specs.Numbers.{any}
+use Rattle.rules.specs.Sizes.{most-in-a-tensor, scratch-of-rows, Grid, sum-below, product-below, knots-length, samples-length, tensor-length, scratch-length, Place}
 use Rattle.rules.specs.Refusals.{axes-refused, points-refused, some-points-refused, tensor-refused, length-refused, scratch-refused, place-refused, number-refused, some-number-refused, ends-refused, some-ends-refused, knots-refused, some-knots-refused, fewness-refused, some-fewness-refused}
 use Rattle.rules.specs.declared.Axis.{Axis}
 use Rattle.rules.specs.declared.Condition.{Condition}
@@ -50,6 +52,34 @@ module _ (n : ℕ) (knots samples : List Float) where
   slopes-check moments-given slopes-given = lowest (slopes-rows moments-given slopes-given) 0
 
 -- ---- the calls on a grid
+
+-- of axes with n i points on axis i: the rows that need no knots, below that of their number
+abbrev pub points-rows : ℕ → (ℕ → ℕ) → List Refusal
+points-rows axes n =
+    row 2 (any (λ i. points-refused (n i)) axes) ∷ row 3 (ltb most-in-a-tensor (product-below n axes * 2 ^ axes)) ∷ []
+
+unfoldable pub points-check : ℕ → (ℕ → ℕ) → ℕ
+points-check axes n = lowest (points-rows axes n) 0
+
+-- 4 of a query's lengths
+abbrev pub lengths-of-points-refused : ℕ → (ℕ → ℕ) → ℕ → ℕ → ℕ → Bool
+lengths-of-points-refused axes n knots tensor coordinates =
+    length-refused knots (sum-below n axes) || length-refused tensor (product-below n axes * 2 ^ axes) || length-refused coordinates axes
+
+-- 8 of the knots, axis after axis
+abbrev pub knots-of-points-refused : ℕ → (ℕ → ℕ) → List Float → Bool
+knots-of-points-refused axes n knots = any (λ i. knots-refused (take (n i) (drop (sum-below n i) knots)) (n i)) axes
+
+-- what a query meets below these
+abbrev pub query-numbers-rows : ℕ → (ℕ → ℕ) → List Float → ℕ → List Float → List Refusal
+query-numbers-rows axes n knots tensor-given coordinates =
+    row 4 (lengths-of-points-refused axes n (length knots) tensor-given (length coordinates))
+    ∷ row 7 (some-number-refused knots || some-number-refused coordinates)
+    ∷ row 8 (knots-of-points-refused axes n knots)
+    ∷ []
+
+unfoldable pub query-numbers-check : ℕ → (ℕ → ℕ) → List Float → ℕ → List Float → ℕ
+query-numbers-check axes n knots tensor-given coordinates = lowest (query-numbers-rows axes n knots tensor-given coordinates) 0
 
 -- the rows of every one of them, which need no knots
 abbrev pub sizes-rows : Grid → List Refusal

@@ -1,8 +1,9 @@
 // Refusals 1 to 9 as code: for each public call the lowest number that it meets before it works, and 0 where there is none. Of a slice that the call will write, only the length is looked at. The pass over the knots for refusal 8 is made before the numbers are looked at for refusal 7: where it finds nothing, every knot is finite.
 ghost use mathlib.Core.Path.{_≡_};
+ghost use lib.ListN.{length};
 ghost use Rattle.rules.specs.Sizes.{place-of};
-ghost use Rattle.grid.specs.Given.{grid};
-ghost use Rattle.checks.specs.Check.{moments-check, curve-check, slopes-check, build-check, change-check, query-check};
+ghost use Rattle.grid.specs.Given.{grid, InRange};
+ghost use Rattle.checks.specs.Check.{moments-check, curve-check, slopes-check, build-check, change-check, query-numbers-check, query-check};
 use rules::Axis;
 use rules::Condition;
 
@@ -175,6 +176,36 @@ pub fn change_refusal(
     0
 }
 
+// What a query meets whose axes are of so many points: 4, 7, 8, or 0. Not public: what refusals 1 to 3 leave is required, and four points.
+pub fn query_numbers_refusal(
+    axes: usize,
+    points: &[usize],
+    knots: &[f64],
+    tensor_length: usize,
+    coordinates: &[f64],
+) -> usize
+    requires { ⌜ InRange axes (place-of (now points)) × (length (now points) ≡ 4) ⌝ }
+    ensures { λ r. ⌜ r ≡ query-numbers-check axes (place-of (now (points .entry))) (now (knots .entry)) «tensor_length» (now (coordinates .entry)) ⌝ }
+{
+    if lengths::query_of_points_refused(
+        axes,
+        points,
+        knots.len(),
+        tensor_length,
+        coordinates.len(),
+    ) {
+        return 4;
+    }
+    let knots_refused = rising::knots_of_points_refused(axes, points, knots);
+    if numbers::slices_refused(knots_refused, knots, coordinates) {
+        return 7;
+    }
+    if knots_refused {
+        return 8;
+    }
+    0
+}
+
 // What a query meets: 1, 2, 3, 4, 7, 8, or 0.
 pub fn query_refusal(
     axes: usize,
@@ -189,15 +220,6 @@ pub fn query_refusal(
     if refusal != 0 {
         return refusal;
     }
-    if lengths::query_refused(axes, all, knots.len(), tensor_length, coordinates.len()) {
-        return 4;
-    }
-    let knots_refused = rising::some_knots_refused(axes, all, knots);
-    if numbers::slices_refused(knots_refused, knots, coordinates) {
-        return 7;
-    }
-    if knots_refused {
-        return 8;
-    }
-    0
+    let points = grid::points_of(all);
+    query_numbers_refusal(axes, &points, knots, tensor_length, coordinates)
 }

@@ -5,9 +5,10 @@ ghost use lib.ListN.{length};
 ghost use lib.Ieee.{lt};
 ghost use lib.Ieee.Scale.{finite};
 ghost use Rattle.rules.specs.Numbers.{_⊖_};
-ghost use Rattle.rules.specs.Sizes.{knots-length};
+ghost use Rattle.rules.specs.Sizes.{place-of, sum-below, knots-length};
 ghost use Rattle.rules.specs.Refusals.{knots-refused, some-knots-refused};
 ghost use Rattle.grid.specs.Given.{grid, sizes-of, points-of, InRange};
+ghost use Rattle.checks.specs.Check.{knots-of-points-refused};
 use rules::Axis;
 
 // Whether a knot does not rise to the next, or the step between them overflows. Where it rises the step is never the lower infinity, so one comparison tells whether it is finite.
@@ -22,29 +23,28 @@ pub fn step_refused(knot: f64, next: f64) -> bool
     }
 }
 
-// Whether an axis's knots are refused: one does not rise to the next, or a step overflows.
+// Whether an axis's knots are refused: one does not rise to the next, or a step overflows. The flag is kept to the last knot, so the compiler looks at several knots at a time.
 pub fn knots_refused(knots: &[f64]) -> bool
     ensures { λ r. ⌜ r ≡ knots-refused (now (knots .entry)) (length (now (knots .entry))) ⌝ }
 {
+    let mut refused = false;
     let mut i = 0;
     while i + 1 < knots.len() {
-        if step_refused(knots[i], knots[i + 1]) {
-            return true;
-        }
+        refused = refused | step_refused(knots[i], knots[i + 1]);
         i += 1;
     }
-    false
+    refused
 }
 
-// Whether the knots of an axis in use are. Not public: what refusals 1, 2 and 4 leave is required.
-pub fn some_knots_refused(axes: usize, all: [Axis; 4], knots: &[f64]) -> bool
-    requires { ⌜ (InRange axes (points-of all)) × (length (now knots) ≡ knots-length (sizes-of axes all)) ⌝ }
-    ensures { λ r. ⌜ r ≡ some-knots-refused (grid axes all (now (knots .entry))) ⌝ }
+// Whether the knots of an axis of so many points are. Not public: what refusals 1, 2 and 4 leave is required.
+pub fn knots_of_points_refused(axes: usize, points: &[usize], knots: &[f64]) -> bool
+    requires { ⌜ InRange axes (place-of (now points)) × (length (now points) ≡ 4) × (length (now knots) ≡ sum-below (place-of (now points)) axes) ⌝ }
+    ensures { λ r. ⌜ r ≡ knots-of-points-refused axes (place-of (now (points .entry))) (now (knots .entry)) ⌝ }
 {
     let mut start = 0;
     let mut i = 0;
     while i < axes {
-        let end = start + all[i].points;
+        let end = start + points[i];
         if knots_refused(&knots[start..end]) {
             return true;
         }
@@ -52,4 +52,13 @@ pub fn some_knots_refused(axes: usize, all: [Axis; 4], knots: &[f64]) -> bool
         i += 1;
     }
     false
+}
+
+// Whether the knots of an axis in use are. Not public, as above.
+pub fn some_knots_refused(axes: usize, all: [Axis; 4], knots: &[f64]) -> bool
+    requires { ⌜ (InRange axes (points-of all)) × (length (now knots) ≡ knots-length (sizes-of axes all)) ⌝ }
+    ensures { λ r. ⌜ r ≡ some-knots-refused (grid axes all (now (knots .entry))) ⌝ }
+{
+    let points = grid::points_of(all);
+    knots_of_points_refused(axes, &points, knots)
 }

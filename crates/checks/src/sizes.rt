@@ -3,10 +3,12 @@ ghost use mathlib.Core.Path.{_≡_};
 ghost use mathlib.Core.Bool.{_||_};
 ghost use Prim.Native.Nat.{_≤_};
 ghost use lib.Dec.{ltb};
+ghost use lib.ListN.{length};
+ghost use Rattle.rules.specs.Numbers.{any};
 ghost use Rattle.rules.specs.Sizes.{most-axes, place-of};
-ghost use Rattle.rules.specs.Refusals.{points-refused, some-points-refused, place-refused};
+ghost use Rattle.rules.specs.Refusals.{points-refused, place-refused};
 ghost use Rattle.grid.specs.Given.{sizes-of};
-ghost use Rattle.checks.specs.Check.{sizes-check};
+ghost use Rattle.checks.specs.Check.{points-check, sizes-check};
 use rules::Axis;
 
 // Whether there is no axis, or more than four.
@@ -23,19 +25,33 @@ pub fn points_refused(points: usize) -> bool
     if points < 2 { true } else { 256 < points }
 }
 
-// Whether so for an axis in use. Not public: few axes are required.
-pub fn some_points_refused(axes: usize, all: [Axis; 4]) -> bool
-    requires { ⌜ axes ≤ 4 ⌝ }
-    ensures { λ r. ⌜ r ≡ some-points-refused (sizes-of axes all) ⌝ }
+// Whether so for an axis in use. Not public: few axes and four points are required.
+pub fn some_points_refused(axes: usize, points: &[usize]) -> bool
+    requires { ⌜ (axes ≤ 4) × (length (now points) ≡ 4) ⌝ }
+    ensures { λ r. ⌜ r ≡ any (λ i. points-refused (place-of (now (points .entry)) i)) axes ⌝ }
 {
     let mut i = 0;
     while i < axes {
-        if points_refused(all[i].points) {
+        if points_refused(points[i]) {
             return true;
         }
         i += 1;
     }
     false
+}
+
+// What axes of so many points meet: 2, 3, or 0. Not public: one to four axes and four points are required.
+pub fn points_refusal(axes: usize, points: &[usize]) -> usize
+    requires { ⌜ (1 ≤ axes) × (axes ≤ 4) × (length (now points) ≡ 4) ⌝ }
+    ensures { λ r. ⌜ r ≡ points-check axes (place-of (now (points .entry))) ⌝ }
+{
+    if some_points_refused(axes, points) {
+        return 2;
+    }
+    if 4096 < grid::product_of_points(axes, points) * grid::masks(axes) {
+        return 3;
+    }
+    0
 }
 
 // What every call on a grid meets first: 1, 2, 3, or 0.
@@ -45,13 +61,8 @@ pub fn sizes_refusal(axes: usize, all: [Axis; 4]) -> usize
     if axes_refused(axes) {
         return 1;
     }
-    if some_points_refused(axes, all) {
-        return 2;
-    }
-    if 4096 < grid::tensor_length(axes, all) {
-        return 3;
-    }
-    0
+    let points = grid::points_of(all);
+    points_refusal(axes, &points)
 }
 
 // Whether a place is off the grid on an axis in use. Not public: few axes are required.

@@ -1,3 +1,4 @@
+pub mod Points
 pub mod Products
 pub mod Knots
 pub mod Strides

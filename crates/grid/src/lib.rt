@@ -2,7 +2,8 @@
 // None of these is public: each requires what refusals 1 to 3 leave, or a part of it.
 ghost use mathlib.Core.Path.{_≡_};
 ghost use Prim.Native.Nat.{ℕ, _^_, _<_, _≤_};
-ghost use Rattle.rules.specs.Sizes.{knots-length, samples-length, tensor-length, place-of, sum-below, flat, in-mask};
+ghost use lib.ListN.{length};
+ghost use Rattle.rules.specs.Sizes.{knots-length, samples-length, tensor-length, place-of, sum-below, product-below, flat, in-mask};
 ghost use Rattle.rules.specs.Query as rule;
 ghost use Rattle.grid.specs.Given.{sizes-of, points-of, InRange, SizesGiven, CellInside};
 ghost use Rattle.grid.specs.Strides.{stride};
@@ -24,6 +25,43 @@ pub fn in_mask(mask: usize, axis: usize) -> bool
     ensures { λ r. ⌜ r ≡ in-mask mask axis ⌝ }
 {
     (mask >> axis) % 2 == 1
+}
+
+// ---- points
+
+// The points of the four axes: four numbers are handed on at less cost than four axes.
+pub fn points_of(all: [Axis; 4]) -> [usize; 4]
+    ensures { λ r. ⌜ place-of r ≡ points-of all ⌝ }
+{
+    [all[0].points, all[1].points, all[2].points, all[3].points]
+}
+
+// How many knots axes of so many points have together.
+pub fn sum_of_points(axes: usize, points: &[usize]) -> usize
+    requires { ⌜ InRange axes (place-of (now points)) × (length (now points) ≡ 4) ⌝ }
+    ensures { λ r. ⌜ (r ≡ sum-below (place-of (now (points .entry))) axes) × (r ≤ 1024) ⌝ }
+{
+    let mut sum = 0;
+    let mut i = 0;
+    while i < axes {
+        sum += points[i];
+        i += 1;
+    }
+    sum
+}
+
+// How many places their grid has.
+pub fn product_of_points(axes: usize, points: &[usize]) -> usize
+    requires { ⌜ InRange axes (place-of (now points)) × (length (now points) ≡ 4) ⌝ }
+    ensures { λ r. ⌜ (r ≡ product-below (place-of (now (points .entry))) axes) × (r ≤ 4294967296) ⌝ }
+{
+    let mut product = 1;
+    let mut i = 0;
+    while i < axes {
+        product = product * points[i];
+        i += 1;
+    }
+    product
 }
 
 // ---- lengths
@@ -56,13 +94,8 @@ pub fn samples_length(axes: usize, all: [Axis; 4]) -> usize
     requires { ⌜ InRange axes (points-of all) ⌝ }
     ensures { λ r. ⌜ (r ≡ samples-length (sizes-of axes all)) × (r ≤ 4294967296) ⌝ }
 {
-    let mut product = 1;
-    let mut i = 0;
-    while i < axes {
-        product = product * all[i].points;
-        i += 1;
-    }
-    product
+    let points = points_of(all);
+    product_of_points(axes, &points)
 }
 
 // How many numbers the tensor has: one for each place and mask.

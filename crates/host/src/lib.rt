@@ -6,7 +6,7 @@ ghost use Rattle.step_exports.specs.StepExports.{ExactExport, AxisExport, StepE
 ghost use Rattle.curve_exports.specs.CurveExports.{MomentsExport, CurveExport};
 ghost use Rattle.tensor_exports.specs.TensorExports.{BuildExport, ChangeExport};
 ghost use Rattle.query_exports.specs.QueryExports.{QueryExport, QuickQueryExport, EvenQueryExport};
-ghost use Rattle.sheet_exports.specs.SheetExports.{ReadExport, SheetTensorExport, WriteExport};
+ghost use Rattle.sheet_exports.specs.SheetExports.{ReadExport, ReadEdition1Export, SheetTensorExport, WriteExport};
 
 // The moments of the curve through the samples, one for each point, under the two ends given. Refuses 2 4 5 7 8 9 10, and 4 and 13 of its own.
 #[no_mangle]
@@ -180,7 +180,7 @@ pub extern "C" fn hullashlar_even_query(
     )
 }
 
-// The parts of a packed sheet: knots and samples go to the first places of two buffers of 1,024 each, how many axes there are to a slot of one, and their points, the kinds of their ends and the values of these to their slices, 0 past the axes in use. Refuses 4, then 11 12 1 2 13 3 14 in reading order, and then all that is not a buffer is 0; and 4 of its own.
+// The parts of a packed sheet of either edition: knots and samples go to the first places of two buffers of 1,024 each, how many axes there are to a slot of one, their points, the kinds of their ends, the values of these and their modes to their slices, 0 past the axes in use, and the edition to a slot of one. Refuses 4, then 11 12 1 2 13 22 3 14 in reading order, and then all that is not a buffer is 0; and 4 of its own.
 #[no_mangle]
 pub extern "C" fn hullashlar_read(
     bytes: &[u8],
@@ -190,13 +190,41 @@ pub extern "C" fn hullashlar_read(
     points: &mut [usize],
     kinds: &mut [u8],
     values: &mut [f64],
+    modes: &mut [u8],
+    edition: &mut [usize],
 ) -> usize
-    ensures { λ r. ⌜ ReadExport (now (bytes .entry)) (now (knots .entry)) (now (samples .entry)) (now (axes .entry)) (now (points .entry)) (now (kinds .entry)) (now (values .entry)) r (now (knots .exit)) (now (samples .exit)) (now (axes .exit)) (now (points .exit)) (now (kinds .exit)) (now (values .exit)) ⌝ }
+    ensures { λ r. ⌜ ReadExport (now (bytes .entry)) (now (knots .entry)) (now (samples .entry)) (now (axes .entry)) (now (points .entry)) (now (kinds .entry)) (now (values .entry)) (now (modes .entry)) (now (edition .entry)) r (now (knots .exit)) (now (samples .exit)) (now (axes .exit)) (now (points .exit)) (now (kinds .exit)) (now (values .exit)) (now (modes .exit)) (now (edition .exit)) ⌝ }
 {
-    sheet_exports::read(bytes, knots, samples, axes, points, kinds, values)
+    sheet_exports::read(
+        bytes,
+        knots,
+        samples,
+        axes,
+        points,
+        kinds,
+        values,
+        modes,
+        edition,
+    )
 }
 
-// The tensor of a packed sheet, read and built in one call: what a read gives goes where a read puts it, the tensor to the first places of a buffer of 4,096, and how many numbers it has to a slot of one. Refuses 4, then what the reader refuses, then what the build refuses, and then the length is 0; where the build refuses, the parts of the sheet stand as after a read. And 4 of its own.
+// The parts of a packed sheet of edition 1, as the reader gave them before there was another: any other edition is 12, and nothing of it shows. Refuses 4, then 11 12 1 2 13 3 14 in reading order, and then all that is not a buffer is 0; and 4 of its own.
+#[no_mangle]
+pub extern "C" fn hullashlar_read_edition_1(
+    bytes: &[u8],
+    knots: &mut [f64],
+    samples: &mut [f64],
+    axes: &mut [usize],
+    points: &mut [usize],
+    kinds: &mut [u8],
+    values: &mut [f64],
+) -> usize
+    ensures { λ r. ⌜ ReadEdition1Export (now (bytes .entry)) (now (knots .entry)) (now (samples .entry)) (now (axes .entry)) (now (points .entry)) (now (kinds .entry)) (now (values .entry)) r (now (knots .exit)) (now (samples .exit)) (now (axes .exit)) (now (points .exit)) (now (kinds .exit)) (now (values .exit)) ⌝ }
+{
+    sheet_exports::read_edition_1(bytes, knots, samples, axes, points, kinds, values)
+}
+
+// The tensor of a packed sheet of either edition, read and built in one call: what a read gives goes where a read puts it, the tensor to the first places of a buffer of 4,096, and how many numbers it has to a slot of one. Refuses 4, then what the reader refuses, then what the build refuses, and then the length is 0; where the build refuses, the parts of the sheet stand as after a read. And 4 of its own.
 #[no_mangle]
 pub extern "C" fn hullashlar_sheet_tensor(
     bytes: &[u8],
@@ -206,11 +234,13 @@ pub extern "C" fn hullashlar_sheet_tensor(
     points: &mut [usize],
     kinds: &mut [u8],
     values: &mut [f64],
+    modes: &mut [u8],
+    edition: &mut [usize],
     tensor: &mut [f64],
     scratch: &mut [f64],
     length: &mut [usize],
 ) -> usize
-    ensures { λ r. ⌜ SheetTensorExport (now (bytes .entry)) (now (knots .entry)) (now (samples .entry)) (now (axes .entry)) (now (points .entry)) (now (kinds .entry)) (now (values .entry)) (now (tensor .entry)) (now (scratch .entry)) (now (length .entry)) r (now (knots .exit)) (now (samples .exit)) (now (axes .exit)) (now (points .exit)) (now (kinds .exit)) (now (values .exit)) (now (tensor .exit)) (now (scratch .exit)) (now (length .exit)) ⌝ }
+    ensures { λ r. ⌜ SheetTensorExport (now (bytes .entry)) (now (knots .entry)) (now (samples .entry)) (now (axes .entry)) (now (points .entry)) (now (kinds .entry)) (now (values .entry)) (now (modes .entry)) (now (edition .entry)) (now (tensor .entry)) (now (scratch .entry)) (now (length .entry)) r (now (knots .exit)) (now (samples .exit)) (now (axes .exit)) (now (points .exit)) (now (kinds .exit)) (now (values .exit)) (now (modes .exit)) (now (edition .exit)) (now (tensor .exit)) (now (scratch .exit)) (now (length .exit)) ⌝ }
 {
     sheet_exports::sheet_tensor(
         bytes,
@@ -220,27 +250,42 @@ pub extern "C" fn hullashlar_sheet_tensor(
         points,
         kinds,
         values,
+        modes,
+        edition,
         tensor,
         scratch,
         length,
     )
 }
 
-// The packed sheet of axes, knots and samples, in the first bytes of a buffer whose other bytes stay; how many bytes it has goes to a slot of one. Refuses 1 2 3 4 7 8 9, and then 15 for a buffer that is shorter than the sheet, and the length is then 0; and 4 and 13 of its own.
+// The packed sheet of axes, knots and samples in an edition, in the first bytes of a buffer whose other bytes stay; how many bytes it has goes to a slot of one. Refuses 1 2 3 4 7 8 9, then 12 for an edition that is neither 1 nor 2, 23 for edition 1 with a mode that is not extend, and 15 for a buffer that is shorter than the sheet, and the length is then 0; and 4, 13 and 22 of its own.
 #[no_mangle]
 pub extern "C" fn hullashlar_write(
     axes: usize,
     points: &[usize],
     kinds: &[u8],
     values: &[f64],
+    modes: &[u8],
     knots: &[f64],
     samples: &[f64],
+    edition: usize,
     bytes: &mut [u8],
     length: &mut [usize],
 ) -> usize
-    ensures { λ r. ⌜ WriteExport axes (now (points .entry)) (now (kinds .entry)) (now (values .entry)) (now (knots .entry)) (now (samples .entry)) (now (bytes .entry)) (now (length .entry)) r (now (bytes .exit)) (now (length .exit)) ⌝ }
+    ensures { λ r. ⌜ WriteExport axes (now (points .entry)) (now (kinds .entry)) (now (values .entry)) (now (modes .entry)) (now (knots .entry)) (now (samples .entry)) edition (now (bytes .entry)) (now (length .entry)) r (now (bytes .exit)) (now (length .exit)) ⌝ }
 {
-    sheet_exports::write(axes, points, kinds, values, knots, samples, bytes, length)
+    sheet_exports::write(
+        axes,
+        points,
+        kinds,
+        values,
+        modes,
+        knots,
+        samples,
+        edition,
+        bytes,
+        length,
+    )
 }
 
 // Which of the knots at a lower index and after it equals the point: 1 and its index, or 0 and 0, in a slot of two. Refuses 2 4 6 7 8, and then both are 0; and 4 of its own.

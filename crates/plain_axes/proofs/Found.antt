@@ -4,16 +4,16 @@ use mathlib.Core.Bool.{Bool, true, false, cond}
 use mathlib.Core.List.{List}
 use Prim.Native.Nat.{ℕ, zero, suc}
 use lib.Dec.{ltb}
-use lib.ListN.{length, getD, length-set}
+use lib.ListN.{length, getD, set, length-set}
 use lib.Ieee.{Float}
 use Rattle.rules.specs.Numbers.{zeros, table}
 use Rattle.rules.specs.Sizes.{most-axes, unused-axis, Grid, points, condition}
-use Rattle.rules.specs.Outside.{with-axes, ButForModes}
+use Rattle.rules.specs.Outside.{with-axes, ButForModes, mode-number}
 use Rattle.rules.specs.declared.Mode.the-variants.{Extend}
 use Rattle.rules.specs.declared.Condition.{Condition}
 use Rattle.rules.specs.declared.Axis.{Axis}
 use Rattle.kinds.proofs.Told.{told, condition-again}
-use Rattle.plain_axes.specs.Axes.{eight-ends, condition-given, axis-given, axes-given, points-found, kinds-found, values-found, AxisStored, AxesStored}
+use Rattle.plain_axes.specs.Axes.{eight-ends, condition-given, axis-given, axes-given, points-found, kinds-found, values-found, modes-found, AxisStored, AxesStored}
 use Rattle.plain_axes.proofs.Slots.{four-stored, eight-stored, four-read}
 
 -- slices for four axes
@@ -49,6 +49,17 @@ module _
               ∙ ap values-found read;
         }
 
+-- the modes of four axes, stored one after the other
+pub four-modes-stored :
+    (found : List Axis) → length found ≡ 4 → (m : List ℕ) {m₁ m₂ m₃ m₄ : List ℕ} → length m ≡ 4
+    → m₁ ≡ set m 0 (mode-number (getD found 0 unused-axis .mode))
+    → m₂ ≡ set m₁ 1 (mode-number (getD found 1 unused-axis .mode))
+    → m₃ ≡ set m₂ 2 (mode-number (getD found 2 unused-axis .mode))
+    → m₄ ≡ set m₃ 3 (mode-number (getD found 3 unused-axis .mode))
+    → m₄ ≡ modes-found found
+four-modes-stored found four m long first second third fourth =
+    rw (fourth, third, second, first) (four-stored m _ _ _ _ long) ∙ ap modes-found (four-read found unused-axis four)
+
 -- ---- what the numbers are
 
 -- on a refusal all are 0, since no axis is in use
@@ -56,7 +67,8 @@ pub none-found :
     (points-found (table most-axes (λ i. unused-axis)) ≡ table most-axes (λ i. 0))
     × (kinds-found (table most-axes (λ i. unused-axis)) ≡ table eight-ends (λ i. 0))
     × (values-found (table most-axes (λ i. unused-axis)) ≡ zeros eight-ends)
-none-found = (refl, refl, refl)
+    × (modes-found (table most-axes (λ i. unused-axis)) ≡ table most-axes (λ i. 0))
+none-found = (refl, refl, refl, refl)
 
 -- an axis is told by its numbers, but for its mode
 points-again :

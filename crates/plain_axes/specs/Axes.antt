@@ -9,6 +9,7 @@ use lib.Ieee.{Float}
 use Rattle.rules.specs.Numbers.{at, table, any}
 use Rattle.rules.specs.Ends.{not-a-knot}
 use Rattle.rules.specs.Sizes.{most-axes, unused-axis, Grid}
+use Rattle.rules.specs.Outside.{mode-number}
 use Rattle.rules.specs.declared.Axis.{Axis}
 use Rattle.rules.specs.declared.Condition.{Condition}
 use Rattle.rules.specs.declared.Mode.the-variants.{Extend}
@@ -96,7 +97,7 @@ grid-in-modes axes points modes knots =
 
 -- ---- the other way, from the axes that a sheet has to numbers
 
--- the points of the axes, and of each the kinds and the values of its two ends, lower first
+-- the points of the axes, of each the kinds and the values of its two ends, lower first, and its mode
 abbrev pub points-found : List Axis → List ℕ
 points-found [] = []
 points-found (axis ∷ rest) = axis .points ∷ points-found rest
@@ -108,6 +109,10 @@ kinds-found (axis ∷ rest) = lower-kind-of (axis .condition) ∷ upper-kind-of 
 abbrev pub values-found : List Axis → List Float
 values-found [] = []
 values-found (axis ∷ rest) = lower-value-of (axis .condition) ∷ upper-value-of (axis .condition) ∷ values-found rest
+
+abbrev pub modes-found : List Axis → List ℕ
+modes-found [] = []
+modes-found (axis ∷ rest) = mode-number (axis .mode) ∷ modes-found rest
 
 -- slices of points, kinds and values before and after axis i was stored in them
 pub record AxisStored (axis : Axis) (i : ℕ) (points kinds : List ℕ) (values : List Float) (points-later kinds-later : List ℕ) (values-later : List Float) : Type 0 where

@@ -1,8 +1,9 @@
 // From numbers and plain slices to conditions and the four axes, and back. Not public: each requires what the host's own refusals leave, the lengths of its slices and few axes.
 ghost use mathlib.Core.Path.{_≡_};
 ghost use Prim.Native.Nat.{_+_, _*_, _<_, _≤_};
-ghost use lib.ListN.{length};
-ghost use Rattle.plain_axes.specs.Axes.{condition-given, some-kinds-refused, axis-given, axes-given, axis-without-ends, axes-without-ends, some-modes-refused, axis-in-mode, axes-in-modes, AxisStored, AxesStored};
+ghost use lib.ListN.{length, set};
+ghost use Rattle.rules.specs.Outside.{mode-number};
+ghost use Rattle.plain_axes.specs.Axes.{condition-given, some-kinds-refused, axis-given, axes-given, axis-without-ends, axes-without-ends, some-modes-refused, axis-in-mode, axes-in-modes, modes-found, AxisStored, AxesStored};
 use kinds::ends::condition_of_kind;
 use kinds::ends::end_of_kind;
 use kinds::ends::kinds_refused;
@@ -12,6 +13,7 @@ use kinds::ends::upper_kind;
 use kinds::ends::upper_value;
 use kinds::ends::wide;
 use kinds::modes::is_unknown_mode;
+use kinds::modes::mode_number;
 use kinds::modes::mode_of_number;
 use rules::Axis;
 use rules::Condition;
@@ -180,4 +182,24 @@ pub fn store_axes(found: [Axis; 4], points: &mut [usize], kinds: &mut [u8], valu
     store_axis(found[1], 1, points, kinds, values);
     store_axis(found[2], 2, points, kinds, values);
     store_axis(found[3], 3, points, kinds, values);
+}
+
+// The mode of one axis goes to its place.
+fn store_mode(axis: Axis, i: usize, modes: &mut [u8])
+    requires { ⌜ (i < 4) × (length (now modes) ≡ 4) ⌝ }
+    ensures { λ _. ⌜ now (modes .exit) ≡ set (now (modes .entry)) i (mode-number (axis .mode)) ⌝ }
+{
+    let mode = axis.mode;
+    modes[i] = mode_number(mode);
+}
+
+// The modes of the four axes go to their slice.
+pub fn store_modes(found: [Axis; 4], modes: &mut [u8])
+    requires { ⌜ length (now modes) ≡ 4 ⌝ }
+    ensures { λ _. ⌜ now (modes .exit) ≡ modes-found found ⌝ }
+{
+    store_mode(found[0], 0, modes);
+    store_mode(found[1], 1, modes);
+    store_mode(found[2], 2, modes);
+    store_mode(found[3], 3, modes);
 }

@@ -1,6 +1,8 @@
 // The query of a tensor: a point located on each axis, and the blend of the cell around it.
+ghost use mathlib.Core.Path.{_≡_};
 ghost use Rattle.rules.specs.Calls.{QueryPromise};
 ghost use Rattle.grid.specs.Given.{grid};
+ghost use Rattle.checks.specs.Check.{sizes-check};
 use rules::Axis;
 use rules::QueryAnswer;
 
@@ -15,7 +17,26 @@ pub fn query(
 ) -> QueryAnswer
     ensures { λ r. ⌜ QueryPromise (grid axes all (now (knots .entry))) (now (tensor .entry)) (now (coordinates .entry)) r ⌝ }
 {
-    let refusal = checks::query_refusal(axes, all, knots, tensor.len(), coordinates);
+    let refusal = checks::sizes::sizes_refusal(axes, all);
+    if refusal != 0 {
+        return cell::refused(refusal);
+    }
+    query_after_sizes(axes, all, knots, tensor, coordinates)
+}
+
+// The same where 1, 2 and 3 do not apply, which a caller that has looked at the sizes hands on. Not public: that they do not is required.
+pub fn query_after_sizes(
+    axes: usize,
+    all: [Axis; 4],
+    knots: &[f64],
+    tensor: &[f64],
+    coordinates: &[f64],
+) -> QueryAnswer
+    requires { ⌜ sizes-check axes all ≡ 0 ⌝ }
+    ensures { λ r. ⌜ QueryPromise (grid axes all (now (knots .entry))) (now (tensor .entry)) (now (coordinates .entry)) r ⌝ }
+{
+    let points = grid::points_of(all);
+    let refusal = checks::query_numbers_refusal(axes, &points, knots, tensor.len(), coordinates);
     if refusal != 0 {
         return cell::refused(refusal);
     }

@@ -1,2 +1,3 @@
+mod Left
 pub mod Exported
 pub mod Unique

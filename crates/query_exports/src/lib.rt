@@ -32,7 +32,7 @@ pub fn query(
     }
     let all = plain_axes::axes_without_ends(axes, points);
     let moded = plain_axes::axes_in_modes(axes, all, modes);
-    let answer = query::query(axes, moded, knots, tensor, coordinates);
+    let answer = query::query_after_sizes(axes, moded, knots, tensor, coordinates);
     let found = answer.labels;
     slots::store_query(value, labels, answer.value, found);
     answer.refusal
@@ -67,7 +67,7 @@ pub fn quick_query(
     }
     let all = plain_axes::axes_without_ends(axes, points);
     let moded = plain_axes::axes_in_modes(axes, all, modes);
-    let answer = quick_query::quick_query(axes, moded, knots, tensor, coordinates);
+    let answer = quick_query::quick_query_after_sizes(axes, moded, knots, tensor, coordinates);
     let found = answer.labels;
     slots::store_query(value, labels, answer.value, found);
     answer.refusal

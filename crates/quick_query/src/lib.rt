@@ -5,11 +5,12 @@ ghost use Rattle.rules.specs.Sizes.{knots-length, place-of};
 ghost use Rattle.rules.specs.Refusals.{some-found-cell-refused};
 ghost use Rattle.rules.specs.Calls.{QuickQueryPromise};
 ghost use Rattle.grid.specs.Given.{grid, sizes-of, CellInside};
+ghost use Rattle.checks.specs.Check.{sizes-check};
 ghost use Rattle.quick_query.specs.Check.{quick-query-check};
 use rules::Axis;
 use rules::QueryAnswer;
 
-// What a quick query meets before it searches: 1, 2, 3, 4, 7, or 0. Of the knots only the length is looked at.
+// What a quick query meets after its sizes and before it searches: 4, 7, or 0. Of the knots only the length is looked at.
 fn quick_query_refusal(
     axes: usize,
     all: [Axis; 4],
@@ -17,12 +18,9 @@ fn quick_query_refusal(
     tensor_length: usize,
     coordinates: &[f64],
 ) -> usize
+    requires { ⌜ sizes-check axes all ≡ 0 ⌝ }
     ensures { λ r. ⌜ r ≡ quick-query-check (grid axes all (now (knots .entry))) «tensor_length» (now (coordinates .entry)) ⌝ }
 {
-    let refusal = checks::sizes::sizes_refusal(axes, all);
-    if refusal != 0 {
-        return refusal;
-    }
     if checks::lengths::query_refused(axes, all, knots.len(), tensor_length, coordinates.len()) {
         return 4;
     }
@@ -60,6 +58,24 @@ pub fn quick_query(
     tensor: &[f64],
     coordinates: &[f64],
 ) -> QueryAnswer
+    ensures { λ r. ⌜ QuickQueryPromise (grid axes all (now (knots .entry))) (now (tensor .entry)) (now (coordinates .entry)) r ⌝ }
+{
+    let refusal = checks::sizes::sizes_refusal(axes, all);
+    if refusal != 0 {
+        return cell::refused(refusal);
+    }
+    quick_query_after_sizes(axes, all, knots, tensor, coordinates)
+}
+
+// The same where 1, 2 and 3 do not apply, which a caller that has looked at the sizes hands on. Not public: that they do not is required.
+pub fn quick_query_after_sizes(
+    axes: usize,
+    all: [Axis; 4],
+    knots: &[f64],
+    tensor: &[f64],
+    coordinates: &[f64],
+) -> QueryAnswer
+    requires { ⌜ sizes-check axes all ≡ 0 ⌝ }
     ensures { λ r. ⌜ QuickQueryPromise (grid axes all (now (knots .entry))) (now (tensor .entry)) (now (coordinates .entry)) r ⌝ }
 {
     let refusal = quick_query_refusal(axes, all, knots, tensor.len(), coordinates);

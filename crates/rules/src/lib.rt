@@ -23,7 +23,7 @@ pub enum Mode {
     Refuse,
 }
 
-// An axis as a call is given it: the queries alone read its mode.
+// An axis as a call is given it. Neither the build nor the change reads its mode.
 pub struct Axis {
     pub points: usize,
     pub condition: Condition,

@@ -12,7 +12,7 @@ use Rattle.rules.proofs.Refused.{or-else-passed}
 use Rattle.rules.proofs.WithoutModes.{knots-length-same, samples-length-same, build-without-modes}
 use Rattle.checks.proofs.Rows.{axes-few}
 use Rattle.tensor.proofs.Demand3.{Stands, built-stands}
-use Rattle.sheet.specs.Fields.{axes as axes-said, sheet-grid}
+use Rattle.sheet.specs.Fields.{edition as edition-said, axes as axes-said, sheet-grid}
 use Rattle.sheet_build.specs.SheetTensor.{answer-of, reading-refusal, sheet-tensor-refusal, SheetPromise}
 use Rattle.sheet_build.specs.declared.SheetAnswer.{SheetAnswer}
 use Rattle.sheet_build.proofs.Builds.{answered-refusal}
@@ -25,9 +25,9 @@ use Rattle.sheet_exports.specs.SheetExports.{SheetTensorExport}
 use Rattle.sheet_exports.proofs.SheetAxes.{sheet-axes-again, sheet-axes-fine}
 
 module _
-    (bytes : List ℕ) (knots-lent samples-lent : List Float) (axes-lent points-lent kinds-lent : List ℕ) (values-lent tensor-lent scratch-lent : List Float) (length-lent : List ℕ)
-    (k s : List Float) (a p n : List ℕ) (v t w : List Float) (l : List ℕ)
-    (called : SheetTensorExport bytes knots-lent samples-lent axes-lent points-lent kinds-lent values-lent tensor-lent scratch-lent length-lent 0 k s a p n v t w l)
+    (bytes : List ℕ) (knots-lent samples-lent : List Float) (axes-lent points-lent kinds-lent : List ℕ) (values-lent : List Float) (modes-lent edition-lent : List ℕ) (tensor-lent scratch-lent : List Float) (length-lent : List ℕ)
+    (k s : List Float) (a p n : List ℕ) (v : List Float) (m e : List ℕ) (t w : List Float) (l : List ℕ)
+    (called : SheetTensorExport bytes knots-lent samples-lent axes-lent points-lent kinds-lent values-lent modes-lent edition-lent tensor-lent scratch-lent length-lent 0 k s a p n v m e t w l)
   where
     abbrev reading : ℕ
     reading = reading-refusal bytes knots-lent samples-lent tensor-lent scratch-lent
@@ -36,14 +36,14 @@ module _
     refusal = sheet-tensor-refusal bytes knots-lent samples-lent tensor-lent scratch-lent
 
     abbrev answer : SheetAnswer
-    answer = answer-of reading refusal (sheet-grid bytes)
+    answer = answer-of reading refusal (edition-said bytes) (sheet-grid bytes)
 
     -- the grid without its knots, and the parts in the first places of their buffers
     abbrev sizes-handed : Grid
     sizes-handed = grid-given (getD a 0 0) p n v []
 
-    both : (sheet-tensor-own-refusal axes-lent points-lent kinds-lent values-lent length-lent ≡ 0) × (refusal ≡ 0)
-    both = or-else-passed (sheet-tensor-own-refusal axes-lent points-lent kinds-lent values-lent length-lent) refusal (sym (called .answer))
+    both : (sheet-tensor-own-refusal axes-lent points-lent kinds-lent values-lent modes-lent edition-lent length-lent ≡ 0) × (refusal ≡ 0)
+    both = or-else-passed (sheet-tensor-own-refusal axes-lent points-lent kinds-lent values-lent modes-lent edition-lent length-lent) refusal (sym (called .answer))
 
     as-sheet : SheetPromise bytes knots-lent samples-lent tensor-lent scratch-lent answer k s t w
     as-sheet = record {
@@ -55,7 +55,7 @@ module _
     }
 
     none : answer .refusal ≡ 0
-    none = answered-refusal reading refusal (sheet-grid bytes) ∙ both .1
+    none = answered-refusal reading refusal (edition-said bytes) (sheet-grid bytes) ∙ both .1
 
     stands-made : Stands (grid-made answer k) (samples-made answer s) (tensor-made answer t)
     stands-made =

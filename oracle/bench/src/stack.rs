@@ -13,7 +13,7 @@ pub struct Stack {
 }
 
 /// The stack of every exported call.
-pub fn stacks(inputs: &Inputs) -> [Stack; 16] {
+pub fn stacks(inputs: &Inputs) -> [Stack; 17] {
     let surfaces = inputs.surfaces();
     let even_surfaces = inputs.even_surfaces();
     let small_surfaces = inputs.small_surfaces();
@@ -25,6 +25,7 @@ pub fn stacks(inputs: &Inputs) -> [Stack; 16] {
         deepest("hullashlar_quick_query", &surfaces.map(quick_query)),
         deepest("hullashlar_even_query", &even_surfaces.map(even_query)),
         deepest("hullashlar_read", &surfaces.map(read)),
+        deepest("hullashlar_read_edition_1", &surfaces.map(read_edition_1)),
         deepest("hullashlar_sheet_tensor", &surfaces.map(sheet_tensor)),
         deepest("hullashlar_write", &surfaces.map(write)),
         deepest("hullashlar_moments", &lines.map(moments)),
@@ -86,6 +87,12 @@ fn read(surface: &Surface) -> usize {
     let sheet = surface.sheet();
     let (mut knots, mut samples) = ([0.0; BUFFER], [0.0; BUFFER]);
     bytes_of(|| hullashlar::read(&sheet, &mut knots, &mut samples).is_ok())
+}
+
+fn read_edition_1(surface: &Surface) -> usize {
+    let sheet = surface.sheet();
+    let (mut knots, mut samples) = ([0.0; BUFFER], [0.0; BUFFER]);
+    bytes_of(|| hullashlar::read_edition_1(&sheet, &mut knots, &mut samples).is_ok())
 }
 
 fn sheet_tensor(surface: &Surface) -> usize {

@@ -16,6 +16,11 @@ pub fn edition_of(number: usize) -> usize {
     EDITIONS[number % EDITIONS.len()]
 }
 
+/// The edition that another one is not.
+pub fn other_edition(edition: usize) -> usize {
+    3 - edition
+}
+
 /// The bits of each axis beside its numbers: points, kinds, and in edition 2 the mode.
 fn bits_of_an_axis(edition: usize) -> usize {
     if edition == 2 {
@@ -176,7 +181,7 @@ pub fn damaged_sheet(random: &mut Random, number: usize, grid: &Grid) -> Vec<u8>
         }
         _ => {
             // The bits of one edition in the words of the other.
-            fields[0].0 = 3 - fields[0].0;
+            fields[0].0 = other_edition(edition) as u64;
             pack(&fields)
         }
     }

@@ -1,41 +1,31 @@
+use mathlib.Core.Path.{_≡_, sym, _∙_}
+use mathlib.Core.Logic.{_≢_}
+use mathlib.Core.List.{List}
+use Prim.Native.Nat.{ℕ}
+use lib.ListN.{length}
+use lib.Ieee.{Float}
+use Rattle.rules.specs.declared.Axis.{Axis}
 use Rattle.grid.specs.Given.{grid}
-use Rattle.query.proofs.Answers.{search-given, cell-given, check-refuses, check-passes, mode-refuses, cell-answers}
+use Rattle.checks.specs.Check.{sizes-check, query-check}
+use Rattle.checks.proofs.Rows.{sizes-stop}
+use Rattle.query.proofs.Answers.{check-refuses}
 use borrow.Author.Needs.{needs}
 use Rattle.query.proofs.query.Statement.{statement}
 use Rattle.query.proofs.query.Tie as tie
 
+-- a number that the sizes give is that of the whole check
+sizes-refuse : (axes : ℕ) (all : List Axis) (knots : List Float) (tensor-given : ℕ) (coordinates : List Float) {r : ℕ} → r ≡ sizes-check axes all → r ≢ 0 → r ≡ query-check (grid axes all knots) tensor-given coordinates
+unfolding query-check
+sizes-refuse axes all knots tensor-given coordinates e some = sizes-stop axes all e _ some
+
 returns : tie.Need-returns
 returns c =
     let check = c .before .before in
-    check-refuses _ _ _ _ (check .query-refusal .ensures) (c .before .if1 .taken) _ (c .refused .ensures)
-
-search-on-axes-requires : tie.Need-search-on-axes-requires
-search-on-axes-requires c κs =
-    let check = c .before in
     let s = check .before .before .before .before .args in
-    search-given _ _ _ (check-passes _ (s .tensor .now) _ _ (check .query-refusal .ensures) (c .if1 .left))
+    check-refuses _ _ _ _ (sizes-refuse (s .axes) (s .all) (s .knots .now) (length (s .tensor .now)) (s .coordinates .now) (check .sizes-refusal .ensures) (c .before .if1 .taken)) (c .before .if1 .taken) _ (c .refused .ensures)
 
-returns-2 : tie.Need-returns-2
-returns-2 c =
-    let searched = c .before .before in
-    let check = searched .before .before in
-    mode-refuses _ _ _ _ (check .query-refusal .ensures) (searched .before .if1 .left) _ (searched .search-on-axes .ensures) (c .before .if2 .taken) _ (c .refused2 .ensures)
-
-answer-in-requires : tie.Need-answer-in-requires
-answer-in-requires c κs =
-    let searched = c .before .before .before .before in
-    let check = searched .before .before in
-    let s = check .before .before .before .before .args in
-    cell-given (grid (s .axes) (s .all) (s .knots .now)) _ (s .coordinates .now)
-    (check-passes _ (s .tensor .now) _ _ (check .query-refusal .ensures) (searched .before .if1 .left))
-    _ (searched .search-on-axes .ensures)
-
-returns-3 : tie.Need-returns-3
-returns-3 c =
-    let passed = c .before .before .before .before in
-    let searched = passed .before in
-    let check = searched .before .before in
-    cell-answers _ _ _ _ (check .query-refusal .ensures) (searched .before .if1 .left) _ (searched .search-on-axes .ensures) (passed .if2 .left) _ (c .answer-in .ensures)
+query-after-sizes-requires : tie.Need-query-after-sizes-requires
+query-after-sizes-requires c κs = sym (c .before .sizes-refusal .ensures) ∙ c .if1 .left
 
 pub query-spec : {M : Type 1} → statement M
 query-spec =
@@ -44,9 +34,5 @@ query-spec =
     (λ c κs. search needs)
     (λ c κs. search needs)
     returns
-    search-on-axes-requires
-    (λ c κs. search needs)
-    returns-2
-    (λ c. search needs)
-    answer-in-requires
-    returns-3)
+    query-after-sizes-requires
+    (λ c. search needs))

@@ -1,5 +1,4 @@
-use mathlib.Core.Path.{sym, _∙_}
-use Rattle.boundary.proofs.Lengths.{even-query-lengths}
+use Rattle.boundary.proofs.Lengths.{query-lengths}
 use Rattle.query_exports.proofs.Exported.{even-query-refused, even-query-called}
 use borrow.Author.Needs.{needs}
 use Rattle.query_exports.proofs.even_query.Statement.{statement}
@@ -12,10 +11,10 @@ returns c =
     even-query-refused _ _ _ _ _ _ _ _ _ (refused .before .even-query-own-refusal .ensures) (refused .if1 .taken) (stored .store-even-query .ensures)
 
 axes-without-ends-requires : tie.Need-axes-without-ends-requires
-axes-without-ends-requires c κs = even-query-lengths _ _ _ _ _ _ _ _ _ (sym (c .before .even-query-own-refusal .ensures) ∙ c .if1 .left) .0
+axes-without-ends-requires c κs = query-lengths _ _ _ _ _ _ _ _ (c .before .even-query-own-refusal .ensures .passed (c .if1 .left)) .0
 
 axes-in-modes-requires : tie.Need-axes-in-modes-requires
-axes-in-modes-requires c κs = even-query-lengths _ _ _ _ _ _ _ _ _ (sym (c .before .before .even-query-own-refusal .ensures) ∙ c .before .if1 .left) .1
+axes-in-modes-requires c κs = query-lengths _ _ _ _ _ _ _ _ (c .before .before .even-query-own-refusal .ensures .passed (c .before .if1 .left)) .1
 
 returns-2 : tie.Need-returns-2
 returns-2 c =

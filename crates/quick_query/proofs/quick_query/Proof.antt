@@ -1,61 +1,32 @@
+use mathlib.Core.Path.{_≡_, sym, _∙_}
+use mathlib.Core.Logic.{_≢_}
+use mathlib.Core.List.{List}
+use Prim.Native.Nat.{ℕ}
+use lib.ListN.{length}
+use lib.Ieee.{Float}
+use Rattle.rules.specs.declared.Axis.{Axis}
 use Rattle.grid.specs.Given.{grid}
-use Rattle.quick_query.proofs.Answers.{search-given, cell-given, check-refuses, check-passes, cell-refused, mode-refuses, cell-answers}
+use Rattle.checks.specs.Check.{sizes-check}
+use Rattle.checks.proofs.Rows.{sizes-stop}
+use Rattle.quick_query.specs.Check.{quick-query-check}
+use Rattle.quick_query.proofs.Answers.{check-refuses}
 use borrow.Author.Needs.{needs}
 use Rattle.quick_query.proofs.quick_query.Statement.{statement}
 use Rattle.quick_query.proofs.quick_query.Tie as tie
 
+-- a number that the sizes give is that of the whole check
+sizes-refuse : (axes : ℕ) (all : List Axis) (knots : List Float) (tensor-given : ℕ) (coordinates : List Float) {r : ℕ} → r ≡ sizes-check axes all → r ≢ 0 → r ≡ quick-query-check (grid axes all knots) tensor-given coordinates
+unfolding quick-query-check
+sizes-refuse axes all knots tensor-given coordinates e some = sizes-stop axes all e _ some
+
 returns : tie.Need-returns
 returns c =
     let check = c .before .before in
-    check-refuses _ _ _ _ (check .quick-query-refusal .ensures) (c .before .if1 .taken) _ (c .refused .ensures)
-
-search-on-axes-requires : tie.Need-search-on-axes-requires
-search-on-axes-requires c κs =
-    let check = c .before in
     let s = check .before .before .before .before .args in
-    search-given _ _ _ (check-passes _ (s .tensor .now) _ _ (check .quick-query-refusal .ensures) (c .if1 .left))
+    check-refuses _ _ _ _ (sizes-refuse (s .axes) (s .all) (s .knots .now) (length (s .tensor .now)) (s .coordinates .now) (check .sizes-refusal .ensures) (c .before .if1 .taken)) (c .before .if1 .taken) _ (c .refused .ensures)
 
-some-found-cell-refused-requires : tie.Need-some-found-cell-refused-requires
-some-found-cell-refused-requires c κs =
-    let searched = c .before in
-    let check = searched .before .before in
-    let s = check .before .before .before .before .args in
-    let given = cell-given (grid (s .axes) (s .all) (s .knots .now)) _ (s .coordinates .now)
-    (check-passes _ (s .tensor .now) _ _ (check .quick-query-refusal .ensures) (searched .before .if1 .left)) _ (searched .search-on-axes .ensures) .0 in
-    (given .inside, given .knots-exact)
-
-returns-2 : tie.Need-returns-2
-returns-2 c =
-    let tested = c .before .before in
-    let searched = tested .before .before in
-    let check = searched .before .before in
-    cell-refused _ _ _ _ (check .quick-query-refusal .ensures) (searched .before .if1 .left) _ (searched .search-on-axes .ensures) (tested .some-found-cell-refused .ensures) (c .before .if2 .taken) _ (c .refused2 .ensures)
-
-returns-3 : tie.Need-returns-3
-returns-3 c =
-    let passed = c .before .before in
-    let tested = passed .before in
-    let searched = tested .before .before in
-    let check = searched .before .before in
-    mode-refuses _ _ _ _ (check .quick-query-refusal .ensures) (searched .before .if1 .left) _ (searched .search-on-axes .ensures) (tested .some-found-cell-refused .ensures) (passed .if2 .left) (c .before .if3 .taken) _ (c .refused3 .ensures)
-
-answer-in-requires : tie.Need-answer-in-requires
-answer-in-requires c κs =
-    let searched = c .before .before .before .before .before .before in
-    let check = searched .before .before in
-    let s = check .before .before .before .before .args in
-    cell-given (grid (s .axes) (s .all) (s .knots .now)) _ (s .coordinates .now)
-    (check-passes _ (s .tensor .now) _ _ (check .quick-query-refusal .ensures) (searched .before .if1 .left))
-    _ (searched .search-on-axes .ensures)
-
-returns-4 : tie.Need-returns-4
-returns-4 c =
-    let inside = c .before .before .before in
-    let passed = inside .before in
-    let tested = passed .before in
-    let searched = tested .before .before in
-    let check = searched .before .before in
-    cell-answers _ _ _ _ (check .quick-query-refusal .ensures) (searched .before .if1 .left) _ (searched .search-on-axes .ensures) (tested .some-found-cell-refused .ensures) (passed .if2 .left) (inside .if3 .left) _ (c .answer-in .ensures)
+quick-query-after-sizes-requires : tie.Need-quick-query-after-sizes-requires
+quick-query-after-sizes-requires c κs = sym (c .before .sizes-refusal .ensures) ∙ c .if1 .left
 
 pub quick-query-spec : {M : Type 1} → statement M
 quick-query-spec =
@@ -64,12 +35,5 @@ quick-query-spec =
     (λ c κs. search needs)
     (λ c κs. search needs)
     returns
-    search-on-axes-requires
-    some-found-cell-refused-requires
-    (λ c κs. search needs)
-    returns-2
-    (λ c κs. search needs)
-    returns-3
-    (λ c. search needs)
-    answer-in-requires
-    returns-4)
+    quick-query-after-sizes-requires
+    (λ c. search needs))

@@ -7,19 +7,39 @@ use Rattle.sheet_exports.proofs.sheet_tensor.Statement.{statement}
 use Rattle.sheet_exports.proofs.sheet_tensor.Tie as tie
 
 returns : tie.Need-returns
-returns c = sheet-tensor-refused _ _ _ _ _ _ _ _ _ _ (c .before .sheet-tensor-own-refusal .ensures) (c .if1 .taken)
+returns c = sheet-tensor-refused _ _ _ _ _ _ _ _ _ _ _ _ (c .before .sheet-tensor-own-refusal .ensures) (c .if1 .taken)
 
 slice-write-length : tie.Need-slice-write-length
-slice-write-length c = let lengths = sheet-tensor-lengths _ _ _ _ _ (sym (c .before .before .before .before .before .before .before .before .before .before .before .before .before .before .sheet-tensor-own-refusal .ensures) ∙ c .before .before .before .before .before .before .before .before .before .before .before .before .before .if1 .left) in omega arith
+slice-write-length c =
+    let e = c .before .before .before .before .before .before .before .before .before .before .before .before .before in
+    let lengths = sheet-tensor-lengths _ _ _ _ _ _ _ (sym (e .before .sheet-tensor-own-refusal .ensures) ∙ e .if1 .left) in
+    let one = lengths .1 in omega arith
 
 slice-write-axes : tie.Need-slice-write-axes
-slice-write-axes c = let lengths = sheet-tensor-lengths _ _ _ _ _ (sym (c .before .before .before .before .before .before .before .before .before .before .before .before .before .before .sheet-tensor-own-refusal .ensures) ∙ c .before .before .before .before .before .before .before .before .before .before .before .before .before .if1 .left) in omega arith
+slice-write-axes c =
+    let e = c .before .before .before .before .before .before .before .before .before .before .before .before .before in
+    let lengths = sheet-tensor-lengths _ _ _ _ _ _ _ (sym (e .before .sheet-tensor-own-refusal .ensures) ∙ e .if1 .left) in
+    let one = lengths .0 .one-slot in omega arith
 
 store-axes-requires : tie.Need-store-axes-requires
-store-axes-requires c κs = let lengths = sheet-tensor-lengths _ _ _ _ _ (sym (c .before .before .before .before .before .before .before .before .before .before .before .before .before .before .before .before .before .before .sheet-tensor-own-refusal .ensures) ∙ c .before .before .before .before .before .before .before .before .before .before .before .before .before .before .before .before .before .if1 .left) in (lengths .1, lengths .2, lengths .3)
+store-axes-requires c κs =
+    let e = c .before .before .before .before .before .before .before .before .before .before .before .before .before .before .before .before .before in
+    let lengths = sheet-tensor-lengths _ _ _ _ _ _ _ (sym (e .before .sheet-tensor-own-refusal .ensures) ∙ e .if1 .left) in
+    lengths .0 .for-axes
+
+store-told-requires : tie.Need-store-told-requires
+store-told-requires c κs =
+    let e = c .before .before .before .before .before .before .before .before .before .before .before .before .before .before .before .before .before .before .before .before .before .before .before .before .before .before in
+    let lengths = sheet-tensor-lengths _ _ _ _ _ _ _ (sym (e .before .sheet-tensor-own-refusal .ensures) ∙ e .if1 .left) in
+    (lengths .0 .four-modes, lengths .0 .one-edition)
 
 returns-2 : tie.Need-returns-2
-returns-2 c = sheet-tensor-called _ _ _ _ _ _ _ _ _ _ (c .before .before .before .before .before .before .before .before .before .before .before .before .before .before .before .before .before .before .before .before .before .before .before .before .before .sheet-tensor-own-refusal .ensures) (c .before .before .before .before .before .before .before .before .before .before .before .before .before .before .before .before .before .before .before .before .before .before .before .before .if1 .left) _ (c .before .before .before .before .before .before .before .before .before .before .before .before .before .before .before .before .before .before .before .tensor-of-sheet .ensures) (c .before .before .before .before .before .before .store-axes .ensures)
+returns-2 c =
+    let told = c .before .before .before .before in
+    let stored = told .before .before .before .before .before .before .before .before .before in
+    let done = stored .before .before .before .before .before .before .before .before .before .before .before .before .before in
+    let e = done .before .before .before .before .before in
+    sheet-tensor-called _ _ _ _ _ _ _ _ _ _ _ _ (e .before .sheet-tensor-own-refusal .ensures) (e .if1 .left) _ (done .tensor-of-sheet .ensures) (stored .store-axes .ensures) (told .store-told .ensures)
 
 pub sheet-tensor-spec : {M : Type 1} → statement M
 sheet-tensor-spec =
@@ -31,11 +51,16 @@ sheet-tensor-spec =
     (λ c. search needs)
     (λ c. search needs)
     (λ c. search needs)
+    (λ c. search needs)
+    (λ c. search needs)
     returns
     (λ c κs. search needs)
     slice-write-length
     slice-write-axes
     store-axes-requires
+    store-told-requires
+    (λ c. search needs)
+    (λ c. search needs)
     (λ c. search needs)
     (λ c. search needs)
     (λ c. search needs)

@@ -6,13 +6,21 @@ use Rattle.sheet_exports.proofs.write.Statement.{statement}
 use Rattle.sheet_exports.proofs.write.Tie as tie
 
 returns : tie.Need-returns
-returns c = write-refused _ _ _ _ _ _ _ _ (c .before .before .before .before .before .write-own-refusal .ensures) (c .before .before .before .before .if1 .taken) (c .before .before .store-count .ensures)
+returns c = write-refused _ _ _ _ _ _ _ _ _ _ (c .before .before .before .before .before .write-own-refusal .ensures) (c .before .before .before .before .if1 .taken) (c .before .before .store-count .ensures)
 
 axes-given-requires : tie.Need-axes-given-requires
-axes-given-requires c κs = write-lengths _ _ _ _ _ _ _ (sym (c .before .write-own-refusal .ensures) ∙ c .if1 .left)
+axes-given-requires c κs = write-lengths _ _ _ _ _ _ _ _ (sym (c .before .write-own-refusal .ensures) ∙ c .if1 .left) .0
+
+axes-in-modes-requires : tie.Need-axes-in-modes-requires
+axes-in-modes-requires c κs = write-lengths _ _ _ _ _ _ _ _ (sym (c .before .before .write-own-refusal .ensures) ∙ c .before .if1 .left) .1
 
 returns-2 : tie.Need-returns-2
-returns-2 c = write-called _ _ _ _ _ _ _ _ (c .before .before .before .before .before .before .before .before .before .before .write-own-refusal .ensures) (c .before .before .before .before .before .before .before .before .before .if1 .left) _ (c .before .before .before .before .before .before .before .before .axes-given .ensures) _ (c .before .before .before .before .before .before .write .ensures) (c .before .before .store-count2 .ensures)
+returns-2 c =
+    let done = c .before .before .before .before .before .before in
+    let modes = done .before .before in
+    let ends = modes .before in
+    let e = ends .before in
+    write-called _ _ _ _ _ _ _ _ _ _ (e .before .write-own-refusal .ensures) (e .if1 .left) _ _ (ends .axes-given .ensures) (modes .axes-in-modes .ensures) _ (done .write .ensures) (c .before .before .store-count2 .ensures)
 
 pub write-spec : {M : Type 1} → statement M
 write-spec =
@@ -23,6 +31,7 @@ write-spec =
     (λ c. search needs)
     returns
     axes-given-requires
+    axes-in-modes-requires
     (λ c κs. search needs)
     (λ c κs. search needs)
     (λ c. search needs)

@@ -6,6 +6,7 @@ use crate::generator::{self, Kind};
 use crate::lending;
 use crate::random::Random;
 use crate::report::describe;
+use crate::sheet::other_edition;
 use reading::EXTEND;
 
 impl Run<'_> {
@@ -59,7 +60,7 @@ impl Run<'_> {
             self.hold(title, &given, (0, &expected), (refusal, &found));
         }
         let room = sheet.len() + 1;
-        let given = lending::write_parts(random, &parts, 3 - edition, room);
+        let given = lending::write_parts(random, &parts, other_edition(edition), room);
         self.read_back(random, &given);
     }
 

@@ -1,7 +1,7 @@
 use mathlib.Core.Path.{sym, _∙_}
-use Rattle.checks.proofs.Rows.{stop, pass, exact}
+use Rattle.checks.proofs.Rows.{stop, pass, exact, axes-few}
 use Rattle.boundary.specs.OwnRefusals.{axes-own-refusal}
-use Rattle.boundary.proofs.Rows.{sizes-after-axes}
+use Rattle.boundary.proofs.Rows.{points-after-axes}
 use borrow.Author.Needs.{needs}
 use Rattle.boundary.proofs.own.axes_own_refusal.Statement.{statement}
 use Rattle.boundary.proofs.own.axes_own_refusal.Tie as tie
@@ -16,17 +16,20 @@ returns-2 c =
     pass _ (c .before .before .before .axes-refused .ensures) (c .before .before .if1 .left)
     (stop _ (c .before .length-refused .ensures) (c .if2 .taken))
 
-axes-without-ends-requires : tie.Need-axes-without-ends-requires
-axes-without-ends-requires c κs = exact _ 4 (sym (c .before .length-refused .ensures) ∙ c .if2 .left)
+points-refusal-requires : tie.Need-points-refusal-requires
+points-refusal-requires c κs =
+    let few = axes-few (sym (c .before .before .before .axes-refused .ensures) ∙ c .before .before .if1 .left) in
+    (few .0, few .1, exact _ 4 (sym (c .before .length-refused .ensures) ∙ c .if2 .left))
 
 returns-3 : tie.Need-returns-3
 unfolding axes-own-refusal
 returns-3 c =
-    let l = c .before .before in
+    let l = c .before in
     let a = l .before .before in
+    let few = axes-few (sym (a .before .axes-refused .ensures) ∙ a .if1 .left) in
     pass _ (a .before .axes-refused .ensures) (a .if1 .left)
     (pass _ (l .before .length-refused .ensures) (l .if2 .left)
-    (sizes-after-axes _ _ _ (sym (a .before .axes-refused .ensures) ∙ a .if1 .left) (c .before .axes-without-ends .ensures) (c .sizes-refusal .ensures)))
+    (points-after-axes (a .before .before .before .args .axes) (a .before .before .before .args .points .now) (few .1) (c .points-refusal .ensures)))
 
 pub axes-own-refusal-spec : {M : Type 1} → statement M
 axes-own-refusal-spec =
@@ -36,6 +39,5 @@ axes-own-refusal-spec =
     returns
     (λ c κs. search needs)
     returns-2
-    axes-without-ends-requires
-    (λ c κs. search needs)
+    points-refusal-requires
     returns-3)

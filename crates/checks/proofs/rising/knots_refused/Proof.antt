@@ -1,45 +1,34 @@
 use Prim.Native.Nat.{_≤_, _-_}
-use mathlib.Core.Path.{_≡_, sym, _∙_}
-use mathlib.Core.Bool.{false}
+use mathlib.Core.Path.{_≡_, sym, ap, _∙_}
 use native.Mathlib.Omega.{arith}
 use lib.ListN.{length}
 use Rattle.rules.specs.Numbers.{any}
 use Rattle.rules.specs.Steps.{h}
 use Rattle.rules.specs.Refusals.{step-refused}
-use Rattle.base.proofs.Scan.{any-none, any-more, any-found, any-end}
+use Rattle.base.proofs.Scan.{any-none, any-next}
 use borrow.Author.Needs.{needs}
 use Rattle.checks.proofs.rising.knots_refused.Statement.{statement}
 use Rattle.checks.proofs.rising.knots_refused.Tie as tie
 
 abbrev Inv-loop : tie.InvT-loop
-Inv-loop knots i₀ i = (i ≤ length knots - 1) × (any (step-refused knots) i ≡ false)
+Inv-loop knots refused₀ i₀ refused i = (i ≤ length knots - 1) × (refused ≡ any (step-refused knots) i)
 
 abbrev μ-loop : tie.MeasureT-loop
-μ-loop knots i₀ i = length knots - i
+μ-loop knots refused₀ i₀ refused i = length knots - i
 
 loop-holds : tie.Need-loop-holds Inv-loop μ-loop
-loop-holds c = (search needs, any-none _)
-
-returns : tie.Need-returns Inv-loop μ-loop
-unfolding step-refused h
-returns c =
-    sym
-    (any-found
-    _
-    (c .before .before .before .before .before .loop .i)
-    _
-    (omega arith)
-    (sym (c .before .step-refused .ensures) ∙ c .if1 .taken))
+loop-holds c = (search needs, sym (any-none _))
 
 loop-again : tie.Need-loop-again Inv-loop μ-loop
 unfolding step-refused h
-loop-again c = (
-  search needs,
-  any-more _ _ (c .before .before .before .before .before .loop .inv .1) (sym (c .before .step-refused .ensures) ∙ c .if1 .left),
-)
+loop-again c =
+    let turn = c .before .before .before .before in
+    (search needs, rw (any-next, ← turn .loop .inv .1, ← c .step-refused .ensures))
 
-returns-2 : tie.Need-returns-2 Inv-loop μ-loop
-returns-2 c = sym (any-end _ _ _ (c .before .loop .inv .1) (omega arith))
+returns : tie.Need-returns Inv-loop μ-loop
+returns c =
+    let e : c .before .loop .i ≡ length (c .before .before .before .args .knots .now) - 1 = omega arith in
+    c .before .loop .inv .1 ∙ ap (any (step-refused _)) e
 
 pub knots-refused-spec : {M : Type 1} → statement M
 knots-refused-spec =
@@ -55,8 +44,7 @@ knots-refused-spec =
     (λ c. search needs)
     (λ c. search needs)
     (λ c κs. search needs)
-    returns
     (λ c. search needs)
     (λ c. search needs)
     loop-again
-    returns-2)
+    returns)
