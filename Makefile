@@ -13,7 +13,7 @@ CASES = --moments 60000 --curve 60000 --slopes 60000 --build 50000 --change 5000
     --change_list 20000 --either_order 60000 --query 400000 --quick_query 200000 --quick_beside_full 530000 \
     --even_query 240000 --at_every_place 5000 \
     --read 240000 --read_edition_1 60000 --sheet_tensor 120000 --short_sheet 65793 \
-    --write 240000 --written_back 120000 \
+    --write 240000 --written_back 120000 --surface 120000 \
     --exact_index 60000 --locate_axis 60000 --locate_step_index 100000 --stepped 100000 \
     --cell_value 8520460 --cursor_next 200000 --device_curve 4101
 SEED = 20240917
@@ -54,15 +54,17 @@ archive:
 bench: archive
 	cd oracle && cargo run --offline --release -p bench
 
-# The two example hosts on one sheet, each held against the output and against the changed sheet that are kept beside them.
+# The example hosts on one sheet, each held against the output that is kept beside it, and those that write the sheet back against the changed sheet.
 examples: archive
 	mkdir -p target/examples
 	python3 examples/gain_sheet.py | cmp - examples/gain.sheet
 	python3 examples/gain_sheet.py changed | cmp - examples/changed.sheet
 	gcc -std=c11 -Wall -Wextra -Werror -O2 -Iinclude examples/host.c target/staticlib/libhost.a -o target/examples/host_in_c
+	gcc -std=c11 -Wall -Wextra -Werror -O2 -Iinclude examples/firmware.c target/staticlib/libhost.a -o target/examples/firmware
 	rustc --edition 2021 -O examples/host.rs -L native=target/staticlib -l static=host -o target/examples/host_in_rust
 	target/examples/host_in_c examples/gain.sheet target/examples/c.sheet | diff examples/expected.txt -
 	target/examples/host_in_rust examples/gain.sheet target/examples/rust.sheet | diff examples/expected.txt -
+	target/examples/firmware examples/gain.sheet | diff examples/firmware_expected.txt -
 	cmp examples/changed.sheet target/examples/c.sheet
 	cmp examples/changed.sheet target/examples/rust.sheet
 

@@ -14,6 +14,9 @@ use declared::*;
 /// The number of a refusal, which is never 0.
 pub type Refusal = usize;
 
+/// The pattern that a refusal's number is added to where a pattern is answered.
+pub const REFUSED: u64 = 0x7FF8_0000_0000_0000;
+
 /// The numbers of scratch that a call wants beside the length of its tensor.
 pub const SCRATCH: usize = 2048;
 
@@ -514,4 +517,17 @@ pub fn write(
         )
     };
     outcome(refusal, length[0])
+}
+
+/// The value of a sheet's surface at the patterns of four coordinates, those past its axes 0: read, built and asked in
+/// one call, with all memory on the stack.
+#[rustfmt::skip]
+pub fn surface(bytes: &[u8], patterns: [u64; 4]) -> Result<f64, Refusal> {
+    let [c0, c1, c2, c3] = patterns;
+    // SAFETY: the pointer goes with the length of a live slice.
+    let answer = unsafe { hullashlar_surface(bytes.as_ptr(), bytes.len(), c0, c1, c2, c3) };
+    match answer & REFUSED {
+        REFUSED => Err((answer - REFUSED) as Refusal),
+        _ => Ok(f64::from_bits(answer)),
+    }
 }

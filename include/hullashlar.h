@@ -1,6 +1,6 @@
 /* Hullashlar for C: every public call over numbers and plain slices. docs/RULES.md says what each computes and when it
- * refuses, in its chapters Calls, EvenCalls, StepCalls, DeviceCell, DeviceCurve, Read, SheetTensor, Write, Exports,
- * StepExports and DeviceExports.
+ * refuses, in its chapters Calls, EvenCalls, StepCalls, Read, SheetTensor, Write, SheetSurface, DeviceCell, DeviceCurve,
+ * CurveExports, TensorExports, QueryExports, SheetExports, StepExports and DeviceExports.
  *
  * The machine. The archive, target/staticlib/libhost.a, is code for x86-64, with SSE2 and the System V calling
  * convention. Of its host it wants memcpy and memset, and nothing else. It computes under the caller's MXCSR, which
@@ -16,7 +16,8 @@
  * another uses.
  *
  * Memory for the largest grid: tensor 32,768 bytes, scratch 49,152, the two buffers of a sheet 16,384, together 98,304.
- * docs/BENCH.md has the stack of each call (below 6,300 bytes), the size of the code (below 50,000 bytes) and what the
+ * hullashlar_surface is lent nothing but the sheet, and has its memory on the stack.
+ * docs/BENCH.md has the stack of each call (below 6,300 bytes but for that one), the size of the code and what the
  * archive's proofs rest on.
  *
  * Axes. Points, kinds, values, modes, directions, places, labels and indices are lent for four axes. No call looks at
@@ -28,7 +29,7 @@
  * axis stand side by side; a tensor has 2^axes numbers for each sample, one for each mask, and these stand side by side
  * too. Bit i of a mask says that the number is a derivative along axis i. docs/RULES.md draws it, in Sizes.
  *
- * Refusals. Every call returns its refusal, and all calls look for one in the same order.
+ * Refusals. Every call but hullashlar_surface returns its refusal, and all calls look for one in the same order.
  *   - With axes: 1 by their number alone; 4 for points that are not four; 2; 3; 4 for every other slice and slot; 13
  *     for kinds of an axis in use that are none, or Periodic at one end only; 22 for a mode or a direction of an axis
  *     in use that is none; then the rest of the call's list, 5 and on, in the list's order. That is not always the
@@ -77,6 +78,8 @@ enum hullashlar_refusal {
     HULLASHLAR_REFUSED_KINDS = 13,   /* Periodic at one end of an axis and not at the other, or no kind at all */
     HULLASHLAR_REFUSED_TAIL = 14,    /* a sheet goes on after its fields, by a byte or by a bit that is set */
     HULLASHLAR_REFUSED_BUFFER = 15,  /* fewer bytes than the sheet to be written has */
+    HULLASHLAR_REFUSED_STACK = 16,   /* hullashlar_surface: the sheet needs a tensor of more than 512 numbers */
+    HULLASHLAR_REFUSED_UNUSED = 17,  /* hullashlar_surface: a pattern past the axes in use is not 0 */
     HULLASHLAR_REFUSED_OUTSIDE = 18, /* a coordinate outside the knots of an axis whose mode refuses it */
     HULLASHLAR_REFUSED_RANGE = 19,   /* a value or a slope of a cell in whole numbers is out of its range */
     HULLASHLAR_REFUSED_POSITION = 20, /* a position outside a cell, a cursor past the end, or no 1 to 255 whole cells */
@@ -342,6 +345,33 @@ size_t hullashlar_stepped(size_t axes,
                           const double *coordinates, size_t coordinates_length,
                           double *value, size_t value_length,
                           size_t *indices, size_t indices_length);
+
+/* What hullashlar_surface returns where it refuses: this pattern plus the number of the refusal. No finite double has all
+ * of its bits. */
+#define HULLASHLAR_REFUSED UINT64_C(0x7FF8000000000000)
+
+/* One call for firmware that keeps a sheet and no tensor: reads the sheet, builds its tensor and asks it at a point. The
+ * coordinates are the patterns of doubles, one for each axis of the sheet; those past its axes must be 0. What becomes of
+ * a coordinate outside the knots of an axis is said by the sheet, and is extend in edition 1. Returns the pattern of the
+ * value, which is that of hullashlar_sheet_tensor and then hullashlar_query, or a refusal.
+ *
+ *     static uint64_t pattern(double x) { uint64_t p; memcpy(&p, &x, sizeof p); return p; }
+ *
+ *     static bool gain_at(double frequency, double level, double *gain)
+ *     {
+ *         uint64_t answer = hullashlar_surface(sheet, sheet_length, pattern(frequency), pattern(level), 0, 0);
+ *         if ((answer & HULLASHLAR_REFUSED) == HULLASHLAR_REFUSED)
+ *             return false;
+ *         memcpy(gain, &answer, sizeof *gain);
+ *         return true;
+ *     }
+ *
+ * Stack: STACK_BYTES bytes. 28,672 of them are buffers: scratch 20,480, tensor 4,096, knots 2,048, samples 2,048. The
+ * rest are the frames of the build, which goes deeper than the reader and the query.
+ * Written: nothing. Refuses by the first of 11, 12, 1, 2, 13, 22, 3, 14 that is met on the way through the sheet; then by
+ * 16, 17; then as a build by 7, 8, 9, 10; then as a query by 7, 18, 10. */
+uint64_t hullashlar_surface(const uint8_t *bytes, size_t bytes_length,
+                            uint64_t c0, uint64_t c1, uint64_t c2, uint64_t c3);
 
 /* ---- For aids without a float unit: whole numbers alone, in the calls and inside them. ---- */
 

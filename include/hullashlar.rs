@@ -169,4 +169,11 @@ extern "C" {
         cursor: *mut u32, cursor_length: usize,
         value: *mut i32, value_length: usize,
     ) -> usize;
+    pub fn hullashlar_surface(
+        bytes: *const u8, bytes_length: usize,
+        c0: u64,
+        c1: u64,
+        c2: u64,
+        c3: u64,
+    ) -> u64;
 }

@@ -1,5 +1,7 @@
-// Every public call exported for C, over numbers and plain slices. Each returns its refusal's number, 0 for none, in the one order that boundary::own says.
+// Every public call exported for C, over numbers and plain slices. Each but the firmware's returns its refusal's number, 0 for none, in the one order that boundary::own says.
+ghost use mathlib.Core.List.{[], _∷_};
 ghost use Rattle.rules.specs.Calls.{SlopesPromise};
+ghost use Rattle.surface.specs.SheetSurface.{SurfacePromise};
 ghost use Rattle.step_exports.specs.StepExports.{ExactExport, AxisExport, StepExport, SteppedExport};
 ghost use Rattle.curve_exports.specs.CurveExports.{MomentsExport, CurveExport};
 ghost use Rattle.tensor_exports.specs.TensorExports.{BuildExport, ChangeExport};
@@ -380,4 +382,12 @@ pub extern "C" fn hullashlar_cursor_next(
     ensures { λ r. ⌜ NextExport (now (curve .entry)) (now (cursor .entry)) (now (value .entry)) r (now (cursor .exit)) (now (value .exit)) ⌝ }
 {
     device_exports::cursor_next(curve, cursor, value)
+}
+
+// The pattern of a sheet's surface at the coordinates of four patterns, those past its axes 0: read, built and asked in one call. A refusal is the pattern 7FF8000000000000 plus its number: the reader's, then 16 17, then the build's 7 8 9 10, then the query's 7 18 10.
+#[no_mangle]
+pub extern "C" fn hullashlar_surface(bytes: &[u8], c0: u64, c1: u64, c2: u64, c3: u64) -> u64
+    ensures { λ r. ⌜ SurfacePromise (now (bytes .entry)) (c0 ∷ c1 ∷ c2 ∷ c3 ∷ []) r ⌝ }
+{
+    surface::surface(bytes, c0, c1, c2, c3)
 }

@@ -14,6 +14,7 @@ use replay_items::words::word;
 use replay_sheets::read;
 use replay_sheets::read_edition_1;
 use replay_sheets::sheet_tensor;
+use replay_sheets::surface;
 use replay_sheets::write;
 use replay_steps::exact_index;
 use replay_steps::locate_axis;
@@ -47,6 +48,7 @@ fn case_at(list: &[u8], place: usize) -> Replayed {
         15 => cell_value(list, begin),
         16 => cursor_next(list, begin),
         17 => read_edition_1(list, begin),
+        18 => surface(list, begin),
         _ => Replayed {
             same: false,
             next: begin,

@@ -186,8 +186,8 @@ pub fn numbers_given(list: &[u8], place: usize) -> [usize; 8] {
     numbers
 }
 
-pub fn bytes_given(list: &[u8], place: usize) -> [u8; 256] {
-    let mut bytes = [0u8; 256];
+pub fn bytes_given(list: &[u8], place: usize) -> [u8; 512] {
+    let mut bytes = [0u8; 512];
     fill_bytes(list, place, &mut bytes);
     bytes
 }
@@ -206,9 +206,9 @@ pub fn numbers_at(list: &[u8], place: usize) -> usize
 }
 
 pub fn bytes_at(list: &[u8], place: usize) -> usize
-    ensures { λ r. ⌜ r ≤ 256 ⌝ }
+    ensures { λ r. ⌜ r ≤ 512 ⌝ }
 {
-    held(word(list, place), 256)
+    held(word(list, place), 512)
 }
 
 // Whether a float has a pattern; every pattern of a NaN is one to a NaN.

@@ -1,4 +1,4 @@
-// The cases of a sheet (what is read of it, its tensor, what is written), each replayed through the exported call: whether it answers as the list says, and leaves every slice so. No list makes a function here trap.
+// The cases of a sheet (what is read of it, its tensor, what is written, its surface at a point), each replayed through the exported call: whether it answers as the list says, and leaves every slice so. No list makes a function here trap.
 use replay_items::Replayed;
 use replay_items::items::after_given;
 use replay_items::items::after_left;
@@ -707,4 +707,26 @@ pub fn write(list: &[u8], begin: usize) -> Replayed {
         &mut bytes[0..bytes_end],
         &mut length[0..length_end],
     )
+}
+
+// A case of a surface for firmware, whose arguments begin at a place: a sheet and four coordinates. What it returns is compared whole.
+pub fn surface(list: &[u8], begin: usize) -> Replayed {
+    let bytes = bytes_given(list, begin);
+    let bytes_end = bytes_at(list, begin);
+    let first = after_given(list, begin);
+    let second = after(first, 1);
+    let third = after(second, 1);
+    let fourth = after(third, 1);
+    let answer = after(fourth, 1);
+    let returned = host::hullashlar_surface(
+        &bytes[0..bytes_end],
+        word(list, first),
+        word(list, second),
+        word(list, third),
+        word(list, fourth),
+    );
+    Replayed {
+        same: returned == word(list, answer),
+        next: after(answer, 1),
+    }
 }

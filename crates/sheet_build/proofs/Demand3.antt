@@ -50,13 +50,13 @@ module _
     unfolding sheet-tensor-refusal
     both-none = or-else-passed reading (parts-refusal g y lent scratch) refusal-none
 
-    answer-is : given ≡ read-answer 0 (edition bytes) g
+    pub answer-is : given ≡ read-answer 0 (edition bytes) g
     answer-is = rw (both-none .0, refusal-none) at (p .answer)
 
     known : Parts bytes
     known = parts bytes (read-passed bytes knots samples lent scratch (both-none .0) .1)
 
-    grid-is : grid-made given k ≡ g
+    pub grid-is : grid-made given k ≡ g
     unfolding sheet-grid
     grid-is =
         let stand : k ≡ over (g .flat-knots) knots = rw (both-none .0) at (p .knots) in
@@ -68,7 +68,7 @@ module _
         let stand : s ≡ over y samples = rw (both-none .0) at (p .samples) in
         rw (answer-is, stand) (take-over y samples (samples-length g) (known .samples))
 
-    tensor-is : tensor-made given t ≡ tensor g y
+    pub tensor-is : tensor-made given t ≡ tensor g y
     tensor-is =
         let stand : t ≡ over (tensor g y) lent = rw refusal-none at (p .output) in
         rw (answer-is, stand) (take-over (tensor g y) lent (tensor-length g) (length-tensor g y))

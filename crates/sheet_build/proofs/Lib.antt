@@ -1,4 +1,6 @@
 pub mod Faults
+pub mod Few
+pub mod Enough
 pub mod Builds
 pub mod Promises
 pub mod Classes

@@ -5,8 +5,8 @@ use mathlib.Core.List.{List}
 use Prim.Native.Nat.{ℕ, zero, suc, _≤_}
 use lib.ListN.{length, take}
 use lib.Ieee.{Float}
-use Rattle.rules.specs.Numbers.{table}
-use Rattle.rules.specs.Sizes.{most-axes, most-in-a-tensor, unused-axis, Grid, knots-length, samples-length, tensor-length}
+use Rattle.rules.specs.Numbers.{zeros, table}
+use Rattle.rules.specs.Sizes.{most-axes, most-in-a-tensor, unused-axis, Grid, knots-length, samples-length, tensor-length, scratch-length}
 use Rattle.rules.specs.Refusals.{length-refused}
 use Rattle.rules.specs.Tensor.{tensor}
 use Rattle.rules.specs.Calls.{or-else, stored, counted, scratch-after, build-refusal}
@@ -64,6 +64,11 @@ module _ (g : Grid) (samples tensor-lent scratch-lent : List Float) where
     pub scratch : scratch-later ≡ scratch-after parts-refusal scratch-lent
 
 -- ---- the sheet
+
+-- what its build refuses that has a tensor and a scratch of the lengths that it asks for
+unfoldable pub building-refusal : List ℕ → ℕ
+building-refusal bytes =
+    build-refusal (sheet-grid bytes) (sheet-samples bytes) (zeros (tensor-length (sheet-grid bytes))) (zeros (scratch-length (sheet-grid bytes)))
 
 module _ (bytes : List ℕ) (knots-lent samples-lent tensor-lent scratch-lent : List Float) where
   -- what is met before the build: 4 for the tensor's buffer, before all else, then what the reader meets

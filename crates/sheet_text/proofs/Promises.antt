@@ -4,30 +4,30 @@ use mathlib.Core.List.{List}
 use Prim.Native.Nat.{ℕ, zero, suc, _-_, _≤_}
 use native.Mathlib.Nat.{sub-zero}
 use native.Mathlib.Omega.{arith}
-use borrow.Author.Tests.{eq-eqb, le-ltb, ltb-false}
-use lib.ListN.{length, take, length-take, length-replicate}
+use borrow.Author.Tests.{ltb-false}
+use lib.ListN.{length, take}
 use lib.Ieee.{Float}
-use Rattle.rules.specs.Numbers.{plus-zero, zeros}
-use Rattle.rules.specs.Sizes.{Grid, tensor-length, scratch-length}
+use Rattle.rules.specs.Sizes.{Grid, tensor-length}
 use Rattle.rules.specs.Tensor.{tensor}
-use Rattle.rules.specs.Calls.{or-else, stored, counted, build-refusal}
+use Rattle.rules.specs.Calls.{or-else, stored, counted}
 use Rattle.rules.proofs.Refused.{or-else-passed, unchanged}
 use Rattle.checks.proofs.Rows.{exact-3}
 use Rattle.sheet.specs.Fields.{edition, sheet-grid, sheet-samples}
 use Rattle.sheet.specs.Faults.{sheet-refusal}
-use Rattle.sheet.specs.Read.{over, read-refusal}
+use Rattle.sheet.specs.Read.{over}
 use Rattle.sheet.proofs.Walks.{passed as no-test}
 use Rattle.sheet.proofs.Parts.{parts, take-over}
-use Rattle.sheet_build.specs.SheetTensor.{answer-of, parts-refusal, reading-refusal, sheet-tensor-refusal, SheetPromise}
+use Rattle.sheet_build.specs.SheetTensor.{answer-of, sheet-tensor-refusal, SheetPromise}
 use Rattle.sheet_build.specs.declared.SheetAnswer.{SheetAnswer}
-use Rattle.sheet_build.proofs.Faults.{reading-of-reading}
+use Rattle.sheet_build.proofs.Few.{or-else-few, sheet-few, build-few}
+use Rattle.sheet_build.proofs.Enough.{Enough, reading-is, refusal-is as enough-refusal}
 use Rattle.sheet_build.proofs.Builds.{answered-refusal, length-tensor}
 use Rattle.text.specs.Answers.{Put}
 use Rattle.text.proofs.Puts.{put-written}
 use Rattle.sheet_text.specs.SheetText.{text-of, printed-refusal, sheet-text, text-length, lent-refusal, text-refusal, text-answer, TextPromise}
 use Rattle.sheet_text.specs.declared.TextAnswer.{TextAnswer}
 use Rattle.tensor_text.proofs.Texts.{length-most as tensor-text-most}
-use Rattle.sheet_text.proofs.Told.{few-numbers, few-of-build, length-refused-line}
+use Rattle.sheet_text.proofs.Told.{length-refused-line}
 
 -- what no refusal says of the lengths
 pub record Lent (k s t w x : ℕ) : Type 0 where
@@ -51,10 +51,6 @@ lent k s t w x none =
       text = ltb-false x 69644 (last .0);
     }
 
-or-else-most : (first : ℕ) {later : ℕ} → first ≤ 22 → later ≤ 22 → or-else first later ≤ 22
-or-else-most zero f l = l
-or-else-most (suc first) f l = f
-
 refused-answer : (r refusal count : ℕ) → r ≡ refusal → (r ≡ 0 → ⊥)
     → _≡_ {A = TextAnswer} (record { refusal = r; length = 0 }) (record { refusal = refusal; length = counted refusal count })
 refused-answer r zero count e met = absurd (met e)
@@ -74,49 +70,18 @@ module _ (bytes : List ℕ) where
   -- ---- lent enough, the call's own refusals are the sheet's
 
   module _ (knots samples lent scratch : List Float) {x : ℕ} (long : Lent (length knots) (length samples) (length lent) (length scratch) x) where
-    reading-is : reading-refusal bytes knots samples lent scratch ≡ sheet-refusal bytes
-    unfolding reading-refusal read-refusal
-    reading-is = rw (eq-eqb _ _ (long .tensor), eq-eqb _ _ (long .knots), eq-eqb _ _ (long .samples))
-
-    same-build : sheet-refusal bytes ≡ 0 → parts-refusal g y lent scratch ≡ build-refusal g y (zeros (tensor-length g)) (zeros (scratch-length g))
-    unfolding build-refusal
-    same-build none =
-        let small = few none in
-        let part : length (take (tensor-length g) lent) ≡ tensor-length g = rw length-take (omega (arith, long .tensor)) in
-        rw (
-          eq-eqb _ _ part,
-          eq-eqb _ _ (length-replicate (tensor-length g) plus-zero),
-          le-ltb (length scratch) (scratch-length g) (omega (arith, long .scratch)),
-          le-ltb (length (zeros (scratch-length g))) (scratch-length g) (omega (arith, length-replicate (scratch-length g) plus-zero)),
-        )
+    enough : Enough (length knots) (length samples) (length lent) (length scratch)
+    enough = record { knots = long .knots; samples = long .samples; tensor = long .tensor; scratch = long .scratch }
 
     refusal-is : sheet-tensor-refusal bytes knots samples lent scratch ≡ printed-refusal bytes
-    unfolding sheet-tensor-refusal printed-refusal
-    refusal-is = rw reading-is (go (sheet-refusal bytes) refl)
-      where
-        go : (number : ℕ) → sheet-refusal bytes ≡ number → or-else (sheet-refusal bytes) (parts-refusal g y lent scratch) ≡ or-else (sheet-refusal bytes) (build-refusal g y (zeros (tensor-length g)) (zeros (scratch-length g)))
-        go zero e = rw (e, same-build e)
-        go (suc number) e = rw e
+    unfolding printed-refusal
+    refusal-is = enough-refusal bytes knots samples lent scratch enough
 
   -- ---- how long the text is
 
-  -- the sheet's own faults, as those of a call that is lent enough
-  sheet-few : sheet-refusal bytes ≤ 22
-  sheet-few =
-      let long : Lent (length (zeros 1024)) (length (zeros 1024)) (length (zeros 4096)) (length (zeros 6144)) 69644
-      = record {
-        knots = length-replicate 1024 plus-zero;
-        samples = length-replicate 1024 plus-zero;
-        tensor = length-replicate 4096 plus-zero;
-        scratch = omega (arith, length-replicate 6144 plus-zero);
-        text = omega arith;
-      } in
-      rw (reading-is (zeros 1024) (zeros 1024) (zeros 4096) (zeros 6144) long) at
-      (few-numbers _ (reading-of-reading bytes (zeros 1024) (zeros 1024) (zeros 4096) (zeros 6144)))
-
   few-printed : printed-refusal bytes ≤ 22
   unfolding printed-refusal
-  few-printed = or-else-most (sheet-refusal bytes) sheet-few (few-of-build g y (zeros (tensor-length g)) (zeros (scratch-length g)))
+  few-printed = or-else-few (sheet-refusal bytes) (sheet-few bytes) (build-few bytes)
 
   -- a sheet whose refusal is 0 was read
   read : printed-refusal bytes ≡ 0 → sheet-refusal bytes ≡ 0
@@ -180,7 +145,7 @@ module _ (bytes : List ℕ) where
           → TextPromise bytes knots samples lent-tensor scratch text (record { refusal = 0; length = end }) k s t w later
       unfolding text-answer
       text-written a k s t w later end p put =
-          let reading = reading-is knots samples lent-tensor scratch long in
+          let reading = reading-is bytes knots samples lent-tensor scratch (enough knots samples lent-tensor scratch long) in
           let whole = refusal-is knots samples lent-tensor scratch long in
           let is = text-is a lent-tensor t (rw (reading, whole) at (p .answer)) (rw whole at (p .output)) in
           let done = put-written (rw is at put) (omega (arith, text-fits, long .text)) in

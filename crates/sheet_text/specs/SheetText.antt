@@ -6,14 +6,14 @@ use Prim.Native.Nat.{ℕ, zero, suc, _+_, _*_}
 use lib.Dec.{ltb}
 use lib.ListN.{length}
 use lib.Ieee.{Float}
-use Rattle.rules.specs.Numbers.{zeros}
-use Rattle.rules.specs.Sizes.{most-in-a-tensor, scratch-of-rows, tensor-length, scratch-length}
+use Rattle.rules.specs.Sizes.{most-in-a-tensor, scratch-of-rows}
 use Rattle.rules.specs.Refusals.{length-refused, scratch-refused}
 use Rattle.rules.specs.Tensor.{tensor}
-use Rattle.rules.specs.Calls.{or-else, stored, counted, scratch-after, build-refusal}
+use Rattle.rules.specs.Calls.{or-else, stored, counted, scratch-after}
 use Rattle.sheet.specs.Fields.{sheet-grid, sheet-samples}
 use Rattle.sheet.specs.Faults.{sheet-refusal}
 use Rattle.sheet.specs.Read.{buffer-length, over}
+use Rattle.sheet_build.specs.SheetTensor.{building-refusal}
 use Rattle.text.specs.Lines.{refused-line, written}
 use Rattle.tensor_text.specs.TensorText.{tensor-text}
 use Rattle.sheet_text.specs.declared.TextAnswer.{TextAnswer}
@@ -25,11 +25,9 @@ abbrev pub text-of : ℕ → List Float → List ℕ
 text-of zero numbers = tensor-text numbers
 text-of (suc refusal) numbers = refused-line (suc refusal)
 
--- the refusal that is printed: the sheet's fault, and then what its build refuses that has a tensor and a scratch of their lengths
+-- the refusal that is printed: the sheet's fault, and then what its build refuses
 unfoldable pub printed-refusal : List ℕ → ℕ
-printed-refusal bytes =
-    or-else (sheet-refusal bytes)
-    (build-refusal (sheet-grid bytes) (sheet-samples bytes) (zeros (tensor-length (sheet-grid bytes))) (zeros (scratch-length (sheet-grid bytes))))
+printed-refusal bytes = or-else (sheet-refusal bytes) (building-refusal bytes)
 
 -- all that is printed of a sheet
 unfoldable pub sheet-text : List ℕ → List ℕ

@@ -148,6 +148,15 @@ impl Surface {
         compute_m(&self.knots, &self.samples, &self.ends.condition())
     }
 
+    /// The patterns of that point, and 0 past its axes.
+    pub fn middle_patterns(&self) -> [u64; 4] {
+        let mut patterns = [0; 4];
+        for (pattern, coordinate) in patterns.iter_mut().zip(self.middle_point()) {
+            *pattern = coordinate.to_bits();
+        }
+        patterns
+    }
+
     /// The surface as a packed sheet.
     pub fn sheet(&self) -> Vec<u8> {
         packed(&self.axes, &self.knots, &self.samples)
@@ -170,6 +179,8 @@ pub struct Inputs {
     pub two_axes: Surface,
     pub three_axes: Surface,
     pub four_axes: Surface,
+    pub small_two_axes: Surface,
+    pub small_four_axes: Surface,
     pub two_axes_changed: Surface,
     pub four_axes_changed: Surface,
     pub periodic_line: Surface,
@@ -191,6 +202,8 @@ impl Inputs {
         let three_axes = Surface::new(&[6, 6, 6], Ends::NotAKnot);
         Self {
             line_of_2: Surface::new(&[2], Ends::Natural),
+            small_two_axes: Surface::new(&[8, 16], Ends::Natural),
+            small_four_axes: Surface::new(&[2, 2, 2, 4], Ends::Natural),
             two_axes_changed: two_axes.changed(),
             four_axes_changed: four_axes.changed(),
             periodic_line: Surface::new(&[256], Ends::Periodic),
@@ -217,6 +230,17 @@ impl Inputs {
             &self.even_two_axes,
             &self.even_three_axes,
             &self.even_four_axes,
+        ]
+    }
+
+    /// Surfaces whose tensors have at most 512 numbers, three of them just so many.
+    pub fn small_surfaces(&self) -> [&Surface; 5] {
+        [
+            &self.line_of_16,
+            &self.line_of_256,
+            &self.periodic_line,
+            &self.small_two_axes,
+            &self.small_four_axes,
         ]
     }
 

@@ -1,7 +1,7 @@
 //! The lines of the table: what we measure, and what it is held against. Each
 //! side keeps its buffers from call to call, and nothing is cleared between.
 
-use crate::hullashlar::{self, BUFFER, SCRATCH};
+use crate::hullashlar::{self, BUFFER, LONGEST_TENSOR, SCRATCH};
 use crate::inputs::{Inputs, Surface, CHANGED};
 use ninterp_quick::{
     compute_corner_cache, compute_m, evaluate_spline_corner_cached, evaluate_spline_from_m,
@@ -23,6 +23,7 @@ pub struct Line<'a> {
 
 const THE_RUST: &str = "the Rust's";
 const OUR_QUERY: &str = "our query";
+const OUR_TWO_CALLS: &str = "our sheet's tensor, and then our query";
 const OUR_BUILD: &str = "our fresh build";
 const RUST_BUILD: &str = "the Rust's fresh build";
 const THE_ORACLE: &str = "the oracle's reader";
@@ -61,6 +62,7 @@ pub fn lines(inputs: &Inputs) -> Vec<Line<'_>> {
         cursor("step of a cursor, 255 cells", 255),
     ]);
     lines.extend(writes(&inputs.two_axes));
+    lines.extend(surfaces(inputs));
     lines
 }
 
@@ -323,6 +325,44 @@ fn oracle_read(sheet: &[u8], knots: &mut [f64], samples: &mut [f64]) {
         &mut [0],
     );
     assert_eq!(refusal, 0, "{ACCEPTED}");
+}
+
+/// The one call for firmware beside the two calls that answer the same.
+fn surfaces(inputs: &Inputs) -> [Line<'_>; 4] {
+    let line = |name, surface| Line {
+        name,
+        held_against: OUR_TWO_CALLS,
+        ours: our_surface(surface),
+        other: our_two_calls(surface),
+    };
+    [
+        line("surface, sheet of 16", &inputs.line_of_16),
+        line("surface, sheet of 256", &inputs.line_of_256),
+        line("surface, sheet of 8×16", &inputs.small_two_axes),
+        line("surface, sheet of 2×2×2×4", &inputs.small_four_axes),
+    ]
+}
+
+fn our_surface(surface: &Surface) -> Work<'_> {
+    let sheet = surface.sheet();
+    let patterns = surface.middle_patterns();
+    Box::new(move || hullashlar::surface(&sheet, patterns).expect(ACCEPTED))
+}
+
+fn our_two_calls(surface: &Surface) -> Work<'_> {
+    let sheet = surface.sheet();
+    let point = surface.middle_point();
+    let (mut knots, mut samples) = ([0.0; BUFFER], [0.0; BUFFER]);
+    let mut tensor = vec![0.0; LONGEST_TENSOR];
+    let mut scratch = surface.scratch();
+    Box::new(move || {
+        let read =
+            hullashlar::sheet_tensor(&sheet, &mut knots, &mut samples, &mut tensor, &mut scratch);
+        let (read, length) = read.expect(ACCEPTED);
+        let knots = &knots[..read.axes.knots_length()];
+        let answer = hullashlar::query(&read.axes, knots, &tensor[..length], &point);
+        answer.expect(ACCEPTED).0
+    })
 }
 
 /// Writing a sheet beside the oracle's writer, and beside our reading of the same sheet.

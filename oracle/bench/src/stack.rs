@@ -13,9 +13,10 @@ pub struct Stack {
 }
 
 /// The stack of every exported call.
-pub fn stacks(inputs: &Inputs) -> [Stack; 18] {
+pub fn stacks(inputs: &Inputs) -> [Stack; 19] {
     let surfaces = inputs.surfaces();
     let even_surfaces = inputs.even_surfaces();
+    let small_surfaces = inputs.small_surfaces();
     let lines = [&inputs.line_of_256, &inputs.periodic_line];
     [
         deepest("hullashlar_build", &surfaces.map(build)),
@@ -36,6 +37,7 @@ pub fn stacks(inputs: &Inputs) -> [Stack; 18] {
         deepest("hullashlar_stepped", &surfaces.map(stepped)),
         deepest("hullashlar_cell_value", &[cell_value()]),
         deepest("hullashlar_cursor_next", &[cursor_next()]),
+        deepest("hullashlar_surface", &small_surfaces.map(surface)),
     ]
 }
 
@@ -184,6 +186,12 @@ fn cell_value() -> usize {
 fn cursor_next() -> usize {
     let curve = [0; 16 * 255];
     bytes_of(|| hullashlar::cursor_next(&curve, &mut 1_000).is_ok())
+}
+
+fn surface(surface: &Surface) -> usize {
+    let sheet = surface.sheet();
+    let patterns = surface.middle_patterns();
+    bytes_of(|| hullashlar::surface(&sheet, patterns).is_ok())
 }
 
 /// What the stack is painted with.

@@ -1,6 +1,8 @@
 //! A call with everything that it is given and lent.
 
 use crate::lent::{Lent, Word};
+use crate::report::NUMBERS;
+use reading::REFUSED;
 
 /// The calls of the archive, and the text of the device's program. A whole number with a sign is
 /// held by its 32 bits.
@@ -25,6 +27,7 @@ pub enum Call {
     CursorNext,
     DeviceText,
     ReadEdition1,
+    Surface,
 }
 
 impl Call {
@@ -95,6 +98,7 @@ impl Call {
             Call::CellValue => &["p0", "p1", "d0", "d1", "k", "value"],
             Call::CursorNext => &["curve", "cursor", "value"],
             Call::DeviceText => &["curve", "text", "length"],
+            Call::Surface => &["bytes", "c0", "c1", "c2", "c3"],
         }
     }
 
@@ -124,12 +128,30 @@ impl Call {
             Call::CellValue => &["value"],
             Call::CursorNext => &["cursor", "value"],
             Call::DeviceText => &["text", "length"],
+            Call::Surface => &[],
+        }
+    }
+
+    /// The refusal, 0 for none, in what the call returns. The one that returns a pattern has an
+    /// answer or a refusal in it.
+    pub fn refusal(self, returned: usize) -> usize {
+        match self {
+            Call::Surface => match returned.checked_sub(REFUSED as usize) {
+                Some(number @ 1..NUMBERS) => number,
+                _ => 0,
+            },
+            _ => returned,
         }
     }
 
     /// Whether a tensor is asked at a point.
     pub fn is_query(self) -> bool {
         matches!(self, Call::Query | Call::QuickQuery | Call::EvenQuery)
+    }
+
+    /// Whether the call is given a sheet.
+    pub fn takes_a_sheet(self) -> bool {
+        self.reads_patterns() || self == Call::Surface
     }
 
     /// Whether floats come from patterns, of which a NaN keeps no payload.
@@ -324,7 +346,7 @@ impl Case {
 
 /// Something that answers calls.
 pub trait Calls {
-    /// The refusal number, with the lent slices as the call leaves them; or none
-    /// where this call is not answered at all.
+    /// What the call returns, with the lent slices as it leaves them; or none where this call is
+    /// not answered at all.
     fn run(&self, case: &mut Case) -> Option<usize>;
 }

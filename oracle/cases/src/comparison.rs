@@ -116,7 +116,8 @@ impl Run<'_> {
     /// it (the reading where there is no subject), and whether they are the same.
     fn compare(&mut self, given: &Case) -> (usize, Case, bool) {
         let mut expected = given.clone();
-        let refusal = Reading.run(&mut expected).expect("the reading answers all");
+        let returned = Reading.run(&mut expected).expect("the reading answers all");
+        let refusal = given.call.refusal(returned);
         let counts = self.report.of_mut(self.kind);
         counts.calls += 1;
         counts.refusals[refusal] += 1;
@@ -131,11 +132,11 @@ impl Run<'_> {
             return (refusal, expected, true);
         };
         self.report.of_mut(self.kind).compared += 1;
-        let same = answer == refusal && same_arguments(&expected, &found);
+        let same = answer == returned && same_arguments(&expected, &found);
         if !same {
             let title = self.title.as_str();
             self.report.difference(self.kind, || {
-                describe(title, given, (refusal, &expected), (answer, &found))
+                describe(title, given, (returned, &expected), (answer, &found))
             });
         }
         (refusal, found, same)
@@ -151,6 +152,7 @@ impl Run<'_> {
     fn compare_sheet(&mut self, random: &mut Random, bytes: &[u8]) {
         self.compare(&lending::read(random, bytes));
         self.compare(&lending::read_edition_1(random, bytes));
+        self.compare(&lending::surface(bytes, &[]));
         self.compare(&lending::sheet_tensor(random, bytes, LONGEST_TENSOR));
     }
 

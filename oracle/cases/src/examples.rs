@@ -38,6 +38,7 @@ pub fn examples() -> Vec<Case> {
     cases.extend(cells());
     cases.extend(written_in_edition_2(random));
     cases.extend(largest_sheets(random));
+    cases.extend(surfaces(random));
     cases
 }
 
@@ -282,6 +283,35 @@ fn largest_sheets(random: &mut Random) -> Vec<Case> {
         cases.extend([written, short]);
     }
     cases
+}
+
+/// The sheet of the example in an edition and a mode, asked inside and outside its knots, at no
+/// number, with minus zero as an unused coordinate; cut; and tensors of 512 numbers and of 576, which
+/// has the fewest bytes of all that are too long.
+fn surfaces(random: &mut Random) -> Vec<Case> {
+    let example = example_sheet(1);
+    let mut held = example_sheet(2);
+    held[2] |= HOLD << 3;
+    let mut at = |points: [usize; 4]| {
+        let knots = points.map(|count| &[0.0, 1.0, 2.0, 3.0][..count]);
+        let grid = grid(&knots, [PERIODIC; 2]);
+        let samples: Vec<f64> = (0..grid.samples()).map(|sample| sample as f64).collect();
+        let mut write = lending::write(random, &grid, [EXTEND; 4], &samples, 1, 400);
+        Reading.run(&mut write);
+        let length = write.argument("length").numbers()[0];
+        lending::surface(&write.argument("bytes").bytes()[..length], &[0.5; 4])
+    };
+    let (longest, too_long) = (at([2, 2, 2, 4]), at([2, 2, 3, 3]));
+    vec![
+        lending::surface(&example, &[0.5]),
+        lending::surface(&example, &[2.0]),
+        lending::surface(&held, &[2.0]),
+        lending::surface(&example, &[f64::NAN]),
+        lending::surface(&example, &[0.5, 0.0, 0.0, -0.0]),
+        lending::surface(&example[..50], &[0.5, 1.0]),
+        longest,
+        too_long,
+    ]
 }
 
 /// NotAKnot with one point too few, and with just enough.

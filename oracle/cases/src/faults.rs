@@ -134,6 +134,9 @@ const OF_STEPPED: &[Fault] = &[
     step_overflowing,
 ];
 
+/// The faults of a surface's coordinates.
+const OF_SURFACE: &[Fault] = &[unused_not_zero, pattern_not_finite, pattern_of_any_number];
+
 /// The faults of a call, apart from lists of a fixed length and damaged sheets.
 fn faults_of(call: Call) -> &'static [Fault] {
     match call {
@@ -145,6 +148,7 @@ fn faults_of(call: Call) -> &'static [Fault] {
         Call::EvenQuery => OF_QUERY,
         Call::Write => OF_WRITE,
         Call::Read | Call::ReadEdition1 => &[length_off],
+        Call::Surface => OF_SURFACE,
         Call::SheetTensor => &[length_off, scratch_short],
         Call::ExactIndex => OF_EXACT_INDEX,
         Call::LocateAxis => OF_CURVE,
@@ -412,4 +416,31 @@ fn direction_off(random: &mut Random, case: &mut Case) {
         let axis = random.below(axes);
         case.argument_mut("directions").bytes_mut()[axis] = number as u8;
     }
+}
+
+/// The coordinates of a surface.
+const COORDINATES: [&str; 4] = ["c0", "c1", "c2", "c3"];
+
+/// Gives a coordinate of a surface a pattern that is not 0. The last are most often not in use.
+fn unused_not_zero(random: &mut Random, case: &mut Case) {
+    let (digits, float) = (random.word(), not_finite(random).to_bits());
+    let patterns = [1 << 63, 1 << 63, 1, 1.0f64.to_bits(), digits, float];
+    let name = random.pick(&["c1", "c2", "c3", "c3", "c3"]);
+    *case.argument_mut(name) = Argument::Number(random.pick(&patterns) as usize);
+}
+
+/// An infinity, or a NaN with any payload, quiet or not.
+fn pattern_not_finite(random: &mut Random, case: &mut Case) {
+    let payload = 0x7FF0_0000_0000_0000 | random.word() >> random.between(12, 63);
+    let sign = random.word() & 1 << 63;
+    let name = random.pick(&COORDINATES[..2]);
+    *case.argument_mut(name) = Argument::Number((payload | sign) as usize);
+}
+
+/// Any number at all, most often far outside the knots.
+fn pattern_of_any_number(random: &mut Random, case: &mut Case) {
+    let any = random.word();
+    let number = random.pick(&[f64::MAX, -1e300, 1e200, 5e-324]).to_bits();
+    let pattern = random.pick(&[number, any]);
+    *case.argument_mut("c0") = Argument::Number(pattern as usize);
 }

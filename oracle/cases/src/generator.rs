@@ -10,7 +10,7 @@ use crate::lending::{self, Point};
 use crate::numbers::list;
 use crate::overflow::take_an_end_to_the_edge;
 use crate::random::Random;
-use crate::sheet::{damaged_sheet, edition_of, good_sheet, length_of, swept_sheet};
+use crate::sheet::{damaged_sheet, good_sheet, length_of, swept_sheet};
 use reading::{CURVE_SCRATCH, EDITIONS, EXTEND, LONGEST_TENSOR};
 
 /// The kinds of cases: the worked examples, one kind for each call, lists
@@ -44,10 +44,11 @@ pub enum Kind {
     CursorNext,
     DeviceCurve,
     ReadEdition1,
+    Surface,
 }
 
 /// Every kind, in the order of the report.
-pub const KINDS: [Kind; 26] = [
+pub const KINDS: [Kind; 27] = [
     Kind::Example,
     Kind::Moments,
     Kind::Curve,
@@ -74,6 +75,7 @@ pub const KINDS: [Kind; 26] = [
     Kind::CursorNext,
     Kind::DeviceCurve,
     Kind::ReadEdition1,
+    Kind::Surface,
 ];
 
 impl Kind {
@@ -106,6 +108,7 @@ impl Kind {
             Kind::CursorNext => "cursor_next",
             Kind::DeviceCurve => "device_curve",
             Kind::ReadEdition1 => "read_edition_1",
+            Kind::Surface => "surface",
         }
     }
 
@@ -145,6 +148,12 @@ const FAULTY_BESIDE: usize = 4;
 /// once more.
 const FAULTY_TO_WRITE: usize = 52;
 
+/// Of surfaces some sheets are damaged, and some coordinates off, often both; some tensors are too
+/// long without either.
+const DAMAGED_SURFACES: usize = 12;
+const FAULTY_SURFACES: usize = 9;
+const FAULTY_BESIDE_DAMAGE: usize = 60;
+
 /// Axes that are not even are refused without another fault.
 const FAULTY_EVEN: usize = 18;
 
@@ -169,6 +178,7 @@ pub fn single(kind: Kind, number: usize, random: &mut Random) -> Case {
         Kind::CellValue => device::cell_value(number),
         Kind::CursorNext => device::cursor_next(random),
         Kind::ReadEdition1 => read_edition_1(random, number),
+        Kind::Surface => surface(random, number),
         Kind::Example
         | Kind::ChangeList
         | Kind::ShortSheet
@@ -359,6 +369,25 @@ fn sheet_tensor(random: &mut Random, number: usize) -> Case {
     sheet_case(random, number, FAULTY_TO_BUILD, lending::sheet_tensor)
 }
 
+/// A sheet that is asked at a point: first the small one with all that a sweep does to it.
+fn surface(random: &mut Random, number: usize) -> Case {
+    if let Some(bytes) = swept_sheet(number) {
+        return lending::surface(&bytes, &[0.5]);
+    }
+    let grid = Grid::around_the_longest_of_a_surface(random);
+    let (bytes, faulty) = if random.percent(DAMAGED_SURFACES) {
+        let bytes = damaged_sheet(random, number, &grid);
+        (bytes, FAULTY_BESIDE_DAMAGE)
+    } else {
+        (good_sheet(random, number, &grid), FAULTY_SURFACES)
+    };
+    let mut case = lending::surface(&bytes, &grid.coordinates(random));
+    if random.percent(faulty) {
+        spoil(random, &mut case);
+    }
+    case
+}
+
 /// A sheet to be written, in edition 1 most often with no mode that it has no room for.
 pub fn write(random: &mut Random) -> Case {
     let grid = Grid::generate(random);
@@ -405,12 +434,13 @@ type LendSheet = fn(&mut Random, &[u8], usize) -> Case;
 fn sheet_case(random: &mut Random, number: usize, faulty: usize, lend: LendSheet) -> Case {
     let faulty = random.percent(faulty);
     let damaged = faulty && random.percent(80);
-    let (bytes, tensor) = if damaged {
-        damaged_sheet(random, number)
+    let grid = Grid::generate(random);
+    let bytes = if damaged {
+        damaged_sheet(random, number, &grid)
     } else {
-        good_sheet(random, edition_of(number))
+        good_sheet(random, number, &grid)
     };
-    let mut case = lend(random, &bytes, tensor);
+    let mut case = lend(random, &bytes, grid.tensor());
     if faulty && (!damaged || random.percent(10)) {
         spoil(random, &mut case);
     }

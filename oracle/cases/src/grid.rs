@@ -21,6 +21,26 @@ const LARGE: [&[usize]; 12] = [
     &[16, 4, 2, 2],
 ];
 
+/// Shapes whose tensor has 512 numbers or nearly so many, and such as have a few more.
+const AROUND_512: [&[usize]; 16] = [
+    &[256],
+    &[255],
+    &[16, 8],
+    &[2, 64],
+    &[42, 3],
+    &[4, 4, 4],
+    &[2, 4, 8],
+    &[3, 3, 7],
+    &[2, 2, 2, 4],
+    &[4, 2, 2, 2],
+    &[3, 43],
+    &[43, 3],
+    &[26, 5],
+    &[2, 3, 11],
+    &[2, 2, 3, 3],
+    &[3, 2, 2, 3],
+];
+
 /// Axes as the calls take them; what stands past the axes in use is not read.
 #[derive(Debug, Clone)]
 pub struct Grid {
@@ -36,6 +56,15 @@ impl Grid {
     pub fn generate(random: &mut Random) -> Self {
         let shape = shape(random);
         Self::of_shape(random, &shape)
+    }
+
+    /// A grid of any shape, or one whose tensor has about as many numbers as that of a surface.
+    pub fn around_the_longest_of_a_surface(random: &mut Random) -> Self {
+        if random.percent(15) {
+            let shape = random.pick(&AROUND_512);
+            return Self::of_shape(random, shape);
+        }
+        Self::generate(random)
     }
 
     /// A grid of one axis.

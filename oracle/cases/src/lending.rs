@@ -263,6 +263,17 @@ pub fn sheet_tensor(random: &mut Random, bytes: &[u8], tensor: usize) -> Case {
     Case::new(Call::SheetTensor, arguments)
 }
 
+/// A sheet to be asked at coordinates; the patterns behind them are 0.
+pub fn surface(bytes: &[u8], coordinates: &[f64]) -> Case {
+    let mut patterns = [0; 4];
+    for (pattern, coordinate) in patterns.iter_mut().zip(coordinates) {
+        *pattern = coordinate.to_bits() as usize;
+    }
+    let mut arguments = vec![Argument::of_bytes(bytes)];
+    arguments.extend(patterns.map(Argument::Number));
+    Case::new(Call::Surface, arguments)
+}
+
 /// The sheet of a grid, its modes and its samples, to be written in an edition to so many bytes.
 pub fn write(
     random: &mut Random,

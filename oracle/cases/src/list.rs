@@ -7,7 +7,7 @@
 //! - the number of its call, in the order of [`CALLS`];
 //! - its arguments in order: a number or a float is one word; a slice is its
 //!   length, a form and what the form wants;
-//! - the refusal;
+//! - what it returns;
 //! - for each slice that the call may write, in order, a form and what it wants:
 //!   the slice after the call.
 //!
@@ -24,7 +24,7 @@ use crate::reading_calls::Reading;
 use crate::report::NUMBERS;
 
 /// The calls in the order of their numbers; the program's text is none of them.
-pub const CALLS: [Call; 18] = [
+pub const CALLS: [Call; 19] = [
     Call::Moments,
     Call::Curve,
     Call::Slopes,
@@ -43,6 +43,7 @@ pub const CALLS: [Call; 18] = [
     Call::CellValue,
     Call::CursorNext,
     Call::ReadEdition1,
+    Call::Surface,
 ];
 
 /// The seed of the list; another one makes another list.
@@ -54,19 +55,23 @@ const ACCEPTED: usize = 20;
 /// How many cases of each refusal of each call.
 const REFUSED: usize = 2;
 
-/// The most words of a case.
+/// The most words of a generated case, and of an example: a sheet whose tensor is too long for a
+/// surface has 375 bytes at least, and each is a word.
 const LONGEST_CASE: usize = 180;
+const LONGEST_EXAMPLE: usize = 400;
 
-/// The most bytes that a slice of them has.
-const MOST_BYTES: usize = 256;
+/// The most bytes that a slice has, which the program `replay` has room for.
+const MOST_BYTES: usize = 512;
 
 /// How many generated cases of a kind are looked at.
 const LOOKED_AT: u64 = 3_000;
 
 /// The words of the list: the worked examples, and generated cases of every call.
 pub fn list() -> Vec<u64> {
-    let mut cases: Vec<Vec<u64>> = examples().iter().map(|case| answered(case).1).collect();
-    cases.retain(|words| words.len() <= LONGEST_CASE);
+    let mut examples = examples();
+    examples.retain(few_bytes);
+    let mut cases: Vec<Vec<u64>> = examples.iter().map(|case| answered(case).1).collect();
+    cases.retain(|words| words.len() <= LONGEST_EXAMPLE);
     for kind in KINDS.into_iter().filter(|kind| kind.is_single_call()) {
         cases.extend(chosen(kind));
     }
@@ -104,17 +109,18 @@ fn few_bytes(case: &Case) -> bool {
 /// The refusal and the words of a case.
 fn answered(given: &Case) -> (usize, Vec<u64>) {
     let mut after = given.clone();
-    let refusal = Reading.run(&mut after).expect("the reading answers all");
-    (refusal, words(given, refusal, &after))
+    let returned = Reading.run(&mut after).expect("the reading answers all");
+    let refusal = given.call.refusal(returned);
+    (refusal, words(given, returned, &after))
 }
 
-fn words(given: &Case, refusal: usize, after: &Case) -> Vec<u64> {
+fn words(given: &Case, returned: usize, after: &Case) -> Vec<u64> {
     let number = CALLS.iter().position(|call| *call == given.call);
     let mut words = vec![number.expect("every call has a number") as u64];
     for argument in &given.arguments {
         words.extend(argument_words(argument));
     }
-    words.push(refusal as u64);
+    words.push(returned as u64);
     for name in given.call.written() {
         let (given, after) = (given.argument(name).words(), after.argument(name).words());
         words.extend(after_words(&given, &after));

@@ -396,7 +396,7 @@ impl Reached {
         if matches!(case.call, Call::CellValue | Call::CursorNext | Call::DeviceText) {
             return;
         }
-        let (cases, edges) = if case.call.reads_patterns() {
+        let (cases, edges) = if case.call.takes_a_sheet() {
             (self.sheets.as_mut_slice(), SHEET_EDGES.as_slice())
         } else {
             (self.cases.as_mut_slice(), EDGES.as_slice())

@@ -17,6 +17,7 @@ impl Calls for Reading {
             Call::Read | Call::ReadEdition1 | Call::SheetTensor | Call::Write => {
                 on_a_sheet(case.call, arguments)
             }
+            Call::Surface => of_a_sheet(arguments),
             Call::ExactIndex | Call::LocateAxis | Call::LocateStepIndex | Call::Stepped => {
                 by_steps(case.call, arguments)
             }
@@ -132,6 +133,14 @@ fn on_a_sheet(call: Call, arguments: &mut [Argument]) -> usize {
         ),
         _ => panic!("a case has the arguments of its call"),
     }
+}
+
+fn of_a_sheet(arguments: &mut [Argument]) -> usize {
+    let [bytes, coordinates @ ..] = arguments else {
+        panic!("a case has the arguments of its call")
+    };
+    let patterns = [0, 1, 2, 3].map(|axis: usize| coordinates[axis].number() as u64);
+    reading::surface(bytes.bytes(), patterns) as usize
 }
 
 #[rustfmt::skip]

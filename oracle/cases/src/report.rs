@@ -143,9 +143,13 @@ pub(crate) fn describe(
     expected: (usize, &Case),
     found: (usize, &Case),
 ) -> String {
+    let returned = [expected.0, found.0].map(|returned| match returned {
+        0..NUMBERS => returned.to_string(),
+        pattern => format!("{pattern:016X}"),
+    });
     let mut text = format!(
-        "DIFFERENCE in {title}: {:?}\n  refusal: expected {}, found {}\n",
-        given.call, expected.0, found.0
+        "DIFFERENCE in {title}: {:?}\n  returned: expected {}, found {}\n",
+        given.call, returned[0], returned[1]
     );
     for (position, name) in given.call.arguments().iter().enumerate() {
         let patterns = abbreviated(&given.arguments[position].words());

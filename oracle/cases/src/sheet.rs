@@ -30,20 +30,19 @@ fn bits_of_an_axis(edition: usize) -> usize {
     }
 }
 
-/// A sheet of an edition that the reader accepts, with the length of its tensor.
-pub fn good_sheet(random: &mut Random, edition: usize) -> (Vec<u8>, usize) {
-    let (fields, tensor) = good_fields(random, edition);
-    (pack(&fields), tensor)
+/// The sheet of a number, on a grid: one that the reader accepts.
+pub fn good_sheet(random: &mut Random, number: usize, grid: &Grid) -> Vec<u8> {
+    pack(&good_fields(random, edition_of(number), grid))
 }
 
-fn good_fields(random: &mut Random, edition: usize) -> (Fields, usize) {
-    let mut grid = Grid::generate(random);
+fn good_fields(random: &mut Random, edition: usize, grid: &Grid) -> Fields {
+    let mut grid = grid.clone();
     let mut samples = list(random, grid.samples());
     if random.percent(12) {
         spoil_for_build(random, &mut grid, &mut samples);
     }
     let modes = grid.modes(random);
-    (fields(edition, &grid, &modes, &samples), grid.tensor())
+    fields(edition, &grid, &modes, &samples)
 }
 
 /// Faults that the reader hands on and the build refuses.
@@ -162,11 +161,11 @@ pub fn short_sheet(number: u64) -> Vec<u8> {
     }
 }
 
-/// The sheet of a number with a fault; some faults leave a sheet that is still good.
-pub fn damaged_sheet(random: &mut Random, number: usize) -> (Vec<u8>, usize) {
+/// The sheet of a number, on a grid, with a fault; some faults leave a sheet that is still good.
+pub fn damaged_sheet(random: &mut Random, number: usize, grid: &Grid) -> Vec<u8> {
     let edition = edition_of(number);
-    let (mut fields, tensor) = good_fields(random, edition);
-    let bytes = match random.below(14) {
+    let mut fields = good_fields(random, edition, grid);
+    match random.below(14) {
         0..=2 => {
             replace_small_field(random, &mut fields);
             pack(&fields)
@@ -185,8 +184,7 @@ pub fn damaged_sheet(random: &mut Random, number: usize) -> (Vec<u8>, usize) {
             fields[0].0 = other_edition(edition) as u64;
             pack(&fields)
         }
-    };
-    (bytes, tensor)
+    }
 }
 
 /// Sets the bits of a mode to 3: as they stand, behind kinds that do not go together, or with nothing

@@ -54,7 +54,9 @@ impl Words {
         match name {
             "points" if one_axis => Argument::Number(self.next() as usize),
             "axes" | "edition" if !call.reads_patterns() => Argument::Number(self.next() as usize),
-            "lower" | "direction" => Argument::Number(self.next() as usize),
+            "lower" | "direction" | "c0" | "c1" | "c2" | "c3" => {
+                Argument::Number(self.next() as usize)
+            }
             "point" | "sample" => Argument::Float(f64::from_bits(self.next())),
             "kinds" | "modes" | "directions" | "bytes" => {
                 let bytes: Vec<u8> = self.slice().into_iter().map(|word| word as u8).collect();
@@ -96,8 +98,9 @@ fn the_list_gives_the_readings_answers_back() {
     for _ in 0..count {
         let given = words.case();
         let mut after = given.clone();
-        let refusal = Reading.run(&mut after).unwrap();
-        assert_eq!(refusal, words.next() as usize);
+        let returned = Reading.run(&mut after).unwrap();
+        assert_eq!(returned, words.next() as usize);
+        let refusal = given.call.refusal(returned);
         for name in given.call.written() {
             let expected = words.after(&given.argument(name).words());
             assert_eq!(after.argument(name).words(), expected, "{name}");
@@ -109,5 +112,5 @@ fn the_list_gives_the_readings_answers_back() {
     assert!(STORED.len() < ROOM, "{}", STORED.len());
     assert!(seen.iter().all(|refusals| refusals[0] >= 20));
     let refused = |number: usize| seen.iter().any(|refusals| refusals[number] > 0);
-    assert!((1..=15).chain([18, 21, 22, 23]).all(refused));
+    assert!((1..=18).chain([21, 22, 23]).all(refused));
 }

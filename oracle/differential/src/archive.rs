@@ -45,6 +45,7 @@ impl Calls for Archive {
             Call::CursorNext => cursor_next(arguments),
             Call::DeviceText => device_text(arguments),
             Call::ReadEdition1 => read_edition_1(arguments),
+            Call::Surface => surface(arguments),
         };
         Some(refusal)
     }
@@ -438,4 +439,15 @@ fn device_text(arguments: &mut [Argument]) -> usize {
     text.bytes_mut()[..printed.len()].copy_from_slice(&printed);
     length.numbers_mut()[0] = printed.len();
     0
+}
+
+fn surface(arguments: &mut [Argument]) -> usize {
+    let [bytes, c0, c1, c2, c3] = arguments else {
+        panic!("a case has the arguments of its call")
+    };
+    let bytes = lent(bytes.bytes());
+    let [c0, c1, c2, c3] = [c0, c1, c2, c3].map(|pattern| pattern.number() as u64);
+    // SAFETY: the pair is a live slice.
+    let answer = unsafe { hullashlar_surface(bytes.0, bytes.1, c0, c1, c2, c3) };
+    answer as usize
 }

@@ -41,6 +41,16 @@ fn of_ours(argument: &str) -> Vec<String> {
     }
 }
 
+/// The header without the lines of its comments, which have an example.
+fn without_comments(header: &str) -> String {
+    let in_a_comment = |line: &&str| {
+        let begin = line.trim_start();
+        begin.starts_with("/*") || begin.starts_with('*')
+    };
+    let code = header.lines().filter(|line| !in_a_comment(line));
+    code.collect::<Vec<_>>().join("\n")
+}
+
 fn of_c(argument: &str) -> Vec<String> {
     let end = argument
         .rfind([' ', '*'])
@@ -50,6 +60,7 @@ fn of_c(argument: &str) -> Vec<String> {
         "size_t" => "usize",
         "uint8_t" => "u8",
         "int32_t" => "i32",
+        "uint64_t" => "u64",
         "double" => "f64",
         "const double *" => "*const f64",
         "const size_t *" => "*const usize",
@@ -68,7 +79,7 @@ fn of_c(argument: &str) -> Vec<String> {
 fn the_calls_are_declared_alike() {
     let ours = declared(OURS, of_ours);
     assert!(!ours.is_empty());
-    assert_eq!(declared(FOR_C, of_c), ours);
+    assert_eq!(declared(&without_comments(FOR_C), of_c), ours);
     assert_eq!(
         declared(FOR_RUST, |argument| vec![argument.to_string()]),
         ours

@@ -1,7 +1,7 @@
 //! The rules read in Rust, with every call in the form that the archive
 //! exports. All float arithmetic is done by the unchanged functions of ninterp.
 //!
-//! Every call returns the refusal number, 0 for none, and leaves what it was
+//! Every call but `surface` returns the refusal number, 0 for none, and leaves what it was
 //! lent as the rules say.
 
 mod bits;
@@ -15,6 +15,7 @@ mod refusals;
 mod shape;
 mod sheet;
 mod step;
+mod surface;
 mod tensor;
 mod write;
 
@@ -27,6 +28,7 @@ pub use refusals::CURVE_SCRATCH;
 pub use shape::{Shape, LONGEST_TENSOR};
 pub use sheet::{read, read_edition_1, sheet_tensor, BUFFER, EDITIONS};
 pub use step::{exact_index, locate_axis, locate_step_index, stepped};
+pub use surface::{surface, REFUSED, SURFACE_TENSOR};
 pub use tensor::{
     build, change, closed_sum_of_lanes, lanes_of_build, lanes_of_change, solve_lane, solve_lanes,
     Lane,

@@ -16,15 +16,15 @@ pub const EDITIONS: [usize; 2] = [1, 2];
 /// What a sheet says; axes not in use stay as they are here at first, and so do all of a
 /// sheet that is not read.
 #[derive(Default)]
-struct Sheet {
+pub struct Sheet {
     edition: usize,
-    axes: usize,
-    points: [usize; 4],
+    pub axes: usize,
+    pub points: [usize; 4],
     kinds: [u8; 8],
     values: [f64; 8],
-    modes: [u8; 4],
-    knots: Vec<f64>,
-    samples: Vec<f64>,
+    pub modes: [u8; 4],
+    pub knots: Vec<f64>,
+    pub samples: Vec<f64>,
 }
 
 /// Reads a sheet of either edition into lent buffers.
@@ -151,7 +151,11 @@ fn read_sheet(
 }
 
 /// The length of a sheet's tensor, once it stands in the lent one.
-fn build_sheet(sheet: &Sheet, tensor: &mut [f64], scratch: &mut [f64]) -> Result<usize, Refusal> {
+pub fn build_sheet(
+    sheet: &Sheet,
+    tensor: &mut [f64],
+    scratch: &mut [f64],
+) -> Result<usize, Refusal> {
     let length = sheet.samples.len() << sheet.axes;
     let refusal = build(
         sheet.axes,
@@ -167,7 +171,7 @@ fn build_sheet(sheet: &Sheet, tensor: &mut [f64], scratch: &mut [f64]) -> Result
 }
 
 /// The fields in reading order, each with the faults met there.
-fn parse(editions: &[usize], bytes: &[u8]) -> Result<Sheet, Refusal> {
+pub fn parse(editions: &[usize], bytes: &[u8]) -> Result<Sheet, Refusal> {
     let mut bits = Bits::new(bytes);
     let mut sheet = Sheet {
         edition: bits.field(4)? as usize,

@@ -14,6 +14,7 @@ pub fn differences(subject: &dyn Calls, kind: Kind) -> u64 {
         Kind::Example => 1,
         Kind::ChangeList | Kind::EitherOrder => 100,
         Kind::AtEveryPlace => 20,
+        Kind::Surface => 6000,
         _ => 3000,
     };
     let report = compare_all(subject, &Plan::of_kind(4, kind, number));

@@ -1,0 +1,7 @@
+pub mod Small
+pub mod Builds
+pub mod Answers
+pub mod Values
+pub mod Unique
+pub mod RefusalsAreNoAnswers
+pub mod BuildThenQuery

@@ -1,0 +1,53 @@
+use mathlib.Core.Path.{sym, _∙_}
+use Rattle.surface.proofs.Small.{range}
+use Rattle.surface.proofs.Answers.{fault-few, sheet-read, sheet-small, reader-refuses, stack-refuses, unused-refuses, sheet-asked}
+use borrow.Author.Needs.{needs}
+use Rattle.surface.proofs.surface.Statement.{statement}
+use Rattle.surface.proofs.surface.Tie as tie
+
+refusal-pattern-requires : tie.Need-refusal-pattern-requires
+refusal-pattern-requires c κs = fault-few _ _ (c .before .look .ensures)
+
+returns : tie.Need-returns
+returns c = reader-refuses _ _ (c .before .before .look .ensures) _ (c .before .if1 .taken) _ (c .refusal-pattern .ensures)
+
+tensor-length-requires : tie.Need-tensor-length-requires
+tensor-length-requires c κs = range _ _ _ _ (sheet-read _ _ (c .before .before .look .ensures) (c .before .if1 .left))
+
+returns-2 : tie.Need-returns-2
+returns-2 c =
+    stack-refuses _ _ (c .before .before .before .before .before .look .ensures) _ (c .before .before .before .before .if1 .left) _ (c .before .before .tensor-length .ensures .0) (c .before .if2 .taken) _
+    (c .refusal-pattern2 .ensures)
+
+is-unused-refused-requires : tie.Need-is-unused-refused-requires
+is-unused-refused-requires c κs = range _ _ _ _ (sheet-read _ _ (c .before .before .before .before .look .ensures) (c .before .before .before .if1 .left)) .few-axes
+
+returns-3 : tie.Need-returns-3
+returns-3 c =
+    unused-refuses _ _ (c .before .before .before .before .before .before .before .look .ensures) _ (c .before .before .before .before .before .before .if1 .left) _ (c .before .before .before .before .tensor-length .ensures .0) (c .before .before .before .if2 .left)
+    (sym (c .before .before .is-unused-refused .ensures) ∙ c .before .if3 .taken) _ (c .refusal-pattern3 .ensures)
+
+on-the-stack-requires : tie.Need-on-the-stack-requires
+on-the-stack-requires c κs =
+    sheet-small _ _ (c .before .before .before .before .before .before .look .ensures) (c .before .before .before .before .before .if1 .left) _ (c .before .before .before .tensor-length .ensures .0) (c .before .before .if2 .left)
+
+returns-4 : tie.Need-returns-4
+returns-4 c =
+    sheet-asked _ _ (c .before .before .before .before .before .before .before .look .ensures) _ (c .before .before .before .before .before .before .if1 .left) _ (c .before .before .before .before .tensor-length .ensures .0) (c .before .before .before .if2 .left)
+    (sym (c .before .before .is-unused-refused .ensures) ∙ c .before .if3 .left) _ (c .on-the-stack .ensures)
+
+pub surface-spec : {M : Type 1} → statement M
+surface-spec =
+    tie.close
+    (tie.spec
+    (λ c κs. search needs)
+    refusal-pattern-requires
+    returns
+    tensor-length-requires
+    (λ c κs. search needs)
+    returns-2
+    is-unused-refused-requires
+    (λ c κs. search needs)
+    returns-3
+    on-the-stack-requires
+    returns-4)

@@ -1,0 +1,2 @@
+pub mod SheetSurface
+pub mod Within
