@@ -1,5 +1,6 @@
 /* Hullashlar for C: every public call over numbers and plain slices. docs/RULES.md says what each computes and when it
- * refuses, in its chapters Calls, EvenCalls, StepCalls, Read, SheetTensor, Write, SheetSurface, Exports and StepExports.
+ * refuses, in its chapters Calls, EvenCalls, StepCalls, Read, SheetTensor, Write, SheetSurface, Exports and
+ * StepExports.
  *
  * The machine. The archive, target/staticlib/libhost.a, is code for x86-64, with SSE2 and the System V calling
  * convention. Of its host it wants memcpy and memset, and nothing else. It computes under the caller's MXCSR, which
@@ -14,10 +15,10 @@
  * slices named as written. So calls may run at the same time, on threads or in handlers, where none writes a slice that
  * another uses.
  *
- * Memory for the largest grid: tensor 32,768 bytes, scratch 49,152, the two buffers of a sheet 16,384, together 98,304.
- * hullashlar_surface is lent nothing but the sheet, and has its memory on the stack.
- * docs/BENCH.md has the stack of each call (below 6,300 bytes but for that one), the size of the code (below 42,000 bytes without the
- * calls of steps) and what the archive's proofs rest on.
+ * Memory for the largest grid: tensor 32,768 bytes, scratch 49,152, the two buffers of a sheet 16,384, together
+ * 98,304. hullashlar_surface is lent nothing but the sheet, and has its memory on the stack. docs/BENCH.md has the
+ * stack of each call (below 6,300 bytes but for that one), the size of the code (below 42,000 bytes without the calls
+ * of steps) and what the archive's proofs rest on.
  *
  * Axes. Points, kinds, values, modes, directions, places, labels and indices are lent for four axes. No call looks at
  * what stands past the axes in use, and labels and indices are 0 there. kinds[2 i] and values[2 i] are the lower end of
@@ -338,14 +339,14 @@ size_t hullashlar_stepped(size_t axes,
                           double *value, size_t value_length,
                           size_t *indices, size_t indices_length);
 
-/* What hullashlar_surface returns where it refuses: this pattern plus the number of the refusal. No finite double has all
- * of its bits. */
+/* What hullashlar_surface returns where it refuses: this pattern plus the number of the refusal. No finite double has
+ * all of its bits. */
 #define HULLASHLAR_REFUSED UINT64_C(0x7FF8000000000000)
 
-/* One call for firmware that keeps a sheet and no tensor: reads the sheet, builds its tensor and asks it at a point. The
- * coordinates are the patterns of doubles, one for each axis of the sheet; those past its axes must be 0. What becomes of
- * a coordinate outside the knots of an axis is said by the sheet, and is extend in edition 1. Returns the pattern of the
- * value, which is that of hullashlar_sheet_tensor and then hullashlar_query, or a refusal.
+/* One call for firmware that keeps a sheet and no tensor: reads the sheet, builds its tensor and asks it at a point.
+ * The coordinates are the patterns of doubles, one for each axis of the sheet; those past its axes must be 0. What
+ * becomes of a coordinate outside the knots of an axis is said by the sheet, and is extend in edition 1. Returns the
+ * pattern of the value, which is that of hullashlar_sheet_tensor and then hullashlar_query, or a refusal.
  *
  *     static uint64_t pattern(double x) { uint64_t p; memcpy(&p, &x, sizeof p); return p; }
  *
@@ -358,10 +359,10 @@ size_t hullashlar_stepped(size_t axes,
  *         return true;
  *     }
  *
- * Stack: STACK_BYTES bytes. 28,672 of them are buffers: scratch 20,480, tensor 4,096, knots 2,048, samples 2,048. The
- * rest are the frames of the build, which goes deeper than the reader and the query.
- * Written: nothing. Refuses by the first of 11, 12, 1, 2, 13, 22, 3, 14 that is met on the way through the sheet; then by
- * 16, 17; then as a build by 7, 8, 9, 10; then as a query by 7, 18, 10. */
+ * Stack: 34,688 bytes. 28,672 of them are buffers: scratch 20,480, tensor 4,096, knots 2,048, samples 2,048. The rest
+ * are the frames of the functions that read, build and ask.
+ * Written: nothing. Refuses by the first of 11, 12, 1, 2, 13, 22, 3, 14 that is met on the way through the sheet; then
+ * by 16, 17; then as a build by 7, 8, 9, 10; then as a query by 7, 18, 10. */
 uint64_t hullashlar_surface(const uint8_t *bytes, size_t bytes_length,
                             uint64_t c0, uint64_t c1, uint64_t c2, uint64_t c3);
 
