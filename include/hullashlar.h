@@ -346,14 +346,14 @@ size_t hullashlar_stepped(size_t axes,
                           double *value, size_t value_length,
                           size_t *indices, size_t indices_length);
 
-/* What hullashlar_surface returns where it refuses: this pattern plus the number of the refusal. No finite double has all
- * of its bits. */
+/* What hullashlar_surface returns where it refuses: this pattern plus the number of the refusal. No finite double has
+ * all of its bits. */
 #define HULLASHLAR_REFUSED UINT64_C(0x7FF8000000000000)
 
-/* One call for firmware that keeps a sheet and no tensor: reads the sheet, builds its tensor and asks it at a point. The
- * coordinates are the patterns of doubles, one for each axis of the sheet; those past its axes must be 0. What becomes of
- * a coordinate outside the knots of an axis is said by the sheet, and is extend in edition 1. Returns the pattern of the
- * value, which is that of hullashlar_sheet_tensor and then hullashlar_query, or a refusal.
+/* One call for firmware that keeps a sheet and no tensor: reads the sheet, builds its tensor and asks it at a point.
+ * The coordinates are the patterns of doubles, one for each axis of the sheet; those past its axes must be 0. What
+ * becomes of a coordinate outside the knots of an axis is said by the sheet, and is extend in edition 1. Returns the
+ * pattern of the value, which is that of hullashlar_sheet_tensor and then hullashlar_query, or a refusal.
  *
  *     static uint64_t pattern(double x) { uint64_t p; memcpy(&p, &x, sizeof p); return p; }
  *
@@ -366,10 +366,10 @@ size_t hullashlar_stepped(size_t axes,
  *         return true;
  *     }
  *
- * Stack: STACK_BYTES bytes. 28,672 of them are buffers: scratch 20,480, tensor 4,096, knots 2,048, samples 2,048. The
- * rest are the frames of the build, which goes deeper than the reader and the query.
- * Written: nothing. Refuses by the first of 11, 12, 1, 2, 13, 22, 3, 14 that is met on the way through the sheet; then by
- * 16, 17; then as a build by 7, 8, 9, 10; then as a query by 7, 18, 10. */
+ * Stack: 34,688 bytes. 28,672 of them are buffers: scratch 20,480, tensor 4,096, knots 2,048, samples 2,048. The rest
+ * are the frames of the functions that read, build and ask.
+ * Written: nothing. Refuses by the first of 11, 12, 1, 2, 13, 22, 3, 14 that is met on the way through the sheet; then
+ * by 16, 17; then as a build by 7, 8, 9, 10; then as a query by 7, 18, 10. */
 uint64_t hullashlar_surface(const uint8_t *bytes, size_t bytes_length,
                             uint64_t c0, uint64_t c1, uint64_t c2, uint64_t c3);
 

@@ -14,7 +14,7 @@ use rules::Axis;
 use sheet::look::look;
 use sheet::store::store_parts;
 
-// Stores the sheet's knots and builds its tensor. Samples and scratch are local, so that they are gone when the tensor is asked.
+// Stores the sheet's knots and builds its tensor. Samples and scratch are its own, since the query needs neither.
 fn build_sheet(
     bytes: &[u8],
     edition: usize,
