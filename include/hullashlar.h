@@ -17,7 +17,7 @@
  *
  * Memory for the largest grid: tensor 32,768 bytes, scratch 49,152, the two buffers of a sheet 16,384, together 98,304.
  * hullashlar_surface is lent nothing but the sheet, and has its memory on the stack.
- * docs/BENCH.md has the stack of each call (below 6,300 bytes but for that one), the size of the code and what the
+ * docs/BENCH.md has the stack of each call (below 6,800 bytes but for that one), the size of the code and what the
  * archive's proofs rest on.
  *
  * Axes. Points, kinds, values, modes, directions, places, labels and indices are lent for four axes. No call looks at
@@ -366,7 +366,7 @@ size_t hullashlar_stepped(size_t axes,
  *         return true;
  *     }
  *
- * Stack: 34,688 bytes. 28,672 of them are buffers: scratch 20,480, tensor 4,096, knots 2,048, samples 2,048. The rest
+ * Stack: 35,384 bytes. 28,672 of them are buffers: scratch 20,480, tensor 4,096, knots 2,048, samples 2,048. The rest
  * are the frames of the functions that read, build and ask.
  * Written: nothing. Refuses by the first of 11, 12, 1, 2, 13, 22, 3, 14 that is met on the way through the sheet; then
  * by 16, 17; then as a build by 7, 8, 9, 10; then as a query by 7, 18, 10. */
