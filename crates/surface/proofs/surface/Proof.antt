@@ -1,4 +1,6 @@
 use mathlib.Core.Path.{sym, _∙_}
+use Prim.Native.Nat.{_<_, _≤_}
+use native.Mathlib.Omega.{arith}
 use Rattle.surface.proofs.Small.{range}
 use Rattle.surface.proofs.Answers.{fault-few, sheet-read, sheet-small, reader-refuses, stack-refuses, unused-refuses, sheet-asked}
 use borrow.Author.Needs.{needs}
@@ -16,24 +18,27 @@ tensor-length-requires c κs = range _ _ _ _ (sheet-read _ _ (c .before .before 
 
 returns-2 : tie.Need-returns-2
 returns-2 c =
-    stack-refuses _ _ (c .before .before .before .before .before .look .ensures) _ (c .before .before .before .before .if1 .left) _ (c .before .before .tensor-length .ensures .0) (c .before .if2 .taken) _
-    (c .refusal-pattern2 .ensures)
+    let long : 512 < c .before .before .tensor-length .result = omega arith in
+    stack-refuses _ _ (c .before .before .before .before .before .look .ensures) _ (c .before .before .before .before .if1 .left) _ (c .before .before .tensor-length .ensures .0) long _ (c .refusal-pattern2 .ensures)
 
 is-unused-refused-requires : tie.Need-is-unused-refused-requires
 is-unused-refused-requires c κs = range _ _ _ _ (sheet-read _ _ (c .before .before .before .before .look .ensures) (c .before .before .before .if1 .left)) .few-axes
 
 returns-3 : tie.Need-returns-3
 returns-3 c =
-    unused-refuses _ _ (c .before .before .before .before .before .before .before .look .ensures) _ (c .before .before .before .before .before .before .if1 .left) _ (c .before .before .before .before .tensor-length .ensures .0) (c .before .before .before .if2 .left)
+    let short : c .before .before .before .before .tensor-length .result ≤ 512 = omega arith in
+    unused-refuses _ _ (c .before .before .before .before .before .before .before .look .ensures) _ (c .before .before .before .before .before .before .if1 .left) _ (c .before .before .before .before .tensor-length .ensures .0) short
     (sym (c .before .before .is-unused-refused .ensures) ∙ c .before .if3 .taken) _ (c .refusal-pattern3 .ensures)
 
 on-the-stack-requires : tie.Need-on-the-stack-requires
 on-the-stack-requires c κs =
-    sheet-small _ _ (c .before .before .before .before .before .before .look .ensures) (c .before .before .before .before .before .if1 .left) _ (c .before .before .before .tensor-length .ensures .0) (c .before .before .if2 .left)
+    let short : c .before .before .before .tensor-length .result ≤ 512 = omega arith in
+    sheet-small _ _ (c .before .before .before .before .before .before .look .ensures) (c .before .before .before .before .before .if1 .left) _ (c .before .before .before .tensor-length .ensures .0) short
 
 returns-4 : tie.Need-returns-4
 returns-4 c =
-    sheet-asked _ _ (c .before .before .before .before .before .before .before .look .ensures) _ (c .before .before .before .before .before .before .if1 .left) _ (c .before .before .before .before .tensor-length .ensures .0) (c .before .before .before .if2 .left)
+    let short : c .before .before .before .before .tensor-length .result ≤ 512 = omega arith in
+    sheet-asked _ _ (c .before .before .before .before .before .before .before .look .ensures) _ (c .before .before .before .before .before .before .if1 .left) _ (c .before .before .before .before .tensor-length .ensures .0) short
     (sym (c .before .before .is-unused-refused .ensures) ∙ c .before .if3 .left) _ (c .on-the-stack .ensures)
 
 pub surface-spec : {M : Type 1} → statement M
