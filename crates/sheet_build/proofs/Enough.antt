@@ -7,7 +7,7 @@ use borrow.Author.Tests.{eq-eqb, le-ltb, ltb-false}
 use lib.ListN.{length, take, length-take, length-replicate}
 use lib.Ieee.{Float}
 use Rattle.rules.specs.Numbers.{plus-zero, zeros}
-use Rattle.rules.specs.Sizes.{Grid, tensor-length, scratch-length}
+use Rattle.rules.specs.Sizes.{tensor-length, scratch-length}
 use Rattle.rules.specs.Calls.{or-else, build-refusal}
 use Rattle.sheet.specs.Fields.{sheet-grid, sheet-samples}
 use Rattle.sheet.specs.Faults.{sheet-refusal}

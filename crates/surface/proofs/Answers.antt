@@ -14,7 +14,7 @@ use Rattle.rules.specs.Sizes.{Grid, tensor-length}
 use Rattle.rules.specs.Refusals.{axes-refused, some-points-refused, tensor-refused, some-number-refused, some-knots-refused, answer-refused}
 use Rattle.rules.specs.Outside.{some-outside-refused}
 use Rattle.rules.specs.Query.{query-in-modes}
-use Rattle.rules.specs.Calls.{or-else, answered, query-lengths-refused, query-refusal, query-answer, QueryPromise}
+use Rattle.rules.specs.Calls.{or-else, query-lengths-refused, query-refusal, query-answer, QueryPromise}
 use Rattle.rules.specs.declared.Axis.{Axis}
 use Rattle.rules.specs.declared.QueryAnswer.{QueryAnswer}
 use Rattle.rules.proofs.Refused.{or-else-met}

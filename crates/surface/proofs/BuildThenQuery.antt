@@ -1,9 +1,8 @@
 -- Where neither 16 nor 17 applies, the call answers what the public calls `tensor_of_sheet` and `query` give one after the other.
-use mathlib.Core.Path.{_≡_, refl, sym, ap, _∙_}
-use mathlib.Core.Bool.{Bool, true, false, cond}
+use mathlib.Core.Path.{_≡_, refl, ap, _∙_}
+use mathlib.Core.Bool.{Bool, true, false}
 use mathlib.Core.List.{List}
 use Prim.Native.Nat.{ℕ, zero, suc}
-use native.Mathlib.Omega.{arith}
 use lib.ListN.{length}
 use lib.Ieee.{Float}
 use Rattle.rules.specs.Sizes.{Grid}
@@ -60,10 +59,6 @@ module _
       unfolding surface-refusal
       refusals-are = go (sheet-refusal bytes) refl
         where
-          in-turn : (a b c : ℕ) → or-else a (or-else b c) ≡ or-else (or-else a b) c
-          in-turn zero b c = refl
-          in-turn (suc a) b c = refl
-
           go : (fault : ℕ) → sheet-refusal bytes ≡ fault → surface-refusal bytes patterns ≡ or-else (given .refusal) (asked bytes patterns .refusal)
           go zero e = own-passed e ∙ rw (first-is, e)
           go (suc fault) e = rw (first-is, e)

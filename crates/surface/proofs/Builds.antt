@@ -1,12 +1,12 @@
 -- What the build of a sheet leaves that was lent places of the right lengths.
 use mathlib.Core.Path.{_≡_, sym, _∙_}
 use mathlib.Core.List.{List}
-use Prim.Native.Nat.{ℕ, _-_, _≤_}
+use Prim.Native.Nat.{ℕ, _-_}
 use native.Mathlib.Nat.{sub-zero}
 use native.Mathlib.Omega.{arith}
 use lib.ListN.{length, take}
 use lib.Ieee.{Float}
-use Rattle.rules.specs.Sizes.{samples-length, tensor-length}
+use Rattle.rules.specs.Sizes.{samples-length}
 use Rattle.rules.specs.Calls.{BuildPromise}
 use Rattle.rules.specs.declared.Axis.{Axis}
 use Rattle.grid.specs.Given.{grid, sizes-of}

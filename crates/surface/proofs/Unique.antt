@@ -1,11 +1,10 @@
 -- The promise has one answer, and no answer depends on the payload of a NaN: patterns of the same numbers are answered alike.
 use mathlib.Core.Path.{_≡_, sym, ap, _∙_}
-use mathlib.Core.Bool.{Bool, not}
+use mathlib.Core.Bool.{not}
 use mathlib.Core.List.{List}
 use Prim.Native.Nat.{ℕ, _+_, _-_, _%_, _<_}
 use lib.Dec.{eqb}
 use lib.Ieee.{binary64, ofBits}
-use Rattle.rules.specs.Numbers.{any, table}
 use Rattle.rules.proofs.Refused.{any-ext}
 use Rattle.rules.proofs.Tables.{table-ext}
 use Rattle.base.proofs.Finite.{nan-pattern}
