@@ -393,7 +393,10 @@ impl Reached {
     /// Counts a case for each edge that it reaches.
     pub fn count(&mut self, case: &Case, refusal: usize) {
         // The device has no knots and no sheet, and reaches none of these edges.
-        if matches!(case.call, Call::CellValue | Call::CursorNext | Call::DeviceText) {
+        if matches!(
+            case.call,
+            Call::CellValue | Call::CursorNext | Call::DeviceText
+        ) {
             return;
         }
         let (cases, edges) = if case.call.takes_a_sheet() {
