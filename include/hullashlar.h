@@ -346,6 +346,30 @@ size_t hullashlar_stepped(size_t axes,
                           double *value, size_t value_length,
                           size_t *indices, size_t indices_length);
 
+/* ---- For aids without a float unit: whole numbers alone, in the calls and inside them. ---- */
+
+/* The value at position k of 256 of a cell with the values p0, p1 and the width-scaled slopes d0, d1 at its two ends:
+ * the exact value of the cubic, rounded to the nearest whole number, a half away from zero. It lies in -65,536..65,535;
+ * at k = 0 it is p0, and at 256 p1.
+ * Lengths: value 1. Another length is 4, and the slot is left as it was.
+ * Written: value, 0 on a refusal by 19 or 20. Refuses by 4; 19 for a value outside -32,768..32,767 or a slope outside
+ * -131,072..131,071; 20 for a position outside 0..256. */
+size_t hullashlar_cell_value(int32_t p0, int32_t p1, int32_t d0, int32_t d1, int32_t k,
+                             int32_t *value, size_t value_length);
+
+/* The value at a cursor of a curve of 1 to 255 cells, and the cursor moved on. A cell is 16 bytes: p0, p1, d0, d1, each
+ * 32 bits with a sign, the lowest byte first. A walk starts with 0 in the cursor's slot. Below 256 times the cells a
+ * cursor n is position n mod 256 of cell n / 256; at 256 times the cells it is position 256 of the last; any other
+ * number is past the end. The curve is judged whole at every call.
+ * Lengths: cursor 1; value 1. Another length is 4, and then nothing is written.
+ * Written: cursor, as it was on a refusal; value, 0 on a refusal by 19 or 20. Refuses by 4; 20 for a curve that is not 1
+ * to 255 whole cells; 19 for a value or a slope out of range anywhere in it; 20 past the end, for ever. */
+size_t hullashlar_cursor_next(const uint8_t *curve, size_t curve_length,
+                              uint32_t *cursor, size_t cursor_length,
+                              int32_t *value, size_t value_length);
+
+/* ---- For firmware that keeps a sheet and no tensor: one call. ---- */
+
 /* What hullashlar_surface returns where it refuses: this pattern plus the number of the refusal. No finite double has
  * all of its bits. */
 #define HULLASHLAR_REFUSED UINT64_C(0x7FF8000000000000)
@@ -372,28 +396,6 @@ size_t hullashlar_stepped(size_t axes,
  * by 16, 17; then as a build by 7, 8, 9, 10; then as a query by 7, 18, 10. */
 uint64_t hullashlar_surface(const uint8_t *bytes, size_t bytes_length,
                             uint64_t c0, uint64_t c1, uint64_t c2, uint64_t c3);
-
-/* ---- For aids without a float unit: whole numbers alone, in the calls and inside them. ---- */
-
-/* The value at position k of 256 of a cell with the values p0, p1 and the width-scaled slopes d0, d1 at its two ends:
- * the exact value of the cubic, rounded to the nearest whole number, a half away from zero. It lies in -65,536..65,535;
- * at k = 0 it is p0, and at 256 p1.
- * Lengths: value 1. Another length is 4, and the slot is left as it was.
- * Written: value, 0 on a refusal by 19 or 20. Refuses by 4; 19 for a value outside -32,768..32,767 or a slope outside
- * -131,072..131,071; 20 for a position outside 0..256. */
-size_t hullashlar_cell_value(int32_t p0, int32_t p1, int32_t d0, int32_t d1, int32_t k,
-                             int32_t *value, size_t value_length);
-
-/* The value at a cursor of a curve of 1 to 255 cells, and the cursor moved on. A cell is 16 bytes: p0, p1, d0, d1, each
- * 32 bits with a sign, the lowest byte first. A walk starts with 0 in the cursor's slot. Below 256 times the cells a
- * cursor n is position n mod 256 of cell n / 256; at 256 times the cells it is position 256 of the last; any other
- * number is past the end. The curve is judged whole at every call.
- * Lengths: cursor 1; value 1. Another length is 4, and then nothing is written.
- * Written: cursor, as it was on a refusal; value, 0 on a refusal by 19 or 20. Refuses by 4; 20 for a curve that is not 1
- * to 255 whole cells; 19 for a value or a slope out of range anywhere in it; 20 past the end, for ever. */
-size_t hullashlar_cursor_next(const uint8_t *curve, size_t curve_length,
-                              uint32_t *cursor, size_t cursor_length,
-                              int32_t *value, size_t value_length);
 
 #ifdef __cplusplus
 }
