@@ -35,7 +35,7 @@ module _ (x : List Float) (n : ℕ) (point : Float) where
     pub at-or-above : le point (at x k) ≡ true
     pub earlier : (j : ℕ) → j < k → le point (at x j) ≡ false
 
-  -- index k of a step downward: the last knot at or below the point, and 0 where there is none; but above all knots the last but one
+  -- index k of a step downward: the last of the knots at or below the point, and 0 where there is none; but above all knots the last but one
   pub record Downward (k : ℕ) : Type 0 where
     pub last : not-above-all → (j : ℕ) → j < n → le (at x j) point ≡ true → LastAtOrBelow k
     pub none : not-above-all → ((j : ℕ) → j < n → le (at x j) point ≡ false) → k ≡ 0
