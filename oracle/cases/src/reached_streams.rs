@@ -24,12 +24,12 @@ pub const STREAM_EDGES: [Edge; STREAM_COUNT] = [
         is_reached: |case, refusal| refusal == 0 && length(case) > 65_536,
     },
     Edge {
-        name: "a stream that stops behind its first 65,536 bytes",
-        is_reached: |case, refusal| refusal == 11 && length(case) > 65_536,
+        name: "a stream of more than 65,536 bytes that stops",
+        is_reached: |case, refusal| refusal != 0 && length(case) > 65_536,
     },
     Edge {
-        name: "a stream of more than 131,072 bytes read to its end",
-        is_reached: |case, refusal| refusal == 0 && length(case) > 131_072,
+        name: "a stream of more than 524,288 bytes read to its end",
+        is_reached: |case, refusal| refusal == 0 && length(case) > 524_288,
     },
 ];
 

@@ -23,7 +23,7 @@ const MOST_PIECES: usize = 400;
 const LONGEST_SHEET: usize = 10_309;
 
 /// Bytes at which a buffer may end.
-const BOUNDARIES: [usize; 5] = [LONGEST_SHEET, 2 * LONGEST_SHEET, 32_768, 65_536, 131_072];
+const BOUNDARIES: [usize; 5] = [LONGEST_SHEET, 32_768, 65_536, 131_072, 524_288];
 
 /// The length of a text that every report fits.
 const TEXT: usize = 1_200;

@@ -1,0 +1,63 @@
+#!/usr/bin/env python3
+"""Measures the report on streams of sheets of 16×16: sheets a second, and the most memory that it has held. Fails where a stream of
+more sheets needs more memory."""
+
+import statistics
+import subprocess
+import sys
+import tempfile
+import time
+from pathlib import Path
+
+ROOT = Path(__file__).resolve().parent.parent
+sys.dont_write_bytecode = True
+sys.path.insert(0, str(ROOT / "examples"))
+
+from gain_sheet import SECOND_DERIVATIVE, packed  # noqa: E402
+
+PROGRAM = ROOT / "target" / "bin" / "sheet_report"
+STREAMS = [1_000, 10_000]
+ROUNDS = 7
+
+# Knots by steps that are not all alike, and samples that go up and down.
+AXIS = ([knot + 0.125 * (knot % 3) for knot in range(16)], [SECOND_DERIVATIVE] * 2, [0.0, 0.0])
+SHEET = packed([AXIS, AXIS], [7 * number % 11 / 2 for number in range(256)])
+
+
+def seconds(stream):
+    """How long the report takes from its start to its end on a file."""
+    begin = time.perf_counter()
+    with open(stream, "rb") as source:
+        done = subprocess.run([PROGRAM], stdin=source, stdout=subprocess.PIPE, check=True)
+    end = time.perf_counter()
+    if not done.stdout.endswith(b"\nend\n"):
+        sys.exit(f"the stream was not read to its end:\n{done.stdout.decode()}")
+    return end - begin
+
+
+def most_memory(sheets):
+    """The most KiB that were resident by when all but what a pipe holds was taken."""
+    with subprocess.Popen([PROGRAM], stdin=subprocess.PIPE, stdout=subprocess.DEVNULL) as run:
+        run.stdin.write(SHEET * sheets)
+        run.stdin.flush()
+        lines = Path(f"/proc/{run.pid}/status").read_text().splitlines()
+    return next(int(line.split()[1]) for line in lines if line.startswith("VmHWM:"))
+
+
+def main():
+    print("\n| Sheets of 16×16 in a stream | Bytes | Sheets a second | Most KiB resident |")
+    print("|---|--:|--:|--:|")
+    memory = []
+    for sheets in STREAMS:
+        with tempfile.NamedTemporaryFile() as stream:
+            stream.write(SHEET * sheets)
+            stream.flush()
+            median = statistics.median(seconds(stream.name) for _ in range(ROUNDS))
+        memory.append(most_memory(sheets))
+        print(f"| {sheets:,} | {sheets * len(SHEET):,} | {round(sheets / median):,} | {memory[-1]:,} |")
+    if memory[-1] > memory[0]:
+        sys.exit("memory grows with the sheets")
+
+
+if __name__ == "__main__":
+    main()
