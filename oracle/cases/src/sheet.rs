@@ -116,14 +116,6 @@ pub fn example_sheet(edition: usize) -> Vec<u8> {
     pack(&fields(edition, &grid, &[EXTEND; 4], &line))
 }
 
-/// The sheet of a number, on a grid, whose neighbouring samples lie too far apart for a difference.
-pub fn overflowing_sheet(random: &mut Random, number: usize, grid: &Grid) -> Vec<u8> {
-    let largest = [f64::MAX, -f64::MAX];
-    let samples: Vec<f64> = (0..grid.samples()).map(|at| largest[at % 2]).collect();
-    let modes = grid.modes(random);
-    pack(&fields(edition_of(number), grid, &modes, &samples))
-}
-
 /// A sheet of edition 1 with two points on each axis, all periodic: no accepted one of so many axes
 /// is shorter. It has 35 bytes on one axis, 68 on two.
 pub fn periodic_sheet(axes: usize) -> Vec<u8> {
