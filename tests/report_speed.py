@@ -1,5 +1,5 @@
 #!/usr/bin/env python3
-"""Measures the report on streams of sheets of 16×16: sheets a second of processor time, and the most memory that was resident. Fails
+"""Measures the report on streams of sheets of 16×16: sheets a second of processor time, and the memory that it holds. Fails
 where a stream of more sheets needs more memory."""
 
 import resource
@@ -23,8 +23,8 @@ ROUNDS = 7
 AXIS = ([knot + 0.125 * (knot % 3) for knot in range(16)], [SECOND_DERIVATIVE] * 2, [0.0, 0.0])
 SHEET = packed([AXIS, AXIS], [7 * number % 11 / 2 for number in range(256)])
 
-# By how many KiB two runs on the same stream may differ: how much of the C library is resident is not the program's to say.
-BETWEEN_RUNS = 128
+# By how many KiB of its own two runs on the same stream may differ: where the stack begins is the system's to say.
+BETWEEN_RUNS = 16
 
 
 def processor_seconds():
@@ -43,27 +43,30 @@ def seconds(stream):
     return processor_seconds() - before
 
 
-def most_memory(sheets):
-    """The most KiB that were resident by when all but what a pipe holds was taken."""
+def memory(sheets):
+    """When all was taken but what a pipe holds: the most KiB that were resident, and those of the program's own, without what it
+    shares with others."""
     with subprocess.Popen([PROGRAM], stdin=subprocess.PIPE, stdout=subprocess.DEVNULL) as run:
         run.stdin.write(SHEET * sheets)
         run.stdin.flush()
         lines = Path(f"/proc/{run.pid}/status").read_text().splitlines()
-    return next(int(line.split()[1]) for line in lines if line.startswith("VmHWM:"))
+    status = dict(line.split(":", 1) for line in lines)
+    return [int(status[name].split()[0]) for name in ("VmHWM", "RssAnon")]
 
 
 def main():
-    print("\n| Sheets of 16×16 in a stream | Bytes | Sheets a second | Most KiB resident |")
-    print("|--:|--:|--:|--:|")
-    memory = []
+    print("\n| Sheets of 16×16 in a stream | Bytes | Sheets a second | Most KiB resident | KiB of its own |")
+    print("|--:|--:|--:|--:|--:|")
+    held = []
     for sheets in STREAMS:
         with tempfile.NamedTemporaryFile() as stream:
             stream.write(SHEET * sheets)
             stream.flush()
             median = statistics.median(seconds(stream.name) for _ in range(ROUNDS))
-        memory.append(most_memory(sheets))
-        print(f"| {sheets:,} | {sheets * len(SHEET):,} | {round(sheets / median):,} | {memory[-1]:,} |")
-    if memory[-1] > memory[0] + BETWEEN_RUNS:
+        most, own = memory(sheets)
+        held.append(own)
+        print(f"| {sheets:,} | {sheets * len(SHEET):,} | {round(sheets / median):,} | {most:,} | {own:,} |")
+    if held[-1] > held[0] + BETWEEN_RUNS:
         sys.exit("memory grows with the sheets")
 
 
