@@ -108,24 +108,24 @@ fn up_to_a_boundary(random: &mut Random) -> Vec<Vec<u8>> {
     sheets
 }
 
-/// Sheets among which a damaged one stands, or which are cut, or have a few bytes behind them.
+/// Sheets with a damaged one among them, with a few bytes behind them, or cut anywhere.
 fn stopped(random: &mut Random, mut sheets: Vec<Vec<u8>>) -> Vec<u8> {
-    let share = random.below(10);
-    if share < 7 {
-        let (number, grid) = (random.below(1 << 20), Grid::generate(random));
-        let damaged = damaged_sheet(random, number, &grid);
-        sheets.insert(random.below(sheets.len() + 1), damaged);
-    }
-    let mut stream = sheets.concat();
-    match share {
-        0..=6 => (),
-        7..=8 => stream.truncate(random.below(stream.len() + 1)),
-        _ => {
+    match random.below(10) {
+        0..=6 => {
+            let (number, grid) = (random.below(1 << 20), Grid::generate(random));
+            let damaged = damaged_sheet(random, number, &grid);
+            sheets.insert(random.below(sheets.len() + 1), damaged);
+        }
+        7 => {
             let byte = random.pick(&[0, 0x10, 0x12, 0x22, 0x30, 0x80, 0xFF]);
-            stream.extend(vec![byte; random.between(1, 9)]);
+            sheets.push(vec![byte; random.between(1, 9)]);
+        }
+        _ => {
+            let stream = sheets.concat();
+            return stream[..random.below(stream.len())].to_vec();
         }
     }
-    stream
+    sheets.concat()
 }
 
 /// The bytes of each piece of a stream: few, or 0 where it is given whole.
