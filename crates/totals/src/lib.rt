@@ -24,6 +24,12 @@ pub struct Totals {
     pub orders: [OrderTotals; 5],
 }
 
+// The report of a stream: the totals of its sheets, and whether it stops before the stream's end.
+pub struct Report {
+    pub totals: Totals,
+    pub stopped: bool,
+}
+
 // The derivative order of a mask: the number of its ones.
 fn order_of_mask(mask: usize) -> usize
     requires { ⌜ mask < 16 ⌝ }
