@@ -9,7 +9,7 @@ import sys
 from pathlib import Path
 
 ROOT = Path(__file__).resolve().parent.parent
-CRATES = ["rules", "grid", "checks", "step", "stepped", "bits", "kinds", "sheet", "sheet_build", "sheet_write", "text", "tensor_text", "sheet_text", "totals", "report_text", "plain_axes", "boundary", "host", "step_exports"]
+CRATES = ["rules", "grid", "checks", "step", "stepped", "bits", "kinds", "sheet", "sheet_build", "sheet_write", "text", "tensor_text", "sheet_text", "totals", "report_text", "plain_axes", "boundary", "curve_exports", "tensor_exports", "query_exports", "sheet_exports", "step_exports"]
 
 # Files that say what functions need from each other and no promise of a public call, and chapters about no file.
 NOT_RULES = {"checks/Given", "checks/Check", "step/Within", "stepped/Indices", "bits/Within", "sheet/Within", "sheet_write/Within", "text/Answers", "totals/Within"}

@@ -30,7 +30,7 @@ ERRORS = [
     "locate/cell_k_at_interior_knot_k",
     "cell/reciprocal_of_the_width",
     "cell/label_of_the_next_cell",
-    "host/full_query_for_the_quick_one",
+    "query_exports/full_query_for_the_quick_one",
     "locate/end_knot_taken_as_outside",
     "even/cell_before_the_knot",
     "sheet_write/upper_value_first",

@@ -111,19 +111,24 @@ module _ (axes : ℕ) (points kinds : List ℕ) (values knots tensor-lent : List
 
 -- ---- the writer
 
-module _ (axes : ℕ) (points kinds : List ℕ) (values knots samples : List Float) (length-lent : List ℕ) where
-  -- 4 for the ends, the slot of the length and for the call's own slices
+-- 4 for the modes of four axes, and for a slot of one number
+abbrev pub modes-or-slot-refused : List ℕ → List ℕ → Bool
+modes-or-slot-refused modes slot = length-refused (length modes) most-axes || length-refused (length slot) 1
+
+module _ (axes : ℕ) (points kinds : List ℕ) (values : List Float) (modes : List ℕ) (knots samples : List Float) (length-lent : List ℕ) where
+  -- 4 for the ends, the modes, the slot of the length and for the call's own slices; the modes are judged after the kinds
   abbrev pub write-own-rows : List Refusal
   write-own-rows =
       axes-rows axes points ++ (
       row 4 (
-      eight-ends-refused kinds values || length-refused (length length-lent) 1
+      eight-ends-refused kinds values || modes-or-slot-refused modes length-lent
       || (
       length-refused (length knots) (knots-length (sizes-given axes points))
       || length-refused (length samples) (samples-length (sizes-given axes points))
       )
       )
       ∷ row 13 (some-kinds-refused axes kinds)
+      ∷ row 22 (some-modes-refused axes modes)
       ∷ []
       )
 
@@ -177,12 +182,18 @@ abbrev pub found-slots-refused : List ℕ → List ℕ → List ℕ → List Flo
 found-slots-refused axes points kinds values =
     length-refused (length axes) 1 || length-refused (length points) most-axes || eight-ends-refused kinds values
 
-unfoldable pub read-own-refusal : List ℕ → List ℕ → List ℕ → List Float → ℕ
-read-own-refusal axes points kinds values = cond (found-slots-refused axes points kinds values) 4 0
+-- the reader of edition 1 finds no more than these
+unfoldable pub read-edition-1-own-refusal : List ℕ → List ℕ → List ℕ → List Float → ℕ
+read-edition-1-own-refusal axes points kinds values = cond (found-slots-refused axes points kinds values) 4 0
+
+-- the reader finds modes too, and an edition for its slot
+unfoldable pub read-own-refusal : List ℕ → List ℕ → List ℕ → List Float → List ℕ → List ℕ → ℕ
+read-own-refusal axes points kinds values modes edition =
+    cond (found-slots-refused axes points kinds values || modes-or-slot-refused modes edition) 4 0
 
 -- ---- the sheet's tensor
 
 -- 4 for the same slots, and for that of the length
-unfoldable pub sheet-tensor-own-refusal : List ℕ → List ℕ → List ℕ → List Float → List ℕ → ℕ
-sheet-tensor-own-refusal axes points kinds values length-lent =
-    cond (found-slots-refused axes points kinds values || length-refused (length length-lent) 1) 4 0
+unfoldable pub sheet-tensor-own-refusal : List ℕ → List ℕ → List ℕ → List Float → List ℕ → List ℕ → List ℕ → ℕ
+sheet-tensor-own-refusal axes points kinds values modes edition length-lent =
+    cond (found-slots-refused axes points kinds values || modes-or-slot-refused modes edition || length-refused (length length-lent) 1) 4 0

@@ -4,7 +4,7 @@ ghost use mathlib.Core.Bool.{_||_};
 ghost use Rattle.rules.specs.Sizes.{knots-length, samples-length};
 ghost use Rattle.rules.specs.Refusals.{length-refused};
 ghost use Rattle.grid.specs.Given.{sizes-of, points-of, InRange};
-ghost use Rattle.boundary.specs.OwnRefusals.{two-ends-refused, eight-ends-refused, place-or-lanes-refused, query-slots-refused, modes-or-slots-refused, found-slots-refused, moments-own-refusal, curve-own-refusal, axes-own-refusal, build-own-refusal, change-own-refusal, write-own-refusal, query-own-refusal, read-own-refusal, sheet-tensor-own-refusal, query-later-rows, even-query-own-refusal};
+ghost use Rattle.boundary.specs.OwnRefusals.{two-ends-refused, eight-ends-refused, place-or-lanes-refused, query-slots-refused, modes-or-slots-refused, found-slots-refused, moments-own-refusal, curve-own-refusal, axes-own-refusal, build-own-refusal, change-own-refusal, write-own-refusal, query-own-refusal, modes-or-slot-refused, read-edition-1-own-refusal, read-own-refusal, sheet-tensor-own-refusal, query-later-rows, even-query-own-refusal};
 ghost use Rattle.checks.specs.Tables.{lowest};
 use checks::lengths;
 use checks::sizes;
@@ -168,17 +168,28 @@ fn parts_refused(axes: usize, all: [Axis; 4], knots: usize, samples: usize) -> b
     lengths::build_refused(axes, all, knots, samples, grid::tensor_length(axes, all))
 }
 
-// Of a sheet that is written: eight ends, the slot of the length, and the call's own slices.
+// Whether modes are not those of four axes, or a slot is not one number.
+fn modes_or_slot_refused(modes: &[u8], slot: &[usize]) -> bool
+    ensures { λ r. ⌜ r ≡ modes-or-slot-refused (now (modes .entry)) (now (slot .entry)) ⌝ }
+{
+    if lengths::length_refused(modes.len(), 4) {
+        return true;
+    }
+    lengths::length_refused(slot.len(), 1)
+}
+
+// Of a sheet that is written: eight ends, the modes, the slot of the length, and the call's own slices.
 pub fn write_own_refusal(
     axes: usize,
     points: &[usize],
     kinds: &[u8],
     values: &[f64],
+    modes: &[u8],
     knots: &[f64],
     samples: &[f64],
     length: &[usize],
 ) -> usize
-    ensures { λ r. ⌜ r ≡ write-own-refusal axes (now (points .entry)) (now (kinds .entry)) (now (values .entry)) (now (knots .entry)) (now (samples .entry)) (now (length .entry)) ⌝ }
+    ensures { λ r. ⌜ r ≡ write-own-refusal axes (now (points .entry)) (now (kinds .entry)) (now (values .entry)) (now (modes .entry)) (now (knots .entry)) (now (samples .entry)) (now (length .entry)) ⌝ }
 {
     let refusal = axes_own_refusal(axes, points);
     if refusal != 0 {
@@ -187,7 +198,7 @@ pub fn write_own_refusal(
     if eight_ends_refused(kinds, values) {
         return 4;
     }
-    if lengths::length_refused(length.len(), 1) {
+    if modes_or_slot_refused(modes, length) {
         return 4;
     }
     let all = axes_without_ends(axes, points);
@@ -196,6 +207,9 @@ pub fn write_own_refusal(
     }
     if some_kinds_refused(axes, kinds) {
         return 13;
+    }
+    if some_modes_refused(axes, modes) {
+        return 22;
     }
     0
 }
@@ -322,9 +336,14 @@ fn found_slots_refused(axes: &[usize], points: &[usize], kinds: &[u8], values: &
     eight_ends_refused(kinds, values)
 }
 
-// Of a sheet: what is found of its axes.
-pub fn read_own_refusal(axes: &[usize], points: &[usize], kinds: &[u8], values: &[f64]) -> usize
-    ensures { λ r. ⌜ r ≡ read-own-refusal (now (axes .entry)) (now (points .entry)) (now (kinds .entry)) (now (values .entry)) ⌝ }
+// Of a sheet that is read as one of edition 1: what is found of its axes.
+pub fn read_edition_1_own_refusal(
+    axes: &[usize],
+    points: &[usize],
+    kinds: &[u8],
+    values: &[f64],
+) -> usize
+    ensures { λ r. ⌜ r ≡ read-edition-1-own-refusal (now (axes .entry)) (now (points .entry)) (now (kinds .entry)) (now (values .entry)) ⌝ }
 {
     if found_slots_refused(axes, points, kinds, values) {
         return 4;
@@ -332,17 +351,42 @@ pub fn read_own_refusal(axes: &[usize], points: &[usize], kinds: &[u8], values: 
     0
 }
 
-// Of the sheet's tensor: what is found of its axes, and the slot of its length.
+// Of a sheet: what is found of its axes, their modes among it, and its edition.
+pub fn read_own_refusal(
+    axes: &[usize],
+    points: &[usize],
+    kinds: &[u8],
+    values: &[f64],
+    modes: &[u8],
+    edition: &[usize],
+) -> usize
+    ensures { λ r. ⌜ r ≡ read-own-refusal (now (axes .entry)) (now (points .entry)) (now (kinds .entry)) (now (values .entry)) (now (modes .entry)) (now (edition .entry)) ⌝ }
+{
+    if found_slots_refused(axes, points, kinds, values) {
+        return 4;
+    }
+    if modes_or_slot_refused(modes, edition) {
+        return 4;
+    }
+    0
+}
+
+// Of a sheet's tensor: the same, and the slot of the length.
 pub fn sheet_tensor_own_refusal(
     axes: &[usize],
     points: &[usize],
     kinds: &[u8],
     values: &[f64],
+    modes: &[u8],
+    edition: &[usize],
     length: &[usize],
 ) -> usize
-    ensures { λ r. ⌜ r ≡ sheet-tensor-own-refusal (now (axes .entry)) (now (points .entry)) (now (kinds .entry)) (now (values .entry)) (now (length .entry)) ⌝ }
+    ensures { λ r. ⌜ r ≡ sheet-tensor-own-refusal (now (axes .entry)) (now (points .entry)) (now (kinds .entry)) (now (values .entry)) (now (modes .entry)) (now (edition .entry)) (now (length .entry)) ⌝ }
 {
     if found_slots_refused(axes, points, kinds, values) {
+        return 4;
+    }
+    if modes_or_slot_refused(modes, edition) {
         return 4;
     }
     if lengths::length_refused(length.len(), 1) {

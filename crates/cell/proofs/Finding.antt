@@ -12,7 +12,6 @@ use borrow.Author.Count.{below-more}
 use Rattle.rules.specs.Numbers.{plus-zero, at, any}
 use Rattle.rules.specs.Sizes.{most-in-a-tensor, Grid, points, knots, sum-below, tensor-length, Place, place-of}
 use Rattle.rules.specs.Outside.{mode-at}
-use Rattle.rules.specs.declared.Mode.{Mode}
 use Rattle.grid.proofs.Products.{sum-more}
 use Rattle.grid.proofs.Knots as of-axis
 use Rattle.locate.specs.Answers.{Placed}
@@ -22,14 +21,14 @@ use Rattle.cell.specs.Answers.{CellGiven}
 use Rattle.cell.specs.declared.searched.Found.{Found}
 
 -- the cells of the first i axes are found, and the knots of the next begin at `begin`
-pub record Turn (g : Grid) (modes : List Mode) (coordinates : List Float) (cells : Place) (r : Found) (begin i : ℕ) : Type 0 where
+pub record Turn (g : Grid) (coordinates : List Float) (cells : Place) (r : Found) (begin i : ℕ) : Type 0 where
   pub given : SearchGiven g coordinates
   pub most : i ≤ g .axes
   pub begun : begin ≡ sum-below (points g) i
-  pub found-on : FoundOn g modes coordinates cells i r
+  pub found-on : FoundOn g coordinates cells i r
 
-module _ (g : Grid) (modes : List Mode) (coordinates : List Float) (cells : Place) where
-  pub turn-first : SearchGiven g coordinates → Turn g modes coordinates cells (record { lower = replicate 4 0; placed = replicate 4 plus-zero; refused = false }) 0 0
+module _ (g : Grid) (coordinates : List Float) (cells : Place) where
+  pub turn-first : SearchGiven g coordinates → Turn g coordinates cells (record { lower = replicate 4 0; placed = replicate 4 plus-zero; refused = false }) 0 0
   unfolding sum-below any
   turn-first given = record {
     given = given;
@@ -46,7 +45,7 @@ module _ (g : Grid) (modes : List Mode) (coordinates : List Float) (cells : Plac
     };
   }
 
-  module _ (r : Found) (begin i : ℕ) (turn : Turn g modes coordinates cells r begin i) where
+  module _ (r : Found) (begin i : ℕ) (turn : Turn g coordinates cells r begin i) where
     -- the knots that it lends on axis i
     abbrev pub part : List Float
     part = of-axis.part g begin i (turn .begun)
@@ -77,8 +76,8 @@ module _ (g : Grid) (modes : List Mode) (coordinates : List Float) (cells : Plac
         pub other : (j : ℕ) → (j ≡ i → ⊥) → place-of (set (r .lower) i cell) j ≡ place-of (r .lower) j
         other j ne = getD-set-other (r .lower) i j cell 0 ne
 
-        module _ (point : PlacedPoint) (stands : Placed (mode-at modes i) part (at coordinates i) point) where
-          pub turn-next : cell ≡ cells i → cell + 1 < points g i → (refused : Bool) → refused ≡ (r .refused || point .refused) → Turn g modes coordinates cells (record { lower = set (r .lower) i cell; placed = set (r .placed) i (point .coordinate); refused = refused }) (begin + points g i) (i + 1)
+        module _ (point : PlacedPoint) (stands : Placed (mode-at g i) part (at coordinates i) point) where
+          pub turn-next : cell ≡ cells i → cell + 1 < points g i → (refused : Bool) → refused ≡ (r .refused || point .refused) → Turn g coordinates cells (record { lower = set (r .lower) i cell; placed = set (r .placed) i (point .coordinate); refused = refused }) (begin + points g i) (i + 1)
           unfolding any
           turn-next is-cell inside refused either = record {
             given = turn .given;
@@ -100,11 +99,11 @@ module _ (g : Grid) (modes : List Mode) (coordinates : List Float) (cells : Plac
     pub all-axes : g .axes ≤ i → i ≡ g .axes
     all-axes h = omega (arith, turn .most)
 
-    pub turn-last : g .axes ≤ i → FoundOn g modes coordinates cells (g .axes) r
+    pub turn-last : g .axes ≤ i → FoundOn g coordinates cells (g .axes) r
     turn-last h = rw (all-axes h) at (turn .found-on)
 
   -- what is found on all axes is a cell of the grid, and can be evaluated
-  pub cell-given : (r : Found) → FoundOn g modes coordinates cells (g .axes) r → SearchGiven g coordinates → tensor-length g ≤ most-in-a-tensor → CellGiven g (place-of (r .lower)) (r .placed)
+  pub cell-given : (r : Found) → FoundOn g coordinates cells (g .axes) r → SearchGiven g coordinates → tensor-length g ≤ most-in-a-tensor → CellGiven g (place-of (r .lower)) (r .placed)
   cell-given r found given small = record {
     inside = record {
       some-axes = given .in-range .some-axes;

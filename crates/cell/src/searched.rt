@@ -3,7 +3,6 @@ ghost use Rattle.grid.specs.Given.{grid};
 ghost use Rattle.cell.specs.Searched.{SearchGiven, Searched};
 use locate::outside;
 use rules::Axis;
-use rules::Mode;
 
 // The lower knots of the cell and the coordinates that stand for the point, one for each axis in use and 0 past them, and whether a mode refuses the point.
 pub struct Found {
@@ -13,15 +12,9 @@ pub struct Found {
 }
 
 // Of the knots it reads the first and the last of an axis, and those that the halvings look at.
-pub fn search_on_axes(
-    axes: usize,
-    all: [Axis; 4],
-    modes: [Mode; 4],
-    knots: &[f64],
-    coordinates: &[f64],
-) -> Found
+pub fn search_on_axes(axes: usize, all: [Axis; 4], knots: &[f64], coordinates: &[f64]) -> Found
     requires { ⌜ SearchGiven (grid axes all (now knots)) (now coordinates) ⌝ }
-    ensures { λ r. ⌜ Searched (grid axes all (now (knots .entry))) modes (now (coordinates .entry)) axes r ⌝ }
+    ensures { λ r. ⌜ Searched (grid axes all (now (knots .entry))) (now (coordinates .entry)) axes r ⌝ }
 {
     let mut lower = [0; 4];
     let mut placed = [0.0; 4];
@@ -29,9 +22,11 @@ pub fn search_on_axes(
     let mut begin = 0;
     let mut i = 0;
     while i < axes {
-        let end = begin + all[i].points;
+        let axis = all[i];
+        let mode = axis.mode;
+        let end = begin + axis.points;
         lower[i] = locate::locate_lower_index(&knots[begin..end], coordinates[i]);
-        let point = outside::place_on_axis(modes[i], &knots[begin..end], coordinates[i]);
+        let point = outside::place_on_axis(mode, &knots[begin..end], coordinates[i]);
         placed[i] = point.coordinate;
         refused = refused | point.refused;
         begin = end;

@@ -18,7 +18,6 @@ use Rattle.rules.specs.Query.{even-cell-of, even-query}
 use Rattle.rules.specs.Calls.{or-else}
 use Rattle.rules.specs.EvenCalls.{nothing-told, even-labels, even-query-refusal, even-query-answer, EvenQueryPromise}
 use Rattle.rules.specs.declared.EvenAnswer.{EvenAnswer}
-use Rattle.rules.specs.declared.Mode.{Mode}
 use Rattle.rules.specs.declared.QueryAnswer.{QueryAnswer}
 use Rattle.rules.proofs.Refused.{or-else-met}
 use Rattle.rules.proofs.EvenIsQuery.{answers-as-query}
@@ -36,7 +35,7 @@ use Rattle.even_query.specs.declared.uneven.Uneven.{Uneven}
 
 -- ---- what the check lets pass
 
-module _ (g : Grid) (modes : List Mode) (tensor-given : ℕ) (coordinates : List Float) (given : QueryGiven g tensor-given coordinates) where
+module _ (g : Grid) (tensor-given : ℕ) (coordinates : List Float) (given : QueryGiven g tensor-given coordinates) where
   pub locate-given : SearchGiven g coordinates
   locate-given = record {
     in-range = given .grid-given .in-range;
@@ -44,8 +43,8 @@ module _ (g : Grid) (modes : List Mode) (tensor-given : ℕ) (coordinates : List
     coordinates-exact = given .coordinates-exact;
   }
 
-  pub cell-given : (found : Found) → FoundOn g modes coordinates (even-cell-of g modes (at coordinates)) (g .axes) found → CellGiven g (place-of (found .lower)) (found .placed) × (tensor-given ≡ tensor-length g)
-  cell-given found is = (finding.cell-given g modes coordinates _ found is locate-given (given .grid-given .small), given .grid-given .tensor-exact)
+  pub cell-given : (found : Found) → FoundOn g coordinates (even-cell-of g (at coordinates)) (g .axes) found → CellGiven g (place-of (found .lower)) (found .placed) × (tensor-given ≡ tensor-length g)
+  cell-given found is = (finding.cell-given g coordinates _ found is locate-given (given .grid-given .small), given .grid-given .tensor-exact)
 
 -- ---- the answers
 
@@ -53,15 +52,15 @@ outcome-low : (refused : Bool) {refusal : ℕ} → refusal ≡ cond refused 10 0
 outcome-low true is z = omega (arith, is, z)
 outcome-low false is z = omega (arith, is, z)
 
-module _ (g : Grid) (modes : List Mode) (tensor coordinates : List Float) where
+module _ (g : Grid) (tensor coordinates : List Float) where
   abbrev refusal : ℕ
-  refusal = even-query-refusal g modes tensor coordinates
+  refusal = even-query-refusal g tensor coordinates
 
   abbrev outside-refused : Bool
-  outside-refused = some-outside-refused g modes (at coordinates)
+  outside-refused = some-outside-refused g (at coordinates)
 
   abbrev value-refused : Bool
-  value-refused = answer-refused (even-query g modes tensor (at coordinates))
+  value-refused = answer-refused (even-query g tensor (at coordinates))
 
   -- what is looked at after the check
   abbrev later : Bool → Bool → ℕ
@@ -76,7 +75,7 @@ module _ (g : Grid) (modes : List Mode) (tensor coordinates : List Float) where
   check-low = rows-below-10 (query-rows g (length tensor) coordinates) tt
 
   -- another refusal than 21
-  refused-by : (number : ℕ) → refusal ≡ number → number ≢ 0 → number ≢ 21 → (r : EvenAnswer) (answer : QueryAnswer) → answer ≡ refused-with number → r ≡ nothing-told answer → EvenQueryPromise g modes tensor coordinates r
+  refused-by : (number : ℕ) → refusal ≡ number → number ≢ 0 → number ≢ 21 → (r : EvenAnswer) (answer : QueryAnswer) → answer ≡ refused-with number → r ≡ nothing-told answer → EvenQueryPromise g tensor coordinates r
   unfolding even-query-answer
   refused-by number e some other r answer refused is = record {
     answer = is
@@ -86,7 +85,7 @@ module _ (g : Grid) (modes : List Mode) (tensor coordinates : List Float) where
 
   module _ (check : ℕ) (checked : check ≡ query-check g (length tensor) coordinates) where
     -- the check refuses
-    pub check-refuses : check ≢ 0 → (r : EvenAnswer) (answer : QueryAnswer) → answer ≡ refused-with check → r ≡ nothing-told answer → EvenQueryPromise g modes tensor coordinates r
+    pub check-refuses : check ≢ 0 → (r : EvenAnswer) (answer : QueryAnswer) → answer ≡ refused-with check → r ≡ nothing-told answer → EvenQueryPromise g tensor coordinates r
     check-refuses some = refused-by check (refusal-is ∙ rw (← checked) (or-else-met check _ some)) some (λ z. omega (arith, check-low, checked))
 
     -- it does not
@@ -98,22 +97,22 @@ module _ (g : Grid) (modes : List Mode) (tensor coordinates : List Float) where
       after-check = refusal-is ∙ rw (← checked, none, tells .refused) refl
 
       -- an axis is not even
-      pub axis-refuses : first .interval ≢ 0 → (r : EvenAnswer) → r ≡ refused-uneven (first .axis) (first .interval) → EvenQueryPromise g modes tensor coordinates r
+      pub axis-refuses : first .interval ≢ 0 → (r : EvenAnswer) → r ≡ refused-uneven (first .axis) (first .interval) → EvenQueryPromise g tensor coordinates r
       unfolding even-query-answer
       axis-refuses some r is =
           let met : refusal ≡ 21 = after-check ∙ ap (λ (b : Bool). later b outside-refused) (lt-ltb 0 (first .interval) (omega arith)) in
           record { answer = is ∙ rw (tells .axis, tells .interval, met) refl }
 
-      module _ (even : first .interval ≡ 0) (found : Found) (is-found : FoundOn g modes coordinates (even-cell-of g modes (at coordinates)) (g .axes) found) where
+      module _ (even : first .interval ≡ 0) (found : Found) (is-found : FoundOn g coordinates (even-cell-of g (at coordinates)) (g .axes) found) where
         after-axes : refusal ≡ cond (found .refused) 18 (cond value-refused 10 0)
         after-axes = after-check ∙ rw (even, is-found .refused) refl
 
         -- a mode refuses
-        pub mode-refuses : found .refused ≡ true → (r : EvenAnswer) (answer : QueryAnswer) → answer ≡ refused-with 18 → r ≡ nothing-told answer → EvenQueryPromise g modes tensor coordinates r
+        pub mode-refuses : found .refused ≡ true → (r : EvenAnswer) (answer : QueryAnswer) → answer ≡ refused-with 18 → r ≡ nothing-told answer → EvenQueryPromise g tensor coordinates r
         mode-refuses e = refused-by 18 (after-axes ∙ ap (λ (b : Bool). cond b 18 (cond value-refused 10 0)) e) (λ z. omega arith) (λ z. omega arith)
 
         -- none does
-        pub cell-answers : found .refused ≡ false → (r : EvenAnswer) (answer : QueryAnswer) → answer ≡ answer-in g tensor (found .lower) (at (found .placed)) → r ≡ nothing-told answer → EvenQueryPromise g modes tensor coordinates r
+        pub cell-answers : found .refused ≡ false → (r : EvenAnswer) (answer : QueryAnswer) → answer ≡ answer-in g tensor (found .lower) (at (found .placed)) → r ≡ nothing-told answer → EvenQueryPromise g tensor coordinates r
         unfolding even-query-answer even-query even-labels
         cell-answers e r answer evaluated is =
             let last : refusal ≡ cond value-refused 10 0 = after-axes ∙ ap (λ (b : Bool). cond b 18 (cond value-refused 10 0)) e in
@@ -121,7 +120,7 @@ module _ (g : Grid) (modes : List Mode) (tensor coordinates : List Float) where
               answer = is
                   ∙ ap nothing-told (
                   evaluated
-                  ∙ answer-is g tensor (at (found .placed)) (placed-on g modes (at coordinates)) (is-found .placed) (found .lower) (even-cell-of g modes (at coordinates))
+                  ∙ answer-is g tensor (at (found .placed)) (placed-on g (at coordinates)) (is-found .placed) (found .lower) (even-cell-of g (at coordinates))
                   (is-found .four) (is-found .found) (is-found .unused)
                   refusal last
                   )

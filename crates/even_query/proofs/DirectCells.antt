@@ -12,29 +12,28 @@ use Rattle.rules.specs.Steps.{h}
 use Rattle.rules.specs.Outside.{mode-at}
 use Rattle.rules.specs.Even.{direct-cell, direct-cell-of}
 use Rattle.rules.specs.Query.{even-cell-of}
-use Rattle.rules.specs.declared.Mode.{Mode}
 use Rattle.rules.proofs.EvenAxes.{direct-cell-inside}
 use Rattle.locate.specs.Answers.{Placed}
 use Rattle.locate.specs.declared.outside.PlacedPoint.{PlacedPoint}
 use Rattle.cell.specs.declared.searched.Found.{Found}
 use Rattle.cell.proofs.Finding as finding
 
-module _ (g : Grid) (modes : List Mode) (coordinates : List Float) where
+module _ (g : Grid) (coordinates : List Float) where
   -- the cells that are looked for
   abbrev pub cells : Place
-  cells = even-cell-of g modes (at coordinates)
+  cells = even-cell-of g (at coordinates)
 
   abbrev pub Turn : Found → ℕ → ℕ → Type 0
-  Turn = finding.Turn g modes coordinates cells
+  Turn = finding.Turn g coordinates cells
 
   module _ (r : Found) (begin i : ℕ) (turn : Turn r begin i) (lt : i < g .axes) where
     abbrev part : List Float
-    part = finding.part g modes coordinates cells r begin i turn
+    part = finding.part g coordinates cells r begin i turn
 
-    module _ (point : PlacedPoint) (stands : Placed (mode-at modes i) part (at coordinates i) point) (cell : ℕ) (direct : cell ≡ direct-cell (at part 0) (h part 0) (length part) (point .coordinate)) where
+    module _ (point : PlacedPoint) (stands : Placed (mode-at g i) part (at coordinates i) point) (cell : ℕ) (direct : cell ≡ direct-cell (at part 0) (h part 0) (length part) (point .coordinate)) where
       is-cell : cell ≡ cells i
       unfolding even-cell-of direct-cell-of
-      is-cell = direct ∙ rw (finding.exact g modes coordinates cells r begin i turn lt, stands .coordinate, finding.part-is g modes coordinates cells r begin i turn) refl
+      is-cell = direct ∙ rw (finding.exact g coordinates cells r begin i turn lt, stands .coordinate, finding.part-is g coordinates cells r begin i turn) refl
 
       inside : cell + 1 < points g i
       inside =
@@ -42,9 +41,9 @@ module _ (g : Grid) (modes : List Mode) (coordinates : List Float) where
             arith,
             direct,
             direct-cell-inside (at part 0) (h part 0) (length part) (point .coordinate),
-            finding.exact g modes coordinates cells r begin i turn lt,
+            finding.exact g coordinates cells r begin i turn lt,
             turn .given .in-range .some-points i lt,
           )
 
       pub turn-next : (refused : Bool) → refused ≡ (r .refused || point .refused) → Turn (record { lower = set (r .lower) i cell; placed = set (r .placed) i (point .coordinate); refused = refused }) (begin + points g i) (i + 1)
-      turn-next = finding.turn-next g modes coordinates cells r begin i turn lt cell point stands is-cell inside
+      turn-next = finding.turn-next g coordinates cells r begin i turn lt cell point stands is-cell inside

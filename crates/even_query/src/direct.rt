@@ -11,7 +11,6 @@ ghost use Rattle.cell.specs.Searched.{SearchGiven, FoundOn};
 use cell::searched::Found;
 use locate::outside;
 use rules::Axis;
-use rules::Mode;
 
 // The direct cell of a point on one axis: only the first two knots are looked at.
 fn cell_on_axis(knots: &[f64], point: f64) -> usize
@@ -22,15 +21,9 @@ fn cell_on_axis(knots: &[f64], point: f64) -> usize
 }
 
 // The mode moves the point first, and the cell is that of the moved point.
-pub fn locate_on_axes(
-    axes: usize,
-    all: [Axis; 4],
-    modes: [Mode; 4],
-    knots: &[f64],
-    coordinates: &[f64],
-) -> Found
+pub fn locate_on_axes(axes: usize, all: [Axis; 4], knots: &[f64], coordinates: &[f64]) -> Found
     requires { ⌜ SearchGiven (grid axes all (now knots)) (now coordinates) ⌝ }
-    ensures { λ r. ⌜ FoundOn (grid axes all (now (knots .entry))) modes (now (coordinates .entry)) (even-cell-of (grid axes all (now (knots .entry))) modes (at (now (coordinates .entry)))) axes r ⌝ }
+    ensures { λ r. ⌜ FoundOn (grid axes all (now (knots .entry))) (now (coordinates .entry)) (even-cell-of (grid axes all (now (knots .entry))) (at (now (coordinates .entry)))) axes r ⌝ }
 {
     let mut lower = [0; 4];
     let mut placed = [0.0; 4];
@@ -38,9 +31,11 @@ pub fn locate_on_axes(
     let mut begin = 0;
     let mut i = 0;
     while i < axes {
-        let end = begin + all[i].points;
+        let axis = all[i];
+        let mode = axis.mode;
+        let end = begin + axis.points;
         let given = coordinates[i];
-        let point = outside::place_on_axis(modes[i], &knots[begin..end], given);
+        let point = outside::place_on_axis(mode, &knots[begin..end], given);
         lower[i] = cell_on_axis(&knots[begin..end], point.coordinate);
         placed[i] = point.coordinate;
         refused = refused | point.refused;

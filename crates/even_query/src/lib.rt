@@ -5,7 +5,6 @@ ghost use Rattle.grid.specs.Given.{grid};
 ghost use Rattle.even_query.specs.Uneven.{refused-uneven};
 use rules::Axis;
 use rules::EvenAnswer;
-use rules::Mode;
 use rules::QueryAnswer;
 
 mod direct; // direct.rt: the cell by one division on each axis
@@ -38,18 +37,17 @@ fn refused_uneven(axis: usize, interval: usize) -> EvenAnswer
     }
 }
 
-// PUBLIC. The surface's value at a point on axes that are even, with a mode for each axis as in the query, of which hold moves the point before its cell is found by one division; and for
+// PUBLIC. The surface's value at a point on axes that are even, outside the knots of an axis as its mode says, of which hold moves the point before its cell is found by one division; and for
 // each axis the label, which is the cell that was evaluated, 0 past those in use. Refuses 1 2 3 4 7 8 21 18 10, in this order; then the value is +0.0 and every label 0. After 21 axis and
 // interval are the lowest axis that is not even and its first interval that fails, both counted from 0; they are 0 in every other answer.
 pub fn even_query(
     axes: usize,
     all: [Axis; 4],
-    modes: [Mode; 4],
     knots: &[f64],
     tensor: &[f64],
     coordinates: &[f64],
 ) -> EvenAnswer
-    ensures { λ r. ⌜ EvenQueryPromise (grid axes all (now (knots .entry))) modes (now (tensor .entry)) (now (coordinates .entry)) r ⌝ }
+    ensures { λ r. ⌜ EvenQueryPromise (grid axes all (now (knots .entry))) (now (tensor .entry)) (now (coordinates .entry)) r ⌝ }
 {
     let refusal = checks::query_refusal(axes, all, knots, tensor.len(), coordinates);
     if refusal != 0 {
@@ -59,7 +57,7 @@ pub fn even_query(
     if first.interval != 0 {
         return refused_uneven(first.axis, first.interval);
     }
-    let found = direct::locate_on_axes(axes, all, modes, knots, coordinates);
+    let found = direct::locate_on_axes(axes, all, knots, coordinates);
     if found.refused {
         return nothing_told(cell::refused(18));
     }

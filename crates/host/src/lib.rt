@@ -1,9 +1,10 @@
 // Every public call exported for C, over numbers and plain slices. Each returns its refusal's number, 0 for none, in the one order that boundary::own says.
 ghost use Rattle.rules.specs.Calls.{SlopesPromise};
 ghost use Rattle.step_exports.specs.StepExports.{ExactExport, AxisExport, StepExport, SteppedExport};
-ghost use Rattle.host.specs.Exports.{MomentsExport, CurveExport, BuildExport, ChangeExport, QueryExport, QuickQueryExport, ReadExport, SheetTensorExport, WriteExport, EvenQueryExport};
-use boundary::own;
-use boundary::slots;
+ghost use Rattle.curve_exports.specs.CurveExports.{MomentsExport, CurveExport};
+ghost use Rattle.tensor_exports.specs.TensorExports.{BuildExport, ChangeExport};
+ghost use Rattle.query_exports.specs.QueryExports.{QueryExport, QuickQueryExport, EvenQueryExport};
+ghost use Rattle.sheet_exports.specs.SheetExports.{ReadExport, SheetTensorExport, WriteExport};
 
 // The moments of the curve through the samples, one for each point, under the two ends given. Refuses 2 4 5 7 8 9 10, and 4 and 13 of its own.
 #[no_mangle]
@@ -18,12 +19,7 @@ pub extern "C" fn hullashlar_moments(
 ) -> usize
     ensures { λ r. ⌜ MomentsExport points (now (knots .entry)) (now (samples .entry)) (now (kinds .entry)) (now (values .entry)) (now (moments .entry)) (now (scratch .entry)) r (now (moments .exit)) (now (scratch .exit)) ⌝ }
 {
-    let refusal = own::moments_own_refusal(points, knots, samples, kinds, values, moments);
-    if refusal != 0 {
-        return refusal;
-    }
-    let condition = plain_axes::condition_given(kinds, values, 0);
-    spline::moments(points, knots, samples, condition, moments, scratch)
+    curve_exports::moments(points, knots, samples, kinds, values, moments, scratch)
 }
 
 // The curve's value at a point, beyond the knots too, in a slot of one. Refuses 2 4 7 8 10, and then the value is +0.0; and 4 of its own.
@@ -38,14 +34,7 @@ pub extern "C" fn hullashlar_curve(
 ) -> usize
     ensures { λ r. ⌜ CurveExport points (now (knots .entry)) (now (samples .entry)) (now (moments .entry)) point (now (value .entry)) r (now (value .exit)) ⌝ }
 {
-    let refusal = own::curve_own_refusal(points, value);
-    if refusal != 0 {
-        slots::store_value(value, 0.0);
-        return refusal;
-    }
-    let answer = spline::curve(points, knots, samples, moments, point);
-    slots::store_value(value, answer.value);
-    answer.refusal
+    curve_exports::curve(points, knots, samples, moments, point, value)
 }
 
 // The curve's slope at every knot, one for each point. Refuses 2 4 7 8 10.
@@ -76,12 +65,7 @@ pub extern "C" fn hullashlar_build(
 ) -> usize
     ensures { λ r. ⌜ BuildExport axes (now (points .entry)) (now (kinds .entry)) (now (values .entry)) (now (knots .entry)) (now (samples .entry)) (now (tensor .entry)) (now (scratch .entry)) r (now (tensor .exit)) (now (scratch .exit)) ⌝ }
 {
-    let refusal = own::build_own_refusal(axes, points, kinds, values, knots, samples, tensor);
-    if refusal != 0 {
-        return refusal;
-    }
-    let all = plain_axes::axes_given(axes, points, kinds, values);
-    tensor::build(axes, all, knots, samples, tensor, scratch)
+    tensor_exports::build(axes, points, kinds, values, knots, samples, tensor, scratch)
 }
 
 // One sample changed in a tensor, with every lane solved again that can differ; how many were solved goes to a slot of one. Refuses 1 to 10, and then no lane was solved; and 4 and 13 of its own.
@@ -100,16 +84,18 @@ pub extern "C" fn hullashlar_change(
 ) -> usize
     ensures { λ r. ⌜ ChangeExport axes (now (points .entry)) (now (kinds .entry)) (now (values .entry)) (now (knots .entry)) (now (tensor .entry)) (now (scratch .entry)) (now (place .entry)) sample (now (lanes .entry)) r (now (tensor .exit)) (now (scratch .exit)) (now (lanes .exit)) ⌝ }
 {
-    let refusal = own::change_own_refusal(axes, points, kinds, values, knots, tensor, place, lanes);
-    if refusal != 0 {
-        slots::store_count(lanes, 0);
-        return refusal;
-    }
-    let all = plain_axes::axes_given(axes, points, kinds, values);
-    let changed = plain_axes::place_given(place);
-    let answer = tensor::change(axes, all, knots, tensor, scratch, changed, sample);
-    slots::store_count(lanes, answer.lanes);
-    answer.refusal
+    tensor_exports::change(
+        axes,
+        points,
+        kinds,
+        values,
+        knots,
+        tensor,
+        scratch,
+        place,
+        sample,
+        lanes,
+    )
 }
 
 // The surface's value at the coordinates in a slot of one, with a mode for each axis, 0 to extend beyond its knots, 1 to hold at the nearest end knot, 2 to refuse, and for each axis the label, which is the cell that was evaluated, 0 past those in use. Refuses 1 2 3 4 7 8 18 10, in this order, and then value and labels are 0; and 4 and 22 of its own.
@@ -126,7 +112,7 @@ pub extern "C" fn hullashlar_query(
 ) -> usize
     ensures { λ r. ⌜ QueryExport axes (now (points .entry)) (now (modes .entry)) (now (knots .entry)) (now (tensor .entry)) (now (coordinates .entry)) (now (value .entry)) (now (labels .entry)) r (now (value .exit)) (now (labels .exit)) ⌝ }
 {
-    let refusal = own::query_own_refusal(
+    query_exports::query(
         axes,
         points,
         modes,
@@ -135,17 +121,7 @@ pub extern "C" fn hullashlar_query(
         coordinates,
         value,
         labels,
-    );
-    if refusal != 0 {
-        slots::store_query(value, labels, 0.0, [0; 4]);
-        return refusal;
-    }
-    let all = plain_axes::axes_without_ends(axes, points);
-    let chosen = plain_axes::modes_given(axes, modes);
-    let answer = query::query(axes, all, chosen, knots, tensor, coordinates);
-    let found = answer.labels;
-    slots::store_query(value, labels, answer.value, found);
-    answer.refusal
+    )
 }
 
 // The surface's value at the coordinates and the labels, as above, in the cell that the search finds: no axis is walked, and the knots may be any. The answer is that of the query wherever it does not refuse the knots. Refuses 1 2 3 4, 7 for a coordinate, 8 for the found cell's knots, 18 10, in this order, and then value and labels are 0; and 4 and 22 of its own.
@@ -162,7 +138,7 @@ pub extern "C" fn hullashlar_quick_query(
 ) -> usize
     ensures { λ r. ⌜ QuickQueryExport axes (now (points .entry)) (now (modes .entry)) (now (knots .entry)) (now (tensor .entry)) (now (coordinates .entry)) (now (value .entry)) (now (labels .entry)) r (now (value .exit)) (now (labels .exit)) ⌝ }
 {
-    let refusal = own::query_own_refusal(
+    query_exports::quick_query(
         axes,
         points,
         modes,
@@ -171,17 +147,7 @@ pub extern "C" fn hullashlar_quick_query(
         coordinates,
         value,
         labels,
-    );
-    if refusal != 0 {
-        slots::store_query(value, labels, 0.0, [0; 4]);
-        return refusal;
-    }
-    let all = plain_axes::axes_without_ends(axes, points);
-    let chosen = plain_axes::modes_given(axes, modes);
-    let answer = quick_query::quick_query(axes, all, chosen, knots, tensor, coordinates);
-    let found = answer.labels;
-    slots::store_query(value, labels, answer.value, found);
-    answer.refusal
+    )
 }
 
 // The surface's value at the coordinates and the labels, as of the query, on axes that are even, in the cell that one division finds on each; hold moves a coordinate before its cell is found. Refuses 1 2 3 4 7 8 21 18 10, in this order, and then value and labels are 0; and 4 and 22 of its own. After 21 uneven has the lowest axis that is not even and its first interval that fails, both counted from 0; after all else it has 0 twice.
@@ -199,7 +165,7 @@ pub extern "C" fn hullashlar_even_query(
 ) -> usize
     ensures { λ r. ⌜ EvenQueryExport axes (now (points .entry)) (now (modes .entry)) (now (knots .entry)) (now (tensor .entry)) (now (coordinates .entry)) (now (value .entry)) (now (labels .entry)) (now (uneven .entry)) r (now (value .exit)) (now (labels .exit)) (now (uneven .exit)) ⌝ }
 {
-    let refusal = own::even_query_own_refusal(
+    query_exports::even_query(
         axes,
         points,
         modes,
@@ -209,25 +175,7 @@ pub extern "C" fn hullashlar_even_query(
         value,
         labels,
         uneven,
-    );
-    if refusal != 0 {
-        slots::store_even_query(value, labels, uneven, 0.0, [0; 4], 0, 0);
-        return refusal;
-    }
-    let all = plain_axes::axes_without_ends(axes, points);
-    let chosen = plain_axes::modes_given(axes, modes);
-    let answer = even_query::even_query(axes, all, chosen, knots, tensor, coordinates);
-    let found = answer.labels;
-    slots::store_even_query(
-        value,
-        labels,
-        uneven,
-        answer.value,
-        found,
-        answer.axis,
-        answer.interval,
-    );
-    answer.refusal
+    )
 }
 
 // The parts of a packed sheet: knots and samples go to the first places of two buffers of 1,024 each, how many axes there are to a slot of one, and their points, the kinds of their ends and the values of these to their slices, 0 past the axes in use. Refuses 4, then 11 12 1 2 13 3 14 in reading order, and then all that is not a buffer is 0; and 4 of its own.
@@ -243,15 +191,7 @@ pub extern "C" fn hullashlar_read(
 ) -> usize
     ensures { λ r. ⌜ ReadExport (now (bytes .entry)) (now (knots .entry)) (now (samples .entry)) (now (axes .entry)) (now (points .entry)) (now (kinds .entry)) (now (values .entry)) r (now (knots .exit)) (now (samples .exit)) (now (axes .exit)) (now (points .exit)) (now (kinds .exit)) (now (values .exit)) ⌝ }
 {
-    let refusal = own::read_own_refusal(axes, points, kinds, values);
-    if refusal != 0 {
-        return refusal;
-    }
-    let answer = sheet::read(bytes, knots, samples);
-    axes[0] = answer.axes;
-    let found = answer.all;
-    plain_axes::store_axes(found, points, kinds, values);
-    answer.refusal
+    sheet_exports::read(bytes, knots, samples, axes, points, kinds, values)
 }
 
 // The tensor of a packed sheet, read and built in one call: what a read gives goes where a read puts it, the tensor to the first places of a buffer of 4,096, and how many numbers it has to a slot of one. Refuses 4, then what the reader refuses, then what the build refuses, and then the length is 0; where the build refuses, the parts of the sheet stand as after a read. And 4 of its own.
@@ -270,16 +210,18 @@ pub extern "C" fn hullashlar_sheet_tensor(
 ) -> usize
     ensures { λ r. ⌜ SheetTensorExport (now (bytes .entry)) (now (knots .entry)) (now (samples .entry)) (now (axes .entry)) (now (points .entry)) (now (kinds .entry)) (now (values .entry)) (now (tensor .entry)) (now (scratch .entry)) (now (length .entry)) r (now (knots .exit)) (now (samples .exit)) (now (axes .exit)) (now (points .exit)) (now (kinds .exit)) (now (values .exit)) (now (tensor .exit)) (now (scratch .exit)) (now (length .exit)) ⌝ }
 {
-    let refusal = own::sheet_tensor_own_refusal(axes, points, kinds, values, length);
-    if refusal != 0 {
-        return refusal;
-    }
-    let answer = sheet_build::tensor_of_sheet(bytes, knots, samples, tensor, scratch);
-    length[0] = answer.length;
-    axes[0] = answer.axes;
-    let found = answer.all;
-    plain_axes::store_axes(found, points, kinds, values);
-    answer.refusal
+    sheet_exports::sheet_tensor(
+        bytes,
+        knots,
+        samples,
+        axes,
+        points,
+        kinds,
+        values,
+        tensor,
+        scratch,
+        length,
+    )
 }
 
 // The packed sheet of axes, knots and samples, in the first bytes of a buffer whose other bytes stay; how many bytes it has goes to a slot of one. Refuses 1 2 3 4 7 8 9, and then 15 for a buffer that is shorter than the sheet, and the length is then 0; and 4 and 13 of its own.
@@ -296,15 +238,7 @@ pub extern "C" fn hullashlar_write(
 ) -> usize
     ensures { λ r. ⌜ WriteExport axes (now (points .entry)) (now (kinds .entry)) (now (values .entry)) (now (knots .entry)) (now (samples .entry)) (now (bytes .entry)) (now (length .entry)) r (now (bytes .exit)) (now (length .exit)) ⌝ }
 {
-    let refusal = own::write_own_refusal(axes, points, kinds, values, knots, samples, length);
-    if refusal != 0 {
-        slots::store_count(length, 0);
-        return refusal;
-    }
-    let all = plain_axes::axes_given(axes, points, kinds, values);
-    let answer = sheet_write::write(axes, all, knots, samples, bytes);
-    slots::store_count(length, answer.length);
-    answer.refusal
+    sheet_exports::write(axes, points, kinds, values, knots, samples, bytes, length)
 }
 
 // Which of the knots at a lower index and after it equals the point: 1 and its index, or 0 and 0, in a slot of two. Refuses 2 4 6 7 8, and then both are 0; and 4 of its own.

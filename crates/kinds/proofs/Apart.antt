@@ -3,13 +3,15 @@ use mathlib.Core.Path.{_≡_, ap}
 use Prim.Native.Nat.{ℕ}
 use native.Mathlib.Omega.{arith}
 use Rattle.kinds.specs.declared.classes.Class.{Class}
-use Rattle.kinds.specs.declared.classes.Class.the-variants.{None, Reading, Building, Unknown}
+use Rattle.kinds.specs.declared.classes.Class.the-variants.{None, Reading, Building, Writing, Unknown}
 
-abbrev place : Class → ℕ
+-- the classes one after the other
+abbrev pub place : Class → ℕ
 place None = 0
 place Reading = 1
 place Building = 2
-place Unknown = 3
+place Writing = 3
+place Unknown = 4
 
 pub none-not-reading : None ≡ Reading → ⊥
 none-not-reading e = let places = ap place e in omega arith

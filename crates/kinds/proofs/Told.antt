@@ -1,5 +1,9 @@
 -- An end, a condition and a mode are told by their numbers: what is read back from them is what they were.
 use mathlib.Core.Path.{_≡_, refl, _∙_}
+use mathlib.Core.Bool.{false}
+use Prim.Native.Nat.{ℕ, zero, suc}
+use native.Mathlib.Omega.{arith}
+use borrow.Author.Tests.{ltb-false}
 use Rattle.rules.specs.declared.End.{End}
 use Rattle.rules.specs.declared.End.the-variants.{NotAKnot, FirstDerivative, SecondDerivative}
 use Rattle.rules.specs.declared.Condition.{Condition}
@@ -7,7 +11,7 @@ use Rattle.rules.specs.declared.Condition.the-variants.{Endpoints, Periodic}
 use Rattle.rules.specs.Outside.{mode-number}
 use Rattle.rules.specs.declared.Mode.{Mode}
 use Rattle.rules.specs.declared.Mode.the-variants.{Extend, Hold, Refuse}
-use Rattle.kinds.specs.Modes.{mode-of-number}
+use Rattle.kinds.specs.Modes.{unknown-mode, mode-of-number}
 use Rattle.kinds.specs.Kinds.{end-of-kind, condition-of-kind, kind-of-end, value-of-end, lower-kind-of, upper-kind-of, lower-value-of, upper-value-of}
 
 end-again : (end : End) → end-of-kind (kind-of-end end) (value-of-end end) ≡ end
@@ -39,3 +43,17 @@ unfolding mode-of-number
 mode-again Extend = refl
 mode-again Hold = refl
 mode-again Refuse = refl
+
+-- the number of a mode is that of one
+pub mode-known : (mode : Mode) → unknown-mode (mode-number mode) ≡ false
+mode-known Extend = refl
+mode-known Hold = refl
+mode-known Refuse = refl
+
+-- and a number that is that of a mode is read back too
+pub number-again : (number : ℕ) → unknown-mode number ≡ false → mode-number (mode-of-number number) ≡ number
+unfolding mode-of-number
+number-again zero known = refl
+number-again (suc zero) known = refl
+number-again (suc (suc zero)) known = refl
+number-again (suc (suc (suc number))) known = let few = ltb-false 2 (suc (suc (suc number))) known in absurd (omega (arith, few))

@@ -1,4 +1,5 @@
 pub mod Ranges
 pub mod Kinds
 pub mod Modes
+pub mod Editions
 pub mod Classes

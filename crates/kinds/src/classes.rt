@@ -1,15 +1,17 @@
-// The classes of refusals, decided by their numbers: what a refusal of the reader or of the build means for the sheet at hand.
+// The classes of refusals, decided by their numbers: what a refusal of the reader, of the build or of the writer means for the sheet at hand.
 ghost use mathlib.Core.Path.{_≡_};
 ghost use Rattle.kinds.specs.Classes.{class};
 
 // None: the sheet was read and built.
 // Reading: it was not read. Nothing of it shows, and its length is not known.
 // Building: it was read, and its parts stand in the buffers. What it says is not built.
-// Unknown: no refusal of a sheet that is read and built has the number.
+// Writing: its parts are those of a sheet, and it is not written.
+// Unknown: no refusal of a sheet that is read, built or written has the number.
 pub enum Class {
     None,
     Reading,
     Building,
+    Writing,
     Unknown,
 }
 
@@ -19,8 +21,9 @@ pub fn class_of(refusal: usize) -> Class
 {
     match refusal {
         0 => Class::None,
-        1..=4 | 11..=14 => Class::Reading,
+        1..=4 | 11..=14 | 22 => Class::Reading,
         5..=10 => Class::Building,
+        15 | 23 => Class::Writing,
         _ => Class::Unknown,
     }
 }

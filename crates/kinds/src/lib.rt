@@ -1,5 +1,6 @@
-// What the numbers of kinds and of refusals mean, decided by their ranges. Reader, exports and printer share it.
+// What the numbers of kinds, modes, editions and refusals mean, decided by their ranges. Reader, writer, exports and printer share it.
 
 pub mod ends; // ends.rt: the kinds of the two ends of an axis, and the condition that they are
 pub mod modes; // modes.rt: the modes of axes
+pub mod editions; // editions.rt: the editions of a packed sheet
 pub mod classes; // classes.rt: the classes of refusals

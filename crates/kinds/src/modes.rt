@@ -1,5 +1,6 @@
 // The modes of the axes, by their numbers.
 ghost use mathlib.Core.Path.{_≡_};
+ghost use Rattle.rules.specs.Outside.{mode-number};
 ghost use Rattle.kinds.specs.Modes.{unknown-mode, mode-of-number};
 use rules::Mode;
 
@@ -21,5 +22,16 @@ pub fn mode_of_number(number: u64) -> Mode
         1 => Mode::Hold,
         2 => Mode::Refuse,
         _ => Mode::Extend,
+    }
+}
+
+// The number of a mode: it refuses nothing.
+pub fn mode_number(mode: Mode) -> u8
+    ensures { λ r. ⌜ r ≡ mode-number mode ⌝ }
+{
+    match mode {
+        Mode::Extend => 0,
+        Mode::Hold => 1,
+        Mode::Refuse => 2,
     }
 }

@@ -1,16 +1,19 @@
 -- The axes of a sheet stored as numbers: four axes one after the other, and what these numbers are to the calls that take them.
-use mathlib.Core.Path.{_≡_, refl, ap, _∙_}
+use mathlib.Core.Path.{_≡_, refl, sym, ap, _∙_}
 use mathlib.Core.Bool.{Bool, true, false, cond}
-use mathlib.Core.List.{List, [], _∷_}
-use Prim.Native.Nat.{ℕ}
+use mathlib.Core.List.{List}
+use Prim.Native.Nat.{ℕ, zero, suc}
 use lib.Dec.{ltb}
-use lib.ListN.{length, getD, length-set}
+use lib.ListN.{length, getD, set, length-set}
 use lib.Ieee.{Float}
 use Rattle.rules.specs.Numbers.{zeros, table}
-use Rattle.rules.specs.Sizes.{most-axes, unused-axis}
+use Rattle.rules.specs.Sizes.{most-axes, unused-axis, Grid, points, condition}
+use Rattle.rules.specs.Outside.{with-axes, ButForModes, mode-number}
+use Rattle.rules.specs.declared.Mode.the-variants.{Extend}
+use Rattle.rules.specs.declared.Condition.{Condition}
 use Rattle.rules.specs.declared.Axis.{Axis}
 use Rattle.kinds.proofs.Told.{told, condition-again}
-use Rattle.plain_axes.specs.Axes.{eight-ends, condition-given, axis-given, axes-given, points-found, kinds-found, values-found, AxisStored, AxesStored}
+use Rattle.plain_axes.specs.Axes.{eight-ends, condition-given, axis-given, axes-given, points-found, kinds-found, values-found, modes-found, AxisStored, AxesStored}
 use Rattle.plain_axes.proofs.Slots.{four-stored, eight-stored, four-read}
 
 -- slices for four axes
@@ -46,6 +49,17 @@ module _
               ∙ ap values-found read;
         }
 
+-- the modes of four axes, stored one after the other
+pub four-modes-stored :
+    (found : List Axis) → length found ≡ 4 → (m : List ℕ) {m₁ m₂ m₃ m₄ : List ℕ} → length m ≡ 4
+    → m₁ ≡ set m 0 (mode-number (getD found 0 unused-axis .mode))
+    → m₂ ≡ set m₁ 1 (mode-number (getD found 1 unused-axis .mode))
+    → m₃ ≡ set m₂ 2 (mode-number (getD found 2 unused-axis .mode))
+    → m₄ ≡ set m₃ 3 (mode-number (getD found 3 unused-axis .mode))
+    → m₄ ≡ modes-found found
+four-modes-stored found four m long first second third fourth =
+    rw (fourth, third, second, first) (four-stored m _ _ _ _ long) ∙ ap modes-found (four-read found unused-axis four)
+
 -- ---- what the numbers are
 
 -- on a refusal all are 0, since no axis is in use
@@ -53,28 +67,49 @@ pub none-found :
     (points-found (table most-axes (λ i. unused-axis)) ≡ table most-axes (λ i. 0))
     × (kinds-found (table most-axes (λ i. unused-axis)) ≡ table eight-ends (λ i. 0))
     × (values-found (table most-axes (λ i. unused-axis)) ≡ zeros eight-ends)
-none-found = (refl, refl, refl)
+    × (modes-found (table most-axes (λ i. unused-axis)) ≡ table most-axes (λ i. 0))
+none-found = (refl, refl, refl, refl)
 
--- an axis is told by its numbers
-entry-again :
-    (in-use : Bool) (axis : Axis)
-    → cond in-use (record { points = cond in-use axis unused-axis .points; condition = told (cond in-use axis unused-axis .condition) }) unused-axis
-    ≡ cond in-use axis unused-axis
-entry-again true axis = rw (condition-again (axis .condition))
-entry-again false axis = refl
+-- an axis is told by its numbers, but for its mode
+points-again :
+    (in-use : Bool) (axis : Axis) (c : Condition)
+    → cond in-use axis unused-axis .points
+    ≡ cond in-use (record { points = cond in-use axis unused-axis .points; condition = c; mode = Extend }) unused-axis .points
+points-again true axis c = refl
+points-again false axis c = refl
 
-four-same : {a a′ b b′ c c′ d d′ : Axis} → a ≡ a′ → b ≡ b′ → c ≡ c′ → d ≡ d′ → a ∷ b ∷ c ∷ d ∷ [] ≡ a′ ∷ b′ ∷ c′ ∷ d′ ∷ []
-four-same p q r s = rw (p, q, r, s)
+ends-again :
+    (in-use : Bool) (axis : Axis) (n : ℕ)
+    → cond in-use axis unused-axis .condition
+    ≡ cond in-use (record { points = n; condition = told (cond in-use axis unused-axis .condition); mode = Extend }) unused-axis .condition
+ends-again true axis n = sym (condition-again (axis .condition))
+ends-again false axis n = refl
 
--- the calls that take the numbers take them for the same axes
-pub axes-again :
-    (axis : ℕ → Axis) (n : ℕ)
-    → let found = table most-axes (λ i. cond (ltb i n) (axis i) unused-axis) in
-    axes-given n (points-found found) (kinds-found found) (values-found found) ≡ found
-unfolding axes-given axis-given condition-given
-axes-again axis n =
-    four-same
-    (entry-again (ltb 0 n) (axis 0))
-    (entry-again (ltb 1 n) (axis 1))
-    (entry-again (ltb 2 n) (axis 2))
-    (entry-again (ltb 3 n) (axis 3))
+-- the calls that take the numbers take them for the same axes, but for their modes
+module _ (axis : ℕ → Axis) (n : ℕ) (x : List Float) where
+  abbrev found : List Axis
+  found = table most-axes (λ i. cond (ltb i n) (axis i) unused-axis)
+
+  abbrev g : Grid
+  g = record { axes = n; entries = found; flat-knots = x }
+
+  abbrev again : List Axis
+  again = axes-given n (points-found found) (kinds-found found) (values-found found)
+
+  pub axes-again : ButForModes g again
+  unfolding axes-given axis-given condition-given
+  axes-again = record { same-points = sizes; same-condition = ends }
+    where
+      sizes : (i : ℕ) → points g i ≡ points (with-axes g again) i
+      sizes zero = points-again (ltb 0 n) (axis 0) _
+      sizes (suc zero) = points-again (ltb 1 n) (axis 1) _
+      sizes (suc (suc zero)) = points-again (ltb 2 n) (axis 2) _
+      sizes (suc (suc (suc zero))) = points-again (ltb 3 n) (axis 3) _
+      sizes (suc (suc (suc (suc i)))) = refl
+
+      ends : (i : ℕ) → condition g i ≡ condition (with-axes g again) i
+      ends zero = ends-again (ltb 0 n) (axis 0) _
+      ends (suc zero) = ends-again (ltb 1 n) (axis 1) _
+      ends (suc (suc zero)) = ends-again (ltb 2 n) (axis 2) _
+      ends (suc (suc (suc zero))) = ends-again (ltb 3 n) (axis 3) _
+      ends (suc (suc (suc (suc i)))) = refl

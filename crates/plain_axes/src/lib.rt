@@ -1,8 +1,9 @@
 // From numbers and plain slices to conditions and the four axes, and back. Not public: each requires what the host's own refusals leave, the lengths of its slices and few axes.
 ghost use mathlib.Core.Path.{_≡_};
 ghost use Prim.Native.Nat.{_+_, _*_, _<_, _≤_};
-ghost use lib.ListN.{length};
-ghost use Rattle.plain_axes.specs.Axes.{condition-given, some-kinds-refused, axis-given, axes-given, axis-without-ends, axes-without-ends, some-modes-refused, mode-given, modes-given, AxisStored, AxesStored};
+ghost use lib.ListN.{length, set};
+ghost use Rattle.rules.specs.Outside.{mode-number};
+ghost use Rattle.plain_axes.specs.Axes.{condition-given, some-kinds-refused, axis-given, axes-given, axis-without-ends, axes-without-ends, some-modes-refused, axis-in-mode, axes-in-modes, modes-found, AxisStored, AxesStored};
 use kinds::ends::condition_of_kind;
 use kinds::ends::end_of_kind;
 use kinds::ends::kinds_refused;
@@ -12,6 +13,7 @@ use kinds::ends::upper_kind;
 use kinds::ends::upper_value;
 use kinds::ends::wide;
 use kinds::modes::is_unknown_mode;
+use kinds::modes::mode_number;
 use kinds::modes::mode_of_number;
 use rules::Axis;
 use rules::Condition;
@@ -31,7 +33,7 @@ pub fn condition_given(kinds: &[u8], values: &[f64], i: usize) -> Condition
     )
 }
 
-// Entry i of the four: the axis, where it is in use.
+// Entry i of the four: the axis in extend, where it is in use.
 fn axis_given(axes: usize, points: &[usize], kinds: &[u8], values: &[f64], i: usize) -> Axis
     requires { ⌜ (i < length (now points)) × (2 * i + 1 < length (now kinds)) × (2 * i + 1 < length (now values)) ⌝ }
     ensures { λ r. ⌜ r ≡ axis-given axes (now (points .entry)) (now (kinds .entry)) (now (values .entry)) i ⌝ }
@@ -40,6 +42,7 @@ fn axis_given(axes: usize, points: &[usize], kinds: &[u8], values: &[f64], i: us
         Axis {
             points: points[i],
             condition: condition_given(kinds, values, i),
+            mode: Mode::Extend,
         }
     } else {
         Axis::unused()
@@ -59,7 +62,7 @@ pub fn axes_given(axes: usize, points: &[usize], kinds: &[u8], values: &[f64]) -
     ]
 }
 
-// Entry i of the four of a query, which takes no ends.
+// Entry i of the four of a call that takes no ends.
 fn axis_without_ends(axes: usize, points: &[usize], i: usize) -> Axis
     requires { ⌜ i < length (now points) ⌝ }
     ensures { λ r. ⌜ r ≡ axis-without-ends axes (now (points .entry)) i ⌝ }
@@ -68,13 +71,14 @@ fn axis_without_ends(axes: usize, points: &[usize], i: usize) -> Axis
         Axis {
             points: points[i],
             condition: Condition::not_a_knot(),
+            mode: Mode::Extend,
         }
     } else {
         Axis::unused()
     }
 }
 
-// The four axes of a query.
+// The four axes of such a call.
 pub fn axes_without_ends(axes: usize, points: &[usize]) -> [Axis; 4]
     requires { ⌜ length (now points) ≡ 4 ⌝ }
     ensures { λ r. ⌜ r ≡ axes-without-ends axes (now (points .entry)) ⌝ }
@@ -117,28 +121,34 @@ pub fn some_modes_refused(axes: usize, modes: &[u8]) -> bool
     false
 }
 
-// Entry i of the four: the mode, where the axis is in use.
-fn mode_given(axes: usize, modes: &[u8], i: usize) -> Mode
-    requires { ⌜ i < length (now modes) ⌝ }
-    ensures { λ r. ⌜ r ≡ mode-given axes (now (modes .entry)) i ⌝ }
+// Entry i of the four with its mode, where the axis is in use.
+fn axis_in_mode(axes: usize, all: [Axis; 4], modes: &[u8], i: usize) -> Axis
+    requires { ⌜ (i < 4) × (i < length (now modes)) ⌝ }
+    ensures { λ r. ⌜ r ≡ axis-in-mode axes all (now (modes .entry)) i ⌝ }
 {
+    let axis = all[i];
     if i < axes {
-        mode_of_number(wide(modes[i]))
+        let condition = axis.condition;
+        Axis {
+            points: axis.points,
+            condition,
+            mode: mode_of_number(wide(modes[i])),
+        }
     } else {
-        Mode::Extend
+        axis
     }
 }
 
-// The four modes.
-pub fn modes_given(axes: usize, modes: &[u8]) -> [Mode; 4]
+// The four axes with their modes.
+pub fn axes_in_modes(axes: usize, all: [Axis; 4], modes: &[u8]) -> [Axis; 4]
     requires { ⌜ length (now modes) ≡ 4 ⌝ }
-    ensures { λ r. ⌜ r ≡ modes-given axes (now (modes .entry)) ⌝ }
+    ensures { λ r. ⌜ r ≡ axes-in-modes axes all (now (modes .entry)) ⌝ }
 {
     [
-        mode_given(axes, modes, 0),
-        mode_given(axes, modes, 1),
-        mode_given(axes, modes, 2),
-        mode_given(axes, modes, 3),
+        axis_in_mode(axes, all, modes, 0),
+        axis_in_mode(axes, all, modes, 1),
+        axis_in_mode(axes, all, modes, 2),
+        axis_in_mode(axes, all, modes, 3),
     ]
 }
 
@@ -172,4 +182,24 @@ pub fn store_axes(found: [Axis; 4], points: &mut [usize], kinds: &mut [u8], valu
     store_axis(found[1], 1, points, kinds, values);
     store_axis(found[2], 2, points, kinds, values);
     store_axis(found[3], 3, points, kinds, values);
+}
+
+// The mode of one axis goes to its place.
+fn store_mode(axis: Axis, i: usize, modes: &mut [u8])
+    requires { ⌜ (i < 4) × (length (now modes) ≡ 4) ⌝ }
+    ensures { λ _. ⌜ now (modes .exit) ≡ set (now (modes .entry)) i (mode-number (axis .mode)) ⌝ }
+{
+    let mode = axis.mode;
+    modes[i] = mode_number(mode);
+}
+
+// The modes of the four axes go to their slice.
+pub fn store_modes(found: [Axis; 4], modes: &mut [u8])
+    requires { ⌜ length (now modes) ≡ 4 ⌝ }
+    ensures { λ _. ⌜ now (modes .exit) ≡ modes-found found ⌝ }
+{
+    store_mode(found[0], 0, modes);
+    store_mode(found[1], 1, modes);
+    store_mode(found[2], 2, modes);
+    store_mode(found[3], 3, modes);
 }

@@ -15,7 +15,6 @@ use Rattle.rules.specs.Refusals.{number-refused, answer-refused}
 use Rattle.rules.specs.Outside.{placed-on, some-outside-refused}
 use Rattle.rules.specs.Query.{cell-of, query-in-modes}
 use Rattle.rules.specs.Calls.{or-else, labels, query-refusal, query-answer, QueryPromise}
-use Rattle.rules.specs.declared.Mode.{Mode}
 use Rattle.rules.specs.declared.QueryAnswer.{QueryAnswer}
 use Rattle.rules.proofs.Refused.{or-else-met}
 use Rattle.base.proofs.Scan.{any-at}
@@ -33,7 +32,7 @@ use Rattle.cell.proofs.Answering.{refused-is, answer-is}
 
 -- ---- what the check lets pass
 
-module _ (g : Grid) (modes : List Mode) (tensor-given : ℕ) (coordinates : List Float) (given : QueryGiven g tensor-given coordinates) where
+module _ (g : Grid) (tensor-given : ℕ) (coordinates : List Float) (given : QueryGiven g tensor-given coordinates) where
   abbrev on-grid : GridGiven g tensor-given
   on-grid = given .grid-given
 
@@ -51,53 +50,53 @@ module _ (g : Grid) (modes : List Mode) (tensor-given : ℕ) (coordinates : List
     point-finite : finite (at coordinates i) ≡ true
     point-finite = not-false _ (any-at (λ j. number-refused (at coordinates j)) (length coordinates) (given .coordinates-finite) i (omega (arith, given .coordinates-exact)))
 
-  module _ (found : Found) (searched : Searched g modes coordinates (g .axes) found) where
+  module _ (found : Found) (searched : Searched g coordinates (g .axes) found) where
     pub cell-given : CellGiven g (place-of (found .lower)) (found .placed) × (tensor-given ≡ tensor-length g)
-    cell-given = (finding.cell-given g modes coordinates _ found (searched .found-on) search-given (on-grid .small), on-grid .tensor-exact)
+    cell-given = (finding.cell-given g coordinates _ found (searched .found-on) search-given (on-grid .small), on-grid .tensor-exact)
 
     pub cell-found : (i : ℕ) → i < g .axes → place-of (found .lower) i ≡ cell-of g (at coordinates) i
     cell-found i lt = searched .rising i lt (rising i lt) (point-finite i lt)
 
 -- ---- the answers
 
-module _ (g : Grid) (modes : List Mode) (tensor coordinates : List Float) where
+module _ (g : Grid) (tensor coordinates : List Float) where
   abbrev outside-refused : Bool
-  outside-refused = some-outside-refused g modes (at coordinates)
+  outside-refused = some-outside-refused g (at coordinates)
 
   abbrev value-refused : Bool
-  value-refused = answer-refused (query-in-modes g modes tensor (at coordinates))
+  value-refused = answer-refused (query-in-modes g tensor (at coordinates))
 
-  refusal-is : query-refusal g modes tensor coordinates ≡ or-else (query-check g (length tensor) coordinates) (cond outside-refused 18 (cond value-refused 10 0))
+  refusal-is : query-refusal g tensor coordinates ≡ or-else (query-check g (length tensor) coordinates) (cond outside-refused 18 (cond value-refused 10 0))
   unfolding query-refusal query-check
   refusal-is = rows-then (query-rows g (length tensor) coordinates) (cond outside-refused 18 (cond value-refused 10 0)) tt
 
   module _ (check : ℕ) (checked : check ≡ query-check g (length tensor) coordinates) where
-    refused-by : (number : ℕ) → query-refusal g modes tensor coordinates ≡ number → number ≢ 0 → (r : QueryAnswer) → r ≡ refused-with number → QueryPromise g modes tensor coordinates r
+    refused-by : (number : ℕ) → query-refusal g tensor coordinates ≡ number → number ≢ 0 → (r : QueryAnswer) → r ≡ refused-with number → QueryPromise g tensor coordinates r
     unfolding query-answer
     refused-by number e some r is = record { answer = is ∙ refused-is _ number _ _ e some }
 
     -- the check refuses
-    pub check-refuses : check ≢ 0 → (r : QueryAnswer) → r ≡ refused-with check → QueryPromise g modes tensor coordinates r
+    pub check-refuses : check ≢ 0 → (r : QueryAnswer) → r ≡ refused-with check → QueryPromise g tensor coordinates r
     check-refuses some = refused-by check (refusal-is ∙ rw (← checked) (or-else-met check _ some)) some
 
     -- it does not
     pub check-passes : check ≡ 0 → QueryGiven g (length tensor) coordinates
     check-passes none = query-given g (length tensor) coordinates (sym checked ∙ none)
 
-    module _ (none : check ≡ 0) (found : Found) (searched : Searched g modes coordinates (g .axes) found) where
-      later-is : query-refusal g modes tensor coordinates ≡ cond (found .refused) 18 (cond value-refused 10 0)
+    module _ (none : check ≡ 0) (found : Found) (searched : Searched g coordinates (g .axes) found) where
+      later-is : query-refusal g tensor coordinates ≡ cond (found .refused) 18 (cond value-refused 10 0)
       later-is = refusal-is ∙ rw (← checked, none, searched .found-on .refused) refl
 
       -- a mode refuses
-      pub mode-refuses : found .refused ≡ true → (r : QueryAnswer) → r ≡ refused-with 18 → QueryPromise g modes tensor coordinates r
+      pub mode-refuses : found .refused ≡ true → (r : QueryAnswer) → r ≡ refused-with 18 → QueryPromise g tensor coordinates r
       mode-refuses e = refused-by 18 (later-is ∙ ap (λ (b : Bool). cond b 18 (cond value-refused 10 0)) e) (λ z. omega arith)
 
       -- none does
-      pub cell-answers : found .refused ≡ false → (r : QueryAnswer) → r ≡ answer-in g tensor (found .lower) (at (found .placed)) → QueryPromise g modes tensor coordinates r
+      pub cell-answers : found .refused ≡ false → (r : QueryAnswer) → r ≡ answer-in g tensor (found .lower) (at (found .placed)) → QueryPromise g tensor coordinates r
       unfolding query-answer query-in-modes labels
       cell-answers e r is = record {
         answer = is
-            ∙ answer-is g tensor (at (found .placed)) (placed-on g modes (at coordinates)) (searched .found-on .placed) (found .lower) (cell-of g (at coordinates))
-            (searched .found-on .four) (cell-found g modes (length tensor) coordinates (check-passes none) found searched) (searched .found-on .unused)
-            (query-refusal g modes tensor coordinates) (later-is ∙ ap (λ (b : Bool). cond b 18 (cond value-refused 10 0)) e);
+            ∙ answer-is g tensor (at (found .placed)) (placed-on g (at coordinates)) (searched .found-on .placed) (found .lower) (cell-of g (at coordinates))
+            (searched .found-on .four) (cell-found g (length tensor) coordinates (check-passes none) found searched) (searched .found-on .unused)
+            (query-refusal g tensor coordinates) (later-is ∙ ap (λ (b : Bool). cond b 18 (cond value-refused 10 0)) e);
       }

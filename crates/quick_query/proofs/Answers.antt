@@ -15,7 +15,6 @@ use Rattle.rules.specs.Outside.{placed-on, some-outside-refused}
 use Rattle.rules.specs.Query.{quick-cell-of, quick-query-in-modes}
 use Rattle.rules.specs.Calls.{or-else, quick-labels, quick-query-refusal, quick-query-answer, QuickQueryPromise}
 use Rattle.rules.specs.declared.QueryAnswer.{QueryAnswer}
-use Rattle.rules.specs.declared.Mode.{Mode}
 use Rattle.rules.proofs.Refused.{or-else-met, any-ext}
 use Rattle.checks.proofs.Rows.{rows-then, none-applies, axes-few, in-range, exact-3}
 use Rattle.cell.specs.Searched.{SearchGiven, Searched}
@@ -27,7 +26,7 @@ use Rattle.quick_query.specs.Check.{quick-query-rows, quick-query-check,
 
 -- ---- what the check lets pass
 
-module _ (g : Grid) (modes : List Mode) (tensor-given : ℕ) (coordinates : List Float) where
+module _ (g : Grid) (tensor-given : ℕ) (coordinates : List Float) where
   pub quick-query-given : quick-query-check g tensor-given coordinates ≡ 0 → QuickQueryGiven g tensor-given coordinates
   unfolding quick-query-check
   quick-query-given e =
@@ -51,67 +50,67 @@ module _ (g : Grid) (modes : List Mode) (tensor-given : ℕ) (coordinates : List
       coordinates-exact = given .coordinates-exact;
     }
 
-    pub cell-given : (found : Found) → Searched g modes coordinates (g .axes) found → CellGiven g (place-of (found .lower)) (found .placed) × (tensor-given ≡ tensor-length g)
-    cell-given found searched = (finding.cell-given g modes coordinates _ found (searched .found-on) search-given (given .small), given .tensor-exact)
+    pub cell-given : (found : Found) → Searched g coordinates (g .axes) found → CellGiven g (place-of (found .lower)) (found .placed) × (tensor-given ≡ tensor-length g)
+    cell-given found searched = (finding.cell-given g coordinates _ found (searched .found-on) search-given (given .small), given .tensor-exact)
 
 -- ---- the answers
 
-module _ (g : Grid) (modes : List Mode) (tensor coordinates : List Float) where
+module _ (g : Grid) (tensor coordinates : List Float) where
   abbrev found-refused : Bool
   found-refused = some-found-cell-refused g (quick-cell-of g (at coordinates))
 
   abbrev outside-refused : Bool
-  outside-refused = some-outside-refused g modes (at coordinates)
+  outside-refused = some-outside-refused g (at coordinates)
 
   abbrev value-refused : Bool
-  value-refused = answer-refused (quick-query-in-modes g modes tensor (at coordinates))
+  value-refused = answer-refused (quick-query-in-modes g tensor (at coordinates))
 
   -- what is looked at after the check
   abbrev later : Bool → Bool → ℕ
   later cells sides = cond cells 8 (cond sides 18 (cond value-refused 10 0))
 
-  refusal-is : quick-query-refusal g modes tensor coordinates ≡ or-else (quick-query-check g (length tensor) coordinates) (later found-refused outside-refused)
+  refusal-is : quick-query-refusal g tensor coordinates ≡ or-else (quick-query-check g (length tensor) coordinates) (later found-refused outside-refused)
   unfolding quick-query-refusal quick-query-check
   refusal-is = rows-then (quick-query-rows g (length tensor) coordinates) (later found-refused outside-refused) tt
 
   module _ (check : ℕ) (checked : check ≡ quick-query-check g (length tensor) coordinates) where
-    refused-by : (number : ℕ) → quick-query-refusal g modes tensor coordinates ≡ number → number ≢ 0 → (r : QueryAnswer) → r ≡ refused-with number → QuickQueryPromise g modes tensor coordinates r
+    refused-by : (number : ℕ) → quick-query-refusal g tensor coordinates ≡ number → number ≢ 0 → (r : QueryAnswer) → r ≡ refused-with number → QuickQueryPromise g tensor coordinates r
     unfolding quick-query-answer
     refused-by number e some r is = record { answer = is ∙ refused-is _ number _ _ e some }
 
     -- the check refuses
-    pub check-refuses : check ≢ 0 → (r : QueryAnswer) → r ≡ refused-with check → QuickQueryPromise g modes tensor coordinates r
+    pub check-refuses : check ≢ 0 → (r : QueryAnswer) → r ≡ refused-with check → QuickQueryPromise g tensor coordinates r
     check-refuses some = refused-by check (refusal-is ∙ rw (← checked) (or-else-met check _ some)) some
 
     -- it does not
     pub check-passes : check ≡ 0 → QuickQueryGiven g (length tensor) coordinates
-    check-passes none = quick-query-given g modes (length tensor) coordinates (sym checked ∙ none)
+    check-passes none = quick-query-given g (length tensor) coordinates (sym checked ∙ none)
 
-    module _ (none : check ≡ 0) (found : Found) (searched : Searched g modes coordinates (g .axes) found) {cells : Bool} (is-found : cells ≡ some-found-cell-refused g (place-of (found .lower))) where
+    module _ (none : check ≡ 0) (found : Found) (searched : Searched g coordinates (g .axes) found) {cells : Bool} (is-found : cells ≡ some-found-cell-refused g (place-of (found .lower))) where
       cells-are : cells ≡ found-refused
       cells-are =
           is-found
           ∙ any-ext (λ i. found-cell-refused (knots g i) (place-of (found .lower) i)) (λ i. found-cell-refused (knots g i) (quick-cell-of g (at coordinates) i)) (g .axes)
           (λ i l. ap (found-cell-refused (knots g i)) (searched .found-on .found i l))
 
-      later-is : quick-query-refusal g modes tensor coordinates ≡ later cells (found .refused)
+      later-is : quick-query-refusal g tensor coordinates ≡ later cells (found .refused)
       later-is = refusal-is ∙ rw (← checked, none, cells-are, searched .found-on .refused) refl
 
       -- a found cell is refused
-      pub cell-refused : cells ≡ true → (r : QueryAnswer) → r ≡ refused-with 8 → QuickQueryPromise g modes tensor coordinates r
+      pub cell-refused : cells ≡ true → (r : QueryAnswer) → r ≡ refused-with 8 → QuickQueryPromise g tensor coordinates r
       cell-refused e = refused-by 8 (later-is ∙ ap (λ (b : Bool). later b (found .refused)) e) (λ z. omega arith)
 
       module _ (cells-pass : cells ≡ false) where
         -- a mode refuses
-        pub mode-refuses : found .refused ≡ true → (r : QueryAnswer) → r ≡ refused-with 18 → QuickQueryPromise g modes tensor coordinates r
+        pub mode-refuses : found .refused ≡ true → (r : QueryAnswer) → r ≡ refused-with 18 → QuickQueryPromise g tensor coordinates r
         mode-refuses e = refused-by 18 (later-is ∙ rw (cells-pass, e) refl) (λ z. omega arith)
 
         -- none does
-        pub cell-answers : found .refused ≡ false → (r : QueryAnswer) → r ≡ answer-in g tensor (found .lower) (at (found .placed)) → QuickQueryPromise g modes tensor coordinates r
+        pub cell-answers : found .refused ≡ false → (r : QueryAnswer) → r ≡ answer-in g tensor (found .lower) (at (found .placed)) → QuickQueryPromise g tensor coordinates r
         unfolding quick-query-answer quick-query-in-modes quick-labels
         cell-answers e r is = record {
           answer = is
-              ∙ answer-is g tensor (at (found .placed)) (placed-on g modes (at coordinates)) (searched .found-on .placed) (found .lower) (quick-cell-of g (at coordinates))
+              ∙ answer-is g tensor (at (found .placed)) (placed-on g (at coordinates)) (searched .found-on .placed) (found .lower) (quick-cell-of g (at coordinates))
               (searched .found-on .four) (searched .found-on .found) (searched .found-on .unused)
-              (quick-query-refusal g modes tensor coordinates) (later-is ∙ rw (cells-pass, e) refl);
+              (quick-query-refusal g tensor coordinates) (later-is ∙ rw (cells-pass, e) refl);
         }

@@ -15,7 +15,6 @@ use Rattle.rules.specs.Sizes.{Grid, points, knots, sum-below, knots-length, ten
 use Rattle.rules.specs.Refusals.{length-refused, number-refused, some-number-refused, step-refused, knots-refused, some-knots-refused, found-cell-refused, some-found-cell-refused, answer-refused}
 use Rattle.rules.specs.Outside.{placed-on, some-outside-refused}
 use Rattle.rules.specs.Query.{cell-of, quick-cell-of, query-in-modes, quick-query-in-modes}
-use Rattle.rules.specs.declared.Mode.{Mode}
 use Rattle.rules.specs.Calls.{or-else, answer-of, query-refusal, labels, query-answer, quick-query-refusal, quick-labels, quick-query-answer}
 use Rattle.rules.proofs.Cells.{value-in-ext, labels-ext}
 use Rattle.rules.proofs.Halving.{quick-cell-inside}
@@ -47,7 +46,7 @@ axis-fits g knots-fit i k = go (ltb k (points g i)) refl
 pub refused-alike : {r r′ n : ℕ} (v v′ : Float) (l l′ : List ℕ) → r ≡ suc n → r′ ≡ suc n → answer-of r v l ≡ answer-of r′ v′ l′
 refused-alike v v′ l l′ e f = rw (e, f) refl
 
-module _ (g : Grid) (modes : List Mode) (tensor coordinates : List Float) (knots-fit : AllFit (g .flat-knots)) (coordinates-fit : AllFit coordinates) where
+module _ (g : Grid) (tensor coordinates : List Float) (knots-fit : AllFit (g .flat-knots)) (coordinates-fit : AllFit coordinates) where
   -- the rows that both have first
   abbrev pub first-rows : List Refusal
   first-rows =
@@ -63,25 +62,25 @@ module _ (g : Grid) (modes : List Mode) (tensor coordinates : List Float) (knots
   full-later =
       cond (some-number-refused (g .flat-knots) || some-number-refused coordinates) 7
       (cond (some-knots-refused g) 8
-      (cond (some-outside-refused g modes (at coordinates)) 18 (cond (answer-refused (query-in-modes g modes tensor (at coordinates))) 10 0)))
+      (cond (some-outside-refused g (at coordinates)) 18 (cond (answer-refused (query-in-modes g tensor (at coordinates))) 10 0)))
 
   abbrev quick-later : ℕ
   quick-later =
       cond (some-number-refused coordinates) 7
       (cond (some-found-cell-refused g (quick-cell-of g (at coordinates))) 8
-      (cond (some-outside-refused g modes (at coordinates)) 18 (cond (answer-refused (quick-query-in-modes g modes tensor (at coordinates))) 10 0)))
+      (cond (some-outside-refused g (at coordinates)) 18 (cond (answer-refused (quick-query-in-modes g tensor (at coordinates))) 10 0)))
 
-  pub full-is : query-refusal g modes tensor coordinates ≡ or-else early full-later
+  pub full-is : query-refusal g tensor coordinates ≡ or-else early full-later
   unfolding query-refusal
   full-is = rows-then first-rows full-later tt
 
-  quick-is : quick-query-refusal g modes tensor coordinates ≡ or-else early quick-later
+  quick-is : quick-query-refusal g tensor coordinates ≡ or-else early quick-later
   unfolding quick-query-refusal
   quick-is = rows-then first-rows quick-later tt
 
   -- ---- they refuse early
 
-  early-alike : (n : ℕ) → early ≡ suc n → quick-query-answer g modes tensor coordinates ≡ query-answer g modes tensor coordinates
+  early-alike : (n : ℕ) → early ≡ suc n → quick-query-answer g tensor coordinates ≡ query-answer g tensor coordinates
   unfolding quick-query-answer query-answer
   early-alike n e = refused-alike _ _ _ _ (quick-is ∙ ap (λ (k : ℕ). or-else k quick-later) e) (full-is ∙ ap (λ (k : ℕ). or-else k full-later) e)
 
@@ -97,7 +96,7 @@ module _ (g : Grid) (modes : List Mode) (tensor coordinates : List Float) (knots
     pub lengths : (length (g .flat-knots) ≡ knots-length g) × (length tensor ≡ tensor-length g) × (length coordinates ≡ g .axes)
     lengths = exact-3 (length (g .flat-knots)) (knots-length g) (length tensor) (tensor-length g) (length coordinates) (g .axes) (none-applies first-rows tt none .1 .1 .1 .0)
 
-    both-7 : some-number-refused coordinates ≡ true → quick-query-answer g modes tensor coordinates ≡ query-answer g modes tensor coordinates
+    both-7 : some-number-refused coordinates ≡ true → quick-query-answer g tensor coordinates ≡ query-answer g tensor coordinates
     unfolding quick-query-answer query-answer
     both-7 e = refused-alike {n = 6} _ _ _ _ (quick-is ∙ rw (none, e) refl) (full-is ∙ rw (none, numbers, e) refl)
 
@@ -130,35 +129,35 @@ module _ (g : Grid) (modes : List Mode) (tensor coordinates : List Float) (knots
       none-found : some-found-cell-refused g (quick-cell-of g (at coordinates)) ≡ false
       none-found = any-never (λ i. found-cell-refused (knots g i) (quick-cell-of g (at coordinates) i)) (g .axes) found-fine
 
-      value-same : quick-query-in-modes g modes tensor (at coordinates) ≡ query-in-modes g modes tensor (at coordinates)
+      value-same : quick-query-in-modes g tensor (at coordinates) ≡ query-in-modes g tensor (at coordinates)
       unfolding quick-query-in-modes query-in-modes
-      value-same = value-in-ext g tensor (quick-cell-of g (at coordinates)) (cell-of g (at coordinates)) (placed-on g modes (at coordinates)) cell-same
+      value-same = value-in-ext g tensor (quick-cell-of g (at coordinates)) (cell-of g (at coordinates)) (placed-on g (at coordinates)) cell-same
 
       labels-same : quick-labels g coordinates ≡ labels g coordinates
       unfolding quick-labels labels
       labels-same = labels-ext g (quick-cell-of g (at coordinates)) (cell-of g (at coordinates)) cell-same
 
-      refusal-same : quick-query-refusal g modes tensor coordinates ≡ query-refusal g modes tensor coordinates
+      refusal-same : quick-query-refusal g tensor coordinates ≡ query-refusal g tensor coordinates
       refusal-same = rw (quick-is, full-is, none, finite-point, none-found, value-same, numbers, rise) refl
 
-      both-answer : quick-query-answer g modes tensor coordinates ≡ query-answer g modes tensor coordinates
+      both-answer : quick-query-answer g tensor coordinates ≡ query-answer g tensor coordinates
       unfolding quick-query-answer query-answer
       both-answer = cc (refusal-same, value-same, labels-same)
 
-    later-alike : (b : Bool) → some-number-refused coordinates ≡ b → quick-query-answer g modes tensor coordinates ≡ query-answer g modes tensor coordinates
+    later-alike : (b : Bool) → some-number-refused coordinates ≡ b → quick-query-answer g tensor coordinates ≡ query-answer g tensor coordinates
     later-alike true e = both-7 e
     later-alike false e = both-answer e
 
   -- where the knots are finite and rise by finite steps, whatever else is given
-  pub quick-is-full : some-number-refused (g .flat-knots) ≡ false → some-knots-refused g ≡ false → quick-query-answer g modes tensor coordinates ≡ query-answer g modes tensor coordinates
+  pub quick-is-full : some-number-refused (g .flat-knots) ≡ false → some-knots-refused g ≡ false → quick-query-answer g tensor coordinates ≡ query-answer g tensor coordinates
   quick-is-full numbers rise = go early refl
     where
-      go : (n : ℕ) → early ≡ n → quick-query-answer g modes tensor coordinates ≡ query-answer g modes tensor coordinates
+      go : (n : ℕ) → early ≡ n → quick-query-answer g tensor coordinates ≡ query-answer g tensor coordinates
       go zero e = later-alike e numbers rise (some-number-refused coordinates) refl
       go (suc n) e = early-alike n e
 
   -- so wherever the query refuses neither by 7 nor by 8
-  pub quick-is-full-unless-refused : (query-refusal g modes tensor coordinates ≡ 7 → ⊥) → (query-refusal g modes tensor coordinates ≡ 8 → ⊥) → quick-query-answer g modes tensor coordinates ≡ query-answer g modes tensor coordinates
+  pub quick-is-full-unless-refused : (query-refusal g tensor coordinates ≡ 7 → ⊥) → (query-refusal g tensor coordinates ≡ 8 → ⊥) → quick-query-answer g tensor coordinates ≡ query-answer g tensor coordinates
   quick-is-full-unless-refused not-7 not-8 = go early refl
     where
       seven : early ≡ 0 → (b : Bool) → (some-number-refused (g .flat-knots) || some-number-refused coordinates) ≡ b → b ≡ false
@@ -169,7 +168,7 @@ module _ (g : Grid) (modes : List Mode) (tensor coordinates : List Float) (knots
       eight e f true h = absurd (not-8 (full-is ∙ rw (e, f, h) refl))
       eight e f false h = refl
 
-      go : (n : ℕ) → early ≡ n → quick-query-answer g modes tensor coordinates ≡ query-answer g modes tensor coordinates
+      go : (n : ℕ) → early ≡ n → quick-query-answer g tensor coordinates ≡ query-answer g tensor coordinates
       go zero e =
           let f = seven e (some-number-refused (g .flat-knots) || some-number-refused coordinates) refl in
           quick-is-full (neither (some-number-refused (g .flat-knots)) (some-number-refused coordinates) f .0) (eight e f (some-knots-refused g) refl)

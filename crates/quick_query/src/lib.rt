@@ -7,7 +7,6 @@ ghost use Rattle.rules.specs.Calls.{QuickQueryPromise};
 ghost use Rattle.grid.specs.Given.{grid, sizes-of, CellInside};
 ghost use Rattle.quick_query.specs.Check.{quick-query-check};
 use rules::Axis;
-use rules::Mode;
 use rules::QueryAnswer;
 
 // What a quick query meets before it searches: 1, 2, 3, 4, 7, or 0. Of the knots only the length is looked at.
@@ -51,24 +50,23 @@ fn some_found_cell_refused(axes: usize, all: [Axis; 4], knots: &[f64], lower: [u
     false
 }
 
-// PUBLIC. The surface's value at a point, with a mode for each axis as in the query, and for each axis the label, which is the cell that was evaluated, 0 past those in use. The answer is
+// PUBLIC. The surface's value at a point, outside the knots of an axis as its mode says, and for each axis the label, which is the cell that was evaluated, 0 past those in use. The answer is
 // the query's wherever that does not refuse the knots. Of the knots it reads the first and the last of each axis, those that at most 8 halvings look at and the two of the cell that is
 // found; of the tensor the cell's corners. Refuses 1 2 3 4, 7 for a coordinate, 8 for the found cell's knots, 18 10, in this order; then the value is +0.0 and every label 0.
 pub fn quick_query(
     axes: usize,
     all: [Axis; 4],
-    modes: [Mode; 4],
     knots: &[f64],
     tensor: &[f64],
     coordinates: &[f64],
 ) -> QueryAnswer
-    ensures { λ r. ⌜ QuickQueryPromise (grid axes all (now (knots .entry))) modes (now (tensor .entry)) (now (coordinates .entry)) r ⌝ }
+    ensures { λ r. ⌜ QuickQueryPromise (grid axes all (now (knots .entry))) (now (tensor .entry)) (now (coordinates .entry)) r ⌝ }
 {
     let refusal = quick_query_refusal(axes, all, knots, tensor.len(), coordinates);
     if refusal != 0 {
         return cell::refused(refusal);
     }
-    let found = cell::searched::search_on_axes(axes, all, modes, knots, coordinates);
+    let found = cell::searched::search_on_axes(axes, all, knots, coordinates);
     let lower = found.lower;
     if some_found_cell_refused(axes, all, knots, lower) {
         return cell::refused(8);

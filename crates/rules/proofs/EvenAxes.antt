@@ -85,11 +85,11 @@ cell-at p = direct-cell 0′ 1′ 3 p
 abbrev tiny-failing : ℕ → ℕ
 tiny-failing last = first-failing (0′ ∷ tiny ∷ pattern last ∷ []) 3
 
--- two axes of three points each, on these knots
+-- two axes of three points each, both in refuse, on these knots
 abbrev two-axes : List Float → Grid
 two-axes knots = record {
   axes = 2;
-  entries = record { points = 3; condition = natural } ∷ record { points = 3; condition = natural } ∷ unused-axis ∷ unused-axis ∷ [];
+  entries = record { points = 3; condition = natural; mode = Refuse } ∷ record { points = 3; condition = natural; mode = Refuse } ∷ unused-axis ∷ unused-axis ∷ [];
   flat-knots = knots;
 }
 
@@ -99,20 +99,16 @@ second-axis-uneven = two-axes (0′ ∷ 1′ ∷ 2′ ∷ 0′ ∷ 1′ ∷ 3′
 abbrev both-axes-even : Grid
 both-axes-even = two-axes (0′ ∷ 1′ ∷ 2′ ∷ 0′ ∷ 1′ ∷ 2′ ∷ [])
 
--- one axis on the knots 0 1 2, and the tensor of the line through 0 0, 1 1, 2 2
-abbrev one-axis : Grid
-one-axis = record {
+-- one axis on the knots 0 1 2 in this mode, and the tensor of the line through 0 0, 1 1, 2 2
+abbrev one-axis : Mode → Grid
+one-axis mode = record {
   axes = 1;
-  entries = record { points = 3; condition = natural } ∷ unused-axis ∷ unused-axis ∷ unused-axis ∷ [];
+  entries = record { points = 3; condition = natural; mode = mode } ∷ unused-axis ∷ unused-axis ∷ unused-axis ∷ [];
   flat-knots = knots-3;
 }
 
 abbrev line : List Float
 line = 0′ ∷ 1′ ∷ 1′ ∷ 1′ ∷ 2′ ∷ 1′ ∷ []
-
--- the four axes in one mode
-abbrev all-in : Mode → List Mode
-all-in mode = mode ∷ mode ∷ mode ∷ mode ∷ []
 
 pub record EvenExamples : Type 0 where
   -- on knot 1 of 0 1 2 the two cells part; on the last knot, below the first and just below knot 1 they do not
@@ -154,14 +150,14 @@ pub record EvenExamples : Type 0 where
   pub second-interval : uneven-interval second-axis-uneven ≡ 1
   pub lowest-of-both : uneven-axis (two-axes (0′ ∷ 1′ ∷ 3′ ∷ 0′ ∷ 1′ ∷ 4′ ∷ [])) ≡ 0
   -- on interior knot 1 the two queries answer the same value of two cells
-  pub even-at-interior-knot : even-query-answer one-axis (all-in Extend) line (1′ ∷ []) ≡ record { refusal = 0; value = 1′; labels = 1 ∷ 0 ∷ 0 ∷ 0 ∷ []; axis = 0; interval = 0 }
-  pub query-at-interior-knot : query-answer one-axis (all-in Extend) line (1′ ∷ []) ≡ record { refusal = 0; value = 1′; labels = 0 ∷ 0 ∷ 0 ∷ 0 ∷ [] }
+  pub even-at-interior-knot : even-query-answer (one-axis Extend) line (1′ ∷ []) ≡ record { refusal = 0; value = 1′; labels = 1 ∷ 0 ∷ 0 ∷ 0 ∷ []; axis = 0; interval = 0 }
+  pub query-at-interior-knot : query-answer (one-axis Extend) line (1′ ∷ []) ≡ record { refusal = 0; value = 1′; labels = 0 ∷ 0 ∷ 0 ∷ 0 ∷ [] }
   -- 2 to the 64 lies in cell 0 where the axis extends; hold first takes knot 2, which lies in cell 1
-  pub extended-too-large : even-cell-of one-axis (all-in Extend) (λ i. first-too-large) 0 ≡ 0
-  pub held-too-large : even-cell-of one-axis (all-in Hold) (λ i. first-too-large) 0 ≡ 1
+  pub extended-too-large : even-cell-of (one-axis Extend) (λ i. first-too-large) 0 ≡ 0
+  pub held-too-large : even-cell-of (one-axis Hold) (λ i. first-too-large) 0 ≡ 1
   -- a coordinate outside on axis 0, in refuse, is refused by 18, but where axis 1 is not even by 21
-  pub outside-alone : even-query-refusal both-axes-even (all-in Refuse) (zeros 36) (5′ ∷ 1′ ∷ []) ≡ 18
-  pub uneven-before-outside : even-query-answer second-axis-uneven (all-in Refuse) (zeros 36) (5′ ∷ 1′ ∷ []) ≡ record { refusal = 21; value = 0′; labels = 0 ∷ 0 ∷ 0 ∷ 0 ∷ []; axis = 1; interval = 1 }
+  pub outside-alone : even-query-refusal both-axes-even (zeros 36) (5′ ∷ 1′ ∷ []) ≡ 18
+  pub uneven-before-outside : even-query-answer second-axis-uneven (zeros 36) (5′ ∷ 1′ ∷ []) ≡ record { refusal = 21; value = 0′; labels = 0 ∷ 0 ∷ 0 ∷ 0 ∷ []; axis = 1; interval = 1 }
 
 pub even-examples : EvenExamples
 unfolding any sum-below product-below step-refused locate side h absolute doubled tolerance first-failing first-that uneven-axis uneven-interval direct-cell hermite fraction even-cell-of query-answer even-query-refusal even-query-answer Ieee.add Ieee.sub Ieee.mul Ieee.div Ieee.neg Ieee.lt Ieee.le Ieee.ofBits

@@ -15,7 +15,6 @@ use Rattle.rules.specs.Even.{some-uneven-refused}
 use Rattle.rules.specs.Query.{cell-of, query-in-modes, even-cell-of, even-query}
 use Rattle.rules.specs.Calls.{answer-of, query-lengths-refused, labels, query-refusal, query-answer}
 use Rattle.rules.specs.EvenCalls.{told-of-uneven, even-answer-of, nothing-told, even-query-refusal, even-labels, even-query-answer}
-use Rattle.rules.specs.declared.Mode.{Mode}
 use Rattle.rules.proofs.Places.{One}
 use Rattle.rules.proofs.Cells.{value-in-ext, labels-ext}
 
@@ -36,8 +35,8 @@ not-told refusal number other = go (eqb refusal 21) refl
 pub answers-as-query : (refusal : ℕ) (value : Float) (labels : List ℕ) (axis interval : ℕ) → (refusal ≡ 21 → ⊥) → even-answer-of refusal value labels axis interval ≡ nothing-told (answer-of refusal value labels)
 answers-as-query refusal value labels axis interval other = rw (not-told refusal axis other, not-told refusal interval other) refl
 
-module _ (g : Grid) (modes : List Mode) (tensor coordinates : List Float) where
-  query-never-21 : query-refusal g modes tensor coordinates ≡ 21 → ⊥
+module _ (g : Grid) (tensor coordinates : List Float) where
+  query-never-21 : query-refusal g tensor coordinates ≡ 21 → ⊥
   unfolding query-refusal
   query-never-21 =
       not-21 (axes-refused g) 1 (λ z. omega (arith, z))
@@ -46,24 +45,24 @@ module _ (g : Grid) (modes : List Mode) (tensor coordinates : List Float) where
       (not-21 (query-lengths-refused g tensor coordinates) 4 (λ z. omega (arith, z))
       (not-21 (some-number-refused (g .flat-knots) || some-number-refused coordinates) 7 (λ z. omega (arith, z))
       (not-21 (some-knots-refused g) 8 (λ z. omega (arith, z))
-      (not-21 (some-outside-refused g modes (at coordinates)) 18 (λ z. omega (arith, z))
-      (not-21 (answer-refused (query-in-modes g modes tensor (at coordinates))) 10 (λ z. omega (arith, z)) (λ z. omega (arith, z)))))))))
+      (not-21 (some-outside-refused g (at coordinates)) 18 (λ z. omega (arith, z))
+      (not-21 (answer-refused (query-in-modes g tensor (at coordinates))) 10 (λ z. omega (arith, z)) (λ z. omega (arith, z)))))))))
 
-  module _ (even : some-uneven-refused g ≡ false) (agree : One (g .axes) (even-cell-of g modes (at coordinates)) (cell-of g (at coordinates))) where
-    same-value : even-query g modes tensor (at coordinates) ≡ query-in-modes g modes tensor (at coordinates)
+  module _ (even : some-uneven-refused g ≡ false) (agree : One (g .axes) (even-cell-of g (at coordinates)) (cell-of g (at coordinates))) where
+    same-value : even-query g tensor (at coordinates) ≡ query-in-modes g tensor (at coordinates)
     unfolding even-query query-in-modes
-    same-value = value-in-ext g tensor (even-cell-of g modes (at coordinates)) (cell-of g (at coordinates)) (placed-on g modes (at coordinates)) agree
+    same-value = value-in-ext g tensor (even-cell-of g (at coordinates)) (cell-of g (at coordinates)) (placed-on g (at coordinates)) agree
 
-    same-refusal : even-query-refusal g modes tensor coordinates ≡ query-refusal g modes tensor coordinates
+    same-refusal : even-query-refusal g tensor coordinates ≡ query-refusal g tensor coordinates
     unfolding even-query-refusal query-refusal
     same-refusal = rw (even, same-value) refl
 
-    same-labels : even-labels g modes tensor coordinates ≡ labels g coordinates
+    same-labels : even-labels g tensor coordinates ≡ labels g coordinates
     unfolding even-labels labels
-    same-labels = labels-ext g (even-cell-of g modes (at coordinates)) (cell-of g (at coordinates)) agree
+    same-labels = labels-ext g (even-cell-of g (at coordinates)) (cell-of g (at coordinates)) agree
 
-    pub even-is-query-where-cells-agree : even-query-answer g modes tensor coordinates ≡ nothing-told (query-answer g modes tensor coordinates)
+    pub even-is-query-where-cells-agree : even-query-answer g tensor coordinates ≡ nothing-told (query-answer g tensor coordinates)
     unfolding even-query-answer query-answer
     even-is-query-where-cells-agree =
-        answers-as-query (even-query-refusal g modes tensor coordinates) _ _ _ _ (rw same-refusal query-never-21)
+        answers-as-query (even-query-refusal g tensor coordinates) _ _ _ _ (rw same-refusal query-never-21)
         ∙ rw (same-refusal, same-value, same-labels) refl

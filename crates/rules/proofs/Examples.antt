@@ -78,7 +78,7 @@ slopes x n c y = knot-slopes x n y (moments x n c y)
 abbrev square : Condition → Grid
 square c = record {
   axes = 2;
-  entries = record { points = 2; condition = c } ∷ record { points = 2; condition = c } ∷ unused-axis ∷ unused-axis ∷ [];
+  entries = record { points = 2; condition = c; mode = Extend } ∷ record { points = 2; condition = c; mode = Extend } ∷ unused-axis ∷ unused-axis ∷ [];
   flat-knots = 0′ ∷ 1′ ∷ 0′ ∷ 1′ ∷ [];
 }
 
@@ -86,7 +86,7 @@ square c = record {
 abbrev labels-at : Float → List ℕ
 labels-at point =
     labels
-    (record { axes = 1; entries = record { points = 3; condition = natural } ∷ unused-axis ∷ unused-axis ∷ unused-axis ∷ []; flat-knots = knots-3 })
+    (record { axes = 1; entries = record { points = 3; condition = natural; mode = Extend } ∷ unused-axis ∷ unused-axis ∷ unused-axis ∷ []; flat-knots = knots-3 })
     (point ∷ [])
 
 -- the samples of the square, 0 0 0 1
@@ -112,8 +112,8 @@ falling-knots = 0′ ∷ 5′ ∷ 1′ ∷ 2′ ∷ pattern 0x4022_0000_0000_000
 abbrev quick-refusal-of : List Float → Float → ℕ
 quick-refusal-of x point =
     quick-query-refusal
-    (record { axes = 1; entries = record { points = length x; condition = natural } ∷ []; flat-knots = x })
-    [] (zeros (2 * length x)) (point ∷ [])
+    (record { axes = 1; entries = record { points = length x; condition = natural; mode = Extend } ∷ []; flat-knots = x })
+    (zeros (2 * length x)) (point ∷ [])
 
 -- the refusal of the moments of samples that are all 0, with all lengths right
 abbrev refusal-of : ℕ → List Float → Condition → ℕ
@@ -123,8 +123,18 @@ refusal-of n x c = moments-refusal n x (zeros n) c (zeros n) (zeros 2048)
 abbrev refusal-at-3 : List Float → List Float → ℕ
 refusal-at-3 x t =
     query-refusal
-    (record { axes = 1; entries = record { points = 2; condition = natural } ∷ unused-axis ∷ unused-axis ∷ unused-axis ∷ []; flat-knots = x })
-    (Refuse ∷ []) t (3′ ∷ [])
+    (record { axes = 1; entries = record { points = 2; condition = natural; mode = Refuse } ∷ unused-axis ∷ unused-axis ∷ unused-axis ∷ []; flat-knots = x })
+    t (3′ ∷ [])
+
+-- the refusal of the query on two axes of the knots 0 1, of which axis 0 extends and axis 1 refuses
+abbrev refusal-in-two-modes : List Float → ℕ
+refusal-in-two-modes =
+    query-refusal (record {
+      axes = 2;
+      entries = record { points = 2; condition = natural; mode = Extend } ∷ record { points = 2; condition = natural; mode = Refuse } ∷ unused-axis ∷ unused-axis ∷ [];
+      flat-knots = 0′ ∷ 1′ ∷ 0′ ∷ 1′ ∷ [];
+    })
+    (zeros 16)
 
 pub record Examples : Type 0 where
   -- natural, three knots, up by 1 and down again: in the middle the moment is −3; the slopes are 1.5, 0 and −1.5; at 0.5 stands 0.6875
@@ -182,6 +192,9 @@ pub record Examples : Type 0 where
   -- 18 comes after 8, so on knots that do not rise, and before 10, so where the value would be infinite
   pub outside-of-falling-knots : refusal-at-3 (1′ ∷ 0′ ∷ []) (zeros 4) ≡ 8
   pub outside-with-an-infinite-value : refusal-at-3 knots-2 (pattern 0x7FF0_0000_0000_0000 ∷ zeros 3) ≡ 18
+  -- each axis has its own mode: outside on axis 0, which extends, and outside on axis 1, which refuses
+  pub outside-where-it-extends : refusal-in-two-modes (3′ ∷ ½ ∷ []) ≡ 0
+  pub outside-where-it-refuses : refusal-in-two-modes (½ ∷ 3′ ∷ []) ≡ 18
   -- one point too few for NotAKnot, and just enough: at both ends, at the lower, at the upper
   pub both-ends-3 : refusal-of 3 knots-3 not-a-knot ≡ 9
   pub both-ends-4 : refusal-of 4 knots-4 not-a-knot ≡ 0
@@ -267,6 +280,8 @@ examples = record {
   cell-of-a-NaN = refl;
   outside-of-falling-knots = refl;
   outside-with-an-infinite-value = refl;
+  outside-where-it-extends = refl;
+  outside-where-it-refuses = refl;
   both-ends-3 = refl;
   both-ends-4 = refl;
   lower-end-2 = refl;

@@ -9,6 +9,7 @@ pub mod Locality
 pub mod ChangeIsBuild
 pub mod LaneCount
 pub mod Refused
+pub mod WithoutModes
 pub mod QuickReads
 pub mod Modes
 pub mod BranchNeverReached

@@ -8,15 +8,17 @@ use lib.Ieee.{Float}
 use Rattle.rules.specs.Numbers.{at, any}
 use Rattle.rules.specs.Sizes.{Grid, knots}
 use Rattle.rules.specs.Refusals.{axes-refused, some-points-refused, tensor-refused, some-number-refused, some-knots-refused, some-found-cell-refused, answer-refused}
-use Rattle.rules.specs.Outside.{mode-at, side, nearest, placed, placed-on, outside-refused, some-outside-refused}
-use Rattle.rules.specs.Query.{cell-of, query, quick-cell-of, quick-query, query-in-modes, quick-query-in-modes}
-use Rattle.rules.specs.Calls.{answer-of, labels, quick-labels, query-lengths-refused, refusal-in-order, query-refusal, query-answer, quick-query-refusal, quick-query-answer}
+use Rattle.rules.specs.Outside.{mode-at, side, nearest, placed, placed-on, outside-refused, some-outside-refused, with-axes, ButForModes}
+use Rattle.rules.specs.Query.{query, quick-cell-of, quick-query, query-in-modes, quick-query-in-modes}
+use Rattle.rules.specs.Calls.{query-lengths-refused, refusal-in-order, query-refusal, query-answer, quick-query-refusal, quick-query-answer}
 use Rattle.rules.specs.Extended.{extended-query-refusal, extended-query-answer, extended-quick-refusal, extended-quick-answer}
+use Rattle.rules.specs.declared.Axis.{Axis}
 use Rattle.rules.specs.declared.Mode.{Mode}
 use Rattle.rules.specs.declared.Mode.the-variants.{Extend, Hold, Refuse}
 use Rattle.rules.specs.declared.Side.{Side}
-use Rattle.rules.specs.declared.Side.the-variants.{Below, Inside, Above}
+use Rattle.rules.specs.declared.Side.the-variants.{Inside}
 use Rattle.rules.proofs.Cells.{value-at-ext}
+use Rattle.rules.proofs.WithoutModes.{knots-same, extended-without-modes, extended-quick-without-modes}
 
 -- a test that fails at every index below n fails there
 none-below : (test : ℕ → Bool) (n : ℕ) → ((i : ℕ) → i < n → test i ≡ false) → any test n ≡ false
@@ -24,54 +26,54 @@ unfolding any
 none-below test zero never = refl
 none-below test (suc n) never = rw (none-below test n (λ i l. never i (omega arith)), never n (omega arith)) refl
 
-module _ (g : Grid) (modes : List Mode) (tensor coordinates : List Float) where
+module _ (g : Grid) (tensor coordinates : List Float) where
   -- on each axis in use the coordinate stays where it is and is not refused
   pub record AtEase : Type 0 where
-    pub stays : (i : ℕ) → i < g .axes → placed-on g modes (at coordinates) i ≡ at coordinates i
-    pub passes : (i : ℕ) → i < g .axes → outside-refused (mode-at modes i) (side (knots g i) (at coordinates i)) ≡ false
+    pub stays : (i : ℕ) → i < g .axes → placed-on g (at coordinates) i ≡ at coordinates i
+    pub passes : (i : ℕ) → i < g .axes → outside-refused (mode-at g i) (side (knots g i) (at coordinates i)) ≡ false
 
   module _ (ease : AtEase) where
-    none-outside : some-outside-refused g modes (at coordinates) ≡ false
-    none-outside = none-below (λ i. outside-refused (mode-at modes i) (side (knots g i) (at coordinates i))) (g .axes) (ease .passes)
+    none-outside : some-outside-refused g (at coordinates) ≡ false
+    none-outside = none-below (λ i. outside-refused (mode-at g i) (side (knots g i) (at coordinates i))) (g .axes) (ease .passes)
 
-    same-value : query-in-modes g modes tensor (at coordinates) ≡ query g tensor (at coordinates)
+    same-value : query-in-modes g tensor (at coordinates) ≡ query g tensor (at coordinates)
     unfolding query-in-modes query
     same-value = value-at-ext g tensor _ _ _ (ease .stays)
 
-    same-quick-value : quick-query-in-modes g modes tensor (at coordinates) ≡ quick-query g tensor (at coordinates)
+    same-quick-value : quick-query-in-modes g tensor (at coordinates) ≡ quick-query g tensor (at coordinates)
     unfolding quick-query-in-modes quick-query
     same-quick-value = value-at-ext g tensor _ _ _ (ease .stays)
 
-    same-refusal : query-refusal g modes tensor coordinates ≡ extended-query-refusal g tensor coordinates
+    same-refusal : query-refusal g tensor coordinates ≡ extended-query-refusal g tensor coordinates
     unfolding query-refusal extended-query-refusal
     same-refusal = rw (none-outside, same-value) refl
 
-    same-quick-refusal : quick-query-refusal g modes tensor coordinates ≡ extended-quick-refusal g tensor coordinates
+    same-quick-refusal : quick-query-refusal g tensor coordinates ≡ extended-quick-refusal g tensor coordinates
     unfolding quick-query-refusal extended-quick-refusal
     same-quick-refusal = rw (none-outside, same-quick-value) refl
 
     -- the answers are those without modes
-    pub as-extended : query-answer g modes tensor coordinates ≡ extended-query-answer g tensor coordinates
+    pub as-extended : query-answer g tensor coordinates ≡ extended-query-answer g tensor coordinates
     unfolding query-answer extended-query-answer
     as-extended = cc (same-refusal, same-value)
 
-    pub quick-as-extended : quick-query-answer g modes tensor coordinates ≡ extended-quick-answer g tensor coordinates
+    pub quick-as-extended : quick-query-answer g tensor coordinates ≡ extended-quick-answer g tensor coordinates
     unfolding quick-query-answer extended-quick-answer
     quick-as-extended = cc (same-quick-refusal, same-quick-value)
 
   -- ---- extend on every axis in use
 
-  module _ (extend : (i : ℕ) → i < g .axes → mode-at modes i ≡ Extend) where
+  module _ (extend : (i : ℕ) → i < g .axes → mode-at g i ≡ Extend) where
     extends : AtEase
     extends = record {
       stays = λ i l. rw (extend i l) refl;
       passes = λ i l. rw (extend i l) refl;
     }
 
-    pub extend-as-before : query-answer g modes tensor coordinates ≡ extended-query-answer g tensor coordinates
+    pub extend-as-before : query-answer g tensor coordinates ≡ extended-query-answer g tensor coordinates
     extend-as-before = as-extended extends
 
-    pub quick-extend-as-before : quick-query-answer g modes tensor coordinates ≡ extended-quick-answer g tensor coordinates
+    pub quick-extend-as-before : quick-query-answer g tensor coordinates ≡ extended-quick-answer g tensor coordinates
     quick-extend-as-before = quick-as-extended extends
 
   -- ---- every coordinate inside
@@ -79,8 +81,8 @@ module _ (g : Grid) (modes : List Mode) (tensor coordinates : List Float) where
   module _ (inside : (i : ℕ) → i < g .axes → side (knots g i) (at coordinates i) ≡ Inside) where
     within : AtEase
     within = record {
-      stays = λ i l. stay i (mode-at modes i) (inside i l);
-      passes = λ i l. rw (inside i l) (pass (mode-at modes i));
+      stays = λ i l. stay i (mode-at g i) (inside i l);
+      passes = λ i l. rw (inside i l) (pass (mode-at g i));
     }
       where
         stay : (i : ℕ) (mode : Mode) → side (knots g i) (at coordinates i) ≡ Inside → placed mode (knots g i) (at coordinates i) ≡ at coordinates i
@@ -94,12 +96,21 @@ module _ (g : Grid) (modes : List Mode) (tensor coordinates : List Float) where
         pass Refuse = refl
 
 -- all modes give the same whole answer
-module _ (g : Grid) (modes modes′ : List Mode) (tensor coordinates : List Float) (inside : (i : ℕ) → i < g .axes → side (knots g i) (at coordinates i) ≡ Inside) where
-  pub inside-alike : query-answer g modes tensor coordinates ≡ query-answer g modes′ tensor coordinates
-  inside-alike = as-extended g modes tensor coordinates (within g modes tensor coordinates inside) ∙ sym (as-extended g modes′ tensor coordinates (within g modes′ tensor coordinates inside))
+module _ (g : Grid) (all : List Axis) (same : ButForModes g all) (tensor coordinates : List Float) (inside : (i : ℕ) → i < g .axes → side (knots g i) (at coordinates i) ≡ Inside) where
+  inside-there : (i : ℕ) → i < g .axes → side (knots (with-axes g all) i) (at coordinates i) ≡ Inside
+  inside-there i l = rw (← knots-same g all same i) (inside i l)
 
-  pub quick-inside-alike : quick-query-answer g modes tensor coordinates ≡ quick-query-answer g modes′ tensor coordinates
-  quick-inside-alike = quick-as-extended g modes tensor coordinates (within g modes tensor coordinates inside) ∙ sym (quick-as-extended g modes′ tensor coordinates (within g modes′ tensor coordinates inside))
+  pub inside-alike : query-answer g tensor coordinates ≡ query-answer (with-axes g all) tensor coordinates
+  inside-alike =
+      as-extended g tensor coordinates (within g tensor coordinates inside)
+      ∙ extended-without-modes g all same tensor coordinates
+      ∙ sym (as-extended (with-axes g all) tensor coordinates (within (with-axes g all) tensor coordinates inside-there))
+
+  pub quick-inside-alike : quick-query-answer g tensor coordinates ≡ quick-query-answer (with-axes g all) tensor coordinates
+  quick-inside-alike =
+      quick-as-extended g tensor coordinates (within g tensor coordinates inside)
+      ∙ extended-quick-without-modes g all same tensor coordinates
+      ∙ sym (quick-as-extended (with-axes g all) tensor coordinates (within (with-axes g all) tensor coordinates inside-there))
 
 -- ---- 18
 
@@ -114,7 +125,7 @@ met-18 true beyond answer e eighteen = refl
 met-18 false true answer e eighteen = absurd (omega (arith, e, eighteen))
 met-18 false false answer e eighteen = absurd (omega (arith, e, eighteen))
 
-module _ (g : Grid) (modes : List Mode) (tensor coordinates : List Float) (numbers-refused cells-refused : Bool) where
+module _ (g : Grid) (tensor coordinates : List Float) (numbers-refused cells-refused : Bool) where
   -- none of 1 2 3 4 7 8 applies, and an axis in refuse has its coordinate outside
   pub record OnlyOutside : Type 0 where
     pub axes-pass : axes-refused g ≡ false
@@ -123,9 +134,9 @@ module _ (g : Grid) (modes : List Mode) (tensor coordinates : List Float) (numbe
     pub lengths-pass : query-lengths-refused g tensor coordinates ≡ false
     pub numbers-pass : numbers-refused ≡ false
     pub cells-pass : cells-refused ≡ false
-    pub outside : some-outside-refused g modes (at coordinates) ≡ true
+    pub outside : some-outside-refused g (at coordinates) ≡ true
 
-  only-outside : (beyond : Bool) → refusal-in-order g modes tensor coordinates numbers-refused cells-refused beyond ≡ 18 → OnlyOutside
+  only-outside : (beyond : Bool) → refusal-in-order g tensor coordinates numbers-refused cells-refused beyond ≡ 18 → OnlyOutside
   only-outside beyond e =
       let after-1 = passed (axes-refused g) 1 (λ z. omega (arith, z)) e in
       let after-2 = passed (some-points-refused g) 2 (λ z. omega (arith, z)) (after-1 .1) in
@@ -140,30 +151,30 @@ module _ (g : Grid) (modes : List Mode) (tensor coordinates : List Float) (numbe
         lengths-pass = after-4 .0;
         numbers-pass = after-7 .0;
         cells-pass = after-8 .0;
-        outside = met-18 (some-outside-refused g modes (at coordinates)) beyond _ refl (after-8 .1);
+        outside = met-18 (some-outside-refused g (at coordinates)) beyond _ refl (after-8 .1);
       }
 
-  outside-only : (beyond : Bool) → OnlyOutside → refusal-in-order g modes tensor coordinates numbers-refused cells-refused beyond ≡ 18
+  outside-only : (beyond : Bool) → OnlyOutside → refusal-in-order g tensor coordinates numbers-refused cells-refused beyond ≡ 18
   outside-only beyond only =
       rw (only .axes-pass, only .points-pass, only .size-passes, only .lengths-pass, only .numbers-pass, only .cells-pass, only .outside) refl
 
-module _ (g : Grid) (modes : List Mode) (tensor coordinates : List Float) where
+module _ (g : Grid) (tensor coordinates : List Float) where
   -- 18 of the query
   abbrev pub OutsideOfQuery : Type 0
-  OutsideOfQuery = OnlyOutside g modes tensor coordinates (some-number-refused (g .flat-knots) || some-number-refused coordinates) (some-knots-refused g)
+  OutsideOfQuery = OnlyOutside g tensor coordinates (some-number-refused (g .flat-knots) || some-number-refused coordinates) (some-knots-refused g)
 
-  pub refused-by-18 : (query-refusal g modes tensor coordinates ≡ 18 → OutsideOfQuery) × (OutsideOfQuery → query-refusal g modes tensor coordinates ≡ 18)
+  pub refused-by-18 : (query-refusal g tensor coordinates ≡ 18 → OutsideOfQuery) × (OutsideOfQuery → query-refusal g tensor coordinates ≡ 18)
   unfolding query-refusal
   refused-by-18 =
-      let beyond = answer-refused (query-in-modes g modes tensor (at coordinates)) in
-      (only-outside g modes tensor coordinates _ _ beyond, outside-only g modes tensor coordinates _ _ beyond)
+      let beyond = answer-refused (query-in-modes g tensor (at coordinates)) in
+      (only-outside g tensor coordinates _ _ beyond, outside-only g tensor coordinates _ _ beyond)
 
   -- 18 of the quick query
   abbrev pub OutsideOfQuickQuery : Type 0
-  OutsideOfQuickQuery = OnlyOutside g modes tensor coordinates (some-number-refused coordinates) (some-found-cell-refused g (quick-cell-of g (at coordinates)))
+  OutsideOfQuickQuery = OnlyOutside g tensor coordinates (some-number-refused coordinates) (some-found-cell-refused g (quick-cell-of g (at coordinates)))
 
-  pub quick-refused-by-18 : (quick-query-refusal g modes tensor coordinates ≡ 18 → OutsideOfQuickQuery) × (OutsideOfQuickQuery → quick-query-refusal g modes tensor coordinates ≡ 18)
+  pub quick-refused-by-18 : (quick-query-refusal g tensor coordinates ≡ 18 → OutsideOfQuickQuery) × (OutsideOfQuickQuery → quick-query-refusal g tensor coordinates ≡ 18)
   unfolding quick-query-refusal
   quick-refused-by-18 =
-      let beyond = answer-refused (quick-query-in-modes g modes tensor (at coordinates)) in
-      (only-outside g modes tensor coordinates _ _ beyond, outside-only g modes tensor coordinates _ _ beyond)
+      let beyond = answer-refused (quick-query-in-modes g tensor (at coordinates)) in
+      (only-outside g tensor coordinates _ _ beyond, outside-only g tensor coordinates _ _ beyond)

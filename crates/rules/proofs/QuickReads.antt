@@ -13,10 +13,10 @@ use Rattle.rules.specs.Numbers.{at}
 use Rattle.rules.specs.Sizes.{Grid, points, knots, sum-below}
 use Rattle.rules.specs.Steps.{h}
 use Rattle.rules.specs.Search.{middle, halving, most-halvings, one-back, rust-index, lower-index, middles, visited}
-use Rattle.rules.specs.Refusals.{step-refused, found-cell-refused, some-found-cell-refused}
+use Rattle.rules.specs.Refusals.{step-refused, found-cell-refused}
 use Rattle.rules.specs.Outside.{mode-at, side, nearest, placed, placed-on, outside-refused}
 use Rattle.rules.specs.Query.{cell, fraction, value-in, quick-cell-of, quick-query-in-modes}
-use Rattle.rules.specs.Calls.{labels-of, answer-of, quick-query-refusal, quick-labels, quick-query-answer}
+use Rattle.rules.specs.Calls.{quick-query-refusal, quick-labels, quick-query-answer}
 use Rattle.rules.specs.declared.Axis.{Axis}
 use Rattle.rules.specs.declared.Mode.{Mode}
 use Rattle.rules.specs.declared.Mode.the-variants.{Extend, Hold, Refuse}
@@ -132,7 +132,7 @@ few-visited x point = go (lt point (at x 0)) (le (at x (length x - 1)) point)
 
 -- ---- the whole answer
 
-module _ (axes : ℕ) (all : List Axis) (modes : List Mode) (x x′ tensor tensor′ coordinates : List Float) where
+module _ (axes : ℕ) (all : List Axis) (x x′ tensor tensor′ coordinates : List Float) where
   abbrev g : Grid
   g = record { axes = axes; entries = all; flat-knots = x }
 
@@ -182,8 +182,8 @@ module _ (axes : ℕ) (all : List Axis) (modes : List Mode) (x x′ tensor tenso
     nearest-same i l Inside = refl
     nearest-same i l Above = rw (← axis-count i) (alike .knots-agree i l .1 .0)
 
-    placed-same : (i : ℕ) → i < axes → placed-on g modes (at coordinates) i ≡ placed-on g′ modes (at coordinates) i
-    placed-same i l = go (mode-at modes i)
+    placed-same : (i : ℕ) → i < axes → placed-on g (at coordinates) i ≡ placed-on g′ (at coordinates) i
+    placed-same i l = go (mode-at g i)
       where
         go : (mode : Mode) → placed mode (knots g i) (at coordinates i) ≡ placed mode (knots g′ i) (at coordinates i)
         go Extend = refl
@@ -192,14 +192,14 @@ module _ (axes : ℕ) (all : List Axis) (modes : List Mode) (x x′ tensor tenso
             ∙ ap (λ (s : Side). nearest s (knots g′ i) (at coordinates i)) (side-same i l)
         go Refuse = refl
 
-    value-same : quick-query-in-modes g modes tensor (at coordinates) ≡ quick-query-in-modes g′ modes tensor′ (at coordinates)
+    value-same : quick-query-in-modes g tensor (at coordinates) ≡ quick-query-in-modes g′ tensor′ (at coordinates)
     unfolding quick-query-in-modes value-in h fraction cell
     value-same =
         blend-ext axes 0 _ _ _ _ _ _
         (λ i a b. rw (lower-same i (omega arith), upper-same i (omega arith)) refl)
         (λ i a b. rw (lower-same i (omega arith), upper-same i (omega arith), placed-same i (omega arith)) refl)
         (alike .tensor-agrees)
-        ∙ value-in-ext g′ tensor′ cells (quick-cell-of g′ (at coordinates)) (placed-on g′ modes (at coordinates)) cells-same
+        ∙ value-in-ext g′ tensor′ cells (quick-cell-of g′ (at coordinates)) (placed-on g′ (at coordinates)) cells-same
 
     labels-same : quick-labels g coordinates ≡ quick-labels g′ coordinates
     unfolding quick-labels
@@ -209,7 +209,7 @@ module _ (axes : ℕ) (all : List Axis) (modes : List Mode) (x x′ tensor tenso
         go i true e = cells-same i (ltb-true i axes e)
         go i false e = refl
 
-    refusal-same : quick-query-refusal g modes tensor coordinates ≡ quick-query-refusal g′ modes tensor′ coordinates
+    refusal-same : quick-query-refusal g tensor coordinates ≡ quick-query-refusal g′ tensor′ coordinates
     unfolding quick-query-refusal
     refusal-same =
         rw (
@@ -217,11 +217,11 @@ module _ (axes : ℕ) (all : List Axis) (modes : List Mode) (x x′ tensor tenso
           alike .tensor-count,
           value-same,
           any-ext (λ i. found-cell-refused (knots g i) (cells i)) (λ i. found-cell-refused (knots g′ i) (quick-cell-of g′ (at coordinates) i)) axes refused-same,
-          any-ext (λ i. outside-refused (mode-at modes i) (side (knots g i) (at coordinates i))) (λ i. outside-refused (mode-at modes i) (side (knots g′ i) (at coordinates i))) axes (λ i l. ap (outside-refused (mode-at modes i)) (side-same i l)),
+          any-ext (λ i. outside-refused (mode-at g i) (side (knots g i) (at coordinates i))) (λ i. outside-refused (mode-at g i) (side (knots g′ i) (at coordinates i))) axes (λ i l. ap (outside-refused (mode-at g i)) (side-same i l)),
         )
         refl
 
     -- refusal, value and labels are the same: nothing else can matter
-    pub quick-reads : quick-query-answer g modes tensor coordinates ≡ quick-query-answer g′ modes tensor′ coordinates
+    pub quick-reads : quick-query-answer g tensor coordinates ≡ quick-query-answer g′ tensor′ coordinates
     unfolding quick-query-answer
     quick-reads = cc (refusal-same, value-same, labels-same)

@@ -12,7 +12,6 @@ use Rattle.rules.specs.declared.CurveAnswer.{CurveAnswer}
 use Rattle.rules.specs.declared.ChangeAnswer.{ChangeAnswer}
 use Rattle.rules.specs.declared.QueryAnswer.{QueryAnswer}
 use Rattle.rules.specs.declared.EvenAnswer.{EvenAnswer}
-use Rattle.rules.specs.declared.Mode.{Mode}
 use Rattle.rules.specs.declared.StepDirection.{StepDirection}
 use Rattle.rules.specs.declared.ExactAnswer.{ExactAnswer}
 use Rattle.rules.specs.declared.AxisAnswer.{AxisAnswer}
@@ -63,25 +62,25 @@ change-unique g tensor-lent scratch changed v a a′ t t′ s s′ p q =
     (same (p .answer) (q .answer), same (p .output) (q .output), same (p .scratch) (q .scratch))
 
 pub query-unique :
-    (g : Grid) (modes : List Mode) (tensor-lent coordinates : List Float) (a a′ : QueryAnswer)
-    → QueryPromise g modes tensor-lent coordinates a
-    → QueryPromise g modes tensor-lent coordinates a′
+    (g : Grid) (tensor-lent coordinates : List Float) (a a′ : QueryAnswer)
+    → QueryPromise g tensor-lent coordinates a
+    → QueryPromise g tensor-lent coordinates a′
     → a ≡ a′
-query-unique g modes tensor-lent coordinates a a′ p q = same (p .answer) (q .answer)
+query-unique g tensor-lent coordinates a a′ p q = same (p .answer) (q .answer)
 
 pub quick-query-unique :
-    (g : Grid) (modes : List Mode) (tensor-lent coordinates : List Float) (a a′ : QueryAnswer)
-    → QuickQueryPromise g modes tensor-lent coordinates a
-    → QuickQueryPromise g modes tensor-lent coordinates a′
+    (g : Grid) (tensor-lent coordinates : List Float) (a a′ : QueryAnswer)
+    → QuickQueryPromise g tensor-lent coordinates a
+    → QuickQueryPromise g tensor-lent coordinates a′
     → a ≡ a′
-quick-query-unique g modes tensor-lent coordinates a a′ p q = same (p .answer) (q .answer)
+quick-query-unique g tensor-lent coordinates a a′ p q = same (p .answer) (q .answer)
 
 pub even-query-unique :
-    (g : Grid) (modes : List Mode) (tensor-lent coordinates : List Float) (a a′ : EvenAnswer)
-    → EvenQueryPromise g modes tensor-lent coordinates a
-    → EvenQueryPromise g modes tensor-lent coordinates a′
+    (g : Grid) (tensor-lent coordinates : List Float) (a a′ : EvenAnswer)
+    → EvenQueryPromise g tensor-lent coordinates a
+    → EvenQueryPromise g tensor-lent coordinates a′
     → a ≡ a′
-even-query-unique g modes tensor-lent coordinates a a′ p q = same (p .answer) (q .answer)
+even-query-unique g tensor-lent coordinates a a′ p q = same (p .answer) (q .answer)
 
 pub exact-unique :
     (n : ℕ) (knots : List Float) (lower : ℕ) (point : Float) (a a′ : ExactAnswer)

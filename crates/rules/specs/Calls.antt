@@ -19,7 +19,6 @@ use Rattle.rules.specs.declared.Condition.{Condition}
 use Rattle.rules.specs.declared.CurveAnswer.{CurveAnswer}
 use Rattle.rules.specs.declared.ChangeAnswer.{ChangeAnswer}
 use Rattle.rules.specs.declared.QueryAnswer.{QueryAnswer}
-use Rattle.rules.specs.declared.Mode.{Mode}
 
 -- a refusal, or what comes later where it is 0
 abbrev pub or-else : ℕ → ℕ → ℕ
@@ -194,7 +193,7 @@ unfoldable pub quick-labels : Grid → List Float → List ℕ
 unfolding quick-cell-of
 quick-labels g coordinates = labels-of g (quick-cell-of g (at coordinates))
 
-module _ (g : Grid) (modes : List Mode) (tensor-lent coordinates : List Float) where
+module _ (g : Grid) (tensor-lent coordinates : List Float) where
   -- the refusal of both queries, the first of 1 2 3 4 7 8 18 10 that applies; of 7, 8 and 10 each has its own tests
   abbrev pub refusal-in-order : Bool → Bool → Bool → ℕ
   refusal-in-order numbers-refused cells-refused value-refused =
@@ -204,7 +203,7 @@ module _ (g : Grid) (modes : List Mode) (tensor-lent coordinates : List Float) w
       (cond (query-lengths-refused g tensor-lent coordinates) 4
       (cond numbers-refused 7
       (cond cells-refused 8
-      (cond (some-outside-refused g modes (at coordinates)) 18
+      (cond (some-outside-refused g (at coordinates)) 18
       (cond value-refused 10 0)))))))
 
   -- the query's refusal
@@ -213,12 +212,12 @@ module _ (g : Grid) (modes : List Mode) (tensor-lent coordinates : List Float) w
   query-refusal =
       refusal-in-order (some-number-refused (g .flat-knots) || some-number-refused coordinates)
       (some-knots-refused g)
-      (answer-refused (query-in-modes g modes tensor-lent (at coordinates)))
+      (answer-refused (query-in-modes g tensor-lent (at coordinates)))
 
   -- its answer: the refusal, the value at the coordinates, and the labels
   unfoldable pub query-answer : QueryAnswer
   unfolding query-refusal labels
-  query-answer = answer-of query-refusal (query-in-modes g modes tensor-lent (at coordinates)) (labels g coordinates)
+  query-answer = answer-of query-refusal (query-in-modes g tensor-lent (at coordinates)) (labels g coordinates)
 
   -- what it promises: the answer
   pub record QueryPromise (given : QueryAnswer) : Type 0 where
@@ -230,12 +229,12 @@ module _ (g : Grid) (modes : List Mode) (tensor-lent coordinates : List Float) w
   quick-query-refusal =
       refusal-in-order (some-number-refused coordinates)
       (some-found-cell-refused g (quick-cell-of g (at coordinates)))
-      (answer-refused (quick-query-in-modes g modes tensor-lent (at coordinates)))
+      (answer-refused (quick-query-in-modes g tensor-lent (at coordinates)))
 
   -- its answer: the refusal, the value at the coordinates, and the labels
   unfoldable pub quick-query-answer : QueryAnswer
   unfolding quick-query-refusal quick-labels
-  quick-query-answer = answer-of quick-query-refusal (quick-query-in-modes g modes tensor-lent (at coordinates)) (quick-labels g coordinates)
+  quick-query-answer = answer-of quick-query-refusal (quick-query-in-modes g tensor-lent (at coordinates)) (quick-labels g coordinates)
 
   -- what it promises: the answer
   pub record QuickQueryPromise (given : QueryAnswer) : Type 0 where

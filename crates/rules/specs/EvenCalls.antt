@@ -12,7 +12,6 @@ use Rattle.rules.specs.Outside.{some-outside-refused}
 use Rattle.rules.specs.Even.{some-uneven-refused, uneven-axis, uneven-interval}
 use Rattle.rules.specs.Query.{even-cell-of, even-query}
 use Rattle.rules.specs.Calls.{answered, labelled, labels-of, query-lengths-refused}
-use Rattle.rules.specs.declared.Mode.{Mode}
 use Rattle.rules.specs.declared.QueryAnswer.{QueryAnswer}
 use Rattle.rules.specs.declared.EvenAnswer.{EvenAnswer}
 
@@ -40,7 +39,7 @@ nothing-told answer = record {
   interval = 0;
 }
 
-module _ (g : Grid) (modes : List Mode) (tensor-lent coordinates : List Float) where
+module _ (g : Grid) (tensor-lent coordinates : List Float) where
   -- its refusal, the first of 1 2 3 4 7 8 21 18 10 that applies: an axis that is not even comes before a coordinate outside
   unfoldable pub even-query-refusal : ℕ
   unfolding even-query
@@ -52,19 +51,19 @@ module _ (g : Grid) (modes : List Mode) (tensor-lent coordinates : List Float) w
       (cond (some-number-refused (g .flat-knots) || some-number-refused coordinates) 7
       (cond (some-knots-refused g) 8
       (cond (some-uneven-refused g) 21
-      (cond (some-outside-refused g modes (at coordinates)) 18
-      (cond (answer-refused (even-query g modes tensor-lent (at coordinates))) 10 0))))))))
+      (cond (some-outside-refused g (at coordinates)) 18
+      (cond (answer-refused (even-query g tensor-lent (at coordinates))) 10 0))))))))
 
   -- its labels: the cells that are evaluated
   unfoldable pub even-labels : List ℕ
   unfolding even-cell-of
-  even-labels = labels-of g (even-cell-of g modes (at coordinates))
+  even-labels = labels-of g (even-cell-of g (at coordinates))
 
   -- its answer: the refusal, the value, the labels, and of an axis that is not even which it is and where
   unfoldable pub even-query-answer : EvenAnswer
   unfolding even-query-refusal even-labels uneven-axis uneven-interval
   even-query-answer =
-      even-answer-of even-query-refusal (even-query g modes tensor-lent (at coordinates)) even-labels (uneven-axis g) (uneven-interval g)
+      even-answer-of even-query-refusal (even-query g tensor-lent (at coordinates)) even-labels (uneven-axis g) (uneven-interval g)
 
   -- what it promises: the answer
   pub record EvenQueryPromise (given : EvenAnswer) : Type 0 where

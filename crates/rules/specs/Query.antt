@@ -9,7 +9,6 @@ use Rattle.rules.specs.Locate.{locate}
 use Rattle.rules.specs.Search.{lower-index}
 use Rattle.rules.specs.Outside.{placed-on}
 use Rattle.rules.specs.Even.{direct-cell-of}
-use Rattle.rules.specs.declared.Mode.{Mode}
 
 -- the blend of two knots with values p0, p1 and slopes m0, m1, at the fraction t of their width; with the names of the Rust in `evaluate_hermite_1d`
 unfoldable pub hermite : Float → Float → Float → Float → Float → Float → Float
@@ -79,20 +78,20 @@ unfolding value-in quick-cell-of
 quick-query g tensor point = value-in g tensor (quick-cell-of g point) point
 
 -- both values with a mode for each axis: the cell is that of the point as it is given, and hold moves the point in it
-unfoldable pub query-in-modes : Grid → List Mode → List Float → (ℕ → Float) → Float
+unfoldable pub query-in-modes : Grid → List Float → (ℕ → Float) → Float
 unfolding value-in cell-of
-query-in-modes g modes tensor point = value-in g tensor (cell-of g point) (placed-on g modes point)
+query-in-modes g tensor point = value-in g tensor (cell-of g point) (placed-on g point)
 
-unfoldable pub quick-query-in-modes : Grid → List Mode → List Float → (ℕ → Float) → Float
+unfoldable pub quick-query-in-modes : Grid → List Float → (ℕ → Float) → Float
 unfolding value-in quick-cell-of
-quick-query-in-modes g modes tensor point = value-in g tensor (quick-cell-of g point) (placed-on g modes point)
+quick-query-in-modes g tensor point = value-in g tensor (quick-cell-of g point) (placed-on g point)
 
 -- the cell on even axes: the direct cell of the point where the modes place it, so hold moves the point before the cell is found
-unfoldable pub even-cell-of : Grid → List Mode → (ℕ → Float) → Place
+unfoldable pub even-cell-of : Grid → (ℕ → Float) → Place
 unfolding direct-cell-of
-even-cell-of g modes point = direct-cell-of g (placed-on g modes point)
+even-cell-of g point = direct-cell-of g (placed-on g point)
 
 -- the value there, in that cell
-unfoldable pub even-query : Grid → List Mode → List Float → (ℕ → Float) → Float
+unfoldable pub even-query : Grid → List Float → (ℕ → Float) → Float
 unfolding value-in even-cell-of
-even-query g modes tensor point = value-in g tensor (even-cell-of g modes point) (placed-on g modes point)
+even-query g tensor point = value-in g tensor (even-cell-of g point) (placed-on g point)

@@ -7,6 +7,7 @@ use lib.ListN.{getD, take, drop}
 use lib.Ieee.{Float}
 use Rattle.rules.specs.Ends.{not-a-knot}
 use Rattle.rules.specs.declared.Condition.{Condition}
+use Rattle.rules.specs.declared.Mode.the-variants.{Extend}
 use Rattle.rules.specs.declared.Axis.{Axis}
 
 -- the most axes
@@ -29,9 +30,9 @@ most-in-a-tensor = 4096
 abbrev pub scratch-of-rows : ℕ
 scratch-of-rows = 2048
 
--- an axis not in use: no points, and NotAKnot twice
+-- an axis not in use: no points, NotAKnot twice, and extend
 abbrev pub unused-axis : Axis
-unused-axis = record { points = 0; condition = not-a-knot }
+unused-axis = record { points = 0; condition = not-a-knot; mode = Extend }
 
 -- what a call is given of its grid: how many axes are in use, the four axes, and the knots of all of them in one list
 pub record Grid : Type 0 where

@@ -16,16 +16,18 @@ pub enum Condition {
     Periodic,
 }
 
-pub struct Axis {
-    pub points: usize,
-    pub condition: Condition,
-}
-
 // What a query does with a coordinate outside the knots of its axis: extend the outermost cubic, take the nearest end knot, or refuse.
 pub enum Mode {
     Extend,
     Hold,
     Refuse,
+}
+
+// An axis as a call is given it: the queries alone read its mode.
+pub struct Axis {
+    pub points: usize,
+    pub condition: Condition,
+    pub mode: Mode,
 }
 
 // Where a coordinate lies beside the knots of its axis; on an end knot it is inside.
@@ -199,6 +201,7 @@ impl Axis {
         Axis {
             points: 0,
             condition: Condition::not_a_knot(),
+            mode: Mode::Extend,
         }
     }
 }

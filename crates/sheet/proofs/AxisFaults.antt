@@ -9,7 +9,8 @@ use lib.ListN.{length}
 use Rattle.rules.specs.Refusals.{points-refused}
 use Rattle.bits.specs.Bits.{short, numbers-short}
 use Rattle.kinds.specs.Kinds.{periodic-at-one-end}
-use Rattle.sheet.specs.Fields.{points-at, lower-kind, upper-kind, values-at}
+use Rattle.kinds.specs.Modes.{unknown-mode}
+use Rattle.sheet.specs.Fields.{mode-bits, points-at, lower-kind, upper-kind, mode-said, values-at, values-begin}
 use Rattle.sheet.specs.Faults.{axis-fault}
 use Rattle.sheet.proofs.Extents.{extent}
 
@@ -46,8 +47,20 @@ module _ (bytes : List ℕ) (at : ℕ) where
       one-periodic one =
           rw (le-ltb bits (at + 8) (omega arith), enough-points, le-ltb bits (at + 8 + 2) (omega arith), le-ltb bits (at + 10 + 2) room, one)
 
-      pub patterns : periodic-at-one-end (lower-kind bytes at) (upper-kind bytes at) ≡ false
-          → (test : Bool) → numbers-short bytes (at + 12) (values-at bytes at + points-at bytes at) ≡ test → cond test 11 0 ≡ axis-fault bytes at
-      unfolding axis-fault
-      patterns none test short =
-          rw (le-ltb bits (at + 8) (omega arith), enough-points, le-ltb bits (at + 8 + 2) (omega arith), le-ltb bits (at + 10 + 2) room, none, short)
+      module _ (none : periodic-at-one-end (lower-kind bytes at) (upper-kind bytes at) ≡ false) where
+        pub no-mode : bits < at + 12 + mode-bits bytes → 11 ≡ axis-fault bytes at
+        unfolding axis-fault
+        no-mode gone =
+            rw (le-ltb bits (at + 8) (omega arith), enough-points, le-ltb bits (at + 8 + 2) (omega arith), le-ltb bits (at + 10 + 2) room, none, lt-ltb bits (at + 12 + mode-bits bytes) gone)
+
+        module _ (mode-room : at + 12 + mode-bits bytes ≤ bits) where
+          pub other-mode : unknown-mode (mode-said bytes at) ≡ true → 22 ≡ axis-fault bytes at
+          unfolding axis-fault
+          other-mode other =
+              rw (le-ltb bits (at + 8) (omega arith), enough-points, le-ltb bits (at + 8 + 2) (omega arith), le-ltb bits (at + 10 + 2) room, none, le-ltb bits (at + 12 + mode-bits bytes) mode-room, other)
+
+          pub patterns : unknown-mode (mode-said bytes at) ≡ false
+              → (test : Bool) → numbers-short bytes (values-begin bytes at) (values-at bytes at + points-at bytes at) ≡ test → cond test 11 0 ≡ axis-fault bytes at
+          unfolding axis-fault
+          patterns known test short =
+              rw (le-ltb bits (at + 8) (omega arith), enough-points, le-ltb bits (at + 8 + 2) (omega arith), le-ltb bits (at + 10 + 2) room, none, le-ltb bits (at + 12 + mode-bits bytes) mode-room, known, short)

@@ -7,4 +7,5 @@ pub mod Sheets
 pub mod Promises
 pub mod Parts
 pub mod Unique
+pub mod Edition1
 pub mod Examples

@@ -11,10 +11,12 @@ use lib.Ieee.{Float}
 use Rattle.rules.proofs.Tables.{length-table}
 use Rattle.rules.specs.Sizes.{unused-axis, points, sum-below, knots-length, samples-length}
 use Rattle.rules.specs.Refusals.{axes-refused, points-refused, some-points-refused, tensor-refused}
+use Rattle.rules.specs.declared.Axis.{Axis}
 use Rattle.base.proofs.Scan.{any-never}
-use Rattle.sheet.specs.Fields.{axes, points-at, axis-begin, entries, knots-below, sheet-grid, sheet-samples}
+use Rattle.sheet.specs.Fields.{edition, axes, points-at, axis-begin, entries, knots-below, sheet-grid, sheet-samples}
 use Rattle.sheet.specs.Faults.{sheet-refusal}
 use Rattle.sheet.specs.Read.{over}
+use Rattle.sheet.specs.Within.{PartsRoom}
 use Rattle.sheet.proofs.Extents.{extent}
 use Rattle.sheet.proofs.Walks.{each-faultless, faultless-axis}
 use Rattle.sheet.proofs.Stores.{knots-below-next, length-knots-at}
@@ -76,4 +78,26 @@ parts bytes e =
       knots-most = omega (arith, sum-most bytes ok (axes bytes) (omega arith), ok .said .few);
       samples = length-table _ _;
       samples-most = samples-most bytes ok;
+    }
+
+-- so they have places in buffers of 1,024
+pub parts-room :
+    (bytes : List ℕ) (said n : ℕ) (all : List Axis) (knots samples : List Float)
+    → sheet-refusal bytes ≡ 0
+    → said ≡ edition bytes
+    → n ≡ axes bytes
+    → all ≡ entries bytes (axes bytes)
+    → 1024 ≤ length knots
+    → 1024 ≤ length samples
+    → PartsRoom bytes said n all knots samples
+unfolding sheet-grid
+parts-room bytes said n all knots samples none e f g k s =
+    let known = parts bytes none in
+    record {
+      faultless = none;
+      edition-said = e;
+      axes-said = f;
+      found = g;
+      knots-room = omega (arith, known .knots, known .knots-most);
+      samples-room = omega (arith, known .samples-most);
     }

@@ -1,6 +1,5 @@
 -- The answers that the reader gives, and its promise for each way that it ends.
 use mathlib.Core.Path.{_≡_, refl, sym, ap, _∙_}
-use mathlib.Core.Bool.{_||_}
 use mathlib.Core.List.{List, _++_}
 use Prim.Native.Nat.{ℕ, zero, suc, _-_, _*_, _≤_}
 use native.Mathlib.Omega.{arith}
@@ -9,14 +8,13 @@ use lib.ListN.{length, take, drop, length-take}
 use lib.Ieee.{Float}
 use Rattle.rules.proofs.Tables.{length-table}
 use Rattle.rules.proofs.Refused.{unchanged}
-use Rattle.rules.specs.Refusals.{length-refused}
 use Rattle.rules.specs.Calls.{or-else}
 use Rattle.rules.specs.Sizes.{samples-length}
 use Rattle.rules.specs.declared.Axis.{Axis}
 use Rattle.bits.specs.Bits.{numbers}
-use Rattle.sheet.specs.Fields.{axes, entries, knots-below, sheet-grid, samples-begin, sheet-samples}
+use Rattle.sheet.specs.Fields.{edition, axes, entries, knots-below, sheet-grid, samples-begin, sheet-samples}
 use Rattle.sheet.specs.Faults.{sheet-refusal}
-use Rattle.sheet.specs.Read.{refused-answer, answer-of, over, read-refusal, ReadPromise}
+use Rattle.sheet.specs.Read.{refused-answer, answer-of, over, buffers-refused, read-refusal, ReadPromise}
 use Rattle.bits.specs.Within.{Within}
 use Rattle.sheet.specs.declared.ReadAnswer.{ReadAnswer}
 use Rattle.sheet.proofs.Extents.{begin-most}
@@ -25,36 +23,43 @@ use Rattle.sheet.proofs.Sheets.{Accepted, samples-room, samples-most}
 
 -- ---- answers
 
-pub refused-is : (refusal n : ℕ) (all : List Axis) → (refusal ≡ 0 → ⊥) → refused-answer refusal ≡ answer-of refusal n all
-refused-is zero n all met = absurd (met refl)
-refused-is (suc refusal) n all met = refl
+pub refused-is : (refusal edition n : ℕ) (all : List Axis) → (refusal ≡ 0 → ⊥) → refused-answer refusal ≡ answer-of refusal edition n all
+refused-is zero edition n all met = absurd (met refl)
+refused-is (suc refusal) edition n all met = refl
 
 -- a fault of the first part, of the second, and of neither
-pub first-refused : (first later n : ℕ) (all : List Axis) (r : ℕ) → r ≡ first → (r ≡ 0 → ⊥) → refused-answer r ≡ answer-of (or-else first later) n all
-first-refused zero later n all r e met = absurd (met e)
-first-refused (suc first) later n all r e met = rw e
+pub first-refused : (first later edition n : ℕ) (all : List Axis) (r : ℕ) → r ≡ first → (r ≡ 0 → ⊥) → refused-answer r ≡ answer-of (or-else first later) edition n all
+first-refused zero later edition n all r e met = absurd (met e)
+first-refused (suc first) later edition n all r e met = rw e
 
-pub later-refused : (first later n : ℕ) (all : List Axis) (r : ℕ) → first ≡ 0 → r ≡ later → (r ≡ 0 → ⊥) → refused-answer r ≡ answer-of (or-else first later) n all
-later-refused first later n all r z e met = rw (z, ← e) (refused-is r n all met)
+pub later-refused : (first later edition n : ℕ) (all : List Axis) (r : ℕ) → first ≡ 0 → r ≡ later → (r ≡ 0 → ⊥) → refused-answer r ≡ answer-of (or-else first later) edition n all
+later-refused first later edition n all r z e met = rw (z, ← e) (refused-is r edition n all met)
 
-pub both-passed : (first later n : ℕ) (all found : List Axis) → first ≡ 0 → later ≡ 0 → found ≡ all → _≡_ {A = ReadAnswer} (record { refusal = 0; axes = n; all = found }) (answer-of (or-else first later) n all)
-both-passed first later n all found z w e = rw (z, w, e)
+pub both-passed : (first later edition n : ℕ) (all found : List Axis) → first ≡ 0 → later ≡ 0 → found ≡ all
+    → _≡_ {A = ReadAnswer} (record { refusal = 0; edition = edition; axes = n; all = found }) (answer-of (or-else first later) edition n all)
+both-passed first later edition n all found z w e = rw (z, w, e)
 
-pub answer-refusal : (refusal n : ℕ) (all : List Axis) → answer-of refusal n all .refusal ≡ refusal
-answer-refusal zero n all = refl
-answer-refusal (suc refusal) n all = refl
+pub answer-refusal : (refusal edition n : ℕ) (all : List Axis) → answer-of refusal edition n all .refusal ≡ refusal
+answer-refusal zero edition n all = refl
+answer-refusal (suc refusal) edition n all = refl
 
 -- what an answer says of the sheet
-module _ (bytes : List ℕ) (given : ReadAnswer) (e : given ≡ answer-of (sheet-refusal bytes) (axes bytes) (entries bytes (axes bytes))) where
-  given-refusal : given .refusal ≡ sheet-refusal bytes
-  given-refusal = ap (λ (a : ReadAnswer). a .refusal) e ∙ answer-refusal (sheet-refusal bytes) (axes bytes) (entries bytes (axes bytes))
+abbrev pub looked : List ℕ → ReadAnswer
+looked bytes = answer-of (sheet-refusal bytes) (edition bytes) (axes bytes) (entries bytes (axes bytes))
+
+module _ (bytes : List ℕ) (given : ReadAnswer) (e : given ≡ looked bytes) where
+  pub given-refusal : given .refusal ≡ sheet-refusal bytes
+  given-refusal = ap (λ (a : ReadAnswer). a .refusal) e ∙ answer-refusal (sheet-refusal bytes) (edition bytes) (axes bytes) (entries bytes (axes bytes))
 
   module _ (none : given .refusal ≡ 0) where
     pub not-refused : sheet-refusal bytes ≡ 0
     not-refused = sym given-refusal ∙ none
 
-    given-is : given ≡ answer-of 0 (axes bytes) (entries bytes (axes bytes))
+    given-is : given ≡ answer-of 0 (edition bytes) (axes bytes) (entries bytes (axes bytes))
     given-is = rw not-refused at e
+
+    pub given-edition : given .edition ≡ edition bytes
+    given-edition = ap (λ (a : ReadAnswer). a .edition) given-is
 
     pub given-axes : given .axes ≡ axes bytes
     given-axes = ap (λ (a : ReadAnswer). a .axes) given-is
@@ -72,7 +77,7 @@ module _ (bytes : List ℕ) (knots samples : List Float) where
 
   pub lengths-passed : read-refusal bytes knots samples ≡ 0 → sheet-refusal bytes ≡ 0
   unfolding read-refusal
-  lengths-passed e = passed (length-refused (length knots) 1024 || length-refused (length samples) 1024) 3 (sheet-refusal bytes) e .1
+  lengths-passed e = passed (buffers-refused knots samples) 3 (sheet-refusal bytes) e .1
 
   pub knots-refused : (given : ReadAnswer) → (length knots ≡ 1024 → ⊥) → given ≡ refused-answer 4 → ReadPromise bytes knots samples given knots samples
   unfolding read-refusal
@@ -87,7 +92,7 @@ module _ (bytes : List ℕ) (knots samples : List Float) where
       let n = ne-eqb (length samples) 1024 other in
       record { answer = rw (m, n) e; knots = rw (m, n) refl; samples = rw (m, n) refl }
 
-  module _ (given : ReadAnswer) (k : length knots ≡ 1024) (s : length samples ≡ 1024) (e : given ≡ answer-of (sheet-refusal bytes) (axes bytes) (entries bytes (axes bytes))) where
+  module _ (given : ReadAnswer) (k : length knots ≡ 1024) (s : length samples ≡ 1024) (e : given ≡ looked bytes) where
     pub sheet-refused : (given .refusal ≡ 0 → ⊥) → ReadPromise bytes knots samples given knots samples
     sheet-refused met =
         let refused : sheet-refusal bytes ≡ 0 → ⊥ = λ z. met (given-refusal bytes given e ∙ z) in

@@ -16,6 +16,7 @@ use Rattle.rules.specs.Calls.{or-else}
 use Rattle.rules.specs.declared.Axis.{Axis}
 use Rattle.grid.specs.Given.{points-of, InRange}
 use Rattle.bits.specs.Bits.{short, numbers-short}
+use Rattle.kinds.specs.Editions.{unknown-edition}
 use Rattle.sheet.specs.Fields.{edition, axes, points-at, axis-at, axis-begin, entries, sheet-grid, samples-begin, samples-end}
 use Rattle.sheet.specs.Faults.{axes-fault, tail-refused, samples-fault, sheet-refusal}
 use Rattle.sheet.specs.Within.{Axes, Ended, NoFault}
@@ -35,19 +36,19 @@ module _ (bytes : List ℕ) where
   no-edition gone = rw (lt-ltb bits (0 + 4) gone)
 
   module _ (room : 0 + 4 ≤ bits) where
-    pub other-edition : (edition bytes ≡ 1 → ⊥) → sheet-refusal bytes ≡ 12
+    pub other-edition : unknown-edition (edition bytes) ≡ true → sheet-refusal bytes ≡ 12
     unfolding sheet-refusal
-    other-edition other = rw (le-ltb bits (0 + 4) room, ne-eqb (edition bytes) 1 other)
+    other-edition other = rw (le-ltb bits (0 + 4) room, other)
 
-    module _ (first : edition bytes ≡ 1) where
+    module _ (known : unknown-edition (edition bytes) ≡ false) where
       pub no-axes : bits < 4 + 3 → sheet-refusal bytes ≡ 11
       unfolding sheet-refusal
-      no-axes gone = rw (le-ltb bits (0 + 4) room, eq-eqb (edition bytes) 1 first, lt-ltb bits (4 + 3) gone)
+      no-axes gone = rw (le-ltb bits (0 + 4) room, known, lt-ltb bits (4 + 3) gone)
 
       pub some-axes : 4 + 3 ≤ bits
           → sheet-refusal bytes ≡ cond (axes-refused (sheet-grid bytes)) 1 (or-else (axes-fault bytes (axes bytes)) (samples-fault bytes))
       unfolding sheet-refusal
-      some-axes more = rw (le-ltb bits (0 + 4) room, eq-eqb (edition bytes) 1 first, le-ltb bits (4 + 3) more)
+      some-axes more = rw (le-ltb bits (0 + 4) room, known, le-ltb bits (4 + 3) more)
 
   pub axes-few : axes bytes < 1 → axes-refused (sheet-grid bytes) ≡ true
   unfolding sheet-grid
@@ -88,7 +89,7 @@ module _ (bytes : List ℕ) (n : ℕ) (all : List Axis) (few : n ≤ 4) (e : all
 -- ---- a sheet that is not refused
 
 pub record Accepted (bytes : List ℕ) : Type 0 where
-  pub first : edition bytes ≡ 1
+  pub known : unknown-edition (edition bytes) ≡ false
   pub said : Axes bytes (axes bytes)
   pub faultless : axes-fault bytes (axes bytes) ≡ 0
   pub small : samples-length (sheet-grid bytes) * 2 ^ axes bytes ≤ 4096
@@ -109,7 +110,7 @@ pub accepted : (bytes : List ℕ) → sheet-refusal bytes ≡ 0 → Accepted byt
 unfolding sheet-refusal samples-fault
 accepted bytes e =
     let a = passed (short bytes 0 4) 10 _ e in
-    let b = passed (not (eqb (edition bytes) 1)) 11 _ (a .1) in
+    let b = passed (unknown-edition (edition bytes)) 11 _ (a .1) in
     let c = passed (short bytes 4 3) 10 _ (b .1) in
     let d = passed (axes-refused (sheet-grid bytes)) 0 _ (c .1) in
     let f = or-else-passed (axes-fault bytes (axes bytes)) _ (d .1) in
@@ -117,7 +118,7 @@ accepted bytes e =
     let h = passed (numbers-short bytes (samples-begin bytes) (samples-length (sheet-grid bytes))) 10 _ (g .1) in
     let i = passed (tail-refused bytes (samples-end bytes)) 13 0 (h .1) in
     record {
-      first = eqb-true (edition bytes) 1 (not-false (eqb (edition bytes) 1) (b .0));
+      known = b .0;
       said = axes-passed bytes (d .0);
       faultless = f .0;
       small = tensor-passed bytes (g .0);

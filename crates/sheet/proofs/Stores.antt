@@ -1,7 +1,9 @@
 -- The turns of the walk that stores the knots, on plain lists: those of the axes that were passed stand in the first places.
 use mathlib.Core.Path.{_≡_, refl, sym, ap, _∙_}
 use mathlib.Core.List.{List, _++_, append-assoc}
-use Prim.Native.Nat.{ℕ, suc, _+_, _-_, _*_, _<_, _≤_}
+use mathlib.Core.Logic.{⊎-elim}
+use Prim.Native.Nat.{ℕ, zero, suc, _+_, _-_, _*_, _<_, _≤_}
+use native.Mathlib.Nat.{le-refl, le-of-suc-le-suc, eq-or-lt-of-le}
 use native.Mathlib.Numerals.{add-one}
 use native.Mathlib.Omega.{arith}
 use lib.ListN.{length, take, drop, length-append, length-take, length-drop}
@@ -39,9 +41,20 @@ knots-at-is bytes at = refl
 pub length-knots-at : (bytes : List ℕ) (at : ℕ) → length (knots-at bytes at) ≡ points-at bytes at
 length-knots-at bytes at = rw (knots-at-is bytes at) (length-table (points-at bytes at) _)
 
+knots-sum-next : (bytes : List ℕ) (i : ℕ) → length (knots-below bytes (suc i)) ≡ length (knots-below bytes i) + points-at bytes (axis-begin bytes i)
+knots-sum-next bytes i = rw (knots-below-next bytes i, length-append, length-knots-at bytes (axis-begin bytes i))
+
+-- more axes have no fewer knots
+knots-grow : (bytes : List ℕ) (i n : ℕ) → i ≤ n → length (knots-below bytes i) ≤ length (knots-below bytes n)
+knots-grow bytes i zero l = let e : i ≡ 0 = omega arith in rw e (le-refl _)
+knots-grow bytes i (suc n) l =
+    ⊎-elim (λ (e : i ≡ suc n). rw e (le-refl _))
+    (λ (m : i < suc n). let before = knots-grow bytes i n (le-of-suc-le-suc m) in let next = knots-sum-next bytes n in omega arith)
+    (eq-or-lt-of-le l)
+
 pub record Turn (bytes : List ℕ) (n : ℕ) (knots₀ knots : List Float) (at from i : ℕ) : Type 0 where
   pub no-fault : NoFault bytes n
-  pub lent : length knots₀ ≡ 1024
+  pub lent : length (knots-below bytes n) ≤ length knots₀
   pub most : i ≤ n
   pub place : at ≡ axis-begin bytes i
   pub filled : from ≡ length (knots-below bytes i)
@@ -49,7 +62,7 @@ pub record Turn (bytes : List ℕ) (n : ℕ) (knots₀ knots : List Float) (at f
   pub same-length : length knots ≡ length knots₀
   pub done : knots ≡ over (knots-below bytes i) knots₀
 
-pub turn-first : (bytes : List ℕ) (n : ℕ) (knots : List Float) → NoFault bytes n → length knots ≡ 1024 → Turn bytes n knots knots 7 0 0
+pub turn-first : (bytes : List ℕ) (n : ℕ) (knots : List Float) → NoFault bytes n → length (knots-below bytes n) ≤ length knots → Turn bytes n knots knots 7 0 0
 unfolding axis-begin knots-below
 turn-first bytes n knots s e = record {
   no-fault = s;
@@ -68,11 +81,18 @@ module _ (bytes : List ℕ) (n : ℕ) (knots₀ knots : List Float) (at from i p
   pub turn-whole : Whole bytes at
   turn-whole = rw (t .place) (whole bytes i (omega (arith, t .no-fault .few)) (each-faultless bytes n i (t .no-fault .faultless) l))
 
-  pub turn-room : from + p ≤ 1024
-  turn-room = let here = extent bytes at in omega (arith, t .reach, t .no-fault .few)
+  pub turn-room : from + p ≤ length knots₀
+  turn-room =
+      let grown = knots-grow bytes (suc i) n l in
+      let next = knots-sum-next bytes i in
+      let here : points-at bytes (axis-begin bytes i) ≡ p = rw (← t .place) (sym e) in
+      omega (arith, t .filled, t .lent)
+
+  pub turn-small : from + p ≤ 1024
+  turn-small = let here = extent bytes at in omega (arith, t .reach, t .no-fault .few)
 
   pub part-length : length (take (from + p - from) (drop from knots)) ≡ p
-  part-length = rw (length-take, length-drop) (omega (arith, turn-room, t .same-length, t .lent))
+  part-length = rw (length-take, length-drop) (omega (arith, turn-room, t .same-length))
 
   module _ (new : List Float) (begin : ℕ) (b : begin ≡ knots-begin bytes at) (f : new ≡ numbers bytes begin (length (take (from + p - from) (drop from knots)))) where
     new-is : new ≡ knots-at bytes at
@@ -93,7 +113,7 @@ module _ (bytes : List ℕ) (n : ℕ) (knots₀ knots : List Float) (at from i p
           reach = let here = extent bytes at in omega (arith, t .reach);
           same-length =
               rw (length-append, length-append, length-take, length-drop, length-drop, new-length)
-              (omega (arith, turn-room, t .same-length, t .lent));
+              (omega (arith, turn-room, t .same-length));
           done =
               rw (q, t .done, new-is, add-one i, knots-below-next bytes i, ← t .place)
               (over-more (knots-below bytes i) (knots-at bytes at) knots₀ from p (sym (t .filled)) (length-knots-at bytes at ∙ sym e));

@@ -4,7 +4,7 @@ use mathlib.Core.List.{List}
 use Prim.Native.Nat.{ℕ}
 use lib.ListN.{length}
 use lib.Ieee.{Float}
-use Rattle.sheet.specs.Fields.{axes, entries, knots-below, sheet-samples}
+use Rattle.sheet.specs.Fields.{edition, axes, entries, knots-below, sheet-samples}
 use Rattle.sheet.specs.Faults.{sheet-refusal}
 use Rattle.sheet.specs.Read.{over, read-refusal, ReadPromise}
 use Rattle.sheet.specs.declared.ReadAnswer.{ReadAnswer}
@@ -24,11 +24,11 @@ pub read-accepts :
     → ReadPromise bytes knots samples a k s
     → a .refusal ≡ 0
     → (sheet-refusal bytes ≡ 0)
-    × (a ≡ record { refusal = 0; axes = axes bytes; all = entries bytes (axes bytes) })
+    × (a ≡ record { refusal = 0; edition = edition bytes; axes = axes bytes; all = entries bytes (axes bytes) })
     × (k ≡ over (knots-below bytes (axes bytes)) knots)
     × (s ≡ over (sheet-samples bytes) samples)
 read-accepts bytes knots samples a k s p none =
-    let z : read-refusal bytes knots samples ≡ 0 = sym (sym none ∙ ap (λ (r : ReadAnswer). r .refusal) (p .answer) ∙ answer-refusal _ _ _) in
+    let z : read-refusal bytes knots samples ≡ 0 = sym (sym none ∙ ap (λ (r : ReadAnswer). r .refusal) (p .answer) ∙ answer-refusal _ _ _ _) in
     (lengths-passed bytes knots samples z, rw z at (p .answer), rw z at (p .knots), rw z at (p .samples))
 
 -- what the definition accepts is not refused, where both buffers have their length
@@ -40,4 +40,4 @@ pub read-refuses-no-sheet :
     → sheet-refusal bytes ≡ 0
     → a .refusal ≡ 0
 read-refuses-no-sheet bytes knots samples a k s p e f z =
-    ap (λ (r : ReadAnswer). r .refusal) (p .answer) ∙ answer-refusal _ _ _ ∙ refusal-is bytes knots samples e f ∙ z
+    ap (λ (r : ReadAnswer). r .refusal) (p .answer) ∙ answer-refusal _ _ _ _ ∙ refusal-is bytes knots samples e f ∙ z

@@ -16,7 +16,8 @@ use Rattle.rules.specs.declared.Axis.{Axis}
 use Rattle.rules.proofs.Refused.{or-else-met, or-else-passed}
 use Rattle.bits.specs.Bits.{short, numbers-short}
 use Rattle.kinds.specs.Kinds.{periodic-at-one-end}
-use Rattle.sheet.specs.Fields.{points-at, lower-kind, upper-kind, values-at, axis-at, axis-end, axis-begin, entries}
+use Rattle.kinds.specs.Modes.{unknown-mode}
+use Rattle.sheet.specs.Fields.{mode-bits, points-at, lower-kind, upper-kind, mode-said, values-at, values-begin, axis-at, axis-end, axis-begin, entries}
 use Rattle.sheet.specs.Faults.{axis-fault, axes-fault}
 use Rattle.sheet.specs.Within.{Whole, Walked}
 use Rattle.bits.proofs.Runs.{short-together}
@@ -59,13 +60,14 @@ each-faultless bytes (suc n) i e l =
     (λ m. each-faultless bytes n i (both .0) m)
     (eq-or-lt-of-le (le-of-suc-le-suc l))
 
--- an axis without a fault has enough points, all of it is there, and Periodic stands at both ends or at none
+-- an axis without a fault has enough points, all of it is there, Periodic stands at both ends or at none, and there is such a mode
 pub faultless-axis :
     (bytes : List ℕ) (at : ℕ)
     → axis-fault bytes at ≡ 0
     → (points-refused (points-at bytes at) ≡ false)
     × (axis-end bytes at ≤ 8 * length bytes)
     × (periodic-at-one-end (lower-kind bytes at) (upper-kind bytes at) ≡ false)
+    × (unknown-mode (mode-said bytes at) ≡ false)
 unfolding axis-fault
 faultless-axis bytes at e =
     let n = values-at bytes at + points-at bytes at in
@@ -74,10 +76,12 @@ faultless-axis bytes at e =
     let c = passed (short bytes (at + 8) 2) 10 _ (b .1) in
     let d = passed (short bytes (at + 10) 2) 10 _ (c .1) in
     let f = passed (periodic-at-one-end (lower-kind bytes at) (upper-kind bytes at)) 12 _ (d .1) in
-    let g = passed (numbers-short bytes (at + 12) n) 10 0 (f .1) in
+    let m = passed (short bytes (at + 12) (mode-bits bytes)) 10 _ (f .1) in
+    let k = passed (unknown-mode (mode-said bytes at)) 21 _ (m .1) in
+    let g = passed (numbers-short bytes (values-begin bytes at) n) 10 0 (k .1) in
     let reach = extent bytes at in
-    let room : at + 12 + 64 * n ≤ 8 * length bytes = ltb-false _ _ (short-together bytes (at + 12) n (omega arith) ∙ g .0) in
-    (b .0, omega arith, f .0)
+    let room : values-begin bytes at + 64 * n ≤ 8 * length bytes = ltb-false _ _ (short-together bytes (values-begin bytes at) n (omega arith) ∙ g .0) in
+    (b .0, omega arith, f .0, k .0)
 
 -- one of the four axes that has no fault is there, at a small place
 pub whole : (bytes : List ℕ) (i : ℕ) → i < 4 → axis-fault bytes (axis-begin bytes i) ≡ 0 → Whole bytes (axis-begin bytes i)

@@ -10,10 +10,12 @@ use Rattle.rules.specs.Refusals.{axes-refused, points-refused, tensor-refused}
 use Rattle.rules.specs.Calls.{or-else}
 use Rattle.bits.specs.Bits.{bit, short, numbers-short}
 use Rattle.kinds.specs.Kinds.{periodic-at-one-end}
-use Rattle.sheet.specs.Fields.{edition, axes, points-at, lower-kind, upper-kind, values-at, axis-begin, sheet-grid, samples-begin, samples-end}
+use Rattle.kinds.specs.Modes.{unknown-mode}
+use Rattle.kinds.specs.Editions.{unknown-edition}
+use Rattle.sheet.specs.Fields.{edition, axes, mode-bits, points-at, lower-kind, upper-kind, mode-said, values-at, values-begin, axis-begin, sheet-grid, samples-begin, samples-end}
 
--- the fault of the axis that begins at bit `at`: its points are judged at their field and its kinds once both are read; of the numbers
--- of its ends and its knots one may be short
+-- the fault of the axis that begins at bit `at`: its points are judged at their field, its kinds once both are read, and its mode at its
+-- field; of the numbers of its ends and its knots one may be short
 unfoldable pub axis-fault : List ℕ → ℕ → ℕ
 axis-fault bytes at =
     cond (short bytes at 8) 11
@@ -21,7 +23,9 @@ axis-fault bytes at =
     (cond (short bytes (at + 8) 2) 11
     (cond (short bytes (at + 10) 2) 11
     (cond (periodic-at-one-end (lower-kind bytes at) (upper-kind bytes at)) 13
-    (cond (numbers-short bytes (at + 12) (values-at bytes at + points-at bytes at)) 11 0)))))
+    (cond (short bytes (at + 12) (mode-bits bytes)) 11
+    (cond (unknown-mode (mode-said bytes at)) 22
+    (cond (numbers-short bytes (values-begin bytes at) (values-at bytes at + points-at bytes at)) 11 0)))))))
 
 -- the first fault of the first i axes
 unfoldable pub axes-fault : List ℕ → ℕ → ℕ
@@ -44,7 +48,12 @@ samples-fault bytes =
 unfoldable pub sheet-refusal : List ℕ → ℕ
 sheet-refusal bytes =
     cond (short bytes 0 4) 11
-    (cond (not (eqb (edition bytes) 1)) 12
+    (cond (unknown-edition (edition bytes)) 12
     (cond (short bytes 4 3) 11
     (cond (axes-refused (sheet-grid bytes)) 1
     (or-else (axes-fault bytes (axes bytes)) (samples-fault bytes)))))
+
+-- the fault of a sheet for the reader of edition 1: any other edition is refused by 12, and after that nothing is looked at
+unfoldable pub edition-1-refusal : List ℕ → ℕ
+unfolding sheet-refusal
+edition-1-refusal bytes = cond (short bytes 0 4) 11 (cond (not (eqb (edition bytes) 1)) 12 (sheet-refusal bytes))

@@ -9,6 +9,8 @@ use Rattle.rules.specs.Sizes.{most-axes, unused-axis, Grid, samples-length}
 use Rattle.rules.specs.declared.Axis.{Axis}
 use Rattle.bits.specs.Bits.{field, number, numbers}
 use Rattle.kinds.specs.Kinds.{values-of-kind, end-of-kind, condition-of-kind}
+use Rattle.kinds.specs.Modes.{mode-of-number}
+use Rattle.kinds.specs.Editions.{mode-width}
 
 -- the edition, the first 4 bits
 abbrev pub edition : List ℕ → ℕ
@@ -17,6 +19,10 @@ edition bytes = field bytes 0 4
 -- the number of axes, the next 3
 abbrev pub axes : List ℕ → ℕ
 axes bytes = field bytes 4 3
+
+-- how many bits the mode of an axis has in this sheet
+abbrev pub mode-bits : List ℕ → ℕ
+mode-bits bytes = mode-width (edition bytes)
 
 -- ---- the fields of the axis that begins at bit `at`
 
@@ -33,28 +39,37 @@ module _ (bytes : List ℕ) (at : ℕ) where
   abbrev pub upper-kind : ℕ
   upper-kind = field bytes (at + 10) 2
 
+  -- the number of its mode, in as many bits as the edition has for it: where there are none it is 0, extend
+  abbrev pub mode-said : ℕ
+  mode-said = field bytes (at + 12) (mode-bits bytes)
+
   -- how many of the two ends have a number
   unfoldable pub values-at : ℕ
   values-at = values-of-kind lower-kind + values-of-kind upper-kind
 
+  -- where the numbers of the ends begin: after the mode
+  abbrev pub values-begin : ℕ
+  values-begin = at + 12 + mode-bits bytes
+
   -- the number of the lower end, where it has one
   abbrev pub lower-value : Float
-  lower-value = number bytes (at + 12)
+  lower-value = number bytes values-begin
 
   -- the number of the upper end, where it has one: it stands after the lower end's
   abbrev pub upper-value : Float
-  upper-value = number bytes (at + 12 + 64 * values-of-kind lower-kind)
+  upper-value = number bytes (values-begin + 64 * values-of-kind lower-kind)
 
-  -- the axis: its points, and its ends with their numbers
+  -- the axis: its points, its ends with their numbers, and its mode
   unfoldable pub axis-at : Axis
   axis-at = record {
     points = points-at;
     condition = condition-of-kind lower-kind (end-of-kind lower-kind lower-value) (end-of-kind upper-kind upper-value);
+    mode = mode-of-number mode-said;
   }
 
   -- where its knots begin: after the numbers of the ends
   unfoldable pub knots-begin : ℕ
-  knots-begin = at + 12 + 64 * values-at
+  knots-begin = values-begin + 64 * values-at
 
   -- its knots, 64 bits each
   unfoldable pub knots-at : List Float

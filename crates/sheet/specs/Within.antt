@@ -4,11 +4,12 @@ use mathlib.Core.Path.{_≡_}
 use mathlib.Core.List.{List}
 use Prim.Native.Nat.{ℕ, _*_, _≤_}
 use lib.ListN.{length}
-use Rattle.rules.specs.Sizes.{most-axes}
+use lib.Ieee.{Float}
+use Rattle.rules.specs.Sizes.{most-axes, samples-length}
 use Rattle.rules.specs.declared.Axis.{Axis}
 use Rattle.grid.specs.Given.{points-of, InRange}
-use Rattle.sheet.specs.Fields.{axes, axis-end, axis-begin, entries}
-use Rattle.sheet.specs.Faults.{axes-fault}
+use Rattle.sheet.specs.Fields.{edition, axes, axis-end, axis-begin, entries, knots-below, sheet-grid}
+use Rattle.sheet.specs.Faults.{axes-fault, sheet-refusal}
 use Rattle.sheet.specs.declared.axes.Walk.{Walk}
 
 -- all of the axis that begins at bit `at`
@@ -39,3 +40,12 @@ pub record Ended (bytes : List ℕ) (at n : ℕ) (all : List Axis) : Type 0 wher
   pub said : n ≡ axes bytes
   pub end : at ≡ axis-begin bytes n
   pub found : all ≡ entries bytes n
+
+-- a sheet without a fault, what it says, and places for its numbers
+pub record PartsRoom (bytes : List ℕ) (said-edition n : ℕ) (all : List Axis) (knots samples : List Float) : Type 0 where
+  pub faultless : sheet-refusal bytes ≡ 0
+  pub edition-said : said-edition ≡ edition bytes
+  pub axes-said : n ≡ axes bytes
+  pub found : all ≡ entries bytes (axes bytes)
+  pub knots-room : length (knots-below bytes (axes bytes)) ≤ length knots
+  pub samples-room : samples-length (sheet-grid bytes) ≤ length samples

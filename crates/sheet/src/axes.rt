@@ -1,8 +1,9 @@
-// The axes of a sheet, one after the other. None of these is public: each requires that the bits it reads are there.
+// The axes of a sheet, one after the other. None of these is public: each requires that the bits it reads are there, and is told how many
+// bits the mode of an axis has in the sheet's edition.
 ghost use mathlib.Core.Path.{_≡_};
 ghost use Prim.Native.Nat.{_≤_};
 ghost use lib.ListN.{length};
-ghost use Rattle.sheet.specs.Fields.{points-at, values-at, axis-at, knots-begin, axis-end, axis-begin, knots-below};
+ghost use Rattle.sheet.specs.Fields.{mode-bits, points-at, values-at, axis-at, knots-begin, axis-end, axis-begin, knots-below};
 ghost use Rattle.sheet.specs.Faults.{axis-fault};
 ghost use Rattle.sheet.specs.Read.{over};
 ghost use Rattle.bits.specs.Within.{Within};
@@ -16,6 +17,8 @@ use kinds::ends::condition_of_kind;
 use kinds::ends::end_of_kind;
 use kinds::ends::is_periodic_at_one_end;
 use kinds::ends::values_of_kind;
+use kinds::modes::is_unknown_mode;
+use kinds::modes::mode_of_number;
 use rules::Axis;
 use rules::Condition;
 
@@ -43,8 +46,8 @@ fn values(bytes: &[u8], at: usize) -> usize
 }
 
 // The fault of the axis at bit `at`, in the order of its fields.
-fn fault(bytes: &[u8], at: usize) -> usize
-    requires { ⌜ at ≤ 131072 ⌝ }
+fn fault(bytes: &[u8], width: usize, at: usize) -> usize
+    requires { ⌜ (width ≡ mode-bits (now bytes)) × (at ≤ 131072) ⌝ }
     ensures { λ r. ⌜ r ≡ axis-fault (now (bytes .entry)) at ⌝ }
 {
     if is_short(bytes, at, 8) {
@@ -65,66 +68,73 @@ fn fault(bytes: &[u8], at: usize) -> usize
     if is_periodic_at_one_end(lower, upper) {
         return 13;
     }
-    if are_short(bytes, at + 12, values(bytes, at) + n) {
+    if is_short(bytes, at + 12, width) {
+        return 11;
+    }
+    if is_unknown_mode(field_at(bytes, at + 12, width)) {
+        return 22;
+    }
+    if are_short(bytes, at + 12 + width, values(bytes, at) + n) {
         return 11;
     }
     0
 }
 
 // Where the knots of the axis at bit `at` begin.
-fn knots_from(bytes: &[u8], at: usize) -> usize
-    requires { ⌜ Within (now bytes) at 12 ⌝ }
+fn knots_from(bytes: &[u8], width: usize, at: usize) -> usize
+    requires { ⌜ (width ≡ mode-bits (now bytes)) × Within (now bytes) at 12 ⌝ }
     ensures { λ r. ⌜ r ≡ knots-begin (now (bytes .entry)) at ⌝ }
 {
-    at + 12 + 64 * values(bytes, at)
+    at + 12 + width + 64 * values(bytes, at)
 }
 
 // The ends of the axis at bit `at`. Knots follow, so there are patterns to read even where a kind has none.
-fn condition(bytes: &[u8], at: usize) -> Condition
-    requires { ⌜ Whole (now bytes) at ⌝ }
+fn condition(bytes: &[u8], width: usize, at: usize) -> Condition
+    requires { ⌜ (width ≡ mode-bits (now bytes)) × Whole (now bytes) at ⌝ }
     ensures { λ r. ⌜ r ≡ axis-at (now (bytes .entry)) at .condition ⌝ }
 {
     let lower = field_at(bytes, at + 8, 2);
     let upper = field_at(bytes, at + 10, 2);
-    let first = number_at(bytes, at + 12);
-    let second = number_at(bytes, at + 12 + 64 * values_of_kind(lower));
+    let first = number_at(bytes, at + 12 + width);
+    let second = number_at(bytes, at + 12 + width + 64 * values_of_kind(lower));
     condition_of_kind(lower, end_of_kind(lower, first), end_of_kind(upper, second))
 }
 
 // The axis at bit `at`.
-fn axis(bytes: &[u8], at: usize) -> Axis
-    requires { ⌜ Whole (now bytes) at ⌝ }
+fn axis(bytes: &[u8], width: usize, at: usize) -> Axis
+    requires { ⌜ (width ≡ mode-bits (now bytes)) × Whole (now bytes) at ⌝ }
     ensures { λ r. ⌜ r ≡ axis-at (now (bytes .entry)) at ⌝ }
 {
     Axis {
         points: points(bytes, at),
-        condition: condition(bytes, at),
+        condition: condition(bytes, width, at),
+        mode: mode_of_number(field_at(bytes, at + 12, width)),
     }
 }
 
 // The bit after the axis at bit `at`.
-fn after(bytes: &[u8], at: usize) -> usize
-    requires { ⌜ Whole (now bytes) at ⌝ }
+fn after(bytes: &[u8], width: usize, at: usize) -> usize
+    requires { ⌜ (width ≡ mode-bits (now bytes)) × Whole (now bytes) at ⌝ }
     ensures { λ r. ⌜ r ≡ axis-end (now (bytes .entry)) at ⌝ }
 {
-    knots_from(bytes, at) + 64 * points(bytes, at)
+    knots_from(bytes, width, at) + 64 * points(bytes, at)
 }
 
 // Looks at the axes, up to the first fault.
-pub fn walk_axes(bytes: &[u8], axes: usize) -> Walk
-    requires { ⌜ axes ≤ 4 ⌝ }
+pub fn walk_axes(bytes: &[u8], width: usize, axes: usize) -> Walk
+    requires { ⌜ (width ≡ mode-bits (now bytes)) × (axes ≤ 4) ⌝ }
     ensures { λ r. ⌜ Walked (now (bytes .entry)) axes r ⌝ }
 {
     let mut all = [Axis::unused(); 4];
     let mut at = 7;
     let mut i = 0;
     while i < axes {
-        let refusal = fault(bytes, at);
+        let refusal = fault(bytes, width, at);
         if refusal != 0 {
             return Walk { refusal, all, at };
         }
-        all[i] = axis(bytes, at);
-        at = after(bytes, at);
+        all[i] = axis(bytes, width, at);
+        at = after(bytes, width, at);
         i += 1;
     }
     Walk {
@@ -135,8 +145,8 @@ pub fn walk_axes(bytes: &[u8], axes: usize) -> Walk
 }
 
 // Stores the knots, axis after axis, in the first places of `knots`. Answers the bit after the last axis.
-pub fn store_knots(bytes: &[u8], axes: usize, knots: &mut [f64]) -> usize
-    requires { ⌜ NoFault (now bytes) axes × (length (now knots) ≡ 1024) ⌝ }
+pub fn store_knots(bytes: &[u8], width: usize, axes: usize, knots: &mut [f64]) -> usize
+    requires { ⌜ (width ≡ mode-bits (now bytes)) × NoFault (now bytes) axes × (length (knots-below (now bytes) axes) ≤ length (now knots)) ⌝ }
     ensures { λ r. ⌜ (r ≡ axis-begin (now (bytes .entry)) axes) × (now (knots .exit) ≡ over (knots-below (now (bytes .entry)) axes) (now (knots .entry))) ⌝ }
 {
     let mut at = 7;
@@ -144,9 +154,9 @@ pub fn store_knots(bytes: &[u8], axes: usize, knots: &mut [f64]) -> usize
     let mut i = 0;
     while i < axes {
         let to = from + points(bytes, at);
-        fill(bytes, knots_from(bytes, at), &mut knots[from..to]);
+        fill(bytes, knots_from(bytes, width, at), &mut knots[from..to]);
         from = to;
-        at = after(bytes, at);
+        at = after(bytes, width, at);
         i += 1;
     }
     at

@@ -1,7 +1,7 @@
 // All of a sheet looked at, up to its first fault, before anything is stored.
 ghost use mathlib.Core.Path.{_≡_};
 ghost use Rattle.rules.specs.Calls.{or-else};
-ghost use Rattle.sheet.specs.Fields.{axes, entries};
+ghost use Rattle.sheet.specs.Fields.{edition as edition-said, axes, entries};
 ghost use Rattle.sheet.specs.Faults.{axes-fault, tail-refused, samples-fault, sheet-refusal};
 ghost use Rattle.sheet.specs.Read.{answer-of, refused-answer};
 ghost use Rattle.bits.specs.Within.{Within};
@@ -13,14 +13,17 @@ use bits::field_at;
 use bits::is_short;
 use grid::samples_length;
 use grid::tensor_length;
+use kinds::editions::is_unknown_edition;
+use kinds::editions::mode_width;
 use rules::Axis;
 
-// The answer of a refusal: no axes, and none of the four in use.
+// The answer of a refusal: no edition, no axes, and none of the four in use.
 pub fn refused(refusal: usize) -> ReadAnswer
     ensures { λ r. ⌜ r ≡ refused-answer refusal ⌝ }
 {
     ReadAnswer {
         refusal,
+        edition: 0,
         axes: 0,
         all: [Axis::unused(); 4],
     }
@@ -56,11 +59,11 @@ fn fault_of_samples(bytes: &[u8], at: usize, n: usize, all: [Axis; 4]) -> usize
 }
 
 // Looks at the axes and what follows them.
-fn look_at_axes(bytes: &[u8], n: usize) -> ReadAnswer
-    requires { ⌜ Axes (now bytes) n ⌝ }
-    ensures { λ r. ⌜ r ≡ answer-of (or-else (axes-fault (now (bytes .entry)) n) (samples-fault (now (bytes .entry)))) n (entries (now (bytes .entry)) n) ⌝ }
+fn look_at_axes(bytes: &[u8], edition: usize, n: usize) -> ReadAnswer
+    requires { ⌜ (edition ≡ edition-said (now bytes)) × Axes (now bytes) n ⌝ }
+    ensures { λ r. ⌜ r ≡ answer-of (or-else (axes-fault (now (bytes .entry)) n) (samples-fault (now (bytes .entry)))) edition n (entries (now (bytes .entry)) n) ⌝ }
 {
-    let walk = walk_axes(bytes, n);
+    let walk = walk_axes(bytes, mode_width(edition), n);
     let refusal = walk.refusal;
     if refusal != 0 {
         return refused(refusal);
@@ -73,6 +76,7 @@ fn look_at_axes(bytes: &[u8], n: usize) -> ReadAnswer
     }
     ReadAnswer {
         refusal: 0,
+        edition,
         axes: n,
         all,
     }
@@ -80,12 +84,13 @@ fn look_at_axes(bytes: &[u8], n: usize) -> ReadAnswer
 
 // Looks at all of a sheet: the answer that `read` gives where both buffers have their length.
 pub fn look(bytes: &[u8]) -> ReadAnswer
-    ensures { λ r. ⌜ r ≡ answer-of (sheet-refusal (now (bytes .entry))) (axes (now (bytes .entry))) (entries (now (bytes .entry)) (axes (now (bytes .entry)))) ⌝ }
+    ensures { λ r. ⌜ r ≡ answer-of (sheet-refusal (now (bytes .entry))) (edition-said (now (bytes .entry))) (axes (now (bytes .entry))) (entries (now (bytes .entry)) (axes (now (bytes .entry)))) ⌝ }
 {
     if is_short(bytes, 0, 4) {
         return refused(11);
     }
-    if field_at(bytes, 0, 4) != 1 {
+    let edition = field_at(bytes, 0, 4) as usize;
+    if is_unknown_edition(edition) {
         return refused(12);
     }
     if is_short(bytes, 4, 3) {
@@ -93,7 +98,7 @@ pub fn look(bytes: &[u8]) -> ReadAnswer
     }
     let n = field_at(bytes, 4, 3) as usize;
     match n {
-        1..=4 => look_at_axes(bytes, n),
+        1..=4 => look_at_axes(bytes, edition, n),
         _ => refused(1),
     }
 }

@@ -16,14 +16,14 @@ use Rattle.sheet_build.specs.SheetTensor.{unread-answer, read-answer, an
 use Rattle.sheet_build.specs.declared.SheetAnswer.{SheetAnswer}
 
 -- a refusal before the build is answered as such
-pub unread-is : (reading refusal : ℕ) (g : Grid) → (reading ≡ 0 → ⊥) → unread-answer refusal ≡ answer-of reading refusal g
-unread-is zero refusal g met = absurd (met refl)
-unread-is (suc reading) refusal g met = refl
+pub unread-is : (reading refusal edition : ℕ) (g : Grid) → (reading ≡ 0 → ⊥) → unread-answer refusal ≡ answer-of reading refusal edition g
+unread-is zero refusal edition g met = absurd (met refl)
+unread-is (suc reading) refusal edition g met = refl
 
 -- and the answer has its number
-pub answered-refusal : (reading refusal : ℕ) (g : Grid) → answer-of reading refusal g .refusal ≡ refusal
-answered-refusal zero refusal g = refl
-answered-refusal (suc reading) refusal g = refl
+pub answered-refusal : (reading refusal edition : ℕ) (g : Grid) → answer-of reading refusal edition g .refusal ≡ refusal
+answered-refusal zero refusal edition g = refl
+answered-refusal (suc reading) refusal edition g = refl
 
 none-counted : (refusal count : ℕ) → (refusal ≡ 0 → ⊥) → 0 ≡ counted refusal count
 none-counted zero count met = absurd (met refl)
@@ -39,7 +39,7 @@ front-later zero n lent new e = rw e
 front-later (suc refusal) n lent new e = take-append-drop n lent
 
 module _
-    (axes : ℕ) (all : List Axis) (knots samples lent scratch : List Float) (knots-end samples-end n : ℕ)
+    (edition axes : ℕ) (all : List Axis) (knots samples lent scratch : List Float) (knots-end samples-end n : ℕ)
     (k : knots-end ≡ knots-length (sizes-of axes all)) (s : samples-end ≡ samples-length (sizes-of axes all)) (t : n ≡ tensor-length (sizes-of axes all))
     (r : ℕ) (new scratch-later : List Float)
     (built : BuildPromise (grid axes all (take (knots-end - 0) knots)) (take (samples-end - 0) samples) (take (n - 0) lent) scratch r new scratch-later)
@@ -57,7 +57,7 @@ module _
         let c : n - 0 ≡ tensor-length (sizes-of axes all) = omega arith in
         rw (a, b, c) at built
 
-    parts-answered : (given : SheetAnswer) → given ≡ read-answer r g → PartsPromise g y lent scratch given (new ++ drop (n - 0) lent) scratch-later
+    parts-answered : (given : SheetAnswer) → given ≡ read-answer r edition g → PartsPromise g y lent scratch edition given (new ++ drop (n - 0) lent) scratch-later
     parts-answered given e = record {
       answer = rw (of-parts .answer) at e;
       output =
@@ -66,8 +66,8 @@ module _
       scratch = of-parts .scratch;
     }
 
-    pub parts-refused : (r ≡ 0 → ⊥) → PartsPromise g y lent scratch (record { refusal = r; axes = axes; all = all; length = 0 }) (new ++ drop (n - 0) lent) scratch-later
+    pub parts-refused : (r ≡ 0 → ⊥) → PartsPromise g y lent scratch edition (record { refusal = r; edition = edition; axes = axes; all = all; length = 0 }) (new ++ drop (n - 0) lent) scratch-later
     parts-refused met = parts-answered _ (rw (none-counted r (tensor-length g) met))
 
-    pub parts-built : r ≡ 0 → PartsPromise g y lent scratch (record { refusal = r; axes = axes; all = all; length = n }) (new ++ drop (n - 0) lent) scratch-later
+    pub parts-built : r ≡ 0 → PartsPromise g y lent scratch edition (record { refusal = r; edition = edition; axes = axes; all = all; length = n }) (new ++ drop (n - 0) lent) scratch-later
     parts-built none = parts-answered _ (rw (none, t))

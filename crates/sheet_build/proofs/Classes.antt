@@ -15,7 +15,7 @@ use Rattle.rules.proofs.Refused.{unchanged}
 use Rattle.kinds.specs.Classes.{class}
 use Rattle.kinds.specs.declared.classes.Class.the-variants.{Reading, Building}
 use Rattle.kinds.proofs.Apart.{none-not-reading, reading-not-building, none-not-building}
-use Rattle.sheet.specs.Fields.{sheet-grid, sheet-samples}
+use Rattle.sheet.specs.Fields.{edition, sheet-grid, sheet-samples}
 use Rattle.sheet.specs.Read.{over}
 use Rattle.sheet.proofs.Parts.{parts}
 use Rattle.sheet_build.specs.SheetTensor.{unread-answer, read-answer, parts-refusal, reading-refusal, sheet-tensor-refusal, SheetPromise}
@@ -79,17 +79,17 @@ module _ (bytes : List ℕ) (knots samples lent scratch : List Float) where
 
   module _ (given : SheetAnswer) (k s t w : List Float) (p : SheetPromise bytes knots samples lent scratch given k s t w) where
     class-is : class (given .refusal) ≡ class refusal
-    class-is = ap (λ (a : SheetAnswer). class (a .refusal)) (p .answer) ∙ ap class (answered-refusal reading refusal g)
+    class-is = ap (λ (a : SheetAnswer). class (a .refusal)) (p .answer) ∙ ap class (answered-refusal reading refusal (edition bytes) g)
 
     pub shows-nothing : class (given .refusal) ≡ Reading → (given ≡ unread-answer refusal) × (k ≡ knots) × (s ≡ samples)
     shows-nothing c =
         let met = not-read (sym class-is ∙ c) in (
-          p .answer ∙ sym (unread-is reading refusal g met),
+          p .answer ∙ sym (unread-is reading refusal (edition bytes) g met),
           p .knots ∙ sym (unchanged reading knots _ met),
           p .samples ∙ sym (unchanged reading samples _ met),
         )
 
-    pub parts-stand : class (given .refusal) ≡ Building → (given ≡ read-answer refusal g) × (k ≡ over (g .flat-knots) knots) × (s ≡ over y samples)
+    pub parts-stand : class (given .refusal) ≡ Building → (given ≡ read-answer refusal (edition bytes) g) × (k ≡ over (g .flat-knots) knots) × (s ≡ over y samples)
     parts-stand c =
         let none = was-read (sym class-is ∙ c) in
         (rw none at (p .answer), rw none at (p .knots), rw none at (p .samples))

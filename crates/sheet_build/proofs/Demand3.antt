@@ -9,7 +9,7 @@ use Rattle.rules.specs.Tensor.{tensor}
 use Rattle.rules.specs.Calls.{BuildPromise}
 use Rattle.rules.proofs.Refused.{or-else-passed}
 use Rattle.tensor.proofs.Demand3.{BitsOfFreshBuild, RefusalOfFreshBuild, BitsKeptElsewhere, has-bits-of-fresh-build, refused-as-fresh-build, keeps-bits-elsewhere}
-use Rattle.sheet.specs.Fields.{sheet-grid, sheet-samples}
+use Rattle.sheet.specs.Fields.{edition, sheet-grid, sheet-samples}
 use Rattle.sheet.specs.Read.{over}
 use Rattle.sheet.proofs.Parts.{Parts, parts, take-over}
 use Rattle.sheet_build.specs.SheetTensor.{read-answer, grid-in, samples-in, parts-refusal, reading-refusal, sheet-tensor-refusal, SheetPromise}
@@ -44,13 +44,13 @@ module _
     refusal = sheet-tensor-refusal bytes knots samples lent scratch
 
     refusal-none : refusal ≡ 0
-    refusal-none = sym (ap (λ (a : SheetAnswer). a .refusal) (p .answer) ∙ answered-refusal reading refusal g) ∙ none
+    refusal-none = sym (ap (λ (a : SheetAnswer). a .refusal) (p .answer) ∙ answered-refusal reading refusal (edition bytes) g) ∙ none
 
     both-none : (reading ≡ 0) × (parts-refusal g y lent scratch ≡ 0)
     unfolding sheet-tensor-refusal
     both-none = or-else-passed reading (parts-refusal g y lent scratch) refusal-none
 
-    answer-is : given ≡ read-answer 0 g
+    answer-is : given ≡ read-answer 0 (edition bytes) g
     answer-is = rw (both-none .0, refusal-none) at (p .answer)
 
     known : Parts bytes

@@ -1,9 +1,8 @@
 -- Every fault of a sheet is of the class Reading. So none has the number 10, which the build gives for an outcome alone.
 use mathlib.Core.Path.{_≡_, refl, sym, ap, _∙_}
-use mathlib.Core.Bool.{Bool, true, false, not, cond, _||_}
+use mathlib.Core.Bool.{Bool, true, false, cond}
 use mathlib.Core.List.{List}
 use Prim.Native.Nat.{ℕ, zero, suc, _+_}
-use lib.Dec.{eqb}
 use lib.ListN.{length}
 use lib.Ieee.{Float}
 use Rattle.rules.specs.Sizes.{samples-length}
@@ -11,13 +10,15 @@ use Rattle.rules.specs.Refusals.{axes-refused, points-refused, tensor-refused, 
 use Rattle.rules.specs.Calls.{or-else}
 use Rattle.bits.specs.Bits.{short, numbers-short}
 use Rattle.kinds.specs.Kinds.{periodic-at-one-end}
+use Rattle.kinds.specs.Modes.{unknown-mode}
+use Rattle.kinds.specs.Editions.{unknown-edition}
 use Rattle.kinds.specs.Classes.{class}
 use Rattle.kinds.specs.declared.classes.Class.{Class}
 use Rattle.kinds.specs.declared.classes.Class.the-variants.{Reading}
 use Rattle.kinds.proofs.Apart.{reading-not-building}
-use Rattle.sheet.specs.Fields.{edition, axes, points-at, lower-kind, upper-kind, values-at, axis-begin, sheet-grid, samples-begin, samples-end}
+use Rattle.sheet.specs.Fields.{edition, axes, mode-bits, points-at, lower-kind, upper-kind, mode-said, values-at, values-begin, axis-begin, sheet-grid, samples-begin, samples-end}
 use Rattle.sheet.specs.Faults.{axis-fault, axes-fault, tail-refused, samples-fault, sheet-refusal}
-use Rattle.sheet.specs.Read.{read-refusal}
+use Rattle.sheet.specs.Read.{buffers-refused, read-refusal}
 use Rattle.sheet_build.specs.SheetTensor.{reading-refusal}
 
 -- a fault, where it is one, is of the class
@@ -45,7 +46,9 @@ axis-of-reading bytes at =
     (tested (short bytes (at + 8) 2) (λ met. refl)
     (tested (short bytes (at + 10) 2) (λ met. refl)
     (tested (periodic-at-one-end (lower-kind bytes at) (upper-kind bytes at)) (λ met. refl)
-    (tested (numbers-short bytes (at + 12) (values-at bytes at + points-at bytes at)) (λ met. refl) no-fault)))))
+    (tested (short bytes (at + 12) (mode-bits bytes)) (λ met. refl)
+    (tested (unknown-mode (mode-said bytes at)) (λ met. refl)
+    (tested (numbers-short bytes (values-begin bytes at) (values-at bytes at + points-at bytes at)) (λ met. refl) no-fault)))))))
 
 axes-of-reading : (bytes : List ℕ) (i : ℕ) → Of Reading (axes-fault bytes i)
 unfolding axes-fault
@@ -64,7 +67,7 @@ sheet-of-reading : (bytes : List ℕ) → Of Reading (sheet-refusal bytes)
 unfolding sheet-refusal class
 sheet-of-reading bytes =
     tested (short bytes 0 4) (λ met. refl)
-    (tested (not (eqb (edition bytes) 1)) (λ met. refl)
+    (tested (unknown-edition (edition bytes)) (λ met. refl)
     (tested (short bytes 4 3) (λ met. refl)
     (tested (axes-refused (sheet-grid bytes)) (λ met. refl)
     (one-or-other (axes-fault bytes (axes bytes)) (axes-of-reading bytes (axes bytes)) (samples-of-reading bytes)))))
@@ -72,7 +75,7 @@ sheet-of-reading bytes =
 read-of-reading : (bytes : List ℕ) (knots samples : List Float) → Of Reading (read-refusal bytes knots samples)
 unfolding read-refusal class
 read-of-reading bytes knots samples =
-    tested (length-refused (length knots) 1024 || length-refused (length samples) 1024) (λ met. refl) (sheet-of-reading bytes)
+    tested (buffers-refused knots samples) (λ met. refl) (sheet-of-reading bytes)
 
 -- what is met before the build
 pub reading-of-reading : (bytes : List ℕ) (knots samples lent scratch : List Float) → Of Reading (reading-refusal bytes knots samples lent scratch)

@@ -11,7 +11,7 @@ use Rattle.rules.specs.Refusals.{length-refused}
 use Rattle.rules.specs.Calls.{stored, scratch-after}
 use Rattle.rules.proofs.Refused.{or-else-met, unchanged}
 use Rattle.checks.proofs.Rows.{axes-few, in-range, exact}
-use Rattle.sheet.specs.Fields.{axes, entries, sheet-grid, sheet-samples}
+use Rattle.sheet.specs.Fields.{edition, axes, entries, sheet-grid, sheet-samples}
 use Rattle.sheet.specs.Faults.{sheet-refusal}
 use Rattle.sheet.specs.Read.{over, read-refusal, ReadPromise}
 use Rattle.sheet.specs.declared.ReadAnswer.{ReadAnswer}
@@ -63,7 +63,7 @@ module _ (bytes : List ℕ) (knots samples lent scratch : List Float) where
       → samples-later ≡ stored reading samples (over y samples)
       → SheetPromise bytes knots samples lent scratch given knots-later samples-later lent scratch
   reading-refused given knots-later samples-later met e k s = record {
-    answer = rw (refusal-met met) (e ∙ unread-is reading reading g met);
+    answer = rw (refusal-met met) (e ∙ unread-is reading reading (edition bytes) g met);
     knots = k;
     samples = s;
     output = rw (refusal-met met) (unchanged reading lent _ met);
@@ -89,7 +89,7 @@ module _ (bytes : List ℕ) (knots samples lent scratch : List Float) where
     reading-is = rw (eq-eqb (length lent) 4096 long)
 
     answered : a .refusal ≡ reading
-    answered = ap (λ (r : ReadAnswer). r .refusal) (read .answer) ∙ answer-refusal _ _ _ ∙ sym reading-is
+    answered = ap (λ (r : ReadAnswer). r .refusal) (read .answer) ∙ answer-refusal _ _ _ _ ∙ sym reading-is
 
     knots-are : k ≡ stored reading knots (over (g .flat-knots) knots)
     unfolding sheet-grid
@@ -113,6 +113,9 @@ module _ (bytes : List ℕ) (knots samples lent scratch : List Float) where
 
       known : Parts bytes
       known = parts bytes accepted
+
+      edition-is : a .edition ≡ edition bytes
+      edition-is = ap (λ (r : ReadAnswer). r .edition) (rw (sym reading-is ∙ passed) at (read .answer))
 
       axes-are : a .axes ≡ g .axes
       unfolding sheet-grid
@@ -148,10 +151,10 @@ module _ (bytes : List ℕ) (knots samples lent scratch : List Float) where
       samples-is = rw (axes-are, all-are, samples-stand) (take-over y samples (samples-length g) (known .samples))
 
       pub sheet-built : (given : SheetAnswer) (tensor-later scratch-later : List Float)
-          → PartsPromise (grid-in (a .axes) (a .all) k) (samples-in (a .axes) (a .all) s) lent scratch given tensor-later scratch-later
+          → PartsPromise (grid-in (a .axes) (a .all) k) (samples-in (a .axes) (a .all) s) lent scratch (a .edition) given tensor-later scratch-later
           → SheetPromise bytes knots samples lent scratch given k s tensor-later scratch-later
       sheet-built given tensor-later scratch-later built =
-          let p : PartsPromise g y lent scratch given tensor-later scratch-later = rw (grid-is, samples-is) at built in
+          let p : PartsPromise g y lent scratch (edition bytes) given tensor-later scratch-later = rw (grid-is, samples-is, edition-is) at built in
           record {
             answer = rw (passed, refusal-passed passed) (p .answer);
             knots = knots-are;
@@ -162,15 +165,15 @@ module _ (bytes : List ℕ) (knots samples lent scratch : List Float) where
 
 -- ---- what a caller knows of the answer
 
-short-answer : (reading refusal : ℕ) (g : Grid) (most : ℕ) → (reading ≡ 0 → tensor-length g ≤ most) → answer-of reading refusal g .length ≤ most
-short-answer zero zero g most small = small refl
-short-answer zero (suc refusal) g most small = omega arith
-short-answer (suc reading) refusal g most small = omega arith
+short-answer : (reading refusal edition : ℕ) (g : Grid) (most : ℕ) → (reading ≡ 0 → tensor-length g ≤ most) → answer-of reading refusal edition g .length ≤ most
+short-answer zero zero edition g most small = small refl
+short-answer zero (suc refusal) edition g most small = omega arith
+short-answer (suc reading) refusal edition g most small = omega arith
 
 module _ (bytes : List ℕ) (knots samples lent scratch : List Float) (given : SheetAnswer) (k s t w : List Float) where
   -- the tensor has no more numbers than its buffer has places
   pub length-most : SheetPromise bytes knots samples lent scratch given k s t w → given .length ≤ 4096
   length-most p =
       rw (p .answer)
-      (short-answer (reading-refusal bytes knots samples lent scratch) (sheet-tensor-refusal bytes knots samples lent scratch) (sheet-grid bytes) 4096
+      (short-answer (reading-refusal bytes knots samples lent scratch) (sheet-tensor-refusal bytes knots samples lent scratch) (edition bytes) (sheet-grid bytes) 4096
       (λ e. ltb-false 4096 (tensor-length (sheet-grid bytes)) (parts bytes (read-passed bytes knots samples lent scratch e .1) .tensor)))

@@ -12,22 +12,28 @@ use Rattle.rules.specs.Tensor.{tensor}
 use Rattle.rules.specs.Calls.{or-else, stored, counted, scratch-after, build-refusal}
 use Rattle.rules.specs.declared.Axis.{Axis}
 use Rattle.grid.specs.Given.{grid, sizes-of, points-of, InRange}
-use Rattle.sheet.specs.Fields.{sheet-grid, sheet-samples}
+use Rattle.sheet.specs.Fields.{edition, sheet-grid, sheet-samples}
 use Rattle.sheet.specs.Read.{over, read-refusal}
 use Rattle.sheet_build.specs.declared.SheetAnswer.{SheetAnswer}
 
--- the answer of a sheet that is not read: no axes, all four as not in use, and no numbers
+-- the answer of a sheet that is not read: no edition, no axes, all four as not in use, and no numbers
 abbrev pub unread-answer : ℕ → SheetAnswer
-unread-answer refusal = record { refusal = refusal; axes = 0; all = table most-axes (λ i. unused-axis); length = 0 }
+unread-answer refusal = record { refusal = refusal; edition = 0; axes = 0; all = table most-axes (λ i. unused-axis); length = 0 }
 
--- the answer of a sheet that was read: its axes, and the length of a tensor that is built, 0 where the build refuses
-abbrev pub read-answer : ℕ → Grid → SheetAnswer
-read-answer refusal g = record { refusal = refusal; axes = g .axes; all = g .entries; length = counted refusal (tensor-length g) }
+-- the answer of a sheet that was read: its edition, its axes, and the length of a tensor that is built, 0 where the build refuses
+abbrev pub read-answer : ℕ → ℕ → Grid → SheetAnswer
+read-answer refusal edition g = record {
+  refusal = refusal;
+  edition = edition;
+  axes = g .axes;
+  all = g .entries;
+  length = counted refusal (tensor-length g);
+}
 
 -- the answer of what is met before the build, 0 for nothing, of the whole call's refusal, and of what was found
-abbrev pub answer-of : ℕ → ℕ → Grid → SheetAnswer
-answer-of zero refusal g = read-answer refusal g
-answer-of (suc reading) refusal g = unread-answer refusal
+abbrev pub answer-of : ℕ → ℕ → ℕ → Grid → SheetAnswer
+answer-of zero refusal edition g = read-answer refusal edition g
+answer-of (suc reading) refusal edition g = unread-answer refusal
 
 -- ---- a build whose numbers stand in the first places of buffers
 
@@ -51,9 +57,9 @@ module _ (g : Grid) (samples tensor-lent scratch-lent : List Float) where
   abbrev pub parts-refusal : ℕ
   parts-refusal = build-refusal g samples (take (tensor-length g) tensor-lent) scratch-lent
 
-  -- what that build promises: the answer, the tensor in the first places, the scratch
-  pub record PartsPromise (given : SheetAnswer) (tensor-later scratch-later : List Float) : Type 0 where
-    pub answer : given ≡ read-answer parts-refusal g
+  -- what that build promises of a sheet that says its edition: the answer, the tensor in the first places, the scratch
+  pub record PartsPromise (said : ℕ) (given : SheetAnswer) (tensor-later scratch-later : List Float) : Type 0 where
+    pub answer : given ≡ read-answer parts-refusal said g
     pub output : tensor-later ≡ stored parts-refusal tensor-lent (over (tensor g samples) tensor-lent)
     pub scratch : scratch-later ≡ scratch-after parts-refusal scratch-lent
 
@@ -70,7 +76,7 @@ module _ (bytes : List ℕ) (knots-lent samples-lent tensor-lent scratch-lent : 
 
   -- the answer has the axes, and the buffers of knots and samples change, where the reader refuses nothing; those of the tensor where the build does not either
   pub record SheetPromise (given : SheetAnswer) (knots-later samples-later tensor-later scratch-later : List Float) : Type 0 where
-    pub answer : given ≡ answer-of reading-refusal sheet-tensor-refusal (sheet-grid bytes)
+    pub answer : given ≡ answer-of reading-refusal sheet-tensor-refusal (edition bytes) (sheet-grid bytes)
     pub knots : knots-later ≡ stored reading-refusal knots-lent (over (sheet-grid bytes .flat-knots) knots-lent)
     pub samples : samples-later ≡ stored reading-refusal samples-lent (over (sheet-samples bytes) samples-lent)
     pub output : tensor-later ≡ stored sheet-tensor-refusal tensor-lent (over (tensor (sheet-grid bytes) (sheet-samples bytes)) tensor-lent)

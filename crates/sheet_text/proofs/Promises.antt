@@ -13,7 +13,7 @@ use Rattle.rules.specs.Tensor.{tensor}
 use Rattle.rules.specs.Calls.{or-else, stored, counted, build-refusal}
 use Rattle.rules.proofs.Refused.{or-else-passed, unchanged}
 use Rattle.checks.proofs.Rows.{exact-3}
-use Rattle.sheet.specs.Fields.{sheet-grid, sheet-samples}
+use Rattle.sheet.specs.Fields.{edition, sheet-grid, sheet-samples}
 use Rattle.sheet.specs.Faults.{sheet-refusal}
 use Rattle.sheet.specs.Read.{over, read-refusal}
 use Rattle.sheet.proofs.Walks.{passed as no-test}
@@ -51,7 +51,7 @@ lent k s t w x none =
       text = ltb-false x 69644 (last .0);
     }
 
-or-else-most : (first : ℕ) {later : ℕ} → first ≤ 14 → later ≤ 14 → or-else first later ≤ 14
+or-else-most : (first : ℕ) {later : ℕ} → first ≤ 22 → later ≤ 22 → or-else first later ≤ 22
 or-else-most zero f l = l
 or-else-most (suc first) f l = f
 
@@ -101,7 +101,7 @@ module _ (bytes : List ℕ) where
   -- ---- how long the text is
 
   -- the sheet's own faults, as those of a call that is lent enough
-  sheet-few : sheet-refusal bytes ≤ 14
+  sheet-few : sheet-refusal bytes ≤ 22
   sheet-few =
       let long : Lent (length (zeros 1024)) (length (zeros 1024)) (length (zeros 4096)) (length (zeros 6144)) 69644
       = record {
@@ -114,7 +114,7 @@ module _ (bytes : List ℕ) where
       rw (reading-is (zeros 1024) (zeros 1024) (zeros 4096) (zeros 6144) long) at
       (few-numbers _ (reading-of-reading bytes (zeros 1024) (zeros 1024) (zeros 4096) (zeros 6144)))
 
-  few-printed : printed-refusal bytes ≤ 14
+  few-printed : printed-refusal bytes ≤ 22
   unfolding printed-refusal
   few-printed = or-else-most (sheet-refusal bytes) sheet-few (few-of-build g y (zeros (tensor-length g)) (zeros (scratch-length g)))
 
@@ -135,13 +135,13 @@ module _ (bytes : List ℕ) where
   -- ---- the two ways to end
 
   -- the text of what the sheet's call has answered and left
-  text-is : (a : SheetAnswer) (lent t : List Float) → a ≡ answer-of (sheet-refusal bytes) (printed-refusal bytes) g
+  text-is : (a : SheetAnswer) (lent t : List Float) → a ≡ answer-of (sheet-refusal bytes) (printed-refusal bytes) (edition bytes) g
       → t ≡ stored (printed-refusal bytes) lent (over (tensor g y) lent) → text-of (a .refusal) (take (a .length - 0) t) ≡ sheet-text bytes
   unfolding sheet-text
   text-is a lent t answer later = go (printed-refusal bytes) refl
     where
       answered : a .refusal ≡ printed-refusal bytes
-      answered = ap (λ (r : SheetAnswer). r .refusal) answer ∙ answered-refusal (sheet-refusal bytes) (printed-refusal bytes) g
+      answered = ap (λ (r : SheetAnswer). r .refusal) answer ∙ answered-refusal (sheet-refusal bytes) (printed-refusal bytes) (edition bytes) g
 
       go : (number : ℕ) → printed-refusal bytes ≡ number → text-of (a .refusal) (take (a .length - 0) t) ≡ text-of (printed-refusal bytes) (tensor g y)
       go zero e =

@@ -20,7 +20,7 @@ fn put_text(refusal: usize, numbers: &[f64], text: &mut [u8]) -> usize
 {
     match class_of(refusal) {
         Class::None => tensor_text::put_tensor(numbers, text, 0),
-        Class::Reading | Class::Building | Class::Unknown => {
+        Class::Reading | Class::Building | Class::Writing | Class::Unknown => {
             text::put_refused_line(refusal as u64, text, 0)
         }
     }

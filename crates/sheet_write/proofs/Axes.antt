@@ -21,7 +21,8 @@ use Rattle.bits.specs.Written.{bits-in}
 use Rattle.bits.proofs.Rows.{Stand, stand-first, stand-second, stand-append}
 use Rattle.bits.proofs.Numbers.{Held, NoNan, each-take, each-drop}
 use Rattle.kinds.specs.Kinds.{periodic-at-one-end}
-use Rattle.sheet.specs.Fields.{axes, points-at, lower-kind, upper-kind, axis-at, knots-at, axis-end, axis-begin, entries, knots-below, sheet-grid}
+use Rattle.kinds.specs.Modes.{unknown-mode}
+use Rattle.sheet.specs.Fields.{axes, mode-bits, points-at, lower-kind, upper-kind, mode-said, axis-at, knots-at, axis-end, axis-begin, entries, knots-below, sheet-grid}
 use Rattle.sheet.specs.Faults.{axis-fault, axes-fault}
 use Rattle.sheet.proofs.Walks.{begin-next, each-faultless, faultless-axis}
 use Rattle.sheet.proofs.Stores.{knots-below-next, length-knots-at}
@@ -49,25 +50,26 @@ in-use g = table most-axes (λ i. cond (ltb i (g .axes)) (entry g i) unused-axis
 
 -- ---- the fields of the first axes
 
-pub axes-append : (g : Grid) (i : ℕ) → axes-fields g (suc i) ≡ axes-fields g i ++ axis-fields (entry g i) (knots g i)
-unfolding axes-fields
-axes-append g i = refl
+module _ (width : ℕ) (g : Grid) where
+  pub axes-append : (i : ℕ) → axes-fields width g (suc i) ≡ axes-fields width g i ++ axis-fields width (entry g i) (knots g i)
+  unfolding axes-fields
+  axes-append i = refl
 
-pub first-bits : (g : Grid) (i n : ℕ) → i ≤ n → bits-in (axes-fields g i) ≤ bits-in (axes-fields g n)
-first-bits g i zero l = let e : i ≡ 0 = omega arith in rw e (le-refl _)
-first-bits g i (suc n) l =
-    ⊎-elim (λ (e : i ≡ suc n). rw e (le-refl _))
-    (λ (m : i < suc n). let before = first-bits g i n (le-of-suc-le-suc m) in let next = axes-next g n in omega arith)
-    (eq-or-lt-of-le l)
+  pub first-bits : (i n : ℕ) → i ≤ n → bits-in (axes-fields width g i) ≤ bits-in (axes-fields width g n)
+  first-bits i zero l = let e : i ≡ 0 = omega arith in rw e (le-refl _)
+  first-bits i (suc n) l =
+      ⊎-elim (λ (e : i ≡ suc n). rw e (le-refl _))
+      (λ (m : i < suc n). let before = first-bits i n (le-of-suc-le-suc m) in let next = axes-next width g n in omega arith)
+      (eq-or-lt-of-le l)
 
-first-stand : (bytes : List ℕ) (g : Grid) (i n : ℕ) → i ≤ n → Stand bytes 7 (axes-fields g n) → Stand bytes 7 (axes-fields g i)
-first-stand bytes g i zero l s = let e : 0 ≡ i = omega arith in rw e at s
-first-stand bytes g i (suc n) l s =
-    ⊎-elim (λ (e : i ≡ suc n). rw e s)
-    (λ (m : i < suc n).
-    first-stand bytes g i n (le-of-suc-le-suc m)
-    (stand-first bytes 7 (axes-fields g n) (axis-fields (entry g n) (knots g n)) (subst (Stand bytes 7) (axes-append g n) s)))
-    (eq-or-lt-of-le l)
+  first-stand : (bytes : List ℕ) (i n : ℕ) → i ≤ n → Stand bytes 7 (axes-fields width g n) → Stand bytes 7 (axes-fields width g i)
+  first-stand bytes i zero l s = let e : 0 ≡ i = omega arith in rw e at s
+  first-stand bytes i (suc n) l s =
+      ⊎-elim (λ (e : i ≡ suc n). rw e s)
+      (λ (m : i < suc n).
+      first-stand bytes i n (le-of-suc-le-suc m)
+      (stand-first bytes 7 (axes-fields width g n) (axis-fields width (entry g n) (knots g n)) (subst (Stand bytes 7) (axes-append n) s)))
+      (eq-or-lt-of-le l)
 
 -- ---- from fields to the axes
 
@@ -87,14 +89,17 @@ fault-first : (bytes : List ℕ) → axes-fault bytes 0 ≡ 0
 unfolding axes-fault
 fault-first bytes = refl
 
-module _ (g : Grid) (samples : List Float) (k : Known g samples) (held : PartsHeld g samples) (bytes : List ℕ) (s : Stand bytes 7 (axes-fields g (g .axes))) where
-  abbrev begin : ℕ → ℕ
-  begin i = 7 + bits-in (axes-fields g i)
+module _ (g : Grid) (samples : List Float) (k : Known g samples) (held : PartsHeld g samples) (bytes : List ℕ) (s : Stand bytes 7 (axes-fields (mode-bits bytes) g (g .axes))) where
+  abbrev width : ℕ
+  width = mode-bits bytes
 
-  here-stands : (i : ℕ) → i < g .axes → Stand bytes (begin i) (axis-fields (entry g i) (knots g i))
+  abbrev begin : ℕ → ℕ
+  begin i = 7 + bits-in (axes-fields width g i)
+
+  here-stands : (i : ℕ) → i < g .axes → Stand bytes (begin i) (axis-fields width (entry g i) (knots g i))
   here-stands i l =
-      stand-second bytes 7 (axes-fields g i) (axis-fields (entry g i) (knots g i))
-      (subst (Stand bytes 7) (axes-append g i) (first-stand bytes g (suc i) (g .axes) l s))
+      stand-second bytes 7 (axes-fields width g i) (axis-fields width (entry g i) (knots g i))
+      (subst (Stand bytes 7) (axes-append width g i) (first-stand width g bytes (suc i) (g .axes) l s))
 
   found-at : (i : ℕ) → i < g .axes → AxisRead bytes (begin i) (entry g i) (knots g i)
   found-at i l =
@@ -106,9 +111,9 @@ module _ (g : Grid) (samples : List Float) (k : Known g samples) (held : PartsHe
       (here-stands i l)
 
   pub begin-is : (i : ℕ) → i ≤ g .axes → axis-begin bytes i ≡ begin i
-  begin-is zero l = begin-first bytes ∙ (let e = axes-none g in omega arith)
+  begin-is zero l = begin-first bytes ∙ (let e = axes-none width g in omega arith)
   begin-is (suc i) l =
-      begin-next bytes i ∙ rw (begin-is i (omega arith)) (found-at i l .end ∙ (let e = axes-next g i in omega arith))
+      begin-next bytes i ∙ rw (begin-is i (omega arith)) (found-at i l .end ∙ (let e = axes-next width g i in omega arith))
 
   found : (i : ℕ) → i < g .axes → AxisRead bytes (axis-begin bytes i) (entry g i) (knots g i)
   found i l = rw (begin-is i (omega arith)) (found-at i l)
@@ -117,8 +122,8 @@ module _ (g : Grid) (samples : List Float) (k : Known g samples) (held : PartsHe
   no-fault room zero l = fault-first bytes
   no-fault room (suc i) l =
       let range = k .grid-given .in-range in
-      let next = axes-next g i in
-      let most = first-bits g (suc i) (g .axes) l in
+      let next = axes-next width g i in
+      let most = first-bits width g (suc i) (g .axes) l in
       let here = begin-is i (omega arith) in
       fault-next bytes i (no-fault room i (omega arith))
       (found-faultless bytes (axis-begin bytes i) (entry g i) (knots g i) (found i l) (range .some-points i l) (range .few-points i l)
@@ -200,25 +205,28 @@ module _ (bytes : List ℕ) (ok : Accepted bytes) (samples : List Float) (fine :
   kinds : (i : ℕ) → i < n → periodic-at-one-end (lower-kind bytes (axis-begin bytes i)) (upper-kind bytes (axis-begin bytes i)) ≡ false
   kinds i l = faultless-axis bytes (axis-begin bytes i) (each-faultless bytes n i (ok .faultless) l) .2
 
-  fields-are : (i : ℕ) → i < n → axis-fields (entry g i) (knots g i) ≡ axis-fields (axis-at bytes (axis-begin bytes i)) (knots-at bytes (axis-begin bytes i))
-  fields-are i l = ap₂ axis-fields (entry-is i l) (knots-is i l)
+  mode : (i : ℕ) → i < n → unknown-mode (mode-said bytes (axis-begin bytes i)) ≡ false
+  mode i l = faultless-axis bytes (axis-begin bytes i) (each-faultless bytes n i (ok .faultless) l) .3
 
-  pub end-is : (i : ℕ) → i ≤ n → 7 + bits-in (axes-fields g i) ≡ axis-begin bytes i
-  end-is zero l = (let e = axes-none g in omega arith) ∙ sym (begin-first bytes)
+  fields-are : (i : ℕ) → i < n → axis-fields (mode-bits bytes) (entry g i) (knots g i) ≡ axis-fields (mode-bits bytes) (axis-at bytes (axis-begin bytes i)) (knots-at bytes (axis-begin bytes i))
+  fields-are i l = ap₂ (axis-fields (mode-bits bytes)) (entry-is i l) (knots-is i l)
+
+  pub end-is : (i : ℕ) → i ≤ n → 7 + bits-in (axes-fields (mode-bits bytes) g i) ≡ axis-begin bytes i
+  end-is zero l = (let e = axes-none (mode-bits bytes) g in omega arith) ∙ sym (begin-first bytes)
   end-is (suc i) l =
       let before = end-is i (omega arith) in
-      let next = axes-next g i in
+      let next = axes-next (mode-bits bytes) g i in
       let bits = ap bits-in (fields-are i l) in
-      let here = end-back bytes (axis-begin bytes i) (kinds i l) in
-      (let e : 7 + bits-in (axes-fields g (suc i)) ≡ axis-end bytes (axis-begin bytes i) = omega arith in e) ∙ sym (begin-next bytes i)
+      let here = end-back bytes (axis-begin bytes i) (kinds i l) (mode i l) in
+      (let e : 7 + bits-in (axes-fields (mode-bits bytes) g (suc i)) ≡ axis-end bytes (axis-begin bytes i) = omega arith in e) ∙ sym (begin-next bytes i)
 
-  none-stand : Stand bytes 7 (axes-fields g 0)
+  none-stand : Stand bytes 7 (axes-fields (mode-bits bytes) g 0)
   unfolding Stand axes-fields
   none-stand = tt
 
-  pub axes-stand : (i : ℕ) → i ≤ n → Stand bytes 7 (axes-fields g i)
+  pub axes-stand : (i : ℕ) → i ≤ n → Stand bytes 7 (axes-fields (mode-bits bytes) g i)
   axes-stand zero l = none-stand
   axes-stand (suc i) l =
-      rw (axes-append g i)
-      (stand-append bytes 7 (axes-fields g i) (axis-fields (entry g i) (knots g i)) (axes-stand i (omega arith))
-      (rw (end-is i (omega arith), fields-are i l) (axis-stands bytes (axis-begin bytes i) (kinds i l) (fine-ends i l) (fine-knots i l))))
+      rw (axes-append (mode-bits bytes) g i)
+      (stand-append bytes 7 (axes-fields (mode-bits bytes) g i) (axis-fields (mode-bits bytes) (entry g i) (knots g i)) (axes-stand i (omega arith))
+      (rw (end-is i (omega arith), fields-are i l) (axis-stands bytes (axis-begin bytes i) (kinds i l) (mode i l) (fine-ends i l) (fine-knots i l))))

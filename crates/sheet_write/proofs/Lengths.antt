@@ -1,4 +1,4 @@
--- How many bits the fields of axes and of a whole sheet have, and how many bytes a sheet has: at most 10,308, and the largest has them.
+-- How many bits the fields of axes and of a whole sheet have, and how many bytes a sheet has: at most 10,309, and the largest has them.
 use mathlib.Core.Path.{_≡_, refl, sym, ap, _∙_}
 use mathlib.Core.List.{List, [], _∷_, _++_}
 use Prim.Native.Nat.{ℕ, zero, suc, _+_, _-_, _*_, _/_, _%_, _^_, _<_, _≤_}
@@ -9,6 +9,7 @@ use Rattle.rules.specs.Sizes.{unused-axis, Grid, points, condition, knots, sum-
 use Rattle.rules.specs.declared.Axis.{Axis}
 use Rattle.rules.specs.declared.Condition.{Condition}
 use Rattle.kinds.specs.Kinds.{values-of-kind, lower-kind-of, upper-kind-of}
+use Rattle.kinds.specs.Editions.{mode-width}
 use Rattle.bits.specs.Written.{bits-in, number-fields, filler, bytes-for}
 use Rattle.bits.proofs.Rows.{bits-in-append, packed-length}
 use Rattle.bits.proofs.Numbers.{numbers-bits}
@@ -16,25 +17,25 @@ use Rattle.sheet_write.specs.SheetOf.{ends-fields, axis-fields, axes-fie
 use Rattle.sheet_write.specs.Within.{values}
 use Rattle.sheet_write.proofs.Ends.{ends-bits}
 
-pub axis-bits : (axis : Axis) (x : List Float) → bits-in (axis-fields axis x) ≡ 12 + 64 * values (axis .condition) + 64 * length x
+pub axis-bits : (width : ℕ) (axis : Axis) (x : List Float) → bits-in (axis-fields width axis x) ≡ 12 + width + 64 * values (axis .condition) + 64 * length x
 unfolding axis-fields bits-in
-axis-bits axis x =
+axis-bits width axis x =
     let a = ends-bits (axis .condition) in
     let b = numbers-bits x in
     let c = bits-in-append (ends-fields (axis .condition)) (number-fields x) in omega arith
 
-pub axes-next : (g : Grid) (i : ℕ) → bits-in (axes-fields g (suc i)) ≡ bits-in (axes-fields g i) + bits-in (axis-fields (getD (g .entries) i unused-axis) (knots g i))
+pub axes-next : (width : ℕ) (g : Grid) (i : ℕ) → bits-in (axes-fields width g (suc i)) ≡ bits-in (axes-fields width g i) + bits-in (axis-fields width (getD (g .entries) i unused-axis) (knots g i))
 unfolding axes-fields
-axes-next g i = bits-in-append (axes-fields g i) (axis-fields (getD (g .entries) i unused-axis) (knots g i))
+axes-next width g i = bits-in-append (axes-fields width g i) (axis-fields width (getD (g .entries) i unused-axis) (knots g i))
 
-pub axes-none : (g : Grid) → bits-in (axes-fields g 0) ≡ 0
+pub axes-none : (width : ℕ) (g : Grid) → bits-in (axes-fields width g 0) ≡ 0
 unfolding axes-fields bits-in
-axes-none g = refl
+axes-none width g = refl
 
-pub part-bits : (g : Grid) (samples : List Float) → bits-in (part-fields g samples) ≡ 7 + bits-in (axes-fields g (g .axes)) + 64 * length samples
+pub part-bits : (edition : ℕ) (g : Grid) (samples : List Float) → bits-in (part-fields edition g samples) ≡ 7 + bits-in (axes-fields (mode-width edition) g (g .axes)) + 64 * length samples
 unfolding part-fields bits-in
-part-bits g samples =
-    let a = bits-in-append (axes-fields g (g .axes)) (number-fields samples) in
+part-bits edition g samples =
+    let a = bits-in-append (axes-fields (mode-width edition) g (g .axes)) (number-fields samples) in
     let b = numbers-bits samples in omega arith
 
 last-bits : (n : ℕ) → bits-in (filler n ∷ []) ≡ (8 - n % 8) % 8
@@ -42,13 +43,13 @@ unfolding bits-in
 last-bits n = omega arith
 
 -- a sheet fills whole bytes
-pub sheet-bits : (g : Grid) (samples : List Float) → bits-in (sheet-fields g samples) ≡ 8 * bytes-for (bits-in (part-fields g samples))
+pub sheet-bits : (edition : ℕ) (g : Grid) (samples : List Float) → bits-in (sheet-fields edition g samples) ≡ 8 * bytes-for (bits-in (part-fields edition g samples))
 unfolding sheet-fields
-sheet-bits g samples =
-    let n = bits-in (part-fields g samples) in
-    let a = bits-in-append (part-fields g samples) (filler n ∷ []) in
+sheet-bits edition g samples =
+    let n = bits-in (part-fields edition g samples) in
+    let a = bits-in-append (part-fields edition g samples) (filler n ∷ []) in
     let b = last-bits n in omega arith
 
-pub sheet-length : (g : Grid) (samples : List Float) → length (sheet-of g samples) ≡ bytes-for (bits-in (part-fields g samples))
+pub sheet-length : (edition : ℕ) (g : Grid) (samples : List Float) → length (sheet-of edition g samples) ≡ bytes-for (bits-in (part-fields edition g samples))
 unfolding sheet-of
-sheet-length g samples = packed-length (sheet-fields g samples) ∙ (let e = sheet-bits g samples in omega arith)
+sheet-length edition g samples = packed-length (sheet-fields edition g samples) ∙ (let e = sheet-bits edition g samples in omega arith)

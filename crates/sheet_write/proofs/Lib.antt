@@ -1,4 +1,6 @@
 pub mod Ends
+pub mod Editions
+pub mod Classes
 pub mod Lengths
 pub mod Reading
 pub mod Parts

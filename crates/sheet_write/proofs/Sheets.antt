@@ -25,96 +25,112 @@ use Rattle.bits.proofs.Runs.{short-together}
 use Rattle.bits.proofs.Writes.{Bytes}
 use Rattle.bits.proofs.Rows.{Stand, Sized, stand-first, stand-second, stand-append, sized-append, packed-stand, packed-of, bits-in-append}
 use Rattle.bits.proofs.Numbers.{Held, numbers-sized, numbers-read, NoNan, numbers-stand, numbers-bits, each-take, each-drop}
-use Rattle.sheet.specs.Fields.{edition, axes, axis-begin, entries, knots-below, sheet-grid, samples-begin, sheet-samples, samples-end}
+use Rattle.kinds.specs.Editions.{mode-width}
+use Rattle.sheet.specs.Fields.{edition as edition-said, axes, mode-bits, axis-begin, entries, knots-below, sheet-grid, samples-begin, sheet-samples, samples-end}
 use Rattle.sheet.specs.Faults.{axes-fault, tail-refused, samples-fault, sheet-refusal}
 use Rattle.sheet.proofs.Samples.{bits-set, product-least}
 use Rattle.sheet.proofs.Sheets.{Accepted, accepted, axes-allowed, some-axes, samples-room}
 use Rattle.sheet_write.specs.SheetOf.{ends-fields, axis-fields, axes-fields, part-fields, sheet-fields, sheet-of}
-use Rattle.sheet_write.specs.Write.{no-sheet-refusal}
+use Rattle.sheet_write.specs.Write.{no-sheet-refusal, edition-refusal}
 use Rattle.sheet_write.proofs.Ends.{ends-sized, lower-kind-most, upper-kind-most}
+use Rattle.sheet_write.proofs.Editions.{edition-fits, mode-fits, Taken, taken}
 use Rattle.sheet_write.proofs.Lengths.{part-bits, sheet-bits, sheet-length}
 use Rattle.sheet_write.proofs.Parts.{Known, known, WithoutNan, without-nan}
 use Rattle.sheet_write.proofs.Axes.{entry, PartsHeld, in-use, begin-is, no-fault, entries-found, knots-found, end-is, axes-stand}
 
 -- ---- each number fits its field
 
-axis-sized : (g : Grid) (samples : List Float) → Known g samples → PartsHeld g samples → (i : ℕ) → i < g .axes → Sized (axis-fields (entry g i) (take (points g i) (drop (sum-below (points g) i) (g .flat-knots))))
-unfolding Sized axis-fields
-axis-sized g samples k held i l =
-    let most = k .grid-given .in-range .few-points i l in
-    let some = k .grid-given .in-range .some-points i l in
-    let x = take (points g i) (drop (sum-below (points g) i) (g .flat-knots)) in
-    let c = entry g i .condition in (
-      (let e : points g i - 1 < 256 = omega arith in e),
-      (
-        lower-kind-most c,
+module _ (edition : ℕ) (g : Grid) (samples : List Float) (k : Known g samples) (held : PartsHeld g samples) (t : Taken edition g) where
+  abbrev width : ℕ
+  width = mode-width edition
+
+  axis-sized : (i : ℕ) → i < g .axes → Sized (axis-fields width (entry g i) (take (points g i) (drop (sum-below (points g) i) (g .flat-knots))))
+  unfolding Sized axis-fields
+  axis-sized i l =
+      let most = k .grid-given .in-range .few-points i l in
+      let some = k .grid-given .in-range .some-points i l in
+      let x = take (points g i) (drop (sum-below (points g) i) (g .flat-knots)) in
+      let c = entry g i .condition in (
+        (let e : points g i - 1 < 256 = omega arith in e),
         (
-          upper-kind-most c,
-          sized-append (ends-fields c) (number-fields x) (ends-sized c (held .ends-held i l))
-              (numbers-sized x (each-take _ (points g i) (drop (sum-below (points g) i) (g .flat-knots)) (each-drop _ (sum-below (points g) i) (g .flat-knots) (held .knots-held)))),
+          lower-kind-most c,
+          (
+            upper-kind-most c,
+            (
+              mode-fits edition (entry g i .mode) (t .known) (t .modes i l),
+              sized-append (ends-fields c) (number-fields x) (ends-sized c (held .ends-held i l))
+                  (numbers-sized x (each-take _ (points g i) (drop (sum-below (points g) i) (g .flat-knots)) (each-drop _ (sum-below (points g) i) (g .flat-knots) (held .knots-held)))),
+            ),
+          ),
         ),
-      ),
-    )
+      )
 
-axes-sized : (g : Grid) (samples : List Float) → Known g samples → PartsHeld g samples → (i : ℕ) → i ≤ g .axes → Sized (axes-fields g i)
-unfolding Sized axes-fields
-axes-sized g samples k held zero l = tt
-axes-sized g samples k held (suc i) l =
-    sized-append (axes-fields g i) (axis-fields (entry g i) _) (axes-sized g samples k held i (omega arith)) (axis-sized g samples k held i l)
+  axes-sized : (i : ℕ) → i ≤ g .axes → Sized (axes-fields width g i)
+  unfolding Sized axes-fields
+  axes-sized zero l = tt
+  axes-sized (suc i) l =
+      sized-append (axes-fields width g i) (axis-fields width (entry g i) _) (axes-sized i (omega arith)) (axis-sized i l)
 
-filler-sized : (n : ℕ) → Sized (filler n ∷ [])
-unfolding Sized
-filler-sized n = (pow-pos _, tt)
+  filler-sized : (n : ℕ) → Sized (filler n ∷ [])
+  unfolding Sized
+  filler-sized n = (pow-pos _, tt)
 
-pub sheet-sized : (g : Grid) (samples : List Float) → Known g samples → PartsHeld g samples → Sized (sheet-fields g samples)
-unfolding sheet-fields part-fields Sized
-sheet-sized g samples k held =
-    let few = k .grid-given .in-range .few-axes in
-    sized-append (part-fields g samples) (filler (bits-in (part-fields g samples)) ∷ []) (
-      lit< tt,
-      (
-        (let e : g .axes < 8 = omega arith in e),
-        sized-append (axes-fields g (g .axes)) (number-fields samples) (axes-sized g samples k held (g .axes) (le-refl _)) (numbers-sized samples (held .samples-held)),
-      ),
-    )
-    (filler-sized (bits-in (part-fields g samples)))
+  pub sheet-sized : Sized (sheet-fields edition g samples)
+  unfolding sheet-fields part-fields Sized
+  sheet-sized =
+      let few = k .grid-given .in-range .few-axes in
+      sized-append (part-fields edition g samples) (filler (bits-in (part-fields edition g samples)) ∷ []) (
+        edition-fits edition (t .known),
+        (
+          (let e : g .axes < 8 = omega arith in e),
+          sized-append (axes-fields width g (g .axes)) (number-fields samples) (axes-sized (g .axes) (le-refl _)) (numbers-sized samples (held .samples-held)),
+        ),
+      )
+      (filler-sized (bits-in (part-fields edition g samples)))
 
 -- ---- from fields to the sheet
 
 -- the fields of the parts one by one
-record PartFields (bytes : List ℕ) (g : Grid) (samples : List Float) : Type 0 where
-  first : edition bytes ≡ 1
+record PartFields (bytes : List ℕ) (edition : ℕ) (g : Grid) (samples : List Float) : Type 0 where
+  first : edition-said bytes ≡ edition
   said : axes bytes ≡ g .axes
-  axes-there : Stand bytes 7 (axes-fields g (g .axes))
-  samples-there : Stand bytes (7 + bits-in (axes-fields g (g .axes))) (number-fields samples)
+  axes-there : Stand bytes 7 (axes-fields (mode-bits bytes) g (g .axes))
+  samples-there : Stand bytes (7 + bits-in (axes-fields (mode-bits bytes) g (g .axes))) (number-fields samples)
 
-part-stand : (bytes : List ℕ) (g : Grid) (samples : List Float) → Stand bytes 0 (part-fields g samples) → PartFields bytes g samples
+part-stand : (bytes : List ℕ) (edition : ℕ) (g : Grid) (samples : List Float) → Stand bytes 0 (part-fields edition g samples) → PartFields bytes edition g samples
 unfolding Stand part-fields
-part-stand bytes g samples s = record {
-  first = s .0;
-  said = s .1 .0;
-  axes-there = stand-first bytes 7 (axes-fields g (g .axes)) (number-fields samples) (s .1 .1);
-  samples-there = stand-second bytes 7 (axes-fields g (g .axes)) (number-fields samples) (s .1 .1);
-}
+part-stand bytes edition g samples s =
+    let fields = axes-fields (mode-width edition) g (g .axes) in
+    record {
+      first = s .0;
+      said = s .1 .0;
+      axes-there = rw (s .0) (stand-first bytes 7 fields (number-fields samples) (s .1 .1));
+      samples-there = rw (s .0) (stand-second bytes 7 fields (number-fields samples) (s .1 .1));
+    }
 
 -- no bit of a run is set where its number is 0
 none-set : (bytes : List ℕ) (at n : ℕ) → field bytes at n ≡ 0 → any (λ k. not (eqb (bit bytes (at + k)) 0)) n ≡ false
 none-set bytes at n e = bits-set bytes at n ∙ rw e
 
-pub record SheetRead (bytes : List ℕ) (g : Grid) (samples : List Float) : Type 0 where
+pub record SheetRead (bytes : List ℕ) (edition : ℕ) (g : Grid) (samples : List Float) : Type 0 where
   pub taken : sheet-refusal bytes ≡ 0
+  pub edition-same : edition-said bytes ≡ edition
   pub axes-same : axes bytes ≡ g .axes
   pub entries-same : entries bytes (axes bytes) ≡ in-use g
   pub knots-same : knots-below bytes (axes bytes) ≡ g .flat-knots
   pub samples-same : sheet-samples bytes ≡ samples
 
-module _ (g : Grid) (samples : List Float) (k : Known g samples) (held : PartsHeld g samples) (bytes : List ℕ) (f : PartFields bytes g samples)
-    (room : bits-in (part-fields g samples) ≤ 8 * length bytes) where
+module _ (edition : ℕ) (g : Grid) (samples : List Float) (k : Known g samples) (held : PartsHeld g samples) (t : Taken edition g) (bytes : List ℕ) (f : PartFields bytes edition g samples)
+    (room : bits-in (part-fields edition g samples) ≤ 8 * length bytes) where
   abbrev n : ℕ
   n = g .axes
 
-  all-there : 7 + bits-in (axes-fields g n) + 64 * length samples ≤ 8 * length bytes
-  all-there = let e = part-bits g samples in omega arith
+  -- the bits of the parts, in the edition that the bytes say
+  parts-are : bits-in (part-fields edition g samples) ≡ 7 + bits-in (axes-fields (mode-bits bytes) g n) + 64 * length samples
+  parts-are = part-bits edition g samples ∙ rw (f .first)
+
+  all-there : 7 + bits-in (axes-fields (mode-bits bytes) g n) + 64 * length samples ≤ 8 * length bytes
+  all-there = let e = parts-are in omega arith
 
   entries-read : entries bytes (axes bytes) ≡ in-use g
   entries-read = rw (f .said) (entries-found g samples k held bytes (f .axes-there))
@@ -137,14 +153,14 @@ module _ (g : Grid) (samples : List Float) (k : Known g samples) (held : PartsHe
   count-is : samples-length (sheet-grid bytes) ≡ length samples
   count-is = count-read ∙ sym (k .samples-exact)
 
-  begin-read : samples-begin bytes ≡ 7 + bits-in (axes-fields g n)
+  begin-read : samples-begin bytes ≡ 7 + bits-in (axes-fields (mode-bits bytes) g n)
   begin-read = rw (f .said) (begin-is g samples k held bytes (f .axes-there) n (le-refl n))
 
   samples-read : sheet-samples bytes ≡ samples
-  samples-read = rw (begin-read, count-is) (numbers-read bytes (7 + bits-in (axes-fields g n)) samples (held .samples-held) (f .samples-there))
+  samples-read = rw (begin-read, count-is) (numbers-read bytes (7 + bits-in (axes-fields (mode-bits bytes) g n)) samples (held .samples-held) (f .samples-there))
 
-  end-read : samples-end bytes ≡ bits-in (part-fields g samples)
-  end-read = let e = part-bits g samples in let b = begin-read in let c = count-is in omega arith
+  end-read : samples-end bytes ≡ bits-in (part-fields edition g samples)
+  end-read = let e = parts-are in let b = begin-read in let c = count-is in omega arith
 
   axes-read : sheet-grid bytes .axes ≡ n
   unfolding sheet-grid
@@ -170,7 +186,7 @@ module _ (g : Grid) (samples : List Float) (k : Known g samples) (held : PartsHe
     no-refusal =
         let range = k .grid-given .in-range in
         let there = all-there in
-        some-axes bytes (omega arith) (f .first) (omega arith)
+        some-axes bytes (omega arith) (rw (f .first) (t .known)) (omega arith)
         ∙ rw (
           axes-allowed bytes (omega (arith, f .said, range .some-axes)) (omega (arith, f .said, range .few-axes)),
           f .said,
@@ -178,9 +194,10 @@ module _ (g : Grid) (samples : List Float) (k : Known g samples) (held : PartsHe
         )
         samples-faultless
 
-    sheet-read : SheetRead bytes g samples
+    sheet-read : SheetRead bytes edition g samples
     sheet-read = record {
       taken = no-refusal;
+      edition-same = f .first;
       axes-same = f .said;
       entries-same = entries-read;
       knots-same = knots-read;
@@ -196,44 +213,47 @@ tail-passed bytes b whole s =
 
 -- where the fields of parts fill bytes, the reader accepts these and finds the parts
 pub sheet-found :
-    (g : Grid) (samples : List Float) → Known g samples → PartsHeld g samples → (bytes : List ℕ)
-    → bits-in (sheet-fields g samples) ≡ 8 * length bytes
-    → Stand bytes 0 (sheet-fields g samples)
-    → SheetRead bytes g samples
+    (edition : ℕ) (g : Grid) (samples : List Float) → Known g samples → PartsHeld g samples → Taken edition g → (bytes : List ℕ)
+    → bits-in (sheet-fields edition g samples) ≡ 8 * length bytes
+    → Stand bytes 0 (sheet-fields edition g samples)
+    → SheetRead bytes edition g samples
 unfolding sheet-fields
-sheet-found g samples k held bytes whole s =
-    let last = filler (bits-in (part-fields g samples)) ∷ [] in
-    let b = bits-in (part-fields g samples) in
-    let two = bits-in-append (part-fields g samples) last in
-    let f = part-stand bytes g samples (stand-first bytes 0 (part-fields g samples) last s) in
+sheet-found edition g samples k held t bytes whole s =
+    let parts = part-fields edition g samples in
+    let b = bits-in parts in
+    let last = filler b ∷ [] in
+    let two = bits-in-append parts last in
+    let f = part-stand bytes edition g samples (stand-first bytes 0 parts last s) in
     let room : b ≤ 8 * length bytes = omega arith in
     let zero-plus : 0 + b ≡ b = omega arith in
-    let after : Stand bytes b last = subst (λ (p : ℕ). Stand bytes p last) zero-plus (stand-second bytes 0 (part-fields g samples) last s) in
-    sheet-read g samples k held bytes f room (rw (end-read g samples k held bytes f room) (tail-passed bytes b (omega arith) after))
+    let after : Stand bytes b last = subst (λ (p : ℕ). Stand bytes p last) zero-plus (stand-second bytes 0 parts last s) in
+    sheet-read edition g samples k held t bytes f room (rw (end-read edition g samples k held t bytes f room) (tail-passed bytes b (omega arith) after))
 
 -- the sheet of parts is accepted, and has these parts
-pub read-of-sheet : (g : Grid) (samples : List Float) → no-sheet-refusal g samples ≡ 0 → PartsHeld g samples → SheetRead (sheet-of g samples) g samples
+pub read-of-sheet : (edition : ℕ) (g : Grid) (samples : List Float) → no-sheet-refusal g samples ≡ 0 → edition-refusal edition g ≡ 0 → PartsHeld g samples
+    → SheetRead (sheet-of edition g samples) edition g samples
 unfolding sheet-of
-read-of-sheet g samples e held =
+read-of-sheet edition g samples e f held =
     let k = known g samples e in
-    sheet-found g samples k held (sheet-of g samples)
-    (sheet-bits g samples ∙ (let l = sheet-length g samples in omega arith))
-    (packed-stand (sheet-fields g samples) (sheet-sized g samples k held))
+    let t = taken edition g f in
+    sheet-found edition g samples k held t (sheet-of edition g samples)
+    (sheet-bits edition g samples ∙ (let l = sheet-length edition g samples in omega arith))
+    (packed-stand (sheet-fields edition g samples) (sheet-sized edition g samples k held t))
 
 -- ---- from the sheet to fields
 
 module _ (bytes : List ℕ) (ok : Accepted bytes) (fine : WithoutNan (sheet-grid bytes) (sheet-samples bytes)) where
-  axes-back : Stand bytes 7 (axes-fields (sheet-grid bytes) (sheet-grid bytes .axes))
+  axes-back : Stand bytes 7 (axes-fields (mode-bits bytes) (sheet-grid bytes) (sheet-grid bytes .axes))
   unfolding sheet-grid
   axes-back = axes-stand bytes ok (sheet-samples bytes) fine (axes bytes) (le-refl (axes bytes))
 
-  begin-back : 7 + bits-in (axes-fields (sheet-grid bytes) (sheet-grid bytes .axes)) ≡ samples-begin bytes
+  begin-back : 7 + bits-in (axes-fields (mode-bits bytes) (sheet-grid bytes) (sheet-grid bytes .axes)) ≡ samples-begin bytes
   unfolding sheet-grid
   begin-back = end-is bytes ok (sheet-samples bytes) fine (axes bytes) (le-refl (axes bytes))
 
-  end-back : bits-in (part-fields (sheet-grid bytes) (sheet-samples bytes)) ≡ samples-end bytes
+  end-back : bits-in (part-fields (edition-said bytes) (sheet-grid bytes) (sheet-samples bytes)) ≡ samples-end bytes
   end-back =
-      let a = part-bits (sheet-grid bytes) (sheet-samples bytes) in
+      let a = part-bits (edition-said bytes) (sheet-grid bytes) (sheet-samples bytes) in
       let b = begin-back in
       let c = length-table (samples-length (sheet-grid bytes)) (λ k. number bytes (samples-begin bytes + 64 * k)) in omega arith
 
@@ -241,13 +261,13 @@ module _ (bytes : List ℕ) (ok : Accepted bytes) (fine : WithoutNan (sheet-grid
   unfolding sheet-grid
   said-back = refl
 
-  parts-back : Stand bytes 0 (part-fields (sheet-grid bytes) (sheet-samples bytes))
+  parts-back : Stand bytes 0 (part-fields (edition-said bytes) (sheet-grid bytes) (sheet-samples bytes))
   unfolding Stand part-fields
   parts-back = (
-    ok .first,
+    refl,
     (
       said-back,
-      stand-append bytes 7 (axes-fields (sheet-grid bytes) (sheet-grid bytes .axes)) (number-fields (sheet-samples bytes)) axes-back
+      stand-append bytes 7 (axes-fields (mode-bits bytes) (sheet-grid bytes) (sheet-grid bytes .axes)) (number-fields (sheet-samples bytes)) axes-back
           (rw begin-back (numbers-stand bytes (samples-begin bytes) (samples-length (sheet-grid bytes)) (fine .samples-fine))),
     ),
   )
@@ -262,15 +282,15 @@ tail-back bytes b room e =
     let unset : not (eqb (field bytes b (8 * length bytes - b)) 0) ≡ false = sym (bits-set bytes b (8 * length bytes - b)) ∙ both .1 in
     (omega arith, (rw left at (eqb-true (field bytes b (8 * length bytes - b)) 0 (not-false _ unset)), tt))
 
--- an accepted sheet whose parts have a sheet is that sheet
-pub sheet-of-read : (bytes : List ℕ) → Bytes bytes → sheet-refusal bytes ≡ 0 → no-sheet-refusal (sheet-grid bytes) (sheet-samples bytes) ≡ 0 → sheet-of (sheet-grid bytes) (sheet-samples bytes) ≡ bytes
+-- an accepted sheet whose parts have a sheet is that sheet in its own edition
+pub sheet-of-read : (bytes : List ℕ) → Bytes bytes → sheet-refusal bytes ≡ 0 → no-sheet-refusal (sheet-grid bytes) (sheet-samples bytes) ≡ 0 → sheet-of (edition-said bytes) (sheet-grid bytes) (sheet-samples bytes) ≡ bytes
 unfolding sheet-of sheet-fields
 sheet-of-read bytes all e none =
     let g = sheet-grid bytes in
     let samples = sheet-samples bytes in
     let ok = accepted bytes e in
     let fine = without-nan g samples none in
-    let parts = part-fields g samples in
+    let parts = part-fields (edition-said bytes) g samples in
     let last = filler (bits-in parts) ∷ [] in
     let zero-plus : 0 + bits-in parts ≡ bits-in parts = omega arith in
     let end = end-back bytes ok fine in

@@ -6,6 +6,7 @@ ghost use Rattle.grid.specs.Given.{sizes-of, points-of, condition-of, InRange};
 ghost use Rattle.sheet_write.specs.Within.{values, values-below, parts-bits};
 use grid::knots_length;
 use grid::samples_length;
+use kinds::editions::mode_width;
 use kinds::ends::lower_kind;
 use kinds::ends::upper_kind;
 use kinds::ends::values_of_kind;
@@ -36,12 +37,13 @@ fn all_values(axes: usize, all: [Axis; 4]) -> usize
     sum
 }
 
-// How many bits the parts have: edition and number of axes, each axis with its ends and knots, and the samples.
-pub fn part_bits(axes: usize, all: [Axis; 4]) -> usize
+// How many bits the parts have: edition and number of axes, each axis with its mode, its ends and knots, and the samples.
+pub fn part_bits(edition: usize, axes: usize, all: [Axis; 4]) -> usize
     requires { ⌜ InRange axes (points-of all) ⌝ }
-    ensures { λ r. ⌜ r ≡ parts-bits axes all ⌝ }
+    ensures { λ r. ⌜ r ≡ parts-bits edition axes all ⌝ }
 {
     7
         + 12 * axes
+        + mode_width(edition) * axes
         + 64 * (all_values(axes, all) + knots_length(axes, all) + samples_length(axes, all))
 }

@@ -8,13 +8,15 @@ ghost use Rattle.grid.specs.Given.{grid};
 ghost use Rattle.bits.specs.Within.{Within};
 ghost use Rattle.bits.specs.Written.{bits-in, with-fields};
 ghost use Rattle.sheet_write.specs.SheetOf.{end-fields, ends-fields, axis-fields, axes-fields, sheet-fields};
-ghost use Rattle.sheet_write.specs.Within.{AxisGiven, AxesGiven, SheetGiven};
+ghost use Rattle.sheet_write.specs.Within.{HeadGiven, with-head, AxisGiven, AxesGiven, SheetGiven};
 use bits::writing::put_field;
 use bits::writing::put_number;
 use bits::writing::put_numbers;
+use kinds::editions::mode_width;
 use kinds::ends::lower_kind;
 use kinds::ends::upper_kind;
 use kinds::ends::wide;
+use kinds::modes::mode_number;
 use rules::Axis;
 use rules::Condition;
 use rules::End;
@@ -51,24 +53,35 @@ fn put_ends(bytes: &mut [u8], at: usize, condition: Condition) -> usize
     }
 }
 
-// An axis: its points less 1, the kinds of its ends, their numbers, its knots.
-fn put_axis(bytes: &mut [u8], at: usize, axis: Axis, knots: &[f64]) -> usize
-    requires { ⌜ AxisGiven (now bytes) at axis (now knots) ⌝ }
-    ensures { λ r. ⌜ (r ≡ at + bits-in (axis-fields axis (now (knots .entry)))) × (now (bytes .exit) ≡ with-fields (now (bytes .entry)) at (axis-fields axis (now (knots .entry)))) ⌝ }
+// What an axis has before its numbers: its points less 1, the kinds of its ends, and its mode in `width` bits.
+fn put_head(bytes: &mut [u8], at: usize, width: usize, axis: Axis)
+    requires { ⌜ HeadGiven (now bytes) at width axis ⌝ }
+    ensures { λ _. ⌜ now (bytes .exit) ≡ with-head (now (bytes .entry)) at width axis ⌝ }
 {
     let condition = axis.condition;
+    let mode = axis.mode;
     put_field(bytes, at, 8, (axis.points - 1) as u64);
     put_field(bytes, at + 8, 2, wide(lower_kind(condition)));
     put_field(bytes, at + 10, 2, wide(upper_kind(condition)));
-    let next = put_ends(bytes, at + 12, condition);
+    put_field(bytes, at + 12, width, wide(mode_number(mode)))
+}
+
+// An axis: what it has before its numbers, the numbers of its ends, its knots.
+fn put_axis(bytes: &mut [u8], at: usize, width: usize, axis: Axis, knots: &[f64]) -> usize
+    requires { ⌜ AxisGiven (now bytes) at width axis (now knots) ⌝ }
+    ensures { λ r. ⌜ (r ≡ at + bits-in (axis-fields width axis (now (knots .entry)))) × (now (bytes .exit) ≡ with-fields (now (bytes .entry)) at (axis-fields width axis (now (knots .entry)))) ⌝ }
+{
+    let condition = axis.condition;
+    put_head(bytes, at, width, axis);
+    let next = put_ends(bytes, at + 12 + width, condition);
     put_numbers(bytes, next, knots);
     next + 64 * knots.len()
 }
 
 // The axes in use, from bit 7 on, each with its part of the knots.
-fn put_axes(bytes: &mut [u8], axes: usize, all: [Axis; 4], knots: &[f64]) -> usize
-    requires { ⌜ AxesGiven (now bytes) (grid axes all (now knots)) ⌝ }
-    ensures { λ r. ⌜ (r ≡ 7 + bits-in (axes-fields (grid axes all (now (knots .entry))) axes)) × (now (bytes .exit) ≡ with-fields (now (bytes .entry)) 7 (axes-fields (grid axes all (now (knots .entry))) axes)) ⌝ }
+fn put_axes(bytes: &mut [u8], width: usize, axes: usize, all: [Axis; 4], knots: &[f64]) -> usize
+    requires { ⌜ AxesGiven (now bytes) width (grid axes all (now knots)) ⌝ }
+    ensures { λ r. ⌜ (r ≡ 7 + bits-in (axes-fields width (grid axes all (now (knots .entry))) axes)) × (now (bytes .exit) ≡ with-fields (now (bytes .entry)) 7 (axes-fields width (grid axes all (now (knots .entry))) axes)) ⌝ }
 {
     let mut at = 7;
     let mut from = 0;
@@ -76,21 +89,28 @@ fn put_axes(bytes: &mut [u8], axes: usize, all: [Axis; 4], knots: &[f64]) -> usi
     while i < axes {
         let axis = all[i];
         let to = from + axis.points;
-        at = put_axis(bytes, at, axis, &knots[from..to]);
+        at = put_axis(bytes, at, width, axis, &knots[from..to]);
         from = to;
         i += 1;
     }
     at
 }
 
-// All of a sheet: edition 1, the number of axes, the axes in use, the samples, and zeros up to a whole byte.
-pub fn put_sheet(bytes: &mut [u8], axes: usize, all: [Axis; 4], knots: &[f64], samples: &[f64])
-    requires { ⌜ SheetGiven (now bytes) (grid axes all (now knots)) (now samples) ⌝ }
-    ensures { λ _. ⌜ now (bytes .exit) ≡ with-fields (now (bytes .entry)) 0 (sheet-fields (grid axes all (now (knots .entry))) (now (samples .entry))) ⌝ }
+// All of a sheet: the edition, the number of axes, the axes in use, the samples, and zeros up to a whole byte.
+pub fn put_sheet(
+    bytes: &mut [u8],
+    edition: usize,
+    axes: usize,
+    all: [Axis; 4],
+    knots: &[f64],
+    samples: &[f64],
+)
+    requires { ⌜ SheetGiven (now bytes) edition (grid axes all (now knots)) (now samples) ⌝ }
+    ensures { λ _. ⌜ now (bytes .exit) ≡ with-fields (now (bytes .entry)) 0 (sheet-fields edition (grid axes all (now (knots .entry))) (now (samples .entry))) ⌝ }
 {
-    put_field(bytes, 0, 4, 1);
+    put_field(bytes, 0, 4, edition as u64);
     put_field(bytes, 4, 3, axes as u64);
-    let at = put_axes(bytes, axes, all, knots);
+    let at = put_axes(bytes, mode_width(edition), axes, all, knots);
     put_numbers(bytes, at, samples);
     let end = at + 64 * samples.len();
     put_field(bytes, end, (8 - end % 8) % 8, 0)

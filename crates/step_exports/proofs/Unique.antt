@@ -1,13 +1,10 @@
 -- Each export of steps has one answer: whatever satisfies its record, for the same inputs, is equal in its number and in all that was lent.
-use mathlib.Core.Path.{_≡_, sym, _∙_}
+use mathlib.Core.Path.{_≡_}
 use mathlib.Core.List.{List}
 use Prim.Native.Nat.{ℕ}
 use lib.Ieee.{Float}
+use Rattle.boundary.proofs.Exported.{same}
 use Rattle.step_exports.specs.StepExports.{ExactExport, AxisExport, StepExport, SteppedExport}
-
--- two things that equal a third
-same : {A : Type 0} {a b c : A} → a ≡ c → b ≡ c → a ≡ b
-same p q = p ∙ sym q
 
 pub exact-unique :
     (n : ℕ) (knots : List Float) (lower : ℕ) (point : Float) (found-lent : List ℕ) (r r′ : ℕ) (f f′ : List ℕ)

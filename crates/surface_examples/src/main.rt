@@ -13,7 +13,6 @@ use surface_lines::grids;
 use surface_lines::print_build;
 use surface_lines::print_change;
 use surface_lines::print_query;
-use surface_lines::print_query_in_mode;
 
 // A build on a grid near the limit, with its first numbers.
 fn print_large_build(
@@ -84,13 +83,13 @@ fn labels() {
 
 // The points -1, 0, 2 and 3 beside the knots 0 1 2 in one mode.
 fn in_mode(mode: Mode, below: &[u8], first: &[u8], last: &[u8], above: &[u8]) {
-    let all = grids::one(3, Condition::natural());
+    let all = grids::one_in_mode(3, Condition::natural(), mode);
     let knots = [0.0, 1.0, 2.0];
     let tensor = [0.0, 1.5, 1.0, 0.0, 0.0, -1.5];
-    print_query_in_mode(below, 1, all, mode, &knots, &tensor, &[-1.0]);
-    print_query_in_mode(first, 1, all, mode, &knots, &tensor, &[0.0]);
-    print_query_in_mode(last, 1, all, mode, &knots, &tensor, &[2.0]);
-    print_query_in_mode(above, 1, all, mode, &knots, &tensor, &[3.0]);
+    print_query(below, 1, all, &knots, &tensor, &[-1.0]);
+    print_query(first, 1, all, &knots, &tensor, &[0.0]);
+    print_query(last, 1, all, &knots, &tensor, &[2.0]);
+    print_query(above, 1, all, &knots, &tensor, &[3.0]);
 }
 
 // The same points in each mode.

@@ -1,17 +1,28 @@
 // The grids and the samples of the examples.
 use rules::Axis;
 use rules::Condition;
+use rules::Mode;
 
+// An axis that extends.
 pub fn axis(points: usize, condition: Condition) -> Axis {
     Axis {
         points: points,
         condition: condition,
+        mode: Mode::Extend,
     }
 }
 
 pub fn one(points: usize, condition: Condition) -> [Axis; 4] {
+    one_in_mode(points, condition, Mode::Extend)
+}
+
+pub fn one_in_mode(points: usize, condition: Condition, mode: Mode) -> [Axis; 4] {
     [
-        axis(points, condition),
+        Axis {
+            points: points,
+            condition: condition,
+            mode: mode,
+        },
         Axis::unused(),
         Axis::unused(),
         Axis::unused(),

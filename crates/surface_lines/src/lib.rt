@@ -8,7 +8,6 @@ use example_lines::print_output;
 use example_lines::print_refusal;
 use example_lines::print_scratch;
 use rules::Axis;
-use rules::Mode;
 
 pub mod grids; // grids.rt: the grids and the samples of the examples
 
@@ -47,7 +46,7 @@ pub fn print_change(
     print_scratch(&scratch);
 }
 
-// The value at a point where every axis extends, and its labels.
+// The value at a point, and its labels.
 pub fn print_query(
     name: &[u8],
     axes: usize,
@@ -56,20 +55,7 @@ pub fn print_query(
     tensor: &[f64],
     coordinates: &[f64],
 ) {
-    print_query_in_mode(name, axes, all, Mode::Extend, knots, tensor, coordinates);
-}
-
-// The value at a point with one mode for every axis, and its labels.
-pub fn print_query_in_mode(
-    name: &[u8],
-    axes: usize,
-    all: [Axis; 4],
-    mode: Mode,
-    knots: &[f64],
-    tensor: &[f64],
-    coordinates: &[f64],
-) {
-    let answer = query::query(axes, all, [mode; 4], knots, tensor, coordinates);
+    let answer = query::query(axes, all, knots, tensor, coordinates);
     let labels = answer.labels;
     print_refusal(name, b"query", answer.refusal);
     print_number(answer.value);

@@ -5,7 +5,7 @@ use Rattle.plain_axes.proofs.axes_given.Tie as tie
 
 returns : tie.Need-returns
 unfolding axes-given
-returns c = search needs
+returns c = cc
 
 pub axes-given-spec : {M : Type 1} → statement M
 axes-given-spec =

@@ -10,7 +10,7 @@ returns : tie.Need-returns
 returns c =
     let b = c .before .before .before .before .before in
     let args = start b .args in
-    parts-refused _ _ (args .knots .now) (args .samples .now) _ _ _ _ _
+    parts-refused _ _ _ (args .knots .now) (args .samples .now) _ _ _ _ _
     (b .before .before .before .before .before .before .before .knots-length .ensures .0) (b .before .before .before .before .before .before .samples-length .ensures .0) (b .before .before .before .before .before .tensor-length .ensures .0)
     _ _ _ (b .build .ensures) (c .if1 .taken)
 
@@ -18,7 +18,7 @@ returns-2 : tie.Need-returns-2
 returns-2 c =
     let b = c .before .before .before .before .before in
     let args = start b .args in
-    parts-built _ _ (args .knots .now) (args .samples .now) _ _ _ _ _
+    parts-built _ _ _ (args .knots .now) (args .samples .now) _ _ _ _ _
     (b .before .before .before .before .before .before .before .knots-length .ensures .0) (b .before .before .before .before .before .before .samples-length .ensures .0) (b .before .before .before .before .before .tensor-length .ensures .0)
     _ _ _ (b .build .ensures) (c .if1 .left)
 

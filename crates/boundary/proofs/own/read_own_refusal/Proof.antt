@@ -1,5 +1,5 @@
 use mathlib.Core.Path.{refl}
-use Rattle.checks.proofs.Rows.{stop, pass}
+use Rattle.checks.proofs.Rows.{first, second, stop, pass}
 use Rattle.boundary.specs.OwnRefusals.{read-own-refusal}
 use borrow.Author.Needs.{needs}
 use Rattle.boundary.proofs.own.read_own_refusal.Statement.{statement}
@@ -7,11 +7,22 @@ use Rattle.boundary.proofs.own.read_own_refusal.Tie as tie
 
 returns : tie.Need-returns
 unfolding read-own-refusal
-returns c = stop _ (c .before .found-slots-refused .ensures) (c .if1 .taken)
+returns c = stop _ (first _ (c .before .found-slots-refused .ensures) (c .if1 .taken)) refl
 
 returns-2 : tie.Need-returns-2
 unfolding read-own-refusal
-returns-2 c = pass _ (c .before .found-slots-refused .ensures) (c .if1 .left) refl
+returns-2 c =
+    stop _
+    (second (c .before .before .before .found-slots-refused .ensures) (c .before .before .if1 .left) (c .before .modes-or-slot-refused .ensures))
+    (c .if2 .taken)
+
+returns-3 : tie.Need-returns-3
+unfolding read-own-refusal
+returns-3 c =
+    pass _
+    (second (c .before .before .before .found-slots-refused .ensures) (c .before .before .if1 .left) (c .before .modes-or-slot-refused .ensures))
+    (c .if2 .left)
+    refl
 
 pub read-own-refusal-spec : {M : Type 1} → statement M
 read-own-refusal-spec =
@@ -19,4 +30,6 @@ read-own-refusal-spec =
     (tie.spec
     (λ c κs. search needs)
     returns
-    returns-2)
+    (λ c κs. search needs)
+    returns-2
+    returns-3)

@@ -6,16 +6,16 @@ use Rattle.checks.proofs.Rows.{first, second, stop, pass, Past}
 use Rattle.plain_axes.specs.Axes.{axes-without-ends}
 use Rattle.boundary.specs.OwnRefusals.{write-own-rows, write-own-refusal}
 use Rattle.boundary.proofs.Rows.{axes-stop, axes-pass, points-four, points-in-range}
-use Rattle.boundary.proofs.Lengths.{eight-lengths}
+use Rattle.boundary.proofs.Lengths.{eight-lengths, mode-slot-lengths}
 use borrow.Author.Needs.{needs}
 use Rattle.boundary.proofs.own.write_own_refusal.Statement.{statement}
 use Rattle.boundary.proofs.own.write_own_refusal.Tie as tie
 
 abbrev rows : tie.Start → List Refusal
-rows s = write-own-rows (s .args .axes) (s .args .points .now) (s .args .kinds .now) (s .args .values .now) (s .args .knots .now) (s .args .samples .now) (s .args .length .now)
+rows s = write-own-rows (s .args .axes) (s .args .points .now) (s .args .kinds .now) (s .args .values .now) (s .args .modes .now) (s .args .knots .now) (s .args .samples .now) (s .args .length .now)
 
 abbrev start : tie.Else1 → tie.Start
-start c = c .before .before .before .before .before .before .before .before
+start c = c .before .before .before .before .before .before .before .before .before
 
 past-axes : (c : tie.Else1) → Past (rows (start c)) 4
 past-axes c answer e = axes-pass _ _ (c .before .axes-own-refusal .ensures) _ (c .if1 .left) e
@@ -27,7 +27,7 @@ past-lengths : (c : tie.Else4) → Past (rows (start (c .before .before .before 
 past-lengths c answer e =
     past-axes (c .before .before .before .before .before .before .before) _
     (pass _ (second
-    (second (c .before .before .before .before .before .before .eight-ends-refused .ensures) (c .before .before .before .before .before .if2 .left) (c .before .before .before .before .length-refused .ensures)) (c .before .before .before .if3 .left)
+    (second (c .before .before .before .before .before .before .eight-ends-refused .ensures) (c .before .before .before .before .before .if2 .left) (c .before .before .before .before .modes-or-slot-refused .ensures)) (c .before .before .before .if3 .left)
     (rw (c .before .before .axes-without-ends .ensures) at (c .before .parts-refused .ensures)))
     (c .if4 .left) e)
 
@@ -41,7 +41,7 @@ returns-2 c = past-axes (c .before .before) _ (stop _ (first _ (first _ (c .befo
 
 returns-3 : tie.Need-returns-3
 unfolding write-own-refusal
-returns-3 c = past-axes (c .before .before .before .before) _ (stop _ (first _ (second (c .before .before .before .eight-ends-refused .ensures) (c .before .before .if2 .left) (c .before .length-refused .ensures)) (c .if3 .taken)) refl)
+returns-3 c = past-axes (c .before .before .before .before) _ (stop _ (first _ (second (c .before .before .before .eight-ends-refused .ensures) (c .before .before .if2 .left) (c .before .modes-or-slot-refused .ensures)) (c .if3 .taken)) refl)
 
 axes-without-ends-requires : tie.Need-axes-without-ends-requires
 axes-without-ends-requires c κs = points-four _ _ (c .before .before .before .before .before .axes-own-refusal .ensures) (c .before .before .before .before .if1 .left)
@@ -54,7 +54,7 @@ unfolding write-own-refusal
 returns-4 c =
     past-axes (c .before .before .before .before .before .before .before) _
     (stop _ (second
-    (second (c .before .before .before .before .before .before .eight-ends-refused .ensures) (c .before .before .before .before .before .if2 .left) (c .before .before .before .before .length-refused .ensures)) (c .before .before .before .if3 .left)
+    (second (c .before .before .before .before .before .before .eight-ends-refused .ensures) (c .before .before .before .before .before .if2 .left) (c .before .before .before .before .modes-or-slot-refused .ensures)) (c .before .before .before .if3 .left)
     (rw (c .before .before .axes-without-ends .ensures) at (c .before .parts-refused .ensures)))
     (c .if4 .taken))
 
@@ -67,9 +67,23 @@ returns-5 : tie.Need-returns-5
 unfolding write-own-refusal
 returns-5 c = past-lengths (c .before .before) _ (stop _ (c .before .some-kinds-refused .ensures) (c .if5 .taken))
 
+past-kinds : (c : tie.Else5) → Past (rows (start (c .before .before .before .before .before .before .before .before .before))) 6
+past-kinds c answer e = past-lengths (c .before .before) _ (pass _ (c .before .some-kinds-refused .ensures) (c .if5 .left) e)
+
+some-modes-refused-requires : tie.Need-some-modes-refused-requires
+some-modes-refused-requires c κs =
+    let slots = c .before .before .before .before .before in
+    let axes = slots .before .before .before .before in
+    let s = start axes in
+    (range axes .few-axes, mode-slot-lengths (s .args .modes .now) (s .args .length .now) (sym (slots .before .modes-or-slot-refused .ensures) ∙ slots .if3 .left) .0)
+
 returns-6 : tie.Need-returns-6
 unfolding write-own-refusal
-returns-6 c = past-lengths (c .before .before) _ (pass _ (c .before .some-kinds-refused .ensures) (c .if5 .left) refl)
+returns-6 c = past-kinds (c .before .before) _ (stop _ (c .before .some-modes-refused .ensures) (c .if6 .taken))
+
+returns-7 : tie.Need-returns-7
+unfolding write-own-refusal
+returns-7 c = past-kinds (c .before .before) _ (pass _ (c .before .some-modes-refused .ensures) (c .if6 .left) refl)
 
 pub write-own-refusal-spec : {M : Type 1} → statement M
 write-own-refusal-spec =
@@ -86,4 +100,6 @@ write-own-refusal-spec =
     returns-4
     some-kinds-refused-requires
     returns-5
-    returns-6)
+    some-modes-refused-requires
+    returns-6
+    returns-7)

@@ -9,33 +9,33 @@ use Rattle.even_query.proofs.direct.locate_on_axes.Statement.{statement
 use Rattle.even_query.proofs.direct.locate_on_axes.Tie as tie
 
 abbrev Inv-loop : tie.InvT-loop
-Inv-loop axes knots coordinates all modes lower₀ placed₀ refused₀ begin₀ i₀ lower placed refused begin i =
-    Turn (grid axes all knots) modes coordinates (record { lower = lower; placed = placed; refused = refused }) begin i
+Inv-loop axes knots coordinates all lower₀ placed₀ refused₀ begin₀ i₀ lower placed refused begin i =
+    Turn (grid axes all knots) coordinates (record { lower = lower; placed = placed; refused = refused }) begin i
 
 abbrev μ-loop : tie.MeasureT-loop
-μ-loop axes knots coordinates all modes lower₀ placed₀ refused₀ begin₀ i₀ lower placed refused begin i = axes - i
+μ-loop axes knots coordinates all lower₀ placed₀ refused₀ begin₀ i₀ lower placed refused begin i = axes - i
 
 loop-holds : tie.Need-loop-holds Inv-loop μ-loop
-loop-holds c = turn-first _ _ _ _ (c .before .before .pre)
+loop-holds c = turn-first _ _ _ (c .before .before .pre)
 
 place-on-axis-requires : tie.Need-place-on-axis-requires Inv-loop μ-loop
 place-on-axis-requires c κs =
-    let turn = c .before .before .before in
-    some-knot _ _ _ _ _ _ _ (turn .before .loop .inv) (turn .loop-test .taken)
+    let turn = c .before .before .before .before in
+    some-knot _ _ _ _ _ _ (turn .before .loop .inv) (turn .loop-test .taken)
 
 cell-on-axis-requires : tie.Need-cell-on-axis-requires Inv-loop μ-loop
 cell-on-axis-requires c κs =
-    let turn = c .before .before .before .before .before in
-    size-given _ _ _ _ _ _ _ (turn .before .loop .inv) (turn .loop-test .taken) .0
+    let turn = c .before .before .before .before .before .before in
+    size-given _ _ _ _ _ _ (turn .before .loop .inv) (turn .loop-test .taken) .0
 
 loop-again : tie.Need-loop-again Inv-loop μ-loop
 loop-again c =
     let placed = c .before .before .before in
-    let turn = placed .before .before .before .before in
-    turn-next _ _ _ _ _ _ (turn .before .loop .inv) (turn .loop-test .taken) _ (placed .place-on-axis .ensures) _ (c .before .cell-on-axis .ensures) _ refl
+    let turn = placed .before .before .before .before .before in
+    turn-next _ _ _ _ _ (turn .before .loop .inv) (turn .loop-test .taken) _ (placed .place-on-axis .ensures) _ (c .before .cell-on-axis .ensures) _ refl
 
 returns : tie.Need-returns Inv-loop μ-loop
-returns c = turn-last _ _ _ _ _ _ _ (c .before .loop .inv) (c .loop-test .left)
+returns c = turn-last _ _ _ _ _ _ (c .before .loop .inv) (c .loop-test .left)
 
 pub locate-on-axes-spec : {M : Type 1} → statement M
 locate-on-axes-spec =
@@ -46,19 +46,18 @@ locate-on-axes-spec =
     loop-holds
     (λ c. search needs)
     (λ c. search needs)
-    (λ c. omega (arith, end-within _ _ _ _ _ _ _ (c .before .loop .inv) (c .loop-test .taken)))
+    (λ c. let turn = c .before .before in omega (arith, end-within _ _ _ _ _ _ (turn .before .loop .inv) (turn .loop-test .taken)))
     (λ c. search needs)
     (λ c. search needs)
-    (λ c. search needs)
-    (λ c. let turn = c .before .before in omega (arith, end-within _ _ _ _ _ _ _ (turn .before .loop .inv) (turn .loop-test .taken)))
-    (λ c. let turn = c .before .before in omega (arith, end-within _ _ _ _ _ _ _ (turn .before .loop .inv) (turn .loop-test .taken)))
-    (λ c. let turn = c .before .before in omega (arith, end-within _ _ _ _ _ _ _ (turn .before .loop .inv) (turn .loop-test .taken)))
-    (λ c. let turn = c .before .before in omega (arith, end-within _ _ _ _ _ _ _ (turn .before .loop .inv) (turn .loop-test .taken)))
+    (λ c. let turn = c .before .before .before in omega (arith, end-within _ _ _ _ _ _ (turn .before .loop .inv) (turn .loop-test .taken)))
+    (λ c. let turn = c .before .before .before in omega (arith, end-within _ _ _ _ _ _ (turn .before .loop .inv) (turn .loop-test .taken)))
+    (λ c. let turn = c .before .before .before in omega (arith, end-within _ _ _ _ _ _ (turn .before .loop .inv) (turn .loop-test .taken)))
+    (λ c. let turn = c .before .before .before in omega (arith, end-within _ _ _ _ _ _ (turn .before .loop .inv) (turn .loop-test .taken)))
     place-on-axis-requires
-    (λ c. let turn = c .before .before .before .before in omega (arith, end-within _ _ _ _ _ _ _ (turn .before .loop .inv) (turn .loop-test .taken)))
-    (λ c. let turn = c .before .before .before .before in omega (arith, end-within _ _ _ _ _ _ _ (turn .before .loop .inv) (turn .loop-test .taken)))
-    (λ c. let turn = c .before .before .before .before in omega (arith, end-within _ _ _ _ _ _ _ (turn .before .loop .inv) (turn .loop-test .taken)))
-    (λ c. let turn = c .before .before .before .before in omega (arith, end-within _ _ _ _ _ _ _ (turn .before .loop .inv) (turn .loop-test .taken)))
+    (λ c. let turn = c .before .before .before .before .before in omega (arith, end-within _ _ _ _ _ _ (turn .before .loop .inv) (turn .loop-test .taken)))
+    (λ c. let turn = c .before .before .before .before .before in omega (arith, end-within _ _ _ _ _ _ (turn .before .loop .inv) (turn .loop-test .taken)))
+    (λ c. let turn = c .before .before .before .before .before in omega (arith, end-within _ _ _ _ _ _ (turn .before .loop .inv) (turn .loop-test .taken)))
+    (λ c. let turn = c .before .before .before .before .before in omega (arith, end-within _ _ _ _ _ _ (turn .before .loop .inv) (turn .loop-test .taken)))
     cell-on-axis-requires
     (λ c. search needs)
     (λ c. search needs)

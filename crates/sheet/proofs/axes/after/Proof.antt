@@ -7,7 +7,9 @@ known : (c : tie.Start) → Extent (c .args .bytes .now) (c .args .at)
 known c = extent _ _
 
 knots-from-requires : tie.Need-knots-from-requires
-knots-from-requires c κs = let reach = known (c .before) in record { room = omega arith; small = omega arith }
+knots-from-requires c κs =
+    let reach = known (c .before) in
+    (c .before .pre .0, record { room = omega arith; small = omega arith })
 
 points-requires : tie.Need-points-requires
 points-requires c κs = let reach = known (c .before .before) in record { room = omega arith; small = omega arith }

@@ -19,21 +19,35 @@ field-at-requires c κs = let reach = known (c .before) in search needs
 field-at-requires-2 : tie.Need-field-at-requires-2
 field-at-requires-2 c κs = let reach = known (c .before .before) in search needs
 
+add-number-at-2 : tie.Need-add-number-at-2
+add-number-at-2 c = let start = c .before .before .before in let reach = known start in let told = start .pre .0 in omega arith
+
 number-at-requires : tie.Need-number-at-requires
-number-at-requires c κs = let reach = known (c .before .before .before) in search needs
+number-at-requires c κs = let start = c .before .before .before in let reach = known start in let told = start .pre .0 in search needs
+
+add-number-at-4 : tie.Need-add-number-at-4
+add-number-at-4 c = let start = c .before .before .before .before in let reach = known start in let told = start .pre .0 in omega arith
 
 mul-number-at : tie.Need-mul-number-at
 mul-number-at c = let reach = known (c .before .before .before .before .before) in let lower = kind c in omega arith
 
-add-number-at-3 : tie.Need-add-number-at-3
-add-number-at-3 c = let reach = known (c .before .before .before .before .before) in let lower = kind c in omega arith
+add-number-at-5 : tie.Need-add-number-at-5
+add-number-at-5 c =
+    let start = c .before .before .before .before .before in
+    let reach = known start in
+    let told = start .pre .0 in
+    let lower = kind c in omega arith
 
 number-at-requires-2 : tie.Need-number-at-requires-2
-number-at-requires-2 c κs = let reach = known (c .before .before .before .before .before) in let lower = kind c in search needs
+number-at-requires-2 c κs =
+    let start = c .before .before .before .before .before in
+    let reach = known start in
+    let told = start .pre .0 in
+    let lower = kind c in search needs
 
 returns : tie.Need-returns
 unfolding axis-at
-returns c = cc
+returns c = let told = c .before .before .before .before .before .before .before .before .before .pre .0 in cc
 
 pub condition-spec : {M : Type 1} → statement M
 condition-spec =
@@ -44,11 +58,13 @@ condition-spec =
     (λ c. search needs)
     field-at-requires-2
     (λ c. search needs)
+    add-number-at-2
     number-at-requires
     (λ c. search needs)
+    add-number-at-4
     (λ c κs. search needs)
     mul-number-at
-    add-number-at-3
+    add-number-at-5
     number-at-requires-2
     (λ c κs. search needs)
     (λ c κs. search needs)

@@ -6,13 +6,13 @@ use Rattle.sheet.proofs.axes.walk_axes.Statement.{statement}
 use Rattle.sheet.proofs.axes.walk_axes.Tie as tie
 
 abbrev Inv-loop : tie.InvT-loop
-Inv-loop bytes axes all₀ at₀ i₀ all at i = Turn bytes axes all at i
+Inv-loop bytes width axes all₀ at₀ i₀ all at i = Turn bytes axes all at i
 
 abbrev μ-loop : tie.MeasureT-loop
-μ-loop bytes axes all₀ at₀ i₀ all at i = axes - i
+μ-loop bytes width axes all₀ at₀ i₀ all at i = axes - i
 
 loop-holds : tie.Need-loop-holds Inv-loop μ-loop
-loop-holds c = rw (c .unused .ensures) (turn-first _ _ (c .before .before .pre))
+loop-holds c = rw (c .unused .ensures) (turn-first _ _ (c .before .before .pre .1))
 
 returns : tie.Need-returns Inv-loop μ-loop
 returns c =
@@ -22,7 +22,7 @@ returns c =
 axis-requires : tie.Need-axis-requires Inv-loop μ-loop
 axis-requires c κs =
     let turn = c .before .before in
-    turn-whole _ _ _ _ _ (turn .before .loop .inv) (turn .loop-test .taken) (sym (c .before .fault .ensures) ∙ c .if1 .left)
+    (turn .before .before .before .before .pre .0, turn-whole _ _ _ _ _ (turn .before .loop .inv) (turn .loop-test .taken) (sym (c .before .fault .ensures) ∙ c .if1 .left))
 
 after-requires : tie.Need-after-requires Inv-loop μ-loop
 after-requires c κs = axis-requires (c .before) κs

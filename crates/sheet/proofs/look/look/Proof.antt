@@ -1,12 +1,13 @@
 use mathlib.Core.Logic.{⊎-elim}
-use mathlib.Core.Bool.{cond}
-use mathlib.Core.Path.{_≡_, sym, _∙_}
+use mathlib.Core.Bool.{false, cond}
+use mathlib.Core.Path.{_≡_, sym, ap, _∙_}
 use Prim.Native.Nat.{_+_, _*_, _≤_}
 use native.Mathlib.Omega.{arith}
 use borrow.Author.Tests.{ltb-true, ltb-false}
 use lib.ListN.{length}
 use Rattle.rules.specs.Refusals.{axes-refused}
 use Rattle.rules.specs.Calls.{or-else}
+use Rattle.kinds.specs.Editions.{unknown-edition}
 use Rattle.sheet.specs.Fields.{edition, axes, sheet-grid}
 use Rattle.sheet.specs.Faults.{axes-fault, samples-fault, sheet-refusal}
 use Rattle.sheet.proofs.Sheets.{no-edition, other-edition, no-axes, some-axes, axes-few, axes-many, axes-allowed}
@@ -18,10 +19,13 @@ use Rattle.sheet.proofs.look.look.Tie as tie
 edition-room : (c : tie.Else1) → 0 + 4 ≤ 8 * length (c .before .before .before .args .bytes .now)
 edition-room c = ltb-false _ _ (sym (c .before .is-short .ensures) ∙ c .if1 .left)
 
-edition-one : (c : tie.Else2) → edition (c .before .before .before .before .before .args .bytes .now) ≡ 1
-edition-one c = sym (c .before .field-at .ensures) ∙ c .if2 .left
+edition-is : (c : tie.After-is-unknown-edition) → c .is-unknown-edition .result ≡ unknown-edition (edition (c .before .before .before .before .before .args .bytes .now))
+edition-is c = c .is-unknown-edition .ensures ∙ ap unknown-edition (c .before .field-at .ensures)
 
-axes-room : (c : tie.Else3) → 4 + 3 ≤ 8 * length (c .before .before .before .before .before .before .before .args .bytes .now)
+edition-known : (c : tie.Else2) → unknown-edition (edition (c .before .before .before .before .before .before .args .bytes .now)) ≡ false
+edition-known c = sym (edition-is (c .before)) ∙ c .if2 .left
+
+axes-room : (c : tie.Else3) → 4 + 3 ≤ 8 * length (c .before .before .before .before .before .before .before .before .args .bytes .now)
 axes-room c = ltb-false _ _ (sym (c .before .is-short2 .ensures) ∙ c .if3 .left)
 
 returns : tie.Need-returns
@@ -32,33 +36,33 @@ field-at-requires c κs = (record { room = edition-room c; small = omega arith }
 
 returns-2 : tie.Need-returns-2
 returns-2 c =
-    let read = c .before .before in
-    rw (other-edition _ (edition-room (read .before)) (λ e. c .before .if2 .taken (read .field-at .ensures ∙ e))) (c .refused2 .ensures)
+    let test = c .before .before in
+    rw (other-edition _ (edition-room (test .before .before)) (sym (edition-is test) ∙ c .before .if2 .taken)) (c .refused2 .ensures)
 
 returns-3 : tie.Need-returns-3
 returns-3 c =
     let first = c .before .before .before in
-    rw (no-axes _ (edition-room (first .before .before)) (edition-one first) (ltb-true _ _ (sym (c .before .before .is-short2 .ensures) ∙ c .before .if3 .taken)))
+    rw (no-axes _ (edition-room (first .before .before .before)) (edition-known first) (ltb-true _ _ (sym (c .before .before .is-short2 .ensures) ∙ c .before .if3 .taken)))
     (c .refused3 .ensures)
 
 field-at-requires-2 : tie.Need-field-at-requires-2
 field-at-requires-2 c κs = (record { room = axes-room c; small = omega arith }, omega arith)
 
 abbrev start : tie.After-field-at2 → tie.Start
-start c = c .before .before .before .before .before .before .before .before
+start c = c .before .before .before .before .before .before .before .before .before
 
 -- the number of axes was read
 number : (c : tie.After-field-at2) → let bytes = start c .args .bytes .now in sheet-refusal bytes ≡ cond (axes-refused (sheet-grid bytes)) 1 (or-else (axes-fault bytes (axes bytes)) (samples-fault bytes))
 number c =
     let first = c .before .before .before in
-    some-axes _ (edition-room (first .before .before)) (edition-one first) (axes-room (c .before))
+    some-axes _ (edition-room (first .before .before .before)) (edition-known first) (axes-room (c .before))
 
 returns-4 : tie.Need-returns-4
 returns-4 c =
     let said = c .before .before .before in
     let least : 1 ≤ axes (start said .args .bytes .now) = omega (arith, said .field-at2 .ensures) in
     let most : axes (start said .args .bytes .now) ≤ 4 = omega (arith, said .field-at2 .ensures) in
-    rw (number said, axes-allowed _ least most, ← said .field-at2 .ensures) (c .look-at-axes .ensures)
+    rw (number said, axes-allowed _ least most, ← said .field-at2 .ensures, ← said .before .before .before .before .before .field-at .ensures) (c .look-at-axes .ensures)
 
 returns-5 : tie.Need-returns-5
 returns-5 c =
@@ -71,6 +75,11 @@ returns-5 c =
     )
     (c .refused4 .ensures)
 
+look-at-axes-requires : tie.Need-look-at-axes-requires
+look-at-axes-requires c κs =
+    let said = c .before .before in
+    (said .before .before .before .before .before .field-at .ensures, record { least = omega arith; few = omega arith; said = said .field-at2 .ensures })
+
 pub look-spec : {M : Type 1} → statement M
 look-spec =
     tie.close
@@ -80,12 +89,13 @@ look-spec =
     returns
     field-at-requires
     (λ c κs. search needs)
+    (λ c κs. search needs)
     returns-2
     (λ c κs. search needs)
     (λ c κs. search needs)
     returns-3
     field-at-requires-2
-    (λ c κs. search needs)
+    look-at-axes-requires
     (λ c κs. search needs)
     returns-4
     returns-5)

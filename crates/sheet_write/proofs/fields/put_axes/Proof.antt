@@ -8,13 +8,13 @@ use Rattle.sheet_write.proofs.fields.put_axes.Statement.{statement}
 use Rattle.sheet_write.proofs.fields.put_axes.Tie as tie
 
 abbrev Inv-loop : tie.InvT-loop
-Inv-loop bytes₀ axes knots all at₀ from₀ i₀ bytes at from i = Turn bytes₀ (grid axes all knots) bytes at from i
+Inv-loop bytes₀ width axes knots all at₀ from₀ i₀ bytes at from i = Turn bytes₀ width (grid axes all knots) bytes at from i
 
 abbrev μ-loop : tie.MeasureT-loop
-μ-loop bytes₀ axes knots all at₀ from₀ i₀ bytes at from i = axes - i
+μ-loop bytes₀ width axes knots all at₀ from₀ i₀ bytes at from i = axes - i
 
 loop-holds : tie.Need-loop-holds Inv-loop μ-loop
-loop-holds c = turn-first _ _
+loop-holds c = turn-first _ _ _
 
 mul-axis : tie.Need-mul-axis Inv-loop μ-loop
 mul-axis c = omega (arith, c .before .before .before .before .pre .fields .few)
@@ -23,11 +23,11 @@ array-copy-out-axis : tie.Need-array-copy-out-axis Inv-loop μ-loop
 array-copy-out-axis c = omega (arith, c .before .before .before .before .pre .fields .few)
 
 -- the knots of the axis at hand are there
-room : (c : tie.In-loop Inv-loop μ-loop) → let start = c .before .before .before .before in let turn = c .before .loop in (turn .from + points-of (start .args .t3) (turn .i) ≤ length (start .args .knots .now)) × (turn .from + points-of (start .args .t3) (turn .i) ≤ 1280)
+room : (c : tie.In-loop Inv-loop μ-loop) → let start = c .before .before .before .before in let turn = c .before .loop in (turn .from + points-of (start .args .t4) (turn .i) ≤ length (start .args .knots .now)) × (turn .from + points-of (start .args .t4) (turn .i) ≤ 1280)
 room c =
     let given = c .before .before .before .before .pre in
     let turn = c .before .loop in
-    (turn-room _ _ _ _ _ _ (turn .inv) (c .loop-test .taken) given, omega (arith, turn .inv .small, given .fields .few, given .fields .few-points (turn .i) (c .loop-test .taken)))
+    (turn-room _ _ _ _ _ _ _ (turn .inv) (c .loop-test .taken) given, omega (arith, turn .inv .small, given .fields .few, given .fields .few-points (turn .i) (c .loop-test .taken)))
 
 add-to : tie.Need-add-to Inv-loop μ-loop
 add-to c = let fits = room (c .before .before) in omega arith
@@ -47,7 +47,7 @@ part-put-axis-end c = let fits = room (c .before .before .before) in omega arith
 put-axis-requires : tie.Need-put-axis-requires Inv-loop μ-loop
 put-axis-requires c κs =
     let here = c .before .before .before .before in
-    turn-given _ _ _ _ _ _ (here .before .loop .inv) (here .loop-test .taken) (c .before .before .before .before .before .before .before .before .pre)
+    turn-given _ _ _ _ _ _ _ (here .before .loop .inv) (here .loop-test .taken) (c .before .before .before .before .before .before .before .before .pre)
 
 loop-again : tie.Need-loop-again Inv-loop μ-loop
 loop-again c =
@@ -55,13 +55,13 @@ loop-again c =
     let turn = here .before .loop in
     let given = c .before .before .before .before .before .before .before .before .before .before .before .pre in
     let put = c .before .before .put-axis .ensures in
-    turn-next _ _ _ _ _ _ (turn .inv) (here .loop-test .taken) (given .fields .few-points (turn .i) (here .loop-test .taken)) _ _ (put .0) (put .1)
+    turn-next _ _ _ _ _ _ _ (turn .inv) (here .loop-test .taken) (given .fields .few-points (turn .i) (here .loop-test .taken)) _ _ (put .0) (put .1)
 
 same-length : tie.Need-same-length Inv-loop μ-loop
 same-length c = c .before .loop .inv .same-length
 
 returns : tie.Need-returns Inv-loop μ-loop
-returns c = turn-last _ _ _ _ _ _ (c .before .loop .inv) (c .loop-test .left)
+returns c = turn-last _ _ _ _ _ _ _ (c .before .loop .inv) (c .loop-test .left)
 
 pub put-axes-spec : {M : Type 1} → statement M
 put-axes-spec =

@@ -1,7 +1,7 @@
-use mathlib.Core.Path.{refl}
+use mathlib.Core.Path.{_≡_, refl}
 use native.Mathlib.Omega.{arith}
 use Rattle.grid.specs.Given.{grid}
-use Rattle.sheet_write.proofs.Puts.{Ends, ends, last-within, sheet-put}
+use Rattle.sheet_write.proofs.Puts.{Ends, ends, axes-given, axes-end-is, axes-put-is, last-within, sheet-put}
 use borrow.Author.Needs.{needs}
 use Rattle.sheet_write.proofs.fields.put_sheet.Statement.{statement}
 use Rattle.sheet_write.proofs.fields.put_sheet.Tie as tie
@@ -10,7 +10,7 @@ put-field-requires : tie.Need-put-field-requires
 put-field-requires c κs =
     let start = c .before .before .before .before in
     let g = grid (start .args .axes) (start .args .all) (start .args .knots .now) in
-    let sizes = ends (start .args .bytes .now) g (start .args .samples .now) in
+    let sizes = ends (start .args .bytes .now) (start .args .edition) g (start .args .samples .now) in
     let within = start .pre .within in
     (record { room = omega arith; small = omega arith }, omega arith)
 
@@ -18,58 +18,63 @@ put-field-requires-2 : tie.Need-put-field-requires-2
 put-field-requires-2 c κs =
     let start = c .before .before .before .before .before .before .before .before in
     let g = grid (start .args .axes) (start .args .all) (start .args .knots .now) in
-    let sizes = ends (start .args .bytes .now) g (start .args .samples .now) in
+    let sizes = ends (start .args .bytes .now) (start .args .edition) g (start .args .samples .now) in
     let within = start .pre .within in
     (record { room = omega arith; small = omega arith }, omega arith)
 
 put-axes-requires : tie.Need-put-axes-requires
 put-axes-requires c κs =
-    let start = c .before .before .before .before .before .before .before .before .before .before .before .before in
+    let start = c .before .before .before .before .before .before .before .before .before .before .before .before .before in
     let g = grid (start .args .axes) (start .args .all) (start .args .knots .now) in
-    let sizes = ends (start .args .bytes .now) g (start .args .samples .now) in
-    let within = start .pre .within in
-    record { fields = start .pre .fields; within = record { room = omega arith; small = omega arith } }
+    axes-given (start .args .bytes .now) (start .args .edition) g (start .args .samples .now) _ _ (c .mode-width .ensures) (omega arith) (start .pre)
 
 put-numbers-requires : tie.Need-put-numbers-requires
 put-numbers-requires c κs =
-    let start = c .before .before .before .before .before .before .before .before .before .before .before .before .before .before .before .before in
+    let start = c .before .before .before .before .before .before .before .before .before .before .before .before .before .before .before .before .before in
     let g = grid (start .args .axes) (start .args .all) (start .args .knots .now) in
-    let sizes = ends (start .args .bytes .now) g (start .args .samples .now) in
+    let sizes = ends (start .args .bytes .now) (start .args .edition) g (start .args .samples .now) in
     let within = start .pre .within in
-    let next = c .before .before .before .put-axes .ensures .0 in
+    let put = c .before .before .before in
+    let next = axes-end-is (start .args .bytes .now) (start .args .edition) g (start .args .samples .now) _ _ (put .before .mode-width .ensures) (put .put-axes .ensures .0) in
     (record { room = omega arith; small = omega arith }, start .pre .finite-samples)
 
 mul-end : tie.Need-mul-end
 mul-end c =
-    let start = c .before .before .before .before .before .before .before .before .before .before .before .before .before .before .before .before .before .before .before in
+    let start = c .before .before .before .before .before .before .before .before .before .before .before .before .before .before .before .before .before .before .before .before in
     let g = grid (start .args .axes) (start .args .all) (start .args .knots .now) in
-    let sizes = ends (start .args .bytes .now) g (start .args .samples .now) in
+    let sizes = ends (start .args .bytes .now) (start .args .edition) g (start .args .samples .now) in
     let within = start .pre .within in
     omega arith
 
 add-end : tie.Need-add-end
 add-end c =
-    let start = c .before .before .before .before .before .before .before .before .before .before .before .before .before .before .before .before .before .before .before in
+    let start = c .before .before .before .before .before .before .before .before .before .before .before .before .before .before .before .before .before .before .before .before in
     let g = grid (start .args .axes) (start .args .all) (start .args .knots .now) in
-    let sizes = ends (start .args .bytes .now) g (start .args .samples .now) in
+    let sizes = ends (start .args .bytes .now) (start .args .edition) g (start .args .samples .now) in
     let within = start .pre .within in
-    let next = c .before .before .before .before .before .before .put-axes .ensures .0 in omega arith
+    let put = c .before .before .before .before .before .before in
+    let next = axes-end-is (start .args .bytes .now) (start .args .edition) g (start .args .samples .now) _ _ (put .before .mode-width .ensures) (put .put-axes .ensures .0) in
+    omega arith
 
 put-field-requires-3 : tie.Need-put-field-requires-3
 put-field-requires-3 c κs =
-    let start = c .before .before .before .before .before .before .before .before .before .before .before .before .before .before .before .before .before .before .before .before in
+    let start = c .before .before .before .before .before .before .before .before .before .before .before .before .before .before .before .before .before .before .before .before .before in
     let g = grid (start .args .axes) (start .args .all) (start .args .knots .now) in
-    (last-within (start .args .bytes .now) g (start .args .samples .now) _ _ (omega arith) (c .before .before .before .before .before .before .before .put-axes .ensures .0) (start .pre .within), omega arith)
+    let put = c .before .before .before .before .before .before .before in
+    let next = axes-end-is (start .args .bytes .now) (start .args .edition) g (start .args .samples .now) _ _ (put .before .mode-width .ensures) (put .put-axes .ensures .0) in
+    (last-within (start .args .bytes .now) (start .args .edition) g (start .args .samples .now) _ _ (omega arith) next (start .pre .within), omega arith)
 
 returns : tie.Need-returns
 returns c =
-    let args = c .before .before .before .before .before .before .before .before .before .before .before .before .before .before .before .before .before .before .before .before .before .before .before .args in
-    let axes = c .before .before .before .before .before .before .before .before .before .before .put-axes .ensures in
-    sheet-put (args .bytes .now) (grid (args .axes) (args .all) (args .knots .now)) (args .samples .now) _ _ _ _ _ _ _
-    (c .before .before .before .before .before .before .before .before .before .before .before .before .before .before .before .before .before .before .put-field .ensures)
-    (c .before .before .before .before .before .before .before .before .before .before .before .before .before .before .put-field2 .ensures)
-    (axes .0)
-    (axes .1)
+    let start = c .before .before .before .before .before .before .before .before .before .before .before .before .before .before .before .before .before .before .before .before .before .before .before .before in
+    let g = grid (start .args .axes) (start .args .all) (start .args .knots .now) in
+    let put = c .before .before .before .before .before .before .before .before .before .before in
+    let next = axes-end-is (start .args .bytes .now) (start .args .edition) g (start .args .samples .now) _ _ (put .before .mode-width .ensures) (put .put-axes .ensures .0) in
+    sheet-put (start .args .bytes .now) (start .args .edition) g (start .args .samples .now) _ _ _ _ _ _ _
+    (c .before .before .before .before .before .before .before .before .before .before .before .before .before .before .before .before .before .before .before .put-field .ensures)
+    (c .before .before .before .before .before .before .before .before .before .before .before .before .before .before .before .put-field2 .ensures)
+    next
+    (axes-put-is (start .args .bytes .now) (start .args .edition) g (start .args .samples .now) _ _ _ (put .before .mode-width .ensures) (put .put-axes .ensures .1))
     (c .before .before .before .before .before .before .put-numbers .ensures)
     refl
     (c .before .before .put-field3 .ensures)
@@ -80,6 +85,7 @@ put-sheet-spec =
     (tie.spec
     put-field-requires
     put-field-requires-2
+    (λ c κs. search needs)
     put-axes-requires
     put-numbers-requires
     mul-end

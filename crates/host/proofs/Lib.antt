@@ -1,5 +1,0 @@
-pub mod Exported
-pub mod Accepted
-pub mod SheetAxes
-pub mod Demand3
-pub mod Unique

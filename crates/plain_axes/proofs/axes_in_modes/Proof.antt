@@ -1,0 +1,18 @@
+use Rattle.plain_axes.specs.Axes.{axes-in-modes}
+use borrow.Author.Needs.{needs}
+use Rattle.plain_axes.proofs.axes_in_modes.Statement.{statement}
+use Rattle.plain_axes.proofs.axes_in_modes.Tie as tie
+
+returns : tie.Need-returns
+unfolding axes-in-modes
+returns c = search needs
+
+pub axes-in-modes-spec : {M : Type 1} → statement M
+axes-in-modes-spec =
+    tie.close
+    (tie.spec
+    (λ c κs. search needs)
+    (λ c κs. search needs)
+    (λ c κs. search needs)
+    (λ c κs. search needs)
+    returns)

@@ -1,0 +1,89 @@
+-- Each export of queries refuses as the host's own refusal says, or answers as the call promises for what was given.
+use mathlib.Core.Path.{_≡_, sym, ap, _∙_}
+use mathlib.Core.List.{List}
+use Prim.Native.Nat.{ℕ}
+use lib.Ieee.{Float}
+use Rattle.rules.specs.Numbers.{plus-zero, table}
+use Rattle.rules.specs.Sizes.{most-axes}
+use Rattle.rules.specs.Calls.{QueryPromise, QuickQueryPromise}
+use Rattle.rules.specs.EvenCalls.{even-query-answer, EvenQueryPromise}
+use Rattle.rules.specs.declared.QueryAnswer.{QueryAnswer}
+use Rattle.rules.specs.declared.EvenAnswer.{EvenAnswer}
+use Rattle.rules.specs.declared.Axis.{Axis}
+use Rattle.plain_axes.specs.Axes.{axes-without-ends, axes-in-modes, grid-in-modes}
+use Rattle.boundary.specs.OwnRefusals.{query-own-refusal, even-query-own-refusal}
+use Rattle.boundary.specs.Slots.{QueryStored, EvenStored}
+use Rattle.query_exports.specs.QueryExports.{AnswerExport, QueryExport, QuickQueryExport, EvenQueryExport}
+use Rattle.boundary.proofs.Exported.{own-answer, no-value, no-count, no-labels, call-answer}
+
+-- ---- the queries
+
+module _ (own : ℕ) (given : QueryAnswer) (value-lent : List Float) (labels-lent : List ℕ) {r : ℕ} (e : r ≡ own) where
+  answer-refused :
+      (r ≡ 0 → ⊥) → {v : List Float} {l : List ℕ} → QueryStored value-lent labels-lent plus-zero (table most-axes (λ i. 0)) v l
+      → AnswerExport own given value-lent labels-lent r v l
+  answer-refused some in-place = record {
+    answer = own-answer _ _ e some;
+    answer-stored = rw (← no-value _ (given .value) e some, ← no-labels _ (given .labels) e some) in-place;
+  }
+
+  answer-given :
+      r ≡ 0 → (a : QueryAnswer) {v : List Float} {l : List ℕ} → a ≡ given
+      → QueryStored value-lent labels-lent (a .value) (a .labels) v l
+      → AnswerExport own given value-lent labels-lent (a .refusal) v l
+  answer-given none a is in-place = record {
+    answer = call-answer _ e none (ap (λ (b : QueryAnswer). b .refusal) is);
+    answer-stored = rw (sym e ∙ none) (rw is at in-place);
+  }
+
+module _ (axes : ℕ) (points modes : List ℕ) (knots tensor-lent coordinates value-lent : List Float) (labels-lent : List ℕ) {r : ℕ} (e : r ≡ query-own-refusal axes points modes knots tensor-lent coordinates value-lent labels-lent) where
+  pub query-refused :
+      (r ≡ 0 → ⊥) → {v : List Float} {l : List ℕ} → QueryStored value-lent labels-lent plus-zero (table most-axes (λ i. 0)) v l
+      → QueryExport axes points modes knots tensor-lent coordinates value-lent labels-lent r v l
+  query-refused = answer-refused _ _ value-lent labels-lent e
+
+  pub quick-query-refused :
+      (r ≡ 0 → ⊥) → {v : List Float} {l : List ℕ} → QueryStored value-lent labels-lent plus-zero (table most-axes (λ i. 0)) v l
+      → QuickQueryExport axes points modes knots tensor-lent coordinates value-lent labels-lent r v l
+  quick-query-refused = answer-refused _ _ value-lent labels-lent e
+
+  module _ (none : r ≡ 0) (all : List Axis) (given : all ≡ axes-without-ends axes points) (moded : List Axis) (modes-are : moded ≡ axes-in-modes axes all modes) (a : QueryAnswer) {v : List Float} {l : List ℕ} where
+    pub query-called :
+        QueryPromise (record { axes = axes; entries = moded; flat-knots = knots }) tensor-lent coordinates a
+        → QueryStored value-lent labels-lent (a .value) (a .labels) v l
+        → QueryExport axes points modes knots tensor-lent coordinates value-lent labels-lent (a .refusal) v l
+    query-called p = answer-given _ _ value-lent labels-lent e none a ((rw (modes-are, given) at p) .answer)
+
+    pub quick-query-called :
+        QuickQueryPromise (record { axes = axes; entries = moded; flat-knots = knots }) tensor-lent coordinates a
+        → QueryStored value-lent labels-lent (a .value) (a .labels) v l
+        → QuickQueryExport axes points modes knots tensor-lent coordinates value-lent labels-lent (a .refusal) v l
+    quick-query-called p = answer-given _ _ value-lent labels-lent e none a ((rw (modes-are, given) at p) .answer)
+
+-- ---- the query of even axes
+
+module _ (axes : ℕ) (points modes : List ℕ) (knots tensor-lent coordinates value-lent : List Float) (labels-lent uneven-lent : List ℕ) {r : ℕ} (e : r ≡ even-query-own-refusal axes points modes knots tensor-lent coordinates value-lent labels-lent uneven-lent) where
+  abbrev given-answer : EvenAnswer
+  given-answer = even-query-answer (grid-in-modes axes points modes knots) tensor-lent coordinates
+
+  pub even-query-refused :
+      (r ≡ 0 → ⊥) → {v : List Float} {l u : List ℕ} → EvenStored value-lent labels-lent uneven-lent plus-zero (table most-axes (λ i. 0)) 0 0 v l u
+      → EvenQueryExport axes points modes knots tensor-lent coordinates value-lent labels-lent uneven-lent r v l u
+  even-query-refused some in-place = record {
+    answer = own-answer _ _ e some;
+    answer-stored =
+        rw (← no-value _ (given-answer .value) e some, ← no-labels _ (given-answer .labels) e some, ← no-count _ (given-answer .axis) e some, ← no-count _ (given-answer .interval) e some)
+        in-place;
+  }
+
+  pub even-query-called :
+      r ≡ 0 → (all : List Axis) → all ≡ axes-without-ends axes points → (moded : List Axis) → moded ≡ axes-in-modes axes all modes → (a : EvenAnswer) {v : List Float} {l u : List ℕ}
+      → EvenQueryPromise (record { axes = axes; entries = moded; flat-knots = knots }) tensor-lent coordinates a
+      → EvenStored value-lent labels-lent uneven-lent (a .value) (a .labels) (a .axis) (a .interval) v l u
+      → EvenQueryExport axes points modes knots tensor-lent coordinates value-lent labels-lent uneven-lent (a .refusal) v l u
+  even-query-called none all given moded modes-are a p in-place =
+      let is = (rw (modes-are, given) at p) .answer in
+      record {
+        answer = call-answer _ e none (ap (λ (b : EvenAnswer). b .refusal) is);
+        answer-stored = rw (sym e ∙ none) (rw is at in-place);
+      }

@@ -1,0 +1,4 @@
+pub mod Exported
+pub mod SheetAxes
+pub mod Demand3
+pub mod Unique

@@ -1,0 +1,4 @@
+pub mod Exported
+pub mod Accepted
+pub mod Demand3
+pub mod Unique
