@@ -1,0 +1,1 @@
+// The sheet at the front of a stream: how many bytes it has.
