@@ -63,7 +63,7 @@ samples-of-reading bytes =
     (tested (numbers-short bytes (samples-begin bytes) (samples-length (sheet-grid bytes))) (λ met. refl)
     (tested (tail-refused bytes (samples-end bytes)) (λ met. refl) no-fault))
 
-sheet-of-reading : (bytes : List ℕ) → Of Reading (sheet-refusal bytes)
+pub sheet-of-reading : (bytes : List ℕ) → Of Reading (sheet-refusal bytes)
 unfolding sheet-refusal class
 sheet-of-reading bytes =
     tested (short bytes 0 4) (λ met. refl)

@@ -5,14 +5,15 @@ use mathlib.Core.List.{List}
 use Prim.Native.Nat.{ℕ, zero, suc, _≤_}
 use lib.ListN.{length, take}
 use lib.Ieee.{Float}
-use Rattle.rules.specs.Numbers.{table}
-use Rattle.rules.specs.Sizes.{most-axes, most-in-a-tensor, unused-axis, Grid, knots-length, samples-length, tensor-length}
+use Rattle.rules.specs.Numbers.{zeros, table}
+use Rattle.rules.specs.Sizes.{most-axes, most-in-a-tensor, unused-axis, Grid, knots-length, samples-length, tensor-length, scratch-length}
 use Rattle.rules.specs.Refusals.{length-refused}
 use Rattle.rules.specs.Tensor.{tensor}
 use Rattle.rules.specs.Calls.{or-else, stored, counted, scratch-after, build-refusal}
 use Rattle.rules.specs.declared.Axis.{Axis}
 use Rattle.grid.specs.Given.{grid, sizes-of, points-of, InRange}
 use Rattle.sheet.specs.Fields.{edition, sheet-grid, sheet-samples}
+use Rattle.sheet.specs.Faults.{sheet-refusal}
 use Rattle.sheet.specs.Read.{over, read-refusal}
 use Rattle.sheet_build.specs.declared.SheetAnswer.{SheetAnswer}
 
@@ -64,6 +65,12 @@ module _ (g : Grid) (samples tensor-lent scratch-lent : List Float) where
     pub scratch : scratch-later ≡ scratch-after parts-refusal scratch-lent
 
 -- ---- the sheet
+
+-- the refusal that its bytes alone decide: the sheet's fault, and then what its build refuses that has a tensor and a scratch of their lengths
+unfoldable pub own-refusal : List ℕ → ℕ
+own-refusal bytes =
+    or-else (sheet-refusal bytes)
+    (build-refusal (sheet-grid bytes) (sheet-samples bytes) (zeros (tensor-length (sheet-grid bytes))) (zeros (scratch-length (sheet-grid bytes))))
 
 module _ (bytes : List ℕ) (knots-lent samples-lent tensor-lent scratch-lent : List Float) where
   -- what is met before the build: 4 for the tensor's buffer, before all else, then what the reader meets
