@@ -1,6 +1,6 @@
 mod Lengths
 mod Lines
 mod Loops
-mod Promises
+pub mod Promises
 mod Unique
 mod Examples

@@ -79,12 +79,3 @@ module _ (bytes : List ℕ) where
               let known : given .axes ≡ axes bytes = ap (λ (a : SheetAnswer). a .axes) (rw e at answer-alone) in
               let few = axes-few {axes = axes bytes} (parts bytes e .axes) in omega (arith, few .1)
           go (suc reading) e = let known : given .axes ≡ 0 = ap (λ (a : SheetAnswer). a .axes) (rw e at answer-alone) in omega arith
-
-      pub length-alone : given .length ≤ 4096
-      length-alone = go (own-refusal bytes) refl
-        where
-          go : (refusal : ℕ) → own-refusal bytes ≡ refusal → given .length ≤ 4096
-          go zero e =
-              let n : given .length ≡ tensor-length g = ap (λ (a : SheetAnswer). a .length) (accepted-answer e) in
-              let few = few-numbers (read-alone e) in omega arith
-          go (suc refusal) e = let none = nothing-alone (λ z. omega (arith, e, z)) in omega arith

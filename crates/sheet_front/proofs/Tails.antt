@@ -96,7 +96,7 @@ not-14 bytes =
 
 -- ---- whether the length is known
 
-true-not-false : true ≡ false → ⊥
+pub true-not-false : true ≡ false → ⊥
 true-not-false e = let z : _≡_ {A = ℕ} 0 1 = cc in omega arith
 
 module _ (bytes : List ℕ) where
