@@ -1,0 +1,6 @@
+mod Classes
+mod Fronts
+mod Streams
+pub mod Steps
+pub mod Pieces
+mod Unique
