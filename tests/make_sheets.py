@@ -217,9 +217,12 @@ def cases():
 
 
 def refusals():
-    """Every fault of the build, with the example before and behind it; then a bit that goes on, which stops the report, and a byte."""
+    """Accepted sheets of one to four axes, one of them with -0 and with a largest number below zero; every fault of the build, each
+    with the example behind it; then a bit that goes on, which stops the report, and a byte."""
+    below_zero = packed([UNIT, UNIT], [-0.0, -16.0, 0.0, 1.0])
     passed_over = b"".join(fault + EXAMPLE_IN_EDITION_2 for fault in build_faults())
-    return EXAMPLE + passed_over + EXAMPLE[:-1] + bytes([EXAMPLE[-1] | 1]) + b"\0"
+    marked = EXAMPLE[:-1] + bytes([EXAMPLE[-1] | 1])
+    return b"".join([EXAMPLE, below_zero, *accepted(), *accepted_in_edition_2()]) + passed_over + marked + b"\0"
 
 
 def main():
