@@ -59,7 +59,7 @@ module _ (bytes : List ℕ) (met : before-tail bytes ≡ 0 → ⊥) where
   unfolding front-sheet
   early-front = rw (cuts.all-shown bytes met) early-sheet
 
--- a report that goes on has met no such fault
+-- so there is none where the report goes on
 goes-on-none : (bytes : List ℕ) → stops (front-sheet bytes .refusal) ≡ false → before-tail bytes ≡ 0
 goes-on-none bytes on =
     either-case bytes (λ none. none)

@@ -1,4 +1,4 @@
--- The input in pieces: however it is cut, the report is that of the whole.
+-- Cuts are not seen: whatever pieces an input comes in, its report is that of all of it.
 use mathlib.Core.Path.{_≡_}
 use mathlib.Core.Bool.{true, false}
 use mathlib.Core.List.{List, [], _∷_, _++_, append-nil, append-assoc}
@@ -24,8 +24,8 @@ unfolding joined
 joined-snoc [] piece = append-nil piece
 joined-snoc (first ∷ pieces) piece = rw (joined-snoc pieces piece, append-assoc)
 
--- after the first pieces: the totals, and the bytes held back. Each piece is put behind what was held, and sheets are taken as long as there
--- are enough bytes; what a feeding gives is known by its promise alone
+-- what some pieces lead to: totals, and bytes that no sheet was taken from yet. The next piece comes behind those bytes, and of both
+-- together a feeding takes its sheets; nothing is used of it but its promise
 pub data Through : List (List ℕ) → Totals → List ℕ → Type 0 where
   start : {totals : Totals} → totals ≡ totals-of [] → Through [] totals []
   next : {pieces : List (List ℕ)} {totals : Totals} {held : List ℕ} (piece : List ℕ) (step : Step) → Through pieces totals held
@@ -57,13 +57,13 @@ through : {pieces : List (List ℕ)} {totals : Totals} {held : List ℕ} → Thr
 through (start {totals} said) = stood-start totals said
 through (next {pieces} {totals} {held} piece step before fed on) = stood-next pieces totals held piece step (through before) fed on
 
--- the report of pieces is that of all of them together: at their end ..
+-- at the end of the last piece: the report of all pieces together
 pub in-pieces : {pieces : List (List ℕ)} {totals : Totals} {held : List ℕ} → Through pieces totals held → (step : Step) → Fed totals held 1 step
     → _≡_ {A = Report} (record { totals = step .totals; stopped = step .stopped }) (report-of (joined pieces))
 in-pieces {pieces} {totals} {held} before step fed =
     fed-last totals held (joined pieces) step fed (rw (append-nil, append-nil) at (through before []))
 
--- .. and where it stops before it, whatever comes after
+-- in a piece before: the report of these pieces with any others behind them
 pub in-pieces-stopped : {pieces : List (List ℕ)} {totals : Totals} {held : List ℕ} → Through pieces totals held → (piece : List ℕ) (step : Step)
     → Fed totals (held ++ piece) enough-bytes step → step .stopped ≡ true
     → (more : List ℕ) → _≡_ {A = Report} (record { totals = step .totals; stopped = true }) (report-of (joined pieces ++ (piece ++ more)))

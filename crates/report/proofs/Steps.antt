@@ -24,7 +24,7 @@ use Rattle.report.specs.declared.Step.{Step}
 use Rattle.report.proofs.Fronts.{front-some, front-small, front-refusal, front-entries}
 use Rattle.report.proofs.Streams.{stream-end, stream-full, next-stops, next-goes-on, after-after, after-end, after-stop}
 
--- totals of all sheets of an input are its report
+-- who has the totals of all its sheets has the report
 reported : (totals : Totals) (input : List ℕ) (sheets : List Sheet) (stopped : Bool) → totals ≡ totals-of sheets
     → stream-of most-sheets input ≡ record { sheets = sheets; stopped = stopped } → _≡_ {A = Report} (record { totals = totals; stopped = stopped }) (report-of input)
 unfolding report-of
@@ -106,7 +106,7 @@ module _ (totals : Totals) (bytes : List ℕ) (some : 1 ≤ length bytes) where
       counts = λ on. adds .counted;
     }
 
--- what the sheet's call answered of the bytes of the front sheet, counted
+-- a step by the answers of its calls: of `tensor_of_sheet` on the front sheet's bytes, and of `with_sheet`
 pub took :
     (totals later : Totals) (bytes : List ℕ) (knots samples lent scratch : List Float) (long : Buffers knots samples lent scratch) (given : SheetAnswer) (k s t w : List Float)
     (size : ℕ) (stopped : Bool) → 1 ≤ length bytes → Running totals → (totals .sheets ≡ most-sheets → ⊥) → (e : size ≡ front-size bytes) → size ≤ length bytes
@@ -195,7 +195,7 @@ module _ (first : Totals) (bytes : List ℕ) (least : ℕ) where
     counts = λ e h. turn .counts (omega arith);
   }
 
--- ---- the last feeding, of all that is left of the input
+-- ---- the feeding at the end of the input
 
 fed-ends : (totals : Totals) (bytes input : List ℕ) (step : Step) → Fed totals bytes 1 step → Stands totals bytes input → (b : Bool) → step .stopped ≡ b
     → _≡_ {A = Report} (record { totals = step .totals; stopped = b }) (report-of input)

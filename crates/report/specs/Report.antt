@@ -22,7 +22,7 @@ abbrev pub accepted-alone : ℕ → List Entry → List Entry
 accepted-alone zero entries = entries
 accepted-alone (suc refusal) entries = []
 
--- the sheet that some bytes are, all of them
+-- bytes taken for one sheet
 unfoldable pub sheet-at : List ℕ → Sheet
 sheet-at bytes = record {
   refusal = own-refusal bytes;
@@ -48,7 +48,7 @@ stops refusal = unread (class refusal)
 
 -- ---- the stream
 
--- its sheets, with the one in which it stops, and whether it stops
+-- the sheets, the last of which may be one that stops it, and whether it is stopped
 pub record Stream : Type 0 where
   pub sheets : List Sheet
   pub stopped : Bool

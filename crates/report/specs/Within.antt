@@ -14,7 +14,7 @@ use Rattle.totals.specs.declared.Report.{Report}
 use Rattle.report.specs.Report.{after, stream-of, report-of}
 use Rattle.report.specs.declared.Step.{Step}
 
--- the totals are those of the sheets of `input` before `rest`
+-- in its input a report has come to `rest`: what it counted are the sheets in front of that
 pub record Stands (totals : Totals) (rest input : List ℕ) : Type 0 where
   pub running : Running totals
   pub same : stream-of most-sheets input ≡ after (running .seen) (stream-of (most-sheets - length (running .seen)) rest)
@@ -27,8 +27,8 @@ Shown n more = n < enough-bytes → more ≡ []
 abbrev pub Buffers : List Float → List Float → List Float → List Float → Type 0
 Buffers knots samples tensor scratch = Enough (length knots) (length samples) (length tensor) (length scratch)
 
--- from totals, some of the bytes were taken: whatever the input, if the totals stood before these bytes and more, the answer stands before
--- what is left of them and more, or is the input's report
+-- a step or a feeding on some bytes, which may be the front of any rest of any input: the report has then come to what it left of these
+-- bytes, or it stops and has the report of that input. It may look at n bytes
 pub record Takes (totals : Totals) (bytes : List ℕ) (n : ℕ) (step : Step) : Type 0 where
   pub inside : step .taken ≤ length bytes
   pub running : step .stopped ≡ false → Running (step .totals)
@@ -43,7 +43,7 @@ pub record Stepped (totals : Totals) (bytes : List ℕ) (step : Step) : Type 0 w
   pub some : step .stopped ≡ false → 1 ≤ step .taken
   pub counts : step .stopped ≡ false → step .totals .sheets ≡ totals .sheets + 1
 
--- sheets were taken as long as at least so many bytes were left
+-- a feeding, which ends where fewer bytes are left than it is to have at least
 pub record Fed (totals : Totals) (bytes : List ℕ) (least : ℕ) (step : Step) : Type 0 where
   pub takes : Takes totals bytes least step
   pub all : step .stopped ≡ false → length bytes < step .taken + least

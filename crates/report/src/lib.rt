@@ -14,7 +14,7 @@ use totals::Totals;
 use totals::none;
 use totals::with_sheet;
 
-// The totals so far, how many bytes were taken, and whether the report stops.
+// Where a report has come to: its totals, the number of bytes that it took, and whether it ends before the input does.
 pub struct Step {
     pub totals: Totals,
     pub taken: usize,
@@ -31,7 +31,7 @@ fn is_last(refusal: usize) -> bool
     }
 }
 
-// Takes the sheet at the front of some bytes. Not public: totals of some stream, a byte and the four buffers are required.
+// One step: the front sheet is read, built and counted. Not public: it requires totals of some stream, a byte at least, and the four buffers.
 fn take_sheet(
     totals: Totals,
     bytes: &[u8],
@@ -62,7 +62,7 @@ fn take_sheet(
     }
 }
 
-// Takes sheets as long as at least so many bytes are left. Not public, as the step is not.
+// Step after step, until fewer than `least` bytes are left or the report stops. Not public, as the step is not.
 fn take_sheets(
     totals: Totals,
     bytes: &[u8],

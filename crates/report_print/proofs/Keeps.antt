@@ -1,4 +1,4 @@
--- The loop that moves the bytes from a place on to the front.
+-- The loop of `keep`: byte by byte, each from `from` places behind.
 use mathlib.Core.Path.{_≡_, refl, sym, _∙_}
 use mathlib.Core.List.{List}
 use Prim.Native.Nat.{ℕ, _+_, _-_, _<_, _≤_}

@@ -1,4 +1,4 @@
--- The turns of the loop that reads: some input was read, of which the totals have all but the bytes that were kept.
+-- The loop of `report_through`, turn by turn: the pieces that came so far are one input, and the report stands in it before the kept bytes.
 use mathlib.Core.Path.{_≡_, refl, ap, _∙_}
 use mathlib.Core.Bool.{Bool, true, false}
 use mathlib.Core.List.{List, [], _++_, append-nil, append-assoc}
@@ -18,7 +18,7 @@ use Rattle.report.proofs.Steps.{stands-none, fed-last}
 use Rattle.report_print.specs.Within.{said, Refilled, Told}
 use Rattle.report_print.specs.declared.Outcome.{Outcome}
 
--- bytes read into the part of a buffer behind those that were kept
+-- the buffer after a read into its part behind the first `kept` bytes
 pub refilled : (before came : List ℕ) (kept got : ℕ) (failed : Bool) → kept ≤ length before → got ≤ length came
     → Refilled before kept (take kept before ++ (came ++ [])) (record { failed = failed; length = kept + got })
 refilled before came kept got failed h k =

@@ -1,4 +1,4 @@
--- What the program can say of its input: no contract says which bytes a read brings, so it is some input.
+-- What is promised around reads, of which no contract says what bytes they bring: the report is that of an input.
 use mathlib.Core.Path.{_≡_}
 use mathlib.Core.Bool.{false}
 use mathlib.Core.List.{List}
@@ -9,7 +9,7 @@ use Rattle.report.specs.Report.{report-of}
 use Rattle.report.specs.declared.Step.{Step}
 use Rattle.report_print.specs.declared.Outcome.{Outcome}
 
--- the bytes that were kept stand in front of those that came
+-- a read leaves the kept bytes where they are, and adds its own
 pub record Refilled (before : List ℕ) (kept : ℕ) (later : List ℕ) (input : Input) : Type 0 where
   pub more : kept ≤ input .length
   pub most : input .length ≤ length later

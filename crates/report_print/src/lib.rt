@@ -30,7 +30,7 @@ fn refill(buffer: &mut [u8], kept: usize) -> Input
     }
 }
 
-// Moves the bytes from a place on to the front.
+// Drops the first `from` bytes: those behind them come to stand at the front.
 fn keep(buffer: &mut [u8], from: usize)
     requires { ⌜ from ≤ length (now buffer) ⌝ }
     ensures { λ _. ⌜ take (length (now (buffer .entry)) - from) (now (buffer .exit)) ≡ drop from (now (buffer .entry)) ⌝ }
@@ -70,7 +70,7 @@ fn told(last: Step) -> Outcome
     }
 }
 
-// Reads standard input through a buffer, which is full or holds all that was left of the input before each feeding.
+// The report of standard input, piece by piece: the buffer is filled, fed, and rid of what was taken, until the input or the report ends.
 fn report_through(buffer: &mut [u8]) -> Outcome
     requires { ⌜ enough-bytes ≤ length (now buffer) ⌝ }
     ensures { λ r. ⌜ Told r ⌝ }

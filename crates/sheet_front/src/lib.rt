@@ -24,7 +24,7 @@ fn known_size(bytes: &[u8]) -> usize
     (at + 64 * samples_length(n, all) + 7) / 8
 }
 
-// How many bytes the sheet at the front of a stream has: all of them where its length is not known. It refuses nothing.
+// The size in bytes of a stream's front sheet: all bytes are its own where its length is not known. It refuses nothing.
 pub fn size_of_front(bytes: &[u8]) -> usize
     ensures { λ r. ⌜ (r ≡ front-size (now (bytes .entry))) × (r ≤ length (now (bytes .entry))) ⌝ }
 {

@@ -1,4 +1,4 @@
--- Each total that the state holds is its own definition over the list of sheets, one theorem each; and within the most sheets that a report has, no total passes what fits.
+-- A theorem for each total: what the state holds is what the total's definition says of the sheets. And in a report none of them passes what fits.
 use mathlib.Core.Path.{_≡_, refl}
 use mathlib.Core.List.{List}
 use Prim.Native.Nat.{ℕ, _*_, _^_, _<_, _≤_}

@@ -1,4 +1,4 @@
--- One element more at the end of a list: which pass a test, and the largest magnitude. One store into a table gives the table of a rule that differs at one place.
+-- One element more at the end of a list: which pass a test, and the largest magnitude. A table with one place stored is again a table.
 use mathlib.Core.Path.{_≡_, refl, sym, _∙_}
 use mathlib.Core.Bool.{Bool, true, false, cond}
 use mathlib.Core.List.{List, [], _∷_, _++_}

@@ -77,7 +77,7 @@ module _ (entries : List Entry) (entry : Entry) where
       (counted-next (of-order k entries) entry later (rw before at c) ∙ ap order-totals (sym own-order))
       (λ j other. ap order-totals (sym (other-order j other)))
 
--- the counts of an order are at most as many as there are entries
+-- no count of an order passes the number of all entries
 pub order-most : (entries : List Entry) (k : ℕ) → k < 5
     → (getD (orders-of entries) k no-entries .entries ≤ length entries) × (getD (orders-of entries) k no-entries .nonzero ≤ length entries)
 unfolding orders-of order-totals
@@ -86,7 +86,7 @@ order-most entries k h =
     let some = filter-most not-zero (of-order k entries) in
     rw (at-table 5 (λ j. order-totals (of-order j entries)) k no-entries h) (own, omega arith)
 
--- ---- the turns of the loop over a tensor
+-- ---- a tensor, entry by entry
 
 module _ (orders : List OrderTotals) (axes : ℕ) (numbers : List Float) where
   pub record Turn (all : List OrderTotals) (mask e : ℕ) : Type 0 where

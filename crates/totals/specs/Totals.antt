@@ -21,19 +21,19 @@ refusal-numbers = 24
 abbrev pub derivative-orders : ℕ
 derivative-orders = 5
 
--- an entry of a tensor: its derivative order and its number
+-- one number of a tensor, and of which derivative order it is
 pub record Entry : Type 0 where
   pub order : ℕ
   pub number : Float
 
--- a sheet as it is counted: the number of its refusal, 0 for none, its length in bytes, 0 where it is not known, and the entries of its
--- tensor, none where it is refused
+-- what is seen of a sheet: by which number it is refused, 0 where it is accepted; how many bytes it has, 0 where nobody knows; and its
+-- tensor's entries, which only an accepted sheet has
 pub record Sheet : Type 0 where
   pub refusal : ℕ
   pub size : ℕ
   pub tensor : List Entry
 
--- the entries of a tensor over so many axes: an entry's order is the number of ones in its mask, and the masks of a place lie side by side
+-- the entries of a tensor over so many axes: the masks of a place lie side by side, and the ones of a mask are counted for the order
 abbrev pub tensor-entries : ℕ → List Float → List Entry
 tensor-entries axes numbers = table (length numbers) (λ e. record { order = ones (e % 2 ^ axes); number = at numbers e })
 

@@ -1,4 +1,4 @@
--- What the functions that are not public require and ensure: which entries and sheets totals are of, and that they are few enough to count.
+-- Counting, for functions that are no public calls: which entries or sheets some counts are of, and that there is room for more.
 use mathlib.Core.Path.{_≡_}
 use mathlib.Core.Bool.{Bool, cond}
 use mathlib.Core.List.{List, [], _∷_, _++_}
@@ -29,24 +29,24 @@ pub record Counted (before : OrderTotals) (number : Float) (later : OrderTotals)
   pub nonzero : later .nonzero ≡ before .nonzero + one-if (nonzero number)
   pub largest : later .largest ≡ max (before .largest) (magnitude number)
 
--- the orders are those of some entries, few enough that n more can be counted
+-- the orders count entries, and there is room for n more
 pub record Room (orders : List OrderTotals) (n : ℕ) : Type 0 where
   pub before : List Entry
   pub said : orders ≡ orders-of before
   pub few : length before + n ≤ 2 ^ 62
 
--- whatever entries the orders are of, they are now of these entries more
+-- entries were added: of any that the orders were of, and of these behind them, they are now
 abbrev pub Tallied : List OrderTotals → List Entry → List OrderTotals → Type 0
 Tallied orders more later = (before : List Entry) → orders ≡ orders-of before → later ≡ orders-of (before ++ more)
 
--- the totals are those of some sheets, few enough to count
+-- the totals count sheets, no more than a report has, with no more entries than these can have
 pub record Running (totals : Totals) : Type 0 where
   pub seen : List Sheet
   pub said : totals ≡ totals-of seen
   pub few : length seen ≤ most-sheets
   pub small : length (all-entries seen) ≤ most-in-a-tensor * length seen
 
--- whatever sheets the totals are of, they are now of one sheet more, with this refusal and these entries
+-- a sheet with this refusal and these entries was added: of any sheets that the totals were of, and of the new one behind them, they are now
 pub record Adds (totals : Totals) (refusal : ℕ) (tensor : List Entry) (later : Totals) : Type 0 where
   pub counted : later .sheets ≡ totals .sheets + 1
   pub adds : (seen : List Sheet) (size : ℕ) → totals ≡ totals-of seen

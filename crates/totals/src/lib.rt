@@ -10,14 +10,14 @@ ghost use lib.Dec.{eqb};
 ghost use Rattle.totals.specs.Totals.{magnitude, tensor-entries, totals-of};
 ghost use Rattle.totals.specs.Within.{one-if, Counted, Room, Tallied, Running, Adds};
 
-// Of the entries of one derivative order: how many there are, how many are not zero, and the largest magnitude, as a pattern.
+// What is counted of one derivative order: its entries, those of them that are not zero, and the pattern of the largest magnitude.
 pub struct OrderTotals {
     pub entries: u64,
     pub nonzero: u64,
     pub largest: u64,
 }
 
-// How many sheets, how many of each refusal's number (0 is accepted), and the five orders.
+// All that is counted: sheets, sheets by the number of their refusal, of which 0 is none, and the entries by order.
 pub struct Totals {
     pub sheets: u64,
     pub refusals: [u64; 24],
@@ -30,7 +30,7 @@ pub struct Report {
     pub stopped: bool,
 }
 
-// The derivative order of a mask: the number of its ones.
+// A mask as an order: along how many axes it is a derivative.
 fn order_of_mask(mask: usize) -> usize
     requires { ⌜ mask < 16 ⌝ }
     ensures { λ r. ⌜ (r ≡ ones mask) × (r < 5) ⌝ }
@@ -80,7 +80,7 @@ fn counted(order: OrderTotals, number: f64) -> OrderTotals
     }
 }
 
-// The five orders with the entries of a tensor more.
+// All five orders, after the entries of one more tensor.
 fn tally(orders: [OrderTotals; 5], axes: usize, tensor: &[f64]) -> [OrderTotals; 5]
     requires { ⌜ (axes ≤ 4) × Room orders (length (now tensor)) ⌝ }
     ensures { λ r. ⌜ Tallied orders (tensor-entries axes (now (tensor .entry))) r ⌝ }
