@@ -21,8 +21,7 @@ SEED = 20240917
 # Holds the exported calls against the Rust, bit for bit, and what the device's program and the report print; fails where there is a
 # difference, or nothing was compared of a kind.
 differential: archive
-	rt check device_curve
-	rt check sheet_report
+	rt check device_curve sheet_report
 	cd oracle && cargo run --offline --release -p differential -- --seed $(SEED) $(CASES)
 
 # Runs the report on a million sheets and a byte more, beside the oracle.
@@ -41,9 +40,10 @@ sheet-by-hand:
 	python3 tests/sheet_by_hand/sheet.py | cmp - tests/sheet_by_hand/two_axes.sheet
 	target/bin/sheet_tensor < tests/sheet_by_hand/two_axes.sheet | diff tests/sheet_by_hand/expected.txt -
 
-# Runs the sheet program where its input or its output fails, and sees what it says; with strace also by how many calls it prints.
+# Runs the sheet program and the report where their input or their output fails, and sees what they say; with strace also by how many
+# calls a tensor is printed and a long stream is read.
 streams-fail:
-	rt check sheet_tensor
+	rt check sheet_tensor sheet_report
 	python3 tests/streams_fail.py
 
 # Holds docs/RULES.md against the definitions: each definition is named in its chapter.
