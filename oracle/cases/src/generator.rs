@@ -15,8 +15,8 @@ use reading::{CURVE_SCRATCH, EDITIONS, EXTEND, LONGEST_TENSOR};
 
 /// The kinds of cases: the worked examples, one kind for each call, lists
 /// of changes, the sheets of up to two bytes, changes in two orders, quick queries
-/// beside full ones, the reader's sheets written back, surfaces asked at every place, the device's program,
-/// and streams of sheets for the report.
+/// beside full ones, the reader's sheets written back, surfaces asked at every place, the
+/// device's program, and streams of sheets for the report.
 #[derive(Debug, Clone, Copy, PartialEq, Eq)]
 pub enum Kind {
     Example,

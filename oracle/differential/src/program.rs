@@ -53,3 +53,19 @@ fn keep_apart(writer: &PipeWriter) {
     let failed = unsafe { fcntl(writer.as_raw_fd(), F_SETFL, O_WRONLY | O_DIRECT) };
     assert_eq!(failed, 0, "a pipe can be one of packets");
 }
+
+#[cfg(test)]
+mod tests {
+    use super::*;
+    use std::io::Read;
+
+    #[test]
+    fn each_read_gets_one_piece() {
+        let (mut reader, writer) = io::pipe().unwrap();
+        keep_apart(&writer);
+        write(writer, b"abcde", 2).unwrap();
+        let mut buffer = [0; 64];
+        let taken = [(); 4].map(|()| reader.read(&mut buffer).unwrap());
+        assert_eq!(taken, [2, 2, 1, 0]);
+    }
+}
