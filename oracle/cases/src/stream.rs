@@ -61,7 +61,11 @@ fn swept_stream(number: usize) -> Option<Vec<u8>> {
     }
     let swept = swept_sheet(number / 2)?;
     let other = example_sheet(edition_of(number / 2 + 1));
-    let behind = if number % 2 == 0 { &other[..] } else { &[] };
+    let behind = if number.is_multiple_of(2) {
+        &other[..]
+    } else {
+        &[]
+    };
     Some([&other, &swept[..], behind].concat())
 }
 
@@ -100,7 +104,7 @@ fn up_to_a_boundary(random: &mut Random) -> Vec<Vec<u8>> {
         rest -= next.len();
         sheets.push(next);
     }
-    while rest % short.len() != 0 {
+    while !rest.is_multiple_of(short.len()) {
         rest -= longer.len();
         sheets.push(longer.clone());
     }
