@@ -99,8 +99,8 @@ fn take_sheets(
     }
 }
 
-// The same with the buffers on the stack. It is for programs that read a stream in pieces, and no public call: totals of some stream are
-// required. Fed with all bytes that were read and not taken, and at least 65,536 of them or all that are left, it gives what the whole gives.
+// The same with the buffers on the stack, for a program that reads a stream in pieces. No public call: totals of some stream are required.
+// Before the input's end `least` is to be 65,536, since so many bytes show a sheet whatever follows them; at its end 1.
 pub fn feed(totals: Totals, bytes: &[u8], least: usize) -> Step
     requires { ⌜ Running totals × (1 ≤ least) ⌝ }
     ensures { λ r. ⌜ Fed totals (now (bytes .entry)) least r ⌝ }

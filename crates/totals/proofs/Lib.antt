@@ -1,6 +1,6 @@
 mod Lists
-mod Orders
+pub mod Orders
 pub mod Sheets
-mod Each
+pub mod Each
 mod Meaning
 mod Examples
