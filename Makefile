@@ -1,4 +1,4 @@
-.PHONY: run test differential deliberate-errors sheet-by-hand streams-fail rules-page oracle-test expected archive bench examples picture
+.PHONY: run test differential report-largest deliberate-errors sheet-by-hand streams-fail rules-page oracle-test expected archive bench examples picture
 
 # Prints the tensor of the example sheet, which docs/RULES.md takes apart bit by bit.
 run:
@@ -15,13 +15,20 @@ CASES = --moments 60000 --curve 60000 --slopes 60000 --build 50000 --change 5000
     --read 240000 --read_edition_1 60000 --sheet_tensor 120000 --short_sheet 65793 \
     --write 240000 --written_back 120000 --surface 120000 \
     --exact_index 60000 --locate_axis 60000 --locate_step_index 100000 --stepped 100000 \
-    --cell_value 8520460 --cursor_next 200000 --device_curve 4101
+    --cell_value 8520460 --cursor_next 200000 --device_curve 4101 --report 24000
 SEED = 20240917
 
-# Holds the exported calls against the Rust, bit for bit, and what the device's program prints; fails where there is a difference, or nothing was compared of a kind.
+# Holds the exported calls against the Rust, bit for bit, and what the device's program and the report print; fails where there is a
+# difference, or nothing was compared of a kind.
 differential: archive
-	rt check device_curve
+	rt check device_curve sheet_report
 	cd oracle && cargo run --offline --release -p differential -- --seed $(SEED) $(CASES)
+
+# Runs the report on a million sheets and a byte more, beside the oracle.
+report-largest:
+	rt check sheet_report
+	cd oracle && cargo build --offline --release -p printed
+	python3 tests/report_largest.py
 
 # Runs copies of the code, each with one deliberate error, on the oracle's fixed list of answers; fails where an error is not found.
 deliberate-errors:
@@ -33,9 +40,10 @@ sheet-by-hand:
 	python3 tests/sheet_by_hand/sheet.py | cmp - tests/sheet_by_hand/two_axes.sheet
 	target/bin/sheet_tensor < tests/sheet_by_hand/two_axes.sheet | diff tests/sheet_by_hand/expected.txt -
 
-# Runs the sheet program where its input or its output fails, and sees what it says; with strace also by how many calls it prints.
+# Runs the sheet program and the report where their input or their output fails, and sees what they say; with strace also by how many
+# calls a tensor is printed and a long stream is read.
 streams-fail:
-	rt check sheet_tensor
+	rt check sheet_tensor sheet_report
 	python3 tests/streams_fail.py
 
 # Holds docs/RULES.md against the definitions: each definition is named in its chapter.
@@ -50,9 +58,12 @@ oracle-test:
 archive:
 	rt staticlib host
 
-# Measures the exported calls beside the Rust's functions and prints the tables of docs/BENCH.md; wants valgrind.
+# Measures the exported calls beside the Rust's functions, and the report on long streams, and prints the tables of docs/BENCH.md; wants
+# valgrind.
 bench: archive
 	cd oracle && cargo run --offline --release -p bench
+	rt check sheet_report
+	python3 tests/report_speed.py
 
 # The example hosts on one sheet, each held against the output that is kept beside it, and those that write the sheet back against the changed sheet.
 examples: archive

@@ -1,12 +1,15 @@
 #!/usr/bin/env python3
-"""Makes the sheets that the sheet programs are run on, each as the stdin of its crate:
+"""Makes the sheets that the programs of sheets are run on, each as the stdin of its crate:
 
 sheet_tensor         the example sheet
 sheet_largest        a sheet of as many bytes as an accepted one can have, in edition 2
 sheet_one_byte_more  the same, and a zero byte
 sheet_cases          a list of sheets, each after its length in two bytes, the higher first
+sheet_report         the example sheet, a stream of one
+report_ends_inside   the example and all but the last byte of another
+report_of_refusals   refused sheets among accepted ones, the last of which stops the report, and a byte
 
-The program sheet_empty is run on no bytes at all. What the programs must print is the oracle's to say (oracle/printed)."""
+The programs sheet_empty and report_empty are run on no bytes at all. What the programs must print is the oracle's to say (oracle/printed)."""
 
 import math
 import struct
@@ -210,6 +213,18 @@ def cases():
     return listed(edition_1 + edition_2)
 
 
+# The streams.
+
+
+def refusals():
+    """Accepted sheets of one to four axes, one of them with -0 and with a largest number below zero; every fault of the build, each
+    with the example behind it; then a bit that goes on, which stops the report, and a byte."""
+    below_zero = packed([UNIT, UNIT], [-0.0, -16.0, 0.0, 1.0])
+    passed_over = b"".join(fault + EXAMPLE_IN_EDITION_2 for fault in build_faults())
+    marked = EXAMPLE[:-1] + bytes([EXAMPLE[-1] | 1])
+    return b"".join([EXAMPLE, below_zero, *accepted(), *accepted_in_edition_2()]) + passed_over + marked + b"\0"
+
+
 def main():
     largest = largest_sheet()
     made = {
@@ -217,6 +232,9 @@ def main():
         "sheet_largest": largest,
         "sheet_one_byte_more": largest + b"\0",
         "sheet_cases": cases(),
+        "sheet_report": EXAMPLE,
+        "report_ends_inside": EXAMPLE + EXAMPLE_IN_EDITION_2[:-1],
+        "report_of_refusals": refusals(),
     }
     for crate, sheet in made.items():
         (ROOT / "crates" / crate / "stdin").write_bytes(sheet)

@@ -1,6 +1,7 @@
 #!/usr/bin/env python3
 """Runs copies of our code, each with one deliberate error in it, on the oracle's fixed list of answers (crates/replay),
-and fails unless the list finds every error: some case differs.
+and fails unless the list finds every error: some case differs. What no exported call shows is looked for in the report
+of a stream, whose kept output is the oracle's too.
 
 A copy with an error in it cannot be proved, so it is run by `rt try`, which takes every crate as source and compiles
 it, without optimisation and with it. The interpreter that `rt try` begins with is too slow for the list, and its last
@@ -44,7 +45,20 @@ ERRORS = [
     "surface/tensor_of_512_refused",
 ]
 
-# What `rt try` says of a compiled run that wrote the counts where nothing is expected.
+# The errors that the report of a stream of many sheets is to find.
+REPORT = "report_of_refusals"
+REPORT_ERRORS = [
+    "totals/mask_for_the_order",
+    "totals/minus_zero_as_a_number",
+    "totals/largest_with_its_sign",
+    "kinds/report_goes_on_after_14",
+]
+
+# What `rt try` says of a compiled run: that it wrote what is expected or not.
+RUN = re.compile(r"^(.*)the native program at -O[03] ", re.M)
+AS_EXPECTED = "ok: "
+
+# What it says of one that wrote the counts where nothing is expected.
 COUNTS = re.compile(r'the native program at -O[03] .*\n.* found "(\d+) cases, (\d+) the same\\n"')
 
 
@@ -78,26 +92,54 @@ def copy_sources(copy):
     apply("replay/counts_alone", copy)
 
 
-def replay(error=None):
-    """How many cases the list has, and how many of them a copy with this error answers as the list says."""
+def tried(program, error):
+    """What `rt try` says of a program in a copy with this error."""
     with tempfile.TemporaryDirectory() as folder:
         copy = Path(folder)
         copy_sources(copy)
         if error:
             apply(error, copy)
-        run = subprocess.run(["rt", "try", "replay"], cwd=copy, text=True, stdout=subprocess.PIPE, stderr=subprocess.STDOUT)
-    counts = COUNTS.findall(run.stdout)
+        run = subprocess.run(["rt", "try", program], cwd=copy, text=True, stdout=subprocess.PIPE, stderr=subprocess.STDOUT)
+    return run.stdout
+
+
+def replay(error=None):
+    """How many cases the list has, and how many of them a copy with this error answers as the list says."""
+    said = tried("replay", error)
+    counts = COUNTS.findall(said)
     if len(counts) != 2 or counts[0] != counts[1]:
-        sys.exit(f"{error or 'unchanged'}: not the same counts from two compiled runs:\n{run.stdout}")
+        sys.exit(f"{error or 'unchanged'}: not the same counts from two compiled runs:\n{said}")
     return map(int, counts[0])
 
 
+def is_reported(error=None):
+    """Whether a copy with this error prints the report that is kept."""
+    said = tried(REPORT, error)
+    runs = RUN.findall(said)
+    if len(runs) != 2 or runs[0] != runs[1]:
+        sys.exit(f"{error or 'unchanged'}: not the same from two compiled runs:\n{said}")
+    return runs[0] == AS_EXPECTED
+
+
+def report_errors_missed():
+    """The errors with which the report of the stream is the one that is kept."""
+    if not is_reported():
+        sys.exit("our code itself prints another report")
+    missed = []
+    for error in REPORT_ERRORS:
+        same = is_reported(error)
+        print(f"{error}: {'the same report' if same else 'another report'}", flush=True)
+        if same:
+            missed.append(error)
+    return missed
+
+
 def main():
+    missed = report_errors_missed()
     cases, same = replay()
     print(f"unchanged: {same} of {cases} cases the same", flush=True)
     if same != cases:
         sys.exit("our code itself differs from the list")
-    missed = []
     for error in ERRORS:
         cases, same = replay(error)
         print(f"{error}: {cases - same} of {cases} cases differ", flush=True)
@@ -105,7 +147,7 @@ def main():
             missed.append(error)
     if missed:
         sys.exit(f"NOT FOUND: {' '.join(missed)}")
-    print(f"all {len(ERRORS)} errors found")
+    print(f"all {len(REPORT_ERRORS) + len(ERRORS)} errors found")
 
 
 if __name__ == "__main__":

@@ -8,7 +8,7 @@ use bits::field_at;
 use bits::is_short;
 use rules::Axis;
 
-mod axes; // axes.rt: the axes of a sheet, one after the other
+pub mod axes; // axes.rt: the axes of a sheet, one after the other
 pub mod look; // look.rt: all of a sheet, up to its first fault
 pub mod store; // store.rt: knots and samples of a sheet that has no fault, stored
 

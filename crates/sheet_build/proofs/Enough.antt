@@ -13,7 +13,8 @@ use Rattle.sheet.specs.Fields.{sheet-grid, sheet-samples}
 use Rattle.sheet.specs.Faults.{sheet-refusal}
 use Rattle.sheet.specs.Read.{read-refusal}
 use Rattle.sheet.proofs.Parts.{parts}
-use Rattle.sheet_build.specs.SheetTensor.{parts-refusal, building-refusal, reading-refusal, sheet-tensor-refusal}
+use Rattle.sheet_build.specs.SheetTensor.{parts-refusal, building-refusal, own-refusal, reading-refusal, sheet-tensor-refusal}
+use Rattle.sheet_build.specs.Within.{Enough}
 
 -- a build that is lent a tensor of its length and enough scratch
 pub lent-build : (bytes : List ℕ) (lent scratch : List Float) → length lent ≡ tensor-length (sheet-grid bytes) → scratch-length (sheet-grid bytes) ≤ length scratch
@@ -28,13 +29,6 @@ lent-build bytes lent scratch exact enough =
       le-ltb (length (zeros (scratch-length g))) (scratch-length g) (omega (arith, length-replicate (scratch-length g) plus-zero)),
     )
 
--- what is enough for every sheet
-pub record Enough (k s t w : ℕ) : Type 0 where
-  pub knots : k ≡ 1024
-  pub samples : s ≡ 1024
-  pub tensor : t ≡ 4096
-  pub scratch : 6144 ≤ w
-
 module _ (bytes : List ℕ) (knots samples lent scratch : List Float) (enough : Enough (length knots) (length samples) (length lent) (length scratch)) where
   pub reading-is : reading-refusal bytes knots samples lent scratch ≡ sheet-refusal bytes
   unfolding reading-refusal read-refusal
@@ -47,8 +41,8 @@ module _ (bytes : List ℕ) (knots samples lent scratch : List Float) (enough : 
       (rw length-take (omega (arith, enough .tensor)))
       (omega (arith, enough .scratch))
 
-  pub refusal-is : sheet-tensor-refusal bytes knots samples lent scratch ≡ or-else (sheet-refusal bytes) (building-refusal bytes)
-  unfolding sheet-tensor-refusal
+  pub refusal-is : sheet-tensor-refusal bytes knots samples lent scratch ≡ own-refusal bytes
+  unfolding sheet-tensor-refusal own-refusal
   refusal-is = rw reading-is (go (sheet-refusal bytes) refl)
     where
       go : (number : ℕ) → sheet-refusal bytes ≡ number

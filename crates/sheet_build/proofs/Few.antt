@@ -17,7 +17,7 @@ use Rattle.kinds.specs.declared.classes.Class.the-variants.{Reading, Writing, U
 use Rattle.kinds.proofs.Among.{above}
 use Rattle.kinds.proofs.Apart.{place}
 use Rattle.sheet.specs.Faults.{sheet-refusal}
-use Rattle.sheet_build.specs.SheetTensor.{building-refusal}
+use Rattle.sheet_build.specs.SheetTensor.{building-refusal, own-refusal}
 use Rattle.sheet_build.proofs.Faults.{Of, sheet-of-reading}
 
 -- a number of the class Reading is at most 22
@@ -72,3 +72,7 @@ build-few bytes = few-of-build _ _ _ _
 pub or-else-few : (first : ℕ) {later : ℕ} → first ≤ 22 → later ≤ 22 → or-else first later ≤ 22
 or-else-few zero f l = l
 or-else-few (suc first) f l = f
+
+pub own-few : (bytes : List ℕ) → own-refusal bytes ≤ 22
+unfolding own-refusal
+own-few bytes = or-else-few (sheet-refusal bytes) (sheet-few bytes) (build-few bytes)

@@ -3,6 +3,7 @@ pub mod Few
 pub mod Enough
 pub mod Builds
 pub mod Promises
+pub mod Alone
 pub mod Classes
 pub mod Demand3
 pub mod Unique

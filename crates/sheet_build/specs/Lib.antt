@@ -1,1 +1,2 @@
 pub mod SheetTensor
+pub mod Within

@@ -13,6 +13,7 @@ use Rattle.rules.specs.Calls.{or-else, stored, counted, scratch-after, build-re
 use Rattle.rules.specs.declared.Axis.{Axis}
 use Rattle.grid.specs.Given.{grid, sizes-of, points-of, InRange}
 use Rattle.sheet.specs.Fields.{edition, sheet-grid, sheet-samples}
+use Rattle.sheet.specs.Faults.{sheet-refusal}
 use Rattle.sheet.specs.Read.{over, read-refusal}
 use Rattle.sheet_build.specs.declared.SheetAnswer.{SheetAnswer}
 
@@ -69,6 +70,10 @@ module _ (g : Grid) (samples tensor-lent scratch-lent : List Float) where
 unfoldable pub building-refusal : List ℕ → ℕ
 building-refusal bytes =
     build-refusal (sheet-grid bytes) (sheet-samples bytes) (zeros (tensor-length (sheet-grid bytes))) (zeros (scratch-length (sheet-grid bytes)))
+
+-- the refusal that its bytes alone decide: its fault, and then what its build refuses
+unfoldable pub own-refusal : List ℕ → ℕ
+own-refusal bytes = or-else (sheet-refusal bytes) (building-refusal bytes)
 
 module _ (bytes : List ℕ) (knots-lent samples-lent tensor-lent scratch-lent : List Float) where
   -- what is met before the build: 4 for the tensor's buffer, before all else, then what the reader meets

@@ -1,5 +1,5 @@
 -- The promise of the call, for each way that it ends: what it is lent is refused, or the sheet's text is written. No text is longer than the length that is asked for.
-use mathlib.Core.Path.{_≡_, refl, sym, ap, _∙_}
+use mathlib.Core.Path.{_≡_, refl, _∙_}
 use mathlib.Core.List.{List}
 use Prim.Native.Nat.{ℕ, zero, suc, _-_, _≤_}
 use native.Mathlib.Nat.{sub-zero}
@@ -7,24 +7,24 @@ use native.Mathlib.Omega.{arith}
 use borrow.Author.Tests.{ltb-false}
 use lib.ListN.{length, take}
 use lib.Ieee.{Float}
-use Rattle.rules.specs.Sizes.{Grid, tensor-length}
+use Rattle.rules.specs.Sizes.{Grid}
 use Rattle.rules.specs.Tensor.{tensor}
-use Rattle.rules.specs.Calls.{or-else, stored, counted}
+use Rattle.rules.specs.Calls.{or-else, counted}
 use Rattle.rules.proofs.Refused.{or-else-passed, unchanged}
 use Rattle.checks.proofs.Rows.{exact-3}
-use Rattle.sheet.specs.Fields.{edition, sheet-grid, sheet-samples}
+use Rattle.sheet.specs.Fields.{sheet-grid, sheet-samples}
 use Rattle.sheet.specs.Faults.{sheet-refusal}
-use Rattle.sheet.specs.Read.{over}
 use Rattle.sheet.proofs.Walks.{passed as no-test}
-use Rattle.sheet.proofs.Parts.{parts, take-over}
-use Rattle.sheet_build.specs.SheetTensor.{answer-of, sheet-tensor-refusal, SheetPromise}
+use Rattle.sheet_build.specs.SheetTensor.{own-refusal, SheetPromise}
+use Rattle.sheet_build.specs.Within.{Enough}
 use Rattle.sheet_build.specs.declared.SheetAnswer.{SheetAnswer}
-use Rattle.sheet_build.proofs.Few.{or-else-few, sheet-few, build-few}
-use Rattle.sheet_build.proofs.Enough.{Enough, reading-is, refusal-is as enough-refusal}
-use Rattle.sheet_build.proofs.Builds.{answered-refusal, length-tensor}
+use Rattle.sheet_build.proofs.Builds.{length-tensor}
+use Rattle.sheet_build.proofs.Few.{own-few}
+use Rattle.sheet_build.proofs.Enough.{reading-is, refusal-is}
+use Rattle.sheet_build.proofs.Alone.{read-alone, few-numbers, answered-alone, tensor-alone}
 use Rattle.text.specs.Answers.{Put}
 use Rattle.text.proofs.Puts.{put-written}
-use Rattle.sheet_text.specs.SheetText.{text-of, printed-refusal, sheet-text, text-length, lent-refusal, text-refusal, text-answer, TextPromise}
+use Rattle.sheet_text.specs.SheetText.{text-of, sheet-text, text-length, lent-refusal, text-refusal, text-answer, TextPromise}
 use Rattle.sheet_text.specs.declared.TextAnswer.{TextAnswer}
 use Rattle.tensor_text.proofs.Texts.{length-most as tensor-text-most}
 use Rattle.sheet_text.proofs.Told.{length-refused-line}
@@ -56,6 +56,10 @@ refused-answer : (r refusal count : ℕ) → r ≡ refusal → (r ≡ 0 → ⊥)
 refused-answer r zero count e met = absurd (met e)
 refused-answer r (suc refusal) count e met = rw e
 
+-- so the sheet's call is lent enough
+enough : {k s t w x : ℕ} → Lent k s t w x → Enough k s t w
+enough long = record { knots = long .knots; samples = long .samples; tensor = long .tensor; scratch = long .scratch }
+
 module _ (bytes : List ℕ) where
   abbrev g : Grid
   g = sheet-grid bytes
@@ -63,58 +67,26 @@ module _ (bytes : List ℕ) where
   abbrev y : List Float
   y = sheet-samples bytes
 
-  -- a sheet that is read has no tensor that is too long
-  few : sheet-refusal bytes ≡ 0 → tensor-length g ≤ 4096
-  few none = ltb-false 4096 (tensor-length g) (parts bytes none .tensor)
-
-  -- ---- lent enough, the call's own refusals are the sheet's
-
-  module _ (knots samples lent scratch : List Float) {x : ℕ} (long : Lent (length knots) (length samples) (length lent) (length scratch) x) where
-    enough : Enough (length knots) (length samples) (length lent) (length scratch)
-    enough = record { knots = long .knots; samples = long .samples; tensor = long .tensor; scratch = long .scratch }
-
-    refusal-is : sheet-tensor-refusal bytes knots samples lent scratch ≡ printed-refusal bytes
-    unfolding printed-refusal
-    refusal-is = enough-refusal bytes knots samples lent scratch enough
-
-  -- ---- how long the text is
-
-  few-printed : printed-refusal bytes ≤ 22
-  unfolding printed-refusal
-  few-printed = or-else-few (sheet-refusal bytes) (sheet-few bytes) (build-few bytes)
-
-  -- a sheet whose refusal is 0 was read
-  read : printed-refusal bytes ≡ 0 → sheet-refusal bytes ≡ 0
-  unfolding printed-refusal
-  read none = or-else-passed (sheet-refusal bytes) _ none .0
-
   -- no text is longer than the length that is asked for
   pub text-fits : length (sheet-text bytes) ≤ text-length
   unfolding sheet-text
-  text-fits = go (printed-refusal bytes) refl
+  text-fits = go (own-refusal bytes) refl
     where
-      go : (number : ℕ) → printed-refusal bytes ≡ number → length (text-of (printed-refusal bytes) (tensor g y)) ≤ text-length
-      go zero e = rw e (tensor-text-most (tensor g y) (omega (arith, length-tensor g y, few (read e))))
-      go (suc number) e = rw e (let most = length-refused-line (suc number) (omega (arith, few-printed, e)) in omega arith)
+      go : (number : ℕ) → own-refusal bytes ≡ number → length (text-of (own-refusal bytes) (tensor g y)) ≤ text-length
+      go zero e = rw e (tensor-text-most (tensor g y) (omega (arith, length-tensor g y, few-numbers bytes (read-alone bytes e))))
+      go (suc number) e = rw e (let most = length-refused-line (suc number) (omega (arith, own-few bytes, e)) in omega arith)
 
   -- ---- the two ways to end
 
   -- the text of what the sheet's call has answered and left
-  text-is : (a : SheetAnswer) (lent t : List Float) → a ≡ answer-of (sheet-refusal bytes) (printed-refusal bytes) (edition bytes) g
-      → t ≡ stored (printed-refusal bytes) lent (over (tensor g y) lent) → text-of (a .refusal) (take (a .length - 0) t) ≡ sheet-text bytes
+  text-is : (refusal n : ℕ) (t : List Float) → refusal ≡ own-refusal bytes → (own-refusal bytes ≡ 0 → take n t ≡ tensor g y)
+      → text-of refusal (take (n - 0) t) ≡ sheet-text bytes
   unfolding sheet-text
-  text-is a lent t answer later = go (printed-refusal bytes) refl
+  text-is refusal n t answered front = rw (answered, sub-zero n) (go (own-refusal bytes) refl)
     where
-      answered : a .refusal ≡ printed-refusal bytes
-      answered = ap (λ (r : SheetAnswer). r .refusal) answer ∙ answered-refusal (sheet-refusal bytes) (printed-refusal bytes) (edition bytes) g
-
-      go : (number : ℕ) → printed-refusal bytes ≡ number → text-of (a .refusal) (take (a .length - 0) t) ≡ text-of (printed-refusal bytes) (tensor g y)
-      go zero e =
-          let n : a .length ≡ tensor-length g = ap (λ (r : SheetAnswer). r .length) (rw (read e, e) at answer) in
-          let front : take (a .length - 0) t ≡ tensor g y
-          = rw (sub-zero (a .length), later, e) (take-over (tensor g y) lent (a .length) (length-tensor g y ∙ sym n)) in
-          rw (answered, e, front)
-      go (suc number) e = rw (answered, e)
+      go : (number : ℕ) → own-refusal bytes ≡ number → text-of (own-refusal bytes) (take n t) ≡ text-of (own-refusal bytes) (tensor g y)
+      go zero e = rw (front e)
+      go (suc number) e = rw e
 
   module _ (knots samples lent-tensor scratch : List Float) (text : List ℕ) where
     abbrev refusal : ℕ
@@ -130,7 +102,7 @@ module _ (bytes : List ℕ) where
           answer = refused-answer r refusal _ e met;
           knots = unchanged _ knots _ (first (sheet-refusal bytes));
           samples = unchanged _ samples _ (first (sheet-refusal bytes));
-          output = unchanged _ lent-tensor _ (first (printed-refusal bytes));
+          output = unchanged _ lent-tensor _ (first (own-refusal bytes));
           scratch = unchanged _ scratch _ (λ z. met (e ∙ z));
           text = unchanged _ text _ (λ z. met (e ∙ z));
         }
@@ -145,9 +117,11 @@ module _ (bytes : List ℕ) where
           → TextPromise bytes knots samples lent-tensor scratch text (record { refusal = 0; length = end }) k s t w later
       unfolding text-answer
       text-written a k s t w later end p put =
-          let reading = reading-is bytes knots samples lent-tensor scratch (enough knots samples lent-tensor scratch long) in
-          let whole = refusal-is knots samples lent-tensor scratch long in
-          let is = text-is a lent-tensor t (rw (reading, whole) at (p .answer)) (rw whole at (p .output)) in
+          let reading = reading-is bytes knots samples lent-tensor scratch (enough long) in
+          let whole = refusal-is bytes knots samples lent-tensor scratch (enough long) in
+          let answered = answered-alone bytes knots samples lent-tensor scratch (enough long) a k s t w p in
+          let front = tensor-alone bytes knots samples lent-tensor scratch (enough long) a k s t w p in
+          let is = text-is (a .refusal) (a .length) t answered front in
           let done = put-written (rw is at put) (omega (arith, text-fits, long .text)) in
           record {
             answer = rw (none, done .1);

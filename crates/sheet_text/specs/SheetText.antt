@@ -13,7 +13,7 @@ use Rattle.rules.specs.Calls.{or-else, stored, counted, scratch-after}
 use Rattle.sheet.specs.Fields.{sheet-grid, sheet-samples}
 use Rattle.sheet.specs.Faults.{sheet-refusal}
 use Rattle.sheet.specs.Read.{buffer-length, over}
-use Rattle.sheet_build.specs.SheetTensor.{building-refusal}
+use Rattle.sheet_build.specs.SheetTensor.{own-refusal}
 use Rattle.text.specs.Lines.{refused-line, written}
 use Rattle.tensor_text.specs.TensorText.{tensor-text}
 use Rattle.sheet_text.specs.declared.TextAnswer.{TextAnswer}
@@ -25,13 +25,9 @@ abbrev pub text-of : ℕ → List Float → List ℕ
 text-of zero numbers = tensor-text numbers
 text-of (suc refusal) numbers = refused-line (suc refusal)
 
--- the refusal that is printed: the sheet's fault, and then what its build refuses
-unfoldable pub printed-refusal : List ℕ → ℕ
-printed-refusal bytes = or-else (sheet-refusal bytes) (building-refusal bytes)
-
 -- all that is printed of a sheet
 unfoldable pub sheet-text : List ℕ → List ℕ
-sheet-text bytes = text-of (printed-refusal bytes) (tensor (sheet-grid bytes) (sheet-samples bytes))
+sheet-text bytes = text-of (own-refusal bytes) (tensor (sheet-grid bytes) (sheet-samples bytes))
 
 -- ---- the call
 
@@ -65,6 +61,6 @@ module _ (bytes : List ℕ) (knots-lent samples-lent tensor-lent scratch-lent : 
     pub samples : samples-later ≡ stored (or-else text-refusal (sheet-refusal bytes)) samples-lent (over (sheet-samples bytes) samples-lent)
     pub output :
         tensor-later
-        ≡ stored (or-else text-refusal (printed-refusal bytes)) tensor-lent (over (tensor (sheet-grid bytes) (sheet-samples bytes)) tensor-lent)
-    pub scratch : scratch-later ≡ stored text-refusal scratch-lent (scratch-after (printed-refusal bytes) scratch-lent)
+        ≡ stored (or-else text-refusal (own-refusal bytes)) tensor-lent (over (tensor (sheet-grid bytes) (sheet-samples bytes)) tensor-lent)
+    pub scratch : scratch-later ≡ stored text-refusal scratch-lent (scratch-after (own-refusal bytes) scratch-lent)
     pub text : text-later ≡ stored text-refusal text-lent (written (sheet-text bytes) text-lent)

@@ -11,10 +11,10 @@ use Rattle.rules.specs.declared.QueryAnswer.{QueryAnswer}
 use Rattle.patterns.specs.Patterns.{coordinates, unused-refused, answer-pattern}
 use Rattle.sheet.specs.Fields.{edition, sheet-grid}
 use Rattle.sheet.specs.Faults.{sheet-refusal}
-use Rattle.sheet_build.specs.SheetTensor.{building-refusal, reading-refusal, sheet-tensor-refusal, SheetPromise}
+use Rattle.sheet_build.specs.SheetTensor.{building-refusal, own-refusal, SheetPromise}
+use Rattle.sheet_build.specs.Within.{Enough}
 use Rattle.sheet_build.specs.declared.SheetAnswer.{SheetAnswer}
-use Rattle.sheet_build.proofs.Builds.{answered-refusal}
-use Rattle.sheet_build.proofs.Enough.{Enough, refusal-is}
+use Rattle.sheet_build.proofs.Alone.{answered-alone}
 use Rattle.sheet_build.proofs.Demand3.{grid-made, tensor-made, answer-is, grid-is, tensor-is}
 use Rattle.surface.specs.SheetSurface.{stack-refused, asked, surface-refusal, surface}
 
@@ -28,10 +28,8 @@ module _
 
     -- the first call's refusal is the sheet's
     first-is : given .refusal ≡ or-else (sheet-refusal bytes) (building-refusal bytes)
-    first-is =
-        ap (λ (a : SheetAnswer). a .refusal) (p .answer)
-        ∙ answered-refusal (reading-refusal bytes knots samples lent scratch) (sheet-tensor-refusal bytes knots samples lent scratch) (edition bytes) g
-        ∙ refusal-is bytes knots samples lent scratch enough
+    unfolding own-refusal
+    first-is = answered-alone bytes knots samples lent scratch enough given k s t w p
 
     -- where it is 0, the second call answers what is asked of the sheet's tensor
     second-is : given .refusal ≡ 0 → answer ≡ asked bytes patterns

@@ -46,6 +46,11 @@ most-places zero n false e = rw e (omega arith)
 most-places (suc k) n false e =
     let l = most-places k (n / 10) (ltb (n / 10) 10) refl in rw (e, length-append) (omega arith)
 
+-- no number has more than 20 digits
+pub decimal-most : (n : ℕ) → length (decimal n) ≤ 20
+unfolding decimal
+decimal-most n = most-places 19 n (ltb n 10) refl
+
 -- a number below 10 to the power of so many places has no more digits than these
 pub decimal-length : (k n : ℕ) → n < 10 ^ suc k → k ≤ 19 → length (decimal n) ≤ suc k
 unfolding decimal

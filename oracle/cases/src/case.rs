@@ -4,8 +4,8 @@ use crate::lent::{Lent, Word};
 use crate::report::NUMBERS;
 use reading::REFUSED;
 
-/// The calls of the archive, and the text of the device's program. A whole number with a sign is
-/// held by its 32 bits.
+/// The calls of the archive, and the texts of the device's program and of the report. A whole number
+/// with a sign is held by its 32 bits.
 #[derive(Debug, Clone, Copy, PartialEq, Eq)]
 pub enum Call {
     Moments,
@@ -28,6 +28,7 @@ pub enum Call {
     DeviceText,
     ReadEdition1,
     Surface,
+    ReportText,
 }
 
 impl Call {
@@ -99,6 +100,7 @@ impl Call {
             Call::CursorNext => &["curve", "cursor", "value"],
             Call::DeviceText => &["curve", "text", "length"],
             Call::Surface => &["bytes", "c0", "c1", "c2", "c3"],
+            Call::ReportText => &["stream", "piece", "text", "length"],
         }
     }
 
@@ -127,7 +129,7 @@ impl Call {
             Call::Stepped => &["value", "indices"],
             Call::CellValue => &["value"],
             Call::CursorNext => &["cursor", "value"],
-            Call::DeviceText => &["text", "length"],
+            Call::DeviceText | Call::ReportText => &["text", "length"],
             Call::Surface => &[],
         }
     }

@@ -17,6 +17,7 @@ use crate::random::Random;
 use crate::reading_calls::Reading;
 use crate::report::{describe, Report, PERIODIC_POINTS};
 use crate::sheet::{short_sheet, SHORT_SHEETS};
+use crate::stream::{self, passed_over};
 use reading::LONGEST_TENSOR;
 
 /// A seed, and how many cases of each kind.
@@ -96,6 +97,9 @@ fn compare_kind(subject: &dyn Calls, plan: &Plan, kind: Kind, report: &mut Repor
             Kind::DeviceCurve => {
                 run.compare(&device_text(random, number as usize));
             }
+            Kind::Report => {
+                run.compare(&stream::report(random, number as usize));
+            }
             _ => {
                 run.compare(&generator::single(kind, number as usize, random));
             }
@@ -124,6 +128,11 @@ impl Run<'_> {
         if refusal == 0 {
             for (seen, points) in counts.periodic.iter_mut().zip(PERIODIC_POINTS) {
                 *seen += given.periodic_axes(points);
+            }
+        }
+        if given.call == Call::ReportText {
+            for number in passed_over(&expected) {
+                counts.passed_over[number] += 1;
             }
         }
         self.report.reached.count(given, refusal);

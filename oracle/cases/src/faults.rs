@@ -154,7 +154,7 @@ fn faults_of(call: Call) -> &'static [Fault] {
         Call::LocateAxis => OF_CURVE,
         Call::LocateStepIndex => OF_STEP,
         Call::Stepped => OF_STEPPED,
-        Call::CellValue | Call::CursorNext | Call::DeviceText => &[],
+        Call::CellValue | Call::CursorNext | Call::DeviceText | Call::ReportText => &[],
     }
 }
 

@@ -15,7 +15,8 @@ use reading::{CURVE_SCRATCH, EDITIONS, EXTEND, LONGEST_TENSOR};
 
 /// The kinds of cases: the worked examples, one kind for each call, lists
 /// of changes, the sheets of up to two bytes, changes in two orders, quick queries
-/// beside full ones, the reader's sheets written back, surfaces asked at every place, and the device's program.
+/// beside full ones, the reader's sheets written back, surfaces asked at every place, the
+/// device's program, and streams of sheets for the report.
 #[derive(Debug, Clone, Copy, PartialEq, Eq)]
 pub enum Kind {
     Example,
@@ -45,10 +46,11 @@ pub enum Kind {
     DeviceCurve,
     ReadEdition1,
     Surface,
+    Report,
 }
 
 /// Every kind, in the order of the report.
-pub const KINDS: [Kind; 27] = [
+pub const KINDS: [Kind; 28] = [
     Kind::Example,
     Kind::Moments,
     Kind::Curve,
@@ -76,6 +78,7 @@ pub const KINDS: [Kind; 27] = [
     Kind::DeviceCurve,
     Kind::ReadEdition1,
     Kind::Surface,
+    Kind::Report,
 ];
 
 impl Kind {
@@ -109,6 +112,7 @@ impl Kind {
             Kind::DeviceCurve => "device_curve",
             Kind::ReadEdition1 => "read_edition_1",
             Kind::Surface => "surface",
+            Kind::Report => "report",
         }
     }
 
@@ -124,6 +128,7 @@ impl Kind {
                 | Kind::WrittenBack
                 | Kind::AtEveryPlace
                 | Kind::DeviceCurve
+                | Kind::Report
         )
     }
 }
@@ -186,7 +191,8 @@ pub fn single(kind: Kind, number: usize, random: &mut Random) -> Case {
         | Kind::QuickBesideFull
         | Kind::WrittenBack
         | Kind::AtEveryPlace
-        | Kind::DeviceCurve => {
+        | Kind::DeviceCurve
+        | Kind::Report => {
             panic!("not one call: {}", kind.name())
         }
     }

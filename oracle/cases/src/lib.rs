@@ -17,9 +17,11 @@ mod overflow;
 mod random;
 mod reached;
 mod reached_sheets;
+mod reached_streams;
 mod reading_calls;
 mod report;
 mod sheet;
+mod stream;
 
 pub use case::{Argument, Call, Calls, Case};
 pub use comparison::{compare_all, Plan};
@@ -30,3 +32,4 @@ pub use list::{list, CALLS};
 pub use reading_calls::Reading;
 pub use report::{Counts, Report, NUMBERS};
 pub use sheet::SHORT_SHEETS;
+pub use stream::{stopped_by, PASSED_OVER, STOPPING};

@@ -23,7 +23,7 @@ use crate::random::Random;
 use crate::reading_calls::Reading;
 use crate::report::NUMBERS;
 
-/// The calls in the order of their numbers; the program's text is none of them.
+/// The calls in the order of their numbers; what programs print is none of them.
 pub const CALLS: [Call; 19] = [
     Call::Moments,
     Call::Curve,

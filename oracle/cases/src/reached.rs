@@ -3,6 +3,7 @@
 use crate::case::{Call, Case};
 use crate::overflow::{numbered_ends, refusal_with};
 use crate::reached_sheets::{SHEET_COUNT, SHEET_EDGES};
+use crate::reached_streams::{STREAM_COUNT, STREAM_EDGES};
 use crate::sheet::length_of;
 use ninterp_unchanged::{
     locate_lower_index, locate_lower_index_uniform, validate_uniform_grid_epsilon,
@@ -15,7 +16,7 @@ pub struct Edge {
     pub is_reached: fn(&Case, usize) -> bool,
 }
 
-/// How many edges there are, beside those of sheets that are read.
+/// How many edges there are, beside those of sheets that are read and of streams.
 const COUNT: usize = 47;
 
 const EDGES: [Edge; COUNT] = [
@@ -378,6 +379,7 @@ fn is_held(case: &Case) -> bool {
 pub struct Reached {
     cases: [u64; COUNT],
     sheets: [u64; SHEET_COUNT],
+    streams: [u64; STREAM_COUNT],
 }
 
 impl Default for Reached {
@@ -385,6 +387,7 @@ impl Default for Reached {
         Self {
             cases: [0; COUNT],
             sheets: [0; SHEET_COUNT],
+            streams: [0; STREAM_COUNT],
         }
     }
 }
@@ -401,6 +404,8 @@ impl Reached {
         }
         let (cases, edges) = if case.call.takes_a_sheet() {
             (self.sheets.as_mut_slice(), SHEET_EDGES.as_slice())
+        } else if case.call == Call::ReportText {
+            (self.streams.as_mut_slice(), STREAM_EDGES.as_slice())
         } else {
             (self.cases.as_mut_slice(), EDGES.as_slice())
         };
@@ -411,9 +416,9 @@ impl Reached {
 
     /// Every edge, and how many cases have reached it.
     pub fn edges(&self) -> impl Iterator<Item = (&'static str, u64)> + '_ {
-        let names = EDGES.iter().chain(&SHEET_EDGES).map(|edge| edge.name);
-        let cases = self.cases.iter().chain(&self.sheets);
-        names.zip(cases.copied())
+        let edges = EDGES.iter().chain(&SHEET_EDGES).chain(&STREAM_EDGES);
+        let cases = self.cases.iter().chain(&self.sheets).chain(&self.streams);
+        edges.map(|edge| edge.name).zip(cases.copied())
     }
 }
 

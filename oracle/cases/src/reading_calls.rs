@@ -2,6 +2,7 @@
 
 use crate::case::{Argument, Call, Calls, Case};
 use crate::device::{as_integers, as_words, integer};
+use crate::stream::stopped_by;
 
 /// The reading, which answers every call.
 pub struct Reading;
@@ -24,6 +25,7 @@ impl Calls for Reading {
             Call::CellValue | Call::CursorNext | Call::DeviceText => {
                 of_the_device(case.call, arguments)
             }
+            Call::ReportText => of_a_stream(arguments),
         };
         Some(refusal)
     }
@@ -141,6 +143,17 @@ fn of_a_sheet(arguments: &mut [Argument]) -> usize {
     };
     let patterns = [0, 1, 2, 3].map(|axis: usize| coordinates[axis].number() as u64);
     reading::surface(bytes.bytes(), patterns) as usize
+}
+
+/// What is returned is the refusal that the report stops at.
+fn of_a_stream(arguments: &mut [Argument]) -> usize {
+    let [stream, _, text, length] = arguments else {
+        panic!("a case has the arguments of its call")
+    };
+    let printed = reading::Report::of(stream.bytes()).to_string();
+    text.bytes_mut()[..printed.len()].copy_from_slice(printed.as_bytes());
+    length.numbers_mut()[0] = printed.len();
+    stopped_by(&printed)
 }
 
 #[rustfmt::skip]

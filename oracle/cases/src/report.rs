@@ -5,6 +5,7 @@ use crate::comparison::Plan;
 use crate::generator::{Kind, KINDS};
 use crate::lent::GUARDS;
 use crate::reached::Reached;
+use crate::stream::{PASSED_OVER, STOPPING};
 use std::fmt::{self, Write};
 
 /// How many differing cases of a kind are printed in full.
@@ -28,6 +29,8 @@ pub struct Counts {
     pub refusals: [u64; NUMBERS],
     /// Periodic axes of accepted calls, by their points.
     pub periodic: [u64; PERIODIC_POINTS.len()],
+    /// How many streams have a sheet that is refused by each number and passed over.
+    pub passed_over: [u64; NUMBERS],
     /// Places at which a surface was asked, and its answers held against the sample.
     pub places: u64,
     /// Compared calls that were not the same.
@@ -64,6 +67,9 @@ impl Report {
             for (sum, seen) in total.refusals.iter_mut().zip(counts.refusals) {
                 *sum += seen;
             }
+            for (sum, seen) in total.passed_over.iter_mut().zip(counts.passed_over) {
+                *sum += seen;
+            }
             for (sum, seen) in total.periodic.iter_mut().zip(counts.periodic) {
                 *sum += seen;
             }
@@ -81,6 +87,19 @@ impl Report {
         let mut kinds = KINDS.to_vec();
         kinds.retain(|kind| plan.cases[*kind as usize] > 0 && self.of(*kind).compared == 0);
         kinds
+    }
+
+    /// The refusals that no stream of a plan has, though the plan has streams.
+    pub fn not_in_streams(&self, plan: &Plan) -> Vec<usize> {
+        if plan.cases[Kind::Report as usize] == 0 {
+            return Vec::new();
+        }
+        let counts = self.of(Kind::Report);
+        let stopping = STOPPING.map(|number| (number, counts.refusals[number]));
+        let passed_over = PASSED_OVER.map(|number| (number, counts.passed_over[number]));
+        let numbers = stopping.into_iter().chain(passed_over);
+        let missing = numbers.filter(|(_, streams)| *streams == 0);
+        missing.map(|(number, _)| number).collect()
     }
 
     pub(crate) fn difference(&mut self, kind: Kind, text: impl FnOnce() -> String) {
@@ -115,10 +134,10 @@ fn write_counts(formatter: &mut fmt::Formatter<'_>, name: &str, counts: &Counts)
         "{name}: {} calls, {accepted} accepted ({share} in 100), refused",
         counts.calls
     )?;
-    for (number, seen) in counts.refusals.iter().enumerate().skip(1) {
-        if *seen > 0 {
-            write!(formatter, " {number}:{seen}")?;
-        }
+    write_numbers(formatter, &counts.refusals)?;
+    if counts.passed_over.iter().any(|seen| *seen > 0) {
+        write!(formatter, "; passed over")?;
+        write_numbers(formatter, &counts.passed_over)?;
     }
     if counts.periodic.iter().any(|seen| *seen > 0) {
         write!(formatter, "; periodic axes")?;
@@ -134,6 +153,16 @@ fn write_counts(formatter: &mut fmt::Formatter<'_>, name: &str, counts: &Counts)
         "; {} compared, {} differences",
         counts.compared, counts.differences
     )
+}
+
+/// How often each refusal was seen, if it was.
+fn write_numbers(formatter: &mut fmt::Formatter<'_>, seen: &[u64; NUMBERS]) -> fmt::Result {
+    for (number, seen) in seen.iter().enumerate().skip(1) {
+        if *seen > 0 {
+            write!(formatter, " {number}:{seen}")?;
+        }
+    }
+    Ok(())
 }
 
 /// A case in full: what went in, and where the two outcomes part.

@@ -116,6 +116,20 @@ pub fn example_sheet(edition: usize) -> Vec<u8> {
     pack(&fields(edition, &grid, &[EXTEND; 4], &line))
 }
 
+/// A sheet of edition 1 with two points on each axis, all periodic: no accepted one of so many axes
+/// is shorter. It has 35 bytes on one axis, 68 on two.
+pub fn periodic_sheet(axes: usize) -> Vec<u8> {
+    let grid = Grid {
+        axes,
+        points: [2; 4],
+        kinds: [3; 8],
+        values: [0.0; 8],
+        knots: [0.0, 1.0].repeat(axes),
+    };
+    let samples: Vec<f64> = (0..grid.samples()).map(|sample| sample as f64).collect();
+    pack(&fields(1, &grid, &[EXTEND; 4], &samples))
+}
+
 /// The example in each edition: cut at every length, then with every single bit damaged, and then
 /// with anything in the place of its kinds and its mode, whole and cut behind these.
 pub fn swept_sheet(number: usize) -> Option<Vec<u8>> {

@@ -1,6 +1,9 @@
 //! The generated cases reach every refusal, and most are accepted.
 
-use cases::{compare_all, Calls, Case, Kind, Plan, Reading, KINDS, NUMBERS, SHORT_SHEETS};
+use cases::{
+    compare_all, Calls, Case, Kind, Plan, Reading, KINDS, NUMBERS, PASSED_OVER, SHORT_SHEETS,
+    STOPPING,
+};
 
 /// Answers no call: the generator alone runs.
 struct Nobody;
@@ -39,6 +42,8 @@ fn refusals(kind: Kind) -> &'static [usize] {
         // What the program prints is compared, its refusals too.
         Kind::DeviceCurve => &[],
         Kind::Surface => &[1, 2, 3, 7, 8, 9, 10, 11, 12, 13, 14, 16, 17, 18, 22],
+        // Those at which a report stops.
+        Kind::Report => &STOPPING,
     }
 }
 
@@ -117,6 +122,16 @@ fn a_change_is_the_fresh_build_of_the_samples_then_standing() {
     let total = compare_all(&Nobody, &plan).total();
     assert!(total.calls > 20_000);
     assert_eq!(total.differences, 0);
+}
+
+#[test]
+fn streams_have_the_refusals_that_are_passed_over() {
+    let plan = Plan::of_kind(7, Kind::Report, 3000);
+    let report = compare_all(&Nobody, &plan);
+    assert_eq!(report.not_in_streams(&plan), []);
+    let few = Plan::of_kind(7, Kind::Report, 1);
+    let missing = compare_all(&Nobody, &few).not_in_streams(&few);
+    assert_eq!(missing, [&STOPPING[..], &PASSED_OVER].concat());
 }
 
 #[test]

@@ -3,11 +3,9 @@
 #[path = "../../../include/hullashlar.rs"]
 mod declared;
 
-use cases::{as_integers, as_words, integer, Argument, Call, Calls, Case};
+use crate::program::printed;
+use cases::{as_integers, as_words, integer, stopped_by, Argument, Call, Calls, Case};
 use declared::*;
-use std::io::Write;
-use std::process::{Command, Stdio};
-use std::thread;
 
 /// A slice as the archive takes it to read: where it begins, and its length.
 fn lent<T>(slice: &[T]) -> (*const T, usize) {
@@ -19,7 +17,7 @@ fn lent_mut<T>(slice: &mut [T]) -> (*mut T, usize) {
     (slice.as_mut_ptr(), slice.len())
 }
 
-/// The archive, which answers every call, and beside it the device's program.
+/// The archive, which answers every call, and beside it the device's program and the report.
 pub struct Archive;
 
 impl Calls for Archive {
@@ -46,6 +44,7 @@ impl Calls for Archive {
             Call::DeviceText => device_text(arguments),
             Call::ReadEdition1 => read_edition_1(arguments),
             Call::Surface => surface(arguments),
+            Call::ReportText => report_text(arguments),
         };
         Some(refusal)
     }
@@ -414,31 +413,26 @@ fn cursor_next(arguments: &mut [Argument]) -> usize {
     })
 }
 
-/// The program, where the repository builds it.
-const PROGRAM: &str = concat!(env!("CARGO_MANIFEST_DIR"), "/../../target/bin/device_curve");
-
-/// Runs the program on a curve, and takes what it prints.
+/// Runs the device's program on a curve, and takes what it prints.
 fn device_text(arguments: &mut [Argument]) -> usize {
     let [curve, text, length] = arguments else {
         panic!("a case has the arguments of its call")
     };
-    let mut program = Command::new(PROGRAM)
-        .stdin(Stdio::piped())
-        .stdout(Stdio::piped())
-        .spawn()
-        .expect("the program is built by `rt check device_curve`");
-    let mut input = program
-        .stdin
-        .take()
-        .expect("the program is given its input");
-    let bytes = curve.bytes().to_vec();
-    // The program may have read enough before all is written.
-    let writer = thread::spawn(move || drop(input.write_all(&bytes)));
-    let printed = program.wait_with_output().expect("the program ends").stdout;
-    writer.join().expect("the input was given");
+    let printed = printed("device_curve", curve.bytes(), 0);
     text.bytes_mut()[..printed.len()].copy_from_slice(&printed);
     length.numbers_mut()[0] = printed.len();
     0
+}
+
+/// Runs the report on a stream, and takes what it prints.
+fn report_text(arguments: &mut [Argument]) -> usize {
+    let [stream, piece, text, length] = arguments else {
+        panic!("a case has the arguments of its call")
+    };
+    let printed = printed("sheet_report", stream.bytes(), piece.number());
+    text.bytes_mut()[..printed.len()].copy_from_slice(&printed);
+    length.numbers_mut()[0] = printed.len();
+    stopped_by(&String::from_utf8_lossy(&printed))
 }
 
 fn surface(arguments: &mut [Argument]) -> usize {

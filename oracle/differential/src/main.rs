@@ -1,6 +1,7 @@
 //! Holds the archive against the reading of the rules, bit for bit.
 
 mod archive;
+mod program;
 #[cfg(test)]
 mod tests;
 
@@ -22,9 +23,10 @@ const USAGE: &str = "differential [--seed N] [--cases N] [--KIND N]...
              change_list, query, read, sheet_tensor, short_sheet, either_order,
              quick_query, quick_beside_full, even_query, write, written_back,
              exact_index, locate_axis, locate_step_index, stepped, at_every_place,
-             cell_value, cursor_next, device_curve, read_edition_1, surface;
+             cell_value, cursor_next, device_curve, read_edition_1, surface, report;
              or how often the worked examples are run: example
-Fails where there is a difference, or nothing was compared of a kind whose number is not 0.";
+Fails where there is a difference, nothing was compared of a kind whose number is not 0,
+or a refusal stands in no stream.";
 
 fn main() -> ExitCode {
     let plan = match plan(env::args().skip(1)) {
@@ -41,7 +43,12 @@ fn main() -> ExitCode {
     for kind in &not_compared {
         println!("NOTHING COMPARED of {}", kind.name());
     }
-    if report.total().differences == 0 && not_compared.is_empty() {
+    let not_in_streams = report.not_in_streams(&plan);
+    for number in &not_in_streams {
+        println!("NOTHING COMPARED of streams with refusal {number}");
+    }
+    let all_compared = not_compared.is_empty() && not_in_streams.is_empty();
+    if report.total().differences == 0 && all_compared {
         ExitCode::SUCCESS
     } else {
         ExitCode::FAILURE

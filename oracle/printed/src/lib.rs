@@ -27,6 +27,9 @@ pub fn printed(program: &str, input: &[u8]) -> Option<String> {
         "change_examples" => changes::changes(),
         "either_order_examples" => either_order::either_order(),
         "device_curve" => reading::device_text(input),
+        "sheet_report" | "report_empty" | "report_ends_inside" | "report_of_refusals" => {
+            reading::Report::of(input).to_string()
+        }
         "replay" => replay(input),
         _ => return None,
     };

@@ -170,9 +170,32 @@ pub fn build_sheet(
     require(refusal == 0, refusal).map(|()| length)
 }
 
-/// The fields in reading order, each with the faults met there.
+/// The sheet that some bytes are: its fields, and nothing behind them but zero bits to the byte.
 pub fn parse(editions: &[usize], bytes: &[u8]) -> Result<Sheet, Refusal> {
     let mut bits = Bits::new(bytes);
+    let sheet = parse_fields(&mut bits, editions)?;
+    require(bits.remaining() < 8, 14)?;
+    zeros_to_the_byte(&mut bits)?;
+    Ok(sheet)
+}
+
+/// The sheet at the front of a stream and how many bytes it has. Of the tail only the bits to the
+/// byte are its own.
+pub fn parse_front(stream: &[u8]) -> Result<(Sheet, usize), Refusal> {
+    let mut bits = Bits::new(stream);
+    let sheet = parse_fields(&mut bits, &EDITIONS)?;
+    zeros_to_the_byte(&mut bits)?;
+    Ok((sheet, stream.len() - bits.remaining() / 8))
+}
+
+/// 14 for a bit that is not zero.
+fn zeros_to_the_byte(bits: &mut Bits) -> Result<(), Refusal> {
+    let rest = bits.remaining() % 8;
+    require(bits.field(rest)? == 0, 14)
+}
+
+/// The fields in reading order, each with the faults met there.
+fn parse_fields(bits: &mut Bits, editions: &[usize]) -> Result<Sheet, Refusal> {
     let mut sheet = Sheet {
         edition: bits.field(4)? as usize,
         ..Sheet::default()
@@ -182,12 +205,10 @@ pub fn parse(editions: &[usize], bytes: &[u8]) -> Result<Sheet, Refusal> {
     require((1..=4).contains(&axes), 1)?;
     sheet.axes = axes;
     for axis in 0..axes {
-        parse_axis(&mut bits, axis, &mut sheet)?;
+        parse_axis(bits, axis, &mut sheet)?;
     }
     let samples = Shape::checked(axes, &sheet.points)?.samples_length();
     sheet.samples = bits.floats(samples)?;
-    let rest = bits.remaining();
-    require(rest < 8 && bits.field(rest)? == 0, 14)?;
     Ok(sheet)
 }
 

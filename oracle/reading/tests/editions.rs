@@ -1,28 +1,13 @@
 //! The two editions of the packed sheet: where the mode's bits stand, what is refused there and in
 //! which order, and what the reader of edition 1 says.
 
+mod packed;
+
+use packed::{packed, Field, ONE, ZERO};
 use reading::{read, read_edition_1, sheet_tensor, BUFFER, CURVE_SCRATCH, EXTEND, LONGEST_TENSOR};
-
-/// A number and its width in bits.
-type Field = (u64, usize);
-
-const ZERO: Field = (0, 64);
-const ONE: Field = (0x3FF0_0000_0000_0000, 64);
 
 /// What stands in a buffer that nothing was written to.
 const FILL: f64 = 7.25;
-
-/// Fields one after the other, and zero bits to the byte.
-fn packed(fields: &[Field]) -> Vec<u8> {
-    let bits_of = |(number, width): &Field| {
-        let (number, width) = (*number, *width);
-        (0..width).rev().map(move |place| number >> place & 1)
-    };
-    let mut bits: Vec<u64> = fields.iter().flat_map(bits_of).collect();
-    bits.resize(bits.len().next_multiple_of(8), 0);
-    let byte = |bits: &[u64]| bits.iter().fold(0, |byte, bit| byte << 1 | bit) as u8;
-    bits.chunks(8).map(byte).collect()
-}
 
 /// Edition, one axis of two points, its kinds and its mode.
 fn head(edition: u64, kinds: [u64; 2], mode: u64) -> Vec<Field> {

@@ -1,0 +1,31 @@
+-- Streams by computation: no bytes, a sheet that ends too soon, and one that stops the report by its last bit, whatever stands behind it.
+use mathlib.Core.Path.{_≡_, refl}
+use mathlib.Core.Bool.{true, false}
+use mathlib.Core.List.{[], _∷_, _++_}
+use Rattle.rules.specs.Numbers.{any}
+use Rattle.rules.specs.Sizes.{product-below}
+use Rattle.bits.specs.Bits.{bit, field}
+use Rattle.kinds.specs.Kinds.{values-of-kind, end-of-kind, condition-of-kind, periodic-at-one-end}
+use Rattle.kinds.specs.Modes.{mode-of-number}
+use Rattle.kinds.specs.Editions.{unknown-edition, mode-width}
+use Rattle.kinds.specs.Classes.{class}
+use Rattle.sheet.specs.Fields.{points-at, values-at, axis-at, knots-begin, knots-at, axis-end, axis-begin, entries, knots-below, sheet-grid}
+use Rattle.sheet.specs.Faults.{axis-fault, axes-fault, tail-refused, samples-fault, sheet-refusal}
+use Rattle.sheet.proofs.Examples.{first-bytes}
+use Rattle.sheet_build.specs.SheetTensor.{own-refusal}
+use Rattle.sheet_front.specs.Front.{sheet-bytes, front-size}
+use Rattle.totals.specs.Totals.{totals-of, most-sheets}
+use Rattle.report.specs.Report.{sheet-at, front-sheet, stops, stream-of, report-of}
+
+no-bytes : report-of [] ≡ record { totals = totals-of []; stopped = false }
+unfolding stream-of report-of
+no-bytes = refl
+
+ends-inside : stream-of most-sheets (0x12 ∷ []) ≡ record { sheets = record { refusal = 11; size = 0; tensor = [] } ∷ []; stopped = true }
+unfolding any product-below bit field values-of-kind end-of-kind condition-of-kind periodic-at-one-end mode-of-number unknown-edition mode-width class points-at values-at axis-at knots-begin knots-at axis-end axis-begin entries knots-below sheet-grid axis-fault axes-fault tail-refused samples-fault sheet-refusal own-refusal sheet-bytes front-size sheet-at front-sheet stops stream-of
+ends-inside = refl
+
+last-bit-set : stream-of most-sheets (first-bytes ++ (0x01 ∷ 0xFF ∷ 0xFF ∷ []))
+    ≡ record { sheets = record { refusal = 14; size = 51; tensor = [] } ∷ []; stopped = true }
+unfolding any product-below bit field values-of-kind end-of-kind condition-of-kind periodic-at-one-end mode-of-number unknown-edition mode-width class points-at values-at axis-at knots-begin knots-at axis-end axis-begin entries knots-below sheet-grid axis-fault axes-fault tail-refused samples-fault sheet-refusal own-refusal sheet-bytes front-size sheet-at front-sheet stops stream-of
+last-bit-set = refl

@@ -1,0 +1,8 @@
+mod Classes
+mod Fronts
+mod Streams
+pub mod Steps
+pub mod Pieces
+mod Bounds
+mod Unique
+mod Examples

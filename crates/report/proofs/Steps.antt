@@ -1,0 +1,210 @@
+-- What a step and a feeding promise: where they leave the report in its stream.
+use mathlib.Core.Path.{_≡_, refl, sym, ap, _∙_}
+use mathlib.Core.Bool.{Bool, true, false}
+use mathlib.Core.Logic.{⊎-elim}
+use mathlib.Core.List.{List, [], _∷_, _++_, append-nil}
+use Prim.Native.Nat.{ℕ, suc, _+_, _-_, _<_, _≤_}
+use native.Mathlib.Nat.{eq-or-lt-of-le}
+use native.Mathlib.Omega.{arith}
+use lib.Ieee.{Float}
+use lib.ListN.{length, take, drop, length-append, length-drop, drop-of-length-le}
+use lib.Seq.{drop-drop, take-all}
+use Rattle.sheet_build.specs.SheetTensor.{SheetPromise}
+use Rattle.sheet_build.specs.declared.SheetAnswer.{SheetAnswer}
+use Rattle.sheet_front.specs.Front.{front-size, rest-bytes}
+use Rattle.sheet_front.proofs.Tails.{true-not-false}
+use Rattle.totals.specs.Totals.{Sheet, tensor-entries, totals-of, most-sheets}
+use Rattle.totals.specs.Within.{Running, Adds}
+use Rattle.totals.specs.declared.Totals.{Totals}
+use Rattle.totals.specs.declared.Report.{Report}
+use Rattle.totals.proofs.Sheets.{running-none, running-next, sheets-are}
+use Rattle.report.specs.Report.{front-sheet, stops, after, stops-here, stream-of, report-of}
+use Rattle.report.specs.Within.{Stands, Shown, Buffers, Stepped, Fed}
+use Rattle.report.specs.declared.Step.{Step}
+use Rattle.report.proofs.Fronts.{front-some, front-small, front-refusal, front-entries}
+use Rattle.report.proofs.Streams.{stream-end, stream-full, next-stops, next-goes-on, after-after, after-end, after-stop}
+
+-- who has the totals of all its sheets has the report
+reported : (totals : Totals) (input : List ℕ) (sheets : List Sheet) (stopped : Bool) → totals ≡ totals-of sheets
+    → stream-of most-sheets input ≡ record { sheets = sheets; stopped = stopped } → _≡_ {A = Report} (record { totals = totals; stopped = stopped }) (report-of input)
+unfolding report-of
+reported totals input sheets stopped said same = rw (same, said)
+
+-- ---- at the beginning of the input, and at its end
+
+pub stands-none : (totals : Totals) (input : List ℕ) → totals ≡ totals-of [] → Stands totals input input
+stands-none totals input said = record { running = running-none totals said; same = refl }
+
+stands-end : (totals : Totals) (input : List ℕ) → Stands totals [] input → _≡_ {A = Report} (record { totals = totals; stopped = false }) (report-of input)
+stands-end totals input s =
+    let seen = s .running .seen in
+    reported totals input seen false (s .running .said)
+    (s .same ∙ ap (after seen) (stream-end (most-sheets - length seen)) ∙ after-end seen)
+
+-- ---- a step
+
+module _ (totals : Totals) (bytes : List ℕ) (some : 1 ≤ length bytes) where
+  -- as many sheets as a report has
+  pub step-full : totals .sheets ≡ most-sheets → Stepped totals bytes (record { totals = totals; taken = 0; stopped = true })
+  step-full full = record {
+    takes = record {
+      inside = omega arith;
+      running = λ e. absurd (true-not-false e);
+      goes-on = λ e. absurd (true-not-false e);
+      stops = λ e input more shown s.
+          let seen = s .running .seen in
+          let n : most-sheets - length seen ≡ 0 = omega (arith, sheets-are totals seen (s .running .said)) in
+          reported totals input seen true (s .running .said)
+          (s .same ∙ rw (n, stream-full (bytes ++ more) (let long = length-append bytes more in omega arith)) (after-stop seen));
+    };
+    some = λ e. absurd (true-not-false e);
+    counts = λ e. absurd (true-not-false e);
+  }
+
+  -- one sheet more
+  module _ (later : Totals) (adds : Adds totals (front-sheet bytes .refusal) (front-sheet bytes .tensor) later) (room : totals .sheets ≡ most-sheets → ⊥) where
+    abbrev front : Sheet
+    front = front-sheet bytes
+
+    fewer : (run : Running totals) → length (run .seen) < most-sheets
+    fewer run =
+        let n = sheets-are totals (run .seen) (run .said) in
+        ⊎-elim (λ e. absurd (room (n ∙ e))) (λ l. l) (eq-or-lt-of-le (run .few))
+
+    module _ (input more : List ℕ) (shown : Shown (length bytes) more) (s : Stands totals (bytes ++ more) input) where
+      abbrev seen : List Sheet
+      seen = s .running .seen
+
+      abbrev left : ℕ
+      left = most-sheets - length (seen ++ (front ∷ []))
+
+      count : most-sheets - length seen ≡ suc left
+      count = let long = length-append seen (front ∷ []) in let few = fewer (s .running) in omega arith
+
+      next-on : stops (front .refusal) ≡ false → Stands later (rest-bytes bytes ++ more) input
+      next-on e = record {
+        running = running-next totals later front (s .running) adds (fewer (s .running)) (front-small bytes);
+        same =
+            s .same ∙ rw (count, next-goes-on left bytes more some shown e) (after-after seen front (stream-of left (rest-bytes bytes ++ more)));
+      }
+
+      next-off : stops (front .refusal) ≡ true → _≡_ {A = Report} (record { totals = later; stopped = true }) (report-of input)
+      next-off e =
+          reported later input (seen ++ (front ∷ [])) true (adds .adds seen (front .size) (s .running .said))
+          (s .same ∙ rw (count, next-stops left bytes more some shown e) (after-after seen front stops-here ∙ after-stop (seen ++ (front ∷ []))))
+
+    pub step-sheet : (run : Running totals) (size : ℕ) (stopped : Bool) → size ≡ front-size bytes → size ≤ length bytes → stopped ≡ stops (front .refusal)
+        → Stepped totals bytes (record { totals = later; taken = size; stopped = stopped })
+    step-sheet run size stopped e inside q = record {
+      takes = record {
+        inside = inside;
+        running = λ on. running-next totals later front run adds (fewer run) (front-small bytes);
+        goes-on = λ on input more shown s. rw e (next-on input more shown s (sym q ∙ on));
+        stops = λ off input more shown s. next-off input more shown s (sym q ∙ off);
+      };
+      some = λ on. rw e (front-some bytes (sym q ∙ on));
+      counts = λ on. adds .counted;
+    }
+
+-- a step by the answers of its calls: of `tensor_of_sheet` on the front sheet's bytes, and of `with_sheet`
+pub took :
+    (totals later : Totals) (bytes : List ℕ) (knots samples lent scratch : List Float) (long : Buffers knots samples lent scratch) (given : SheetAnswer) (k s t w : List Float)
+    (size : ℕ) (stopped : Bool) → 1 ≤ length bytes → Running totals → (totals .sheets ≡ most-sheets → ⊥) → (e : size ≡ front-size bytes) → size ≤ length bytes
+    → (p : SheetPromise (take (size - 0) bytes) knots samples lent scratch given k s t w)
+    → Adds totals (given .refusal) (tensor-entries (given .axes) (take (given .length - 0) t)) later → stopped ≡ stops (given .refusal)
+    → Stepped totals bytes (record { totals = later; taken = size; stopped = stopped })
+took totals later bytes knots samples lent scratch long given k s t w size stopped some run room e inside p adds q =
+    let refusal = front-refusal bytes knots samples lent scratch long given k s t w size e p in
+    let entries = front-entries bytes knots samples lent scratch long given k s t w size e p in
+    step-sheet totals bytes some later (rw (refusal, entries) at adds) room run size stopped e inside (q ∙ ap stops refusal)
+
+-- ---- a feeding: one step after the other
+
+-- buffers of the same lengths
+pub record Alike (knots₀ samples₀ tensor₀ scratch₀ knots samples tensor scratch : List Float) : Type 0 where
+  pub knots-alike : length knots ≡ length knots₀
+  pub samples-alike : length samples ≡ length samples₀
+  pub tensor-alike : length tensor ≡ length tensor₀
+  pub scratch-alike : length scratch ≡ length scratch₀
+
+pub alike-buffers : (knots₀ samples₀ tensor₀ scratch₀ knots samples tensor scratch : List Float) → Buffers knots₀ samples₀ tensor₀ scratch₀
+    → Alike knots₀ samples₀ tensor₀ scratch₀ knots samples tensor scratch → Buffers knots samples tensor scratch
+alike-buffers knots₀ samples₀ tensor₀ scratch₀ knots samples tensor scratch long alike = record {
+  knots = alike .knots-alike ∙ long .knots;
+  samples = alike .samples-alike ∙ long .samples;
+  tensor = alike .tensor-alike ∙ long .tensor;
+  scratch = omega (arith, alike .scratch-alike, long .scratch);
+}
+
+module _ (first : Totals) (bytes : List ℕ) (least : ℕ) where
+  pub record Turn (totals : Totals) (at : ℕ) : Type 0 where
+    pub most : at ≤ length bytes
+    pub running : Running totals
+    pub rises : first .sheets ≤ totals .sheets
+    pub counts : 0 < at → first .sheets < totals .sheets
+    pub stands : (input more : List ℕ) → Shown least more → Stands first (bytes ++ more) input → Stands totals (drop at bytes ++ more) input
+
+  pub turn-first : Running first → Turn first 0
+  turn-first run = record {
+    most = omega arith;
+    running = run;
+    rises = omega arith;
+    counts = λ l. absurd (omega arith);
+    stands = λ input more shown s. s;
+  }
+
+  module _ (totals : Totals) (at : ℕ) (turn : Turn totals at) (h : least ≤ length bytes - at) where
+    pub turn-part : take (length bytes - at) (drop at bytes) ≡ drop at bytes
+    turn-part = take-all (length bytes - at) (drop at bytes) (let long = length-drop at bytes in omega arith)
+
+    shown-left : (more : List ℕ) → Shown least more → Shown (length (drop at bytes)) more
+    shown-left more shown l = shown (let long = length-drop at bytes in omega arith)
+
+    module _ (step : Step) (stepped : Stepped totals (drop at bytes) step) where
+      pub turn-next : step .stopped ≡ false → Turn (step .totals) (at + step .taken)
+      turn-next on = record {
+        most = let inside = stepped .takes .inside in let long = length-drop at bytes in let most = turn .most in omega arith;
+        running = stepped .takes .running on;
+        rises = let count = stepped .counts on in let before = turn .rises in omega arith;
+        counts = λ l. let count = stepped .counts on in let before = turn .rises in omega arith;
+        stands = λ input more shown s.
+            rw drop-drop at (stepped .takes .goes-on on input more (shown-left more shown) (turn .stands input more shown s));
+      }
+
+      pub turn-stops : step .stopped ≡ true → Fed first bytes least (record { totals = step .totals; taken = at; stopped = true })
+      turn-stops off = record {
+        takes = record {
+          inside = turn .most;
+          running = λ e. absurd (true-not-false e);
+          goes-on = λ e. absurd (true-not-false e);
+          stops = λ e input more shown s. stepped .takes .stops off input more (shown-left more shown) (turn .stands input more shown s);
+        };
+        all = λ e. absurd (true-not-false e);
+        counts = λ e. absurd (true-not-false e);
+      }
+
+  pub turn-last : (totals : Totals) (at : ℕ) → Turn totals at → length bytes - at < least → Fed first bytes least (record { totals = totals; taken = at; stopped = false })
+  turn-last totals at turn l = record {
+    takes = record {
+      inside = turn .most;
+      running = λ e. turn .running;
+      goes-on = λ e. turn .stands;
+      stops = λ e. absurd (true-not-false (sym e));
+    };
+    all = λ e. omega arith;
+    counts = λ e h. turn .counts (omega arith);
+  }
+
+-- ---- the feeding at the end of the input
+
+fed-ends : (totals : Totals) (bytes input : List ℕ) (step : Step) → Fed totals bytes 1 step → Stands totals bytes input → (b : Bool) → step .stopped ≡ b
+    → _≡_ {A = Report} (record { totals = step .totals; stopped = b }) (report-of input)
+fed-ends totals bytes input step fed s true e = fed .takes .stops e input [] (λ l. refl) (rw append-nil s)
+fed-ends totals bytes input step fed s false e =
+    let none : drop (step .taken) bytes ++ [] ≡ [] =
+    rw (drop-of-length-le bytes {i = step .taken} (let all = fed .all e in omega arith), append-nil) in
+    stands-end (step .totals) input (rw none at (fed .takes .goes-on e input [] (λ l. refl) (rw append-nil s)))
+
+pub fed-last : (totals : Totals) (bytes input : List ℕ) (step : Step) → Fed totals bytes 1 step → Stands totals bytes input
+    → _≡_ {A = Report} (record { totals = step .totals; stopped = step .stopped }) (report-of input)
+fed-last totals bytes input step fed s = fed-ends totals bytes input step fed s (step .stopped) refl

@@ -1,0 +1,15 @@
+use native.Mathlib.Omega.{arith}
+use Rattle.totals.proofs.Sheets.{running-none}
+use Rattle.report.proofs.Steps.{stands-none, fed-last}
+use borrow.Author.Needs.{needs}
+use Rattle.report.proofs.report_of_bytes.Statement.{statement}
+use Rattle.report.proofs.report_of_bytes.Tie as tie
+
+feed-requires : tie.Need-feed-requires
+feed-requires c κs = (running-none _ (c .none .ensures), omega arith)
+
+returns : tie.Need-returns
+returns c = record { answer = fed-last _ _ _ _ (c .before .feed .ensures) (stands-none _ _ (c .before .before .none .ensures)) }
+
+pub report-of-bytes-spec : {M : Type 1} → statement M
+report-of-bytes-spec = tie.close (tie.spec (λ c κs. search needs) feed-requires returns)

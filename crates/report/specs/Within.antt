@@ -1,0 +1,50 @@
+-- Where a report stands in its stream, and what a step and a feeding promise.
+use mathlib.Core.Path.{_≡_}
+use mathlib.Core.Bool.{true, false}
+use mathlib.Core.List.{List, [], _++_}
+use Prim.Native.Nat.{ℕ, _+_, _-_, _≤_, _<_}
+use lib.ListN.{length, drop}
+use lib.Ieee.{Float}
+use Rattle.sheet_build.specs.Within.{Enough}
+use Rattle.sheet_front.specs.Front.{enough-bytes}
+use Rattle.totals.specs.Totals.{most-sheets}
+use Rattle.totals.specs.Within.{Running}
+use Rattle.totals.specs.declared.Totals.{Totals}
+use Rattle.totals.specs.declared.Report.{Report}
+use Rattle.report.specs.Report.{after, stream-of, report-of}
+use Rattle.report.specs.declared.Step.{Step}
+
+-- in its input a report has come to `rest`: what it counted are the sheets in front of that
+pub record Stands (totals : Totals) (rest input : List ℕ) : Type 0 where
+  pub running : Running totals
+  pub same : stream-of most-sheets input ≡ after (running .seen) (stream-of (most-sheets - length (running .seen)) rest)
+
+-- n bytes show their front sheet whatever comes behind them: they are enough, or nothing comes
+abbrev pub Shown : ℕ → List ℕ → Type 0
+Shown n more = n < enough-bytes → more ≡ []
+
+-- the four buffers that reading and building a sheet is lent
+abbrev pub Buffers : List Float → List Float → List Float → List Float → Type 0
+Buffers knots samples tensor scratch = Enough (length knots) (length samples) (length tensor) (length scratch)
+
+-- a step or a feeding on some bytes, which may be the front of any rest of any input: the report has then come to what it left of these
+-- bytes, or it stops and has the report of that input. It may look at n bytes
+pub record Takes (totals : Totals) (bytes : List ℕ) (n : ℕ) (step : Step) : Type 0 where
+  pub inside : step .taken ≤ length bytes
+  pub running : step .stopped ≡ false → Running (step .totals)
+  pub goes-on : step .stopped ≡ false → (input more : List ℕ) → Shown n more → Stands totals (bytes ++ more) input
+      → Stands (step .totals) (drop (step .taken) bytes ++ more) input
+  pub stops : step .stopped ≡ true → (input more : List ℕ) → Shown n more → Stands totals (bytes ++ more) input
+      → _≡_ {A = Report} (record { totals = step .totals; stopped = true }) (report-of input)
+
+-- one sheet was taken
+pub record Stepped (totals : Totals) (bytes : List ℕ) (step : Step) : Type 0 where
+  pub takes : Takes totals bytes (length bytes) step
+  pub some : step .stopped ≡ false → 1 ≤ step .taken
+  pub counts : step .stopped ≡ false → step .totals .sheets ≡ totals .sheets + 1
+
+-- a feeding, which ends where fewer bytes are left than it is to have at least
+pub record Fed (totals : Totals) (bytes : List ℕ) (least : ℕ) (step : Step) : Type 0 where
+  pub takes : Takes totals bytes least step
+  pub all : step .stopped ≡ false → length bytes < step .taken + least
+  pub counts : step .stopped ≡ false → least ≤ length bytes → totals .sheets < step .totals .sheets

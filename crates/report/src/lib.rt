@@ -1,0 +1,135 @@
+// The report over a stream of sheets: each sheet read and built, and what it holds counted.
+ghost use mathlib.Core.Path.{_≡_};
+ghost use Prim.Native.Nat.{_≤_};
+ghost use lib.ListN.{length};
+ghost use Rattle.totals.specs.Within.{Running};
+ghost use Rattle.report.specs.Report.{stops, ReportPromise};
+ghost use Rattle.report.specs.Within.{Buffers, Stepped, Fed};
+use kinds::classes::Class;
+use kinds::classes::class_of;
+use sheet_build::tensor_of_sheet;
+use sheet_front::size_of_front;
+use totals::Report;
+use totals::Totals;
+use totals::none;
+use totals::with_sheet;
+
+// Where a report has come to: its totals, the number of bytes that it took, and whether it ends before the input does.
+pub struct Step {
+    pub totals: Totals,
+    pub taken: usize,
+    pub stopped: bool,
+}
+
+// Whether a report stops in a sheet of this refusal: where the sheet was not read.
+fn is_last(refusal: usize) -> bool
+    ensures { λ r. ⌜ r ≡ stops refusal ⌝ }
+{
+    match class_of(refusal) {
+        Class::Reading => true,
+        Class::None | Class::Building | Class::Writing | Class::Unknown => false,
+    }
+}
+
+// One step: the front sheet is read, built and counted. Not public: it requires totals of some stream, a byte at least, and the four buffers.
+fn take_sheet(
+    totals: Totals,
+    bytes: &[u8],
+    knots: &mut [f64],
+    samples: &mut [f64],
+    tensor: &mut [f64],
+    scratch: &mut [f64],
+) -> Step
+    requires { ⌜ Running totals × (1 ≤ length (now bytes)) × Buffers (now knots) (now samples) (now tensor) (now scratch) ⌝ }
+    ensures { λ r. ⌜ Stepped totals (now (bytes .entry)) r ⌝ }
+{
+    if totals.sheets == 1000000 {
+        return Step {
+            totals,
+            taken: 0,
+            stopped: true,
+        };
+    }
+    let size = size_of_front(bytes);
+    let sheet = tensor_of_sheet(&bytes[0..size], knots, samples, tensor, scratch);
+    let refusal = sheet.refusal;
+    let length = sheet.length;
+    let counted = with_sheet(totals, refusal, sheet.axes, &tensor[0..length]);
+    Step {
+        totals: counted,
+        taken: size,
+        stopped: is_last(refusal),
+    }
+}
+
+// Step after step, until fewer than `least` bytes are left or the report stops. Not public, as the step is not.
+fn take_sheets(
+    totals: Totals,
+    bytes: &[u8],
+    least: usize,
+    knots: &mut [f64],
+    samples: &mut [f64],
+    tensor: &mut [f64],
+    scratch: &mut [f64],
+) -> Step
+    requires { ⌜ Running totals × (1 ≤ least) × Buffers (now knots) (now samples) (now tensor) (now scratch) ⌝ }
+    ensures { λ r. ⌜ Fed totals (now (bytes .entry)) least r ⌝ }
+{
+    let mut sum = totals;
+    let mut at = 0;
+    while least <= bytes.len() - at {
+        let next = take_sheet(sum, &bytes[at..], knots, samples, tensor, scratch);
+        let so_far = next.totals;
+        let stopped = next.stopped;
+        let taken = next.taken;
+        if stopped {
+            return Step {
+                totals: so_far,
+                taken: at,
+                stopped: true,
+            };
+        }
+        sum = so_far;
+        at += taken;
+    }
+    Step {
+        totals: sum,
+        taken: at,
+        stopped: false,
+    }
+}
+
+// The same with the buffers on the stack, for a program that reads a stream in pieces. No public call: totals of some stream are required.
+// Before the input's end `least` is to be 65,536, since so many bytes show a sheet whatever follows them; at its end 1.
+pub fn feed(totals: Totals, bytes: &[u8], least: usize) -> Step
+    requires { ⌜ Running totals × (1 ≤ least) ⌝ }
+    ensures { λ r. ⌜ Fed totals (now (bytes .entry)) least r ⌝ }
+{
+    let mut knots = [0.0; 1024];
+    let mut samples = [0.0; 1024];
+    let mut tensor = [0.0; 4096];
+    let mut scratch = [0.0; 6144];
+    take_sheets(
+        totals,
+        bytes,
+        least,
+        &mut knots,
+        &mut samples,
+        &mut tensor,
+        &mut scratch,
+    )
+}
+
+// PUBLIC. The report of a stream of sheets that is all in memory: the totals of its sheets up to its end, or up to the sheet in which it
+// stops, that one counted too. It stops in a sheet that is refused by 1, 2, 3, 11, 12, 13, 14 or 22, and at bytes behind 1,000,000
+// sheets; sheets that are refused by 7, 8, 9 or 10 are passed over. It refuses nothing.
+pub fn report_of_bytes(bytes: &[u8]) -> Report
+    ensures { λ r. ⌜ ReportPromise (now (bytes .entry)) r ⌝ }
+{
+    let last = feed(none(), bytes, 1);
+    let totals = last.totals;
+    Report {
+        totals,
+        stopped: last.stopped,
+    }
+}

@@ -1,0 +1,3 @@
+mod Agree
+pub mod Tails
+pub mod Cuts
