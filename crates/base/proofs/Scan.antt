@@ -37,6 +37,15 @@ module _ (test : ℕ → Bool) where
   unfolding any
   any-more i before here = rw add-one (none-of-two (any test i) (test i) before here)
 
+  -- one turn further, with a flag that is kept
+  pub any-kept : (i : ℕ) (found here : Bool) → found ≡ any test i → here ≡ test i → (found || here) ≡ any test (i + 1)
+  unfolding any
+  any-kept i found here before now-here = rw (before, now-here, add-one)
+
+  -- the loop ends, the flag says what was found
+  pub any-whole : (i n : ℕ) (found : Bool) → found ≡ any test i → i ≡ n → found ≡ any test n
+  any-whole i n found so-far e = subst (λ (k : ℕ). found ≡ any test k) e so-far
+
   -- found at i
   pub any-found : (i n : ℕ) → i < n → test i ≡ true → any test n ≡ true
   unfolding any
