@@ -15,18 +15,17 @@ pub fn is_finite(x: f64) -> bool
     if x < infinity { -infinity < x } else { false }
 }
 
-// Whether an infinity or NaN is among the numbers.
+// Whether an infinity or NaN is among the numbers. The flag is kept to the last of them, so the compiler looks at several at a time.
 pub fn any_not_finite(s: &[f64]) -> bool
     ensures { λ r. ⌜ r ≡ some-number-refused (now (s .entry)) ⌝ }
 {
+    let mut found = false;
     let mut i = 0;
     while i < s.len() {
-        if !is_finite(s[i]) {
-            return true;
-        }
+        found = found | !is_finite(s[i]);
         i += 1;
     }
-    false
+    found
 }
 
 // Every number becomes +0.0.
