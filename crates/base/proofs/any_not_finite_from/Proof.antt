@@ -4,19 +4,19 @@ use native.Mathlib.Omega.{arith}
 use lib.ListN.{length}
 use Rattle.rules.specs.Numbers.{at, any}
 use Rattle.rules.specs.Refusals.{number-refused}
-use Rattle.base.proofs.Scan.{any-none, any-next}
+use Rattle.base.proofs.Scan.{any-next}
 use borrow.Author.Needs.{needs}
-use Rattle.base.proofs.any_not_finite.Statement.{statement}
-use Rattle.base.proofs.any_not_finite.Tie as tie
+use Rattle.base.proofs.any_not_finite_from.Statement.{statement}
+use Rattle.base.proofs.any_not_finite_from.Tie as tie
 
 abbrev Inv-loop : tie.InvT-loop
-Inv-loop s found₀ i₀ found i = (i ≤ length s) × (found ≡ any (λ k. number-refused (at s k)) i)
+Inv-loop s first found₀ i₀ found i = (i ≤ length s) × (found ≡ any (λ k. number-refused (at s k)) i)
 
 abbrev μ-loop : tie.MeasureT-loop
-μ-loop s found₀ i₀ found i = length s - i
+μ-loop s first found₀ i₀ found i = length s - i
 
 loop-holds : tie.Need-loop-holds Inv-loop μ-loop
-loop-holds c = (search needs, sym (any-none _))
+loop-holds c = (search needs, sym (c .before .pre .1))
 
 loop-again : tie.Need-loop-again Inv-loop μ-loop
 loop-again c = (search needs, rw (any-next, ← c .before .before .before .loop .inv .1, ← c .is-finite .ensures))
@@ -26,8 +26,8 @@ returns c =
     let e : c .before .loop .i ≡ length (c .before .before .before .args .s .now) = omega arith in
     c .before .loop .inv .1 ∙ ap (any _) e
 
-pub any-not-finite-spec : {M : Type 1} → statement M
-any-not-finite-spec =
+pub any-not-finite-from-spec : {M : Type 1} → statement M
+any-not-finite-from-spec =
     tie.close
     (tie.spec
     Inv-loop
