@@ -17,8 +17,8 @@ pub fn is_finite(x: f64) -> bool
     if x < infinity { -infinity < x } else { false }
 }
 
-// Whether a difference of four numbers, one of each quarter, is an infinity or NaN; where none is, neither is a number. All are looked at,
-// so the compiler takes several at a time. Not public: that the quarters lie in the slice is required.
+// Whether a difference of four numbers, one of each quarter, is an infinity or NaN; where none is, neither is a number. The flag is kept
+// to the last of them, so the compiler looks at several at a time. Not public: that the quarters lie in the slice is required.
 fn any_difference_not_finite(s: &[f64], quarter: usize) -> bool
     requires { ⌜ 4 * quarter ≤ length (now s) ⌝ }
     ensures { λ r. ⌜ r ≡ any (λ k. number-refused (difference-of-four (now (s .entry)) quarter k)) quarter ⌝ }
@@ -45,22 +45,30 @@ fn finite_in_front(s: &[f64]) -> usize
     4 * quarter
 }
 
-// Whether an infinity or NaN is among the numbers, where none is among the first of them.
+// Whether an infinity or NaN is among the numbers. Not public: that none is among the first of them is required.
 fn any_not_finite_from(s: &[f64], first: usize) -> bool
     requires { ⌜ (first ≤ length (now s)) × (any (λ k. number-refused (at (now s) k)) first ≡ false) ⌝ }
     ensures { λ r. ⌜ r ≡ some-number-refused (now (s .entry)) ⌝ }
 {
-    let mut found = false;
     let mut i = first;
     while i < s.len() {
-        found = found | !is_finite(s[i]);
+        if !is_finite(s[i]) {
+            return true;
+        }
         i += 1;
     }
-    found
+    false
 }
 
 // Whether an infinity or NaN is among the numbers.
 pub fn any_not_finite(s: &[f64]) -> bool
+    ensures { λ r. ⌜ r ≡ some-number-refused (now (s .entry)) ⌝ }
+{
+    any_not_finite_from(s, 0)
+}
+
+// The same of many numbers, where a difference for each four of them costs less than a look at each.
+pub fn any_of_many_not_finite(s: &[f64]) -> bool
     ensures { λ r. ⌜ r ≡ some-number-refused (now (s .entry)) ⌝ }
 {
     any_not_finite_from(s, finite_in_front(s))
