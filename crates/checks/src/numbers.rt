@@ -94,7 +94,7 @@ pub fn build_refused(
     if grid_refused(axes, all, knots_refused, knots) {
         return true;
     }
-    base::any_not_finite(samples)
+    base::any_of_many_not_finite(samples)
 }
 
 // Whether an infinity or NaN is among the knots and the ends of a grid, is the new sample, or is in the tensor. Not public, as above.
@@ -115,5 +115,5 @@ pub fn change_refused(
     if number_refused(sample) {
         return true;
     }
-    base::any_not_finite(tensor)
+    base::any_of_many_not_finite(tensor)
 }

@@ -1,3 +1,4 @@
 pub mod Starts
 pub mod Agreement
 pub mod Axes
+pub mod Cursors

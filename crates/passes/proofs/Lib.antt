@@ -1,6 +1,6 @@
 pub mod Pass
 pub mod Refresh
 pub mod Count
-pub mod PassTurns
+pub mod WalkTurns
 pub mod MaskTurns
 pub mod AxisTurns

@@ -1,4 +1,4 @@
--- One lane after another: what a pass leaves in the working tensor, on plain lists.
+-- What a pass is given, where the lanes of its walk stand in the working tensor, and what it leaves there.
 use native.Mathlib.Omega.{arith}
 use native.Mathlib.Nat.{add-mul, mul-assoc, mul-pos, mul-le-mul, le-trans, le-refl, le-mul-of-pos-right, pow-le-pow-right, lt-of-lt-of-le, two-pow-succ, eq-or-lt-of-le}
 use mathlib.Core.Path.{_≡_, refl, sym, ap, ap₂, _∙_, subst}
@@ -29,11 +29,15 @@ use Rattle.rules.proofs.Tables.{table-ext}
 use Rattle.rules.proofs.Places.{One, moved-on, moved-off, moved-on-grid, moved-own, flat-below, flat-ext, flat-one}
 use Rattle.grid.proofs.Strides.{stride-some, stride-along, stride-fits}
 use Rattle.grid.proofs.Products.{sum-within}
-use Rattle.lanes.specs.Lanes.{Lies, LaneGiven, LaneSolved}
+use Rattle.lanes.specs.Lanes.{Lies, LaneGiven}
 use Rattle.lane_starts.specs.Starts.{free, varies, lane-points, lane-place}
 use Rattle.grid.specs.Given.{SizesGiven, On}
 use Rattle.lane_starts.proofs.Starts.{across, lane-number, number-below, start-on-grid, number-of-start, start-of-number}
 use Rattle.lane_starts.proofs.Agreement.{agree-at, agree-all, varies-own, varies-other, varies-not-own, free-own}
+use Rattle.lane_starts.specs.Walks.{lane-start, LanesGiven, Walks}
+use Rattle.lane_starts.specs.declared.Walk.{Walk}
+use Rattle.lane_starts.proofs.Axes.{lanes-most}
+use Rattle.passes.specs.Walked.{number-place, slope-place, WalkGiven, WalkSolved}
 use Rattle.passes.specs.Passes.{solves, lanes-solved, working, WorkGiven, PassGiven, Passed}
 
 -- two numbers of two digits each that are equal have the same digits
@@ -81,17 +85,6 @@ knots-are {g} i from n given in-use from-is n-is =
 -- the number of the lane that a place lies on
 abbrev pub number-in : Grid → Bool → ℕ → ℕ → Place → ℕ
 number-in g whole i mask p = lane-number (points g) (varies whole (mask + 2 ^ i) i) (g .axes) p
-
--- the lanes below t are solved
-pub record Turn (g : Grid) (whole : Bool) (place : Place) (i mask : ℕ) (w₀ w : List Float) (t : ℕ) : Type 0 where
-  pub given : PassGiven g w₀ place i mask
-  pub most : t ≤ lanes-solved (points g) (g .axes) whole i mask
-  pub same-length : length w ≡ length w₀
-  pub slopes : (p : Place) → On g p → solves g whole place (mask + 2 ^ i) p ≡ true → number-in g whole i mask p < t
-      → working g w p (mask + 2 ^ i) ≡ slope-along g i mask (λ q. working g w₀ q mask) p
-  pub kept : (p : Place) (m : ℕ) → On g p → m < masks g
-      → (m ≡ mask + 2 ^ i → solves g whole place (mask + 2 ^ i) p ≡ true → number-in g whole i mask p < t → ⊥)
-      → working g w p m ≡ working g w₀ p m
 
 module _ (g : Grid) (whole : Bool) (place : Place) (i mask : ℕ) (w₀ : List Float) (pass : PassGiven g w₀ place i mask) where
   in-use : i < g .axes
@@ -192,6 +185,19 @@ module _ (g : Grid) (whole : Bool) (place : Place) (i mask : ℕ) (w₀ : List F
   pub begin-fits : (t : ℕ) → begin t * masks g + target < 4096
   begin-fits t = lt-of-lt-of-le (digits-lt (flat-below n d (start t) (start-on t)) (target-below i mask d in-use low)) (pass .given .small)
 
+  pub lanes-given : LanesGiven d n place i mask
+  lanes-given = record {
+    in-range = pass .given .in-range;
+    small = sizes-given (pass .given) .small;
+    on-the-grid = pass .on-the-grid;
+    in-use = in-use;
+    of-the-grid = omega (arith, target-below i mask d in-use low);
+  }
+
+  lanes-few : lanes-solved n d whole i mask ≤ 4096
+  unfolding lanes-solved
+  lanes-few = le-trans (lanes-most n vary d some) (sizes-given (pass .given) .small)
+
   few-masks : masks g ≤ 16
   few-masks = pow-le-pow-right (lit< tt) {i = d} {j = 4} (pass .given .in-range .few-axes)
 
@@ -252,65 +258,96 @@ module _ (g : Grid) (whole : Bool) (place : Place) (i mask : ℕ) (w₀ : List F
           one j l ∙ moved-off (start t) i k j other
           ∙ start-fixed t j (varies-other whole target i j other ∙ off) ∙ moved-off place i 0 j other)
 
-  -- ---- the turns
+  -- ---- the walk of the pass
 
-  pub turn-first : Turn g whole place i mask w₀ w₀ 0
-  turn-first = record {
-    given = pass;
-    most = omega arith;
-    same-length = refl;
-    slopes = λ p on e lt. absurd (omega arith);
-    kept = λ p m on small h. refl;
-  }
+  module _ (walk : Walk) (walks : Walks n d vary fixed mask walk) where
+    all-lanes : walk .lanes ≡ lanes-solved n d whole i mask
+    unfolding lanes-solved
+    all-lanes = walks .lanes-are
 
+    -- a lane's numbers and slopes stand where the walk has them
+    number-stands : (t k : ℕ) → t < walk .lanes → 2048 + (begin t * masks g + mask) + k * step ≡ number-place walk step t k
+    number-stands t k less = omega (arith, walks .starts t less)
+
+    slope-stands : (t k : ℕ) → t < walk .lanes → 2048 + (begin t * masks g + target) + k * step ≡ slope-place walk (2 ^ i) step t k
+    slope-stands t k less = omega (arith, walks .starts t less)
+
+    slope-of-lane :
+        (t u k j : ℕ) → t < walk .lanes → u < walk .lanes → k < points g i → j < points g i → (m : ℕ) → m < masks g
+        → 2048 + (begin t * masks g + m) + k * step ≡ slope-place walk (2 ^ i) step u j
+        → (m ≡ target) × (number-of (moved (start t) i k) ≡ u)
+    slope-of-lane t u k j less less′ below below′ m small e =
+        let found =
+        of-lane (moved (start t) i k) m u j (moved-on-grid n d i k (start t) (start-on t) below) small (omega (arith, all-lanes)) below′
+        (moved-stands (start t) (begin t) k m (start-begins t) ∙ e ∙ sym (slope-stands u j less′)) in
+        (found .0, found .2)
+
+    pub walk-given :
+        (x : List Float) → length x ≡ points g i → WalkGiven w₀ x (condition-at mask (condition g i)) walk (2 ^ i) step
+    walk-given x x-long =
+        let top = target-below i mask d in-use low in
+        record {
+          some-inner = walks .some-inner;
+          some-middle = walks .some-middle;
+          small = walks .small;
+          few = omega (arith, all-lanes, lanes-few);
+          inside = λ t less. omega (arith, walks .starts t less, begin-fits t);
+          lane = λ w long t less.
+              let from : 2048 + lane-start walk t ≡ 2048 + (begin t * masks g + mask) = omega (arith, walks .starts t less) in
+              let to : 2048 + lane-start walk t + 2 ^ i ≡ 2048 + (begin t * masks g + target) = omega (arith, walks .starts t less) in
+              rw (to, from) (lane-given w x t long x-long);
+          own = λ t u k j less less′ below below′ e.
+              sym (slope-of-lane t t k k less less (omega arith) (omega arith) target top (slope-stands t k less) .1)
+              ∙ slope-of-lane t u k j less less′ (omega arith) (omega arith) target top (slope-stands t k less ∙ e) .1;
+          apart = λ t u k j less less′ below below′ e.
+              let same : mask ≡ target = slope-of-lane t u k j less less′ (omega arith) (omega arith) mask (omega arith) (number-stands t k less ∙ e) .0 in
+              omega (arith, pow-pos i);
+        }
+
+    -- the walk solved is the pass done
+    module _
+        (w′ x : List Float) (x-is : x ≡ knots g i) (x-long : length x ≡ points g i)
+        (solved : WalkSolved w₀ w′ x (condition-at mask (condition g i)) walk (2 ^ i) step (walk .lanes))
+      where
+        here : (p : Place) → On g p → solves g whole place target p ≡ true → working g w′ p target ≡ slope-along g i mask (λ q. working g w₀ q mask) p
+        unfolding slope-along
+        here p on e =
+            let less : number-of p < walk .lanes = rw (walks .lanes-are) (number-below n vary d p on) in
+            let f : flat n d (moved p i 0) ≡ begin (number-of p) = begins-at p on e in
+            ap (at w′) (own-stands p (begin (number-of p)) target f ∙ slope-stands (number-of p) (p i) less)
+            ∙ solved .slopes (number-of p) less (p i) (omega (arith, on i in-use, x-long))
+            ∙ rw (x-long, x-is)
+            (ap (λ (y : List Float). lane-slope (knots g i) (points g i - 1) (condition-at mask (condition g i)) y (p i))
+            (table-ext (points g i) _ _ (λ k h.
+            ap (at w₀) (sym (number-stands (number-of p) k less) ∙ sym (moved-stands p (begin (number-of p)) k mask f)))))
+
+        pub passed : Passed g w₀ w′ whole place i mask
+        passed = record {
+          same-length = solved .same-length;
+          slopes = here;
+          kept = λ p m on small left.
+              solved .kept (2048 + spot g p m) (omega arith) (λ t less k below e.
+              let found = of-lane p m t k on small (omega (arith, all-lanes)) (omega (arith, x-long)) (e ∙ sym (slope-stands t k less)) in
+              not-both (solves g whole place target p) (found .1) (left (found .0)));
+        }
+
+  -- the same in the numbers that `solve_lanes` computes
   module _
-      (w w′ x : List Float) (t : ℕ) (turn : Turn g whole place i mask w₀ w t) (lt : t < lanes-solved n d whole i mask)
-      (x-is : x ≡ knots g i) (x-long : length x ≡ points g i)
-      (solved : LaneSolved w w′ x (condition-at mask (condition g i)) (2048 + (begin t * masks g + mask)) (2048 + (begin t * masks g + target)) step)
+      (x : List Float) (ends : Condition) (bit steps : ℕ) (walk : Walk) (x-is : x ≡ knots g i) (knots-long : length (knots g i) ≡ points g i)
+      (ends-are : ends ≡ condition-at mask (condition g i)) (bit-is : bit ≡ 2 ^ i) (steps-are : steps ≡ step)
+      (walks : Walks n d (varies whole (mask + bit) i) fixed mask walk)
     where
-      -- a number that no slope of lane t takes the place of
-      other : (p : Place) (m : ℕ) → On g p → m < masks g → (m ≡ target → solves g whole place target p ≡ true → number-of p ≡ t → ⊥)
-          → working g w′ p m ≡ working g w p m
-      other p m on small not-here =
-          solved .kept (2048 + spot g p m) (omega arith) (λ k h e.
-          let here = of-lane p m t k on small lt (omega (arith, x-long)) e in
-          not-here (here .0) (here .1) (here .2))
+      walks-target : Walks n d vary fixed mask walk
+      walks-target = rw bit-is at walks
 
-      here : (p : Place) → On g p → solves g whole place target p ≡ true → number-of p ≡ t
-          → working g w′ p target ≡ slope-along g i mask (λ q. working g w₀ q mask) p
-      unfolding slope-along
-      here p on e is =
-          let f : flat n d (moved p i 0) ≡ begin t = begins-at p on e ∙ ap begin is in
-          ap (at w′) (own-stands p (begin t) target f)
-          ∙ solved .slopes (p i) (omega (arith, on i in-use, x-long))
-          ∙ rw (x-long, x-is)
-          (ap (λ (y : List Float). lane-slope (knots g i) (points g i - 1) (condition-at mask (condition g i)) y (p i))
-          (table-ext (points g i) _ _ (λ k h.
-          ap (at w) (sym (moved-stands p (begin t) k mask f))
-          ∙ turn .kept (moved p i k) mask (moved-on-grid n d i k p on h) (omega (arith, target-below i mask d in-use low))
-          (λ same. absurd (omega (arith, pow-pos i))))))
+      x-long : length x ≡ points g i
+      x-long = ap length x-is ∙ knots-long
 
-      pub turn-next : Turn g whole place i mask w₀ w′ (t + 1)
-      turn-next = record {
-        given = pass;
-        most = omega arith;
-        same-length = solved .same-length ∙ turn .same-length;
-        slopes = λ p on e less. ⊎-elim
-            (λ is. here p on e is)
-            (λ before.
-            other p target on (target-below i mask d in-use low) (λ a b c. absurd (omega arith))
-            ∙ turn .slopes p on e before)
-            (eq-or-lt-of-le (let l : number-of p ≤ t = omega arith in l));
-        kept = λ p m on small h.
-            other p m on small (λ a b c. h a b (omega arith))
-            ∙ turn .kept p m on small (λ a b c. h a b (omega arith));
-      }
+      pub solve-given : WalkGiven w₀ x ends walk bit steps
+      solve-given = rw (ends-are, bit-is, steps-are) (walk-given walk walks-target x x-long)
 
-  pub turn-last : (w : List Float) (t : ℕ) → Turn g whole place i mask w₀ w t → lanes-solved n d whole i mask ≤ t → Passed g w₀ w whole place i mask
-  unfolding lanes-solved
-  turn-last w t turn ge = record {
-    same-length = turn .same-length;
-    slopes = λ p on e. turn .slopes p on e (lt-of-lt-of-le (number-below n vary d p on) ge);
-    kept = λ p m on small h.
-        turn .kept p m on small (λ a b c. not-both (solves g whole place target p) b (h a));
-  }
+      pub solve-done :
+          (w′ : List Float) → WalkSolved w₀ w′ x ends walk bit steps (walk .lanes)
+          → Passed g w₀ w′ whole place i mask × (walk .lanes ≡ lanes-solved n d whole i mask)
+      solve-done w′ solved =
+          (passed walk walks-target w′ x x-is x-long (rw (ends-are, bit-is, steps-are) at solved), all-lanes walk walks-target)

@@ -5,12 +5,15 @@ ghost use Prim.Native.Nat.{_^_};
 ghost use Rattle.rules.specs.Ends.{condition-at};
 ghost use Rattle.rules.specs.Sizes.{place-of};
 ghost use Rattle.grid.specs.Given.{grid, points-of, On};
+ghost use Rattle.passes.specs.Walked.{WalkGiven, WalkSolved};
 ghost use Rattle.passes.specs.Passes.{lanes-solved, lanes-on-axis, lanes-solved-below, PassGiven, WorkGiven, Passed, AxisPassed, Refreshed};
 use grid::knots_before;
 use grid::masks;
 use grid::stride;
-use lane_starts::lane_count;
-use lane_starts::lane_start;
+use lane_starts::Walk;
+use lane_starts::walk_over;
+use lane_starts::walking::first;
+use lane_starts::walking::next;
 use lanes::solve_lane;
 use rules::Axis;
 use rules::Condition;
@@ -24,6 +27,20 @@ fn condition_at(mask: usize, condition: Condition) -> Condition
         condition
     } else {
         condition.crossed()
+    }
+}
+
+// All lanes of a walk are solved, one after the other: the numbers of each stand where it starts, its slopes go `to` further on.
+fn solve_walk(w: &mut [f64], x: &[f64], condition: Condition, walk: Walk, to: usize, step: usize)
+    requires { ⌜ WalkGiven (now w) (now x) condition walk to step ⌝ }
+    ensures { λ _. ⌜ WalkSolved (now (w .entry)) (now (w .exit)) (now (x .entry)) condition walk to step (walk .lanes) ⌝ }
+{
+    let mut cursor = first(walk);
+    while cursor.lane < walk.lanes {
+        let from = TENSOR + cursor.at;
+        solve_lane(w, x, condition, from, from + to, step);
+        let after = next(cursor, walk);
+        cursor = after;
     }
 }
 
@@ -43,28 +60,15 @@ fn solve_lanes(
 {
     let entry = all[axis];
     let n = entry.points;
-    let first = knots_before(all, axis);
-    let x = &knots[first..first + n];
+    let begin = knots_before(all, axis);
+    let x = &knots[begin..begin + n];
     let ends = entry.condition;
     let condition = condition_at(mask, ends);
-    let all_masks = masks(axes);
-    let target = mask + masks(axis);
-    let step = stride(axes, all, axis) * all_masks;
-    let lanes = lane_count(axes, all, whole, target, axis);
-    let mut t = 0;
-    while t < lanes {
-        let start = lane_start(axes, all, place, whole, target, axis, t) * all_masks;
-        solve_lane(
-            w,
-            x,
-            condition,
-            TENSOR + (start + mask),
-            TENSOR + (start + target),
-            step,
-        );
-        t += 1;
-    }
-    t
+    let bit = masks(axis);
+    let step = stride(axes, all, axis) * masks(axes);
+    let walk = walk_over(axes, all, place, whole, mask + bit, axis, mask);
+    solve_walk(w, x, condition, walk, bit, step);
+    walk.lanes
 }
 
 // The passes along an axis, of each mask of the axes below it. It answers how many lanes they solved.
