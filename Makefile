@@ -50,7 +50,8 @@ oracle-test:
 archive:
 	rt staticlib host
 
-# Measures the exported calls beside the Rust's functions and prints the tables of docs/BENCH.md; wants valgrind.
+# Measures the exported calls beside the Rust's functions, and beside the limit where the folder of its C is at hand (LIMIT_SRC, by default
+# ../shared/limit), and prints the tables of docs/BENCH.md; wants valgrind.
 bench: archive
 	cd oracle && cargo run --offline --release -p bench
 
