@@ -66,7 +66,7 @@ pub fn lines(inputs: &Inputs) -> Vec<Line<'_>> {
     lines
 }
 
-fn builds(inputs: &Inputs) -> [Line<'_>; 4] {
+fn builds(inputs: &Inputs) -> [Line<'_>; 5] {
     let line = |name, surface| Line {
         name,
         held_against: THE_RUST,
@@ -75,6 +75,7 @@ fn builds(inputs: &Inputs) -> [Line<'_>; 4] {
     };
     [
         line("build, 16×16 natural", &inputs.two_axes),
+        line("build, 16×16 periodic", &inputs.two_axes_periodic),
         line("build, 6×6×6 not-a-knot", &inputs.three_axes),
         line("build, 4×4×4×4 natural", &inputs.four_axes),
         line("build, one axis of 256 natural", &inputs.line_of_256),
