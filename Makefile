@@ -58,8 +58,8 @@ oracle-test:
 archive:
 	rt staticlib host
 
-# Measures the exported calls beside the Rust's functions, and the report on long streams, and prints the tables of docs/BENCH.md; wants
-# valgrind.
+# Measures the exported calls beside the Rust's functions, and beside the limit where the folder of its C is at hand (LIMIT_SRC, by default
+# ../shared/limit), and the report on long streams; prints the tables of docs/BENCH.md; wants valgrind.
 bench: archive
 	cd oracle && cargo run --offline --release -p bench
 	rt check sheet_report

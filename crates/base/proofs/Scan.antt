@@ -5,8 +5,9 @@ use mathlib.Core.Logic.{⊎-elim}
 use Prim.Native.Nat.{ℕ, zero, suc, _+_, _<_}
 use native.Mathlib.Nat.{not-suc-le-zero, le-of-suc-le-suc, eq-or-lt-of-le}
 use native.Mathlib.Numerals.{add-one}
-use native.Mathlib.Omega.{arith}
 use Rattle.rules.specs.Numbers.{any}
+-- the test fails at each index: nothing is found
+pub use Rattle.rules.proofs.Cases.{any-never}
 
 -- ---- one test or the other
 
@@ -63,10 +64,3 @@ module _ (test : ℕ → Bool) where
       ⊎-elim (λ e. subst (λ (k : ℕ). test k ≡ false) (sym e) (neither (any test n) (test n) none .1))
       (λ lt. any-at n (neither (any test n) (test n) none .0) i lt)
       (eq-or-lt-of-le (le-of-suc-le-suc l))
-
-  -- the test fails at each index: nothing is found
-  pub any-never : (n : ℕ) → ((i : ℕ) → i < n → test i ≡ false) → any test n ≡ false
-  unfolding any
-  any-never zero fails = refl
-  any-never (suc n) fails =
-      none-of-two (any test n) (test n) (any-never n (λ i l. fails i (omega arith))) (fails n (omega arith))

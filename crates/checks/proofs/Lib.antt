@@ -3,3 +3,4 @@ pub mod Points
 pub mod ThenOutcome
 pub mod Accepted
 pub mod FiniteKnots
+pub mod RisingKnots

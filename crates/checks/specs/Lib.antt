@@ -1,3 +1,4 @@
 pub mod Given
 pub mod Tables
 pub mod Check
+pub mod Rising

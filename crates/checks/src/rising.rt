@@ -1,13 +1,15 @@
 // Refusal 8.
 ghost use mathlib.Core.Path.{_≡_};
 ghost use mathlib.Core.Bool.{not, _||_};
+ghost use Prim.Native.Nat.{_-_, _≤_};
 ghost use lib.ListN.{length};
 ghost use lib.Ieee.{lt};
 ghost use lib.Ieee.Scale.{finite};
-ghost use Rattle.rules.specs.Numbers.{_⊖_};
+ghost use Rattle.rules.specs.Numbers.{_⊖_, any};
 ghost use Rattle.rules.specs.Sizes.{place-of, sum-below, knots-length};
 ghost use Rattle.rules.specs.Refusals.{knots-refused, some-knots-refused};
 ghost use Rattle.grid.specs.Given.{grid, sizes-of, points-of, InRange};
+ghost use Rattle.checks.specs.Rising.{not-rising};
 ghost use Rattle.checks.specs.Check.{knots-of-points-refused};
 use rules::Axis;
 
@@ -23,8 +25,24 @@ pub fn step_refused(knot: f64, next: f64) -> bool
     }
 }
 
-// Whether an axis's knots are refused: one does not rise to the next, or a step overflows. The flag is kept to the last knot, so the compiler looks at several knots at a time.
-pub fn knots_refused(knots: &[f64]) -> bool
+// Whether a knot does not rise to the next. The flag is kept to the last knot, so the compiler looks at several knots at a time. Not
+// public: a knot is required.
+fn some_knot_not_rising(knots: &[f64]) -> bool
+    requires { ⌜ 1 ≤ length (now knots) ⌝ }
+    ensures { λ r. ⌜ r ≡ any (not-rising (now (knots .entry))) (length (now (knots .entry)) - 1) ⌝ }
+{
+    let last = knots.len() - 1;
+    let mut found = false;
+    let mut i = 0;
+    while i < last {
+        found = found | !(knots[i] < knots[i + 1]);
+        i += 1;
+    }
+    found
+}
+
+// Whether a knot does not rise to the next or a step overflows, each step looked at.
+fn some_step_refused(knots: &[f64]) -> bool
     ensures { λ r. ⌜ r ≡ knots-refused (now (knots .entry)) (length (now (knots .entry))) ⌝ }
 {
     let mut refused = false;
@@ -34,6 +52,23 @@ pub fn knots_refused(knots: &[f64]) -> bool
         i += 1;
     }
     refused
+}
+
+// Whether an axis's knots are refused: one does not rise to the next, or a step overflows. Where they rise and the whole axis is of finite
+// length, so is every step of it, and none is looked at.
+pub fn knots_refused(knots: &[f64]) -> bool
+    ensures { λ r. ⌜ r ≡ knots-refused (now (knots .entry)) (length (now (knots .entry))) ⌝ }
+{
+    if knots.len() < 2 {
+        return false;
+    }
+    if some_knot_not_rising(knots) {
+        return true;
+    }
+    if base::is_finite(knots[knots.len() - 1] - knots[0]) {
+        return false;
+    }
+    some_step_refused(knots)
 }
 
 // Whether the knots of an axis of so many points are. Not public: what refusals 1, 2 and 4 leave is required.

@@ -1,7 +1,7 @@
--- The difference of two numbers in order is that of their places in units, rounded once: so it is above zero, and one for equal numbers.
+-- The difference of two numbers in order is that of their places in units, rounded once: so it is above zero, one for equal numbers, and finite within one that is.
 use mathlib.Core.Path.{_≡_, refl, sym, ap, _∙_}
 use mathlib.Core.Bool.{Bool, true, false, not, cond}
-use Prim.Native.Nat.{ℕ, _+_, _-_, _*_, _^_, _<_}
+use Prim.Native.Nat.{ℕ, _+_, _-_, _*_, _^_, _<_, _≤_}
 use native.Mathlib.Nat.{mul-comm, add-mul, mul-sub, mul-pos, mul-le-mul-right}
 use native.Mathlib.Omega.{arith}
 use lib.Dec.{T}
@@ -12,7 +12,7 @@ use lib.Ieee.{Float, nan, inf, fin, Format, binary32, binary64, low, up, down, r
 use lib.Ieee.Fits.{down-pos}
 use lib.Ieee.Order.{round-mono}
 use lib.Ieee.Scale.{overflow, finite, round-same}
-use lib.Ieee.Positive.{positive, above, above-of-le}
+use lib.Ieee.Positive.{positive, above, above-of-le, between}
 use Rattle.floats.specs.Place.{magnitude, place-in}
 use Rattle.floats.proofs.Units.{magnitude-under, magnitude-across}
 use Rattle.floats.proofs.Places.{no-nan, lt-places, eq-places, place-signed}
@@ -97,3 +97,23 @@ module _ (f : Format) (x y : Float) (p : T (fits f x)) (q : T (fits f y)) (a : f
       let same : place-in f z ≡ place-in f x = eqb-true (place-in f z) (place-in f x) (sym (eq-places f z x r p (no-nan z c) (no-nan x a)) ∙ e) in
       let rise : lt y z ≡ true = lt-places f y z q r (no-nan y b) (no-nan z c) ∙ lt-ltb (place-in f y) (place-in f z) (rw same places-rise) in
       sub-places f z y r q c b rise ∙ rw same (sym (sub-places f x y p q a b h))
+
+positive-finite : (x : Float) → T (positive x) → finite x ≡ true
+positive-finite nan p = absurd p
+positive-finite (inf s) p = absurd p
+positive-finite (fin s m e) p = refl
+
+-- where a difference does not overflow, none between numbers that lie within does
+pub sub-within :
+    (f : Format) (x y v w : Float) → T (fits f x) → T (fits f y) → T (fits f v) → T (fits f w)
+    → finite x ≡ true → finite y ≡ true → finite v ≡ true → finite w ≡ true → lt y x ≡ true → lt w v ≡ true
+    → place-in f y ≤ place-in f w → place-in f v ≤ place-in f x → finite (sub f x y) ≡ true → finite (sub f v w) ≡ true
+sub-within f x y v w p q r s a b c d h k lower upper fine =
+    let rise = places-rise f v w r s c d k in
+    let unit = pow-pos (low f) in
+    let wide : T (positive (round f false (place-in f x - place-in f y) (2 ^ low f))) = rw (sub-places f x y p q a b h) at (sub-positive f x y p q a b h fine) in
+    rw (sub-places f v w r s c d k)
+    (positive-finite (round f false (place-in f v - place-in f w) (2 ^ low f))
+    (between (round f false 1 (2 ^ low f)) (round f false (place-in f v - place-in f w) (2 ^ low f)) (round f false (place-in f x - place-in f y) (2 ^ low f)) (one-unit f) wide
+    (round-mono f 1 (2 ^ low f) (place-in f v - place-in f w) (2 ^ low f) unit unit (mul-le-mul-right (2 ^ low f) (omega arith)))
+    (round-mono f (place-in f v - place-in f w) (2 ^ low f) (place-in f x - place-in f y) (2 ^ low f) unit unit (mul-le-mul-right (2 ^ low f) (omega arith)))))

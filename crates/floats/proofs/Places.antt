@@ -159,6 +159,11 @@ unfolding place-in
 below-highest f true m e p = let h = magnitude-under f true m e p in omega arith
 below-highest f false m e p = let h = magnitude-under f false m e p in omega arith
 
+between-infinities : (f : Format) (x : Float) → T (fits f x) → finite x ≡ true → (0 < place-in f x) × (place-in f x < overflow f + overflow f)
+between-infinities f nan p h = absurd (true≢false (sym h))
+between-infinities f (inf s) p h = absurd (true≢false (sym h))
+between-infinities f (fin s m e) p h = (above-lowest f s m e p, below-highest f s m e p)
+
 highest-positive : (f : Format) → 0 < overflow f + overflow f
 highest-positive f = let h : 0 < overflow f = pow-pos (low f + suc (emax f)) in omega arith
 
@@ -167,6 +172,16 @@ pub no-nan : (x : Float) → finite x ≡ true → x ≡ nan → ⊥
 no-nan x h e = true≢false (sym h ∙ ap finite e)
 
 -- ---- the laws
+
+-- a number that lies between two finite ones is finite, unless it is NaN
+pub finite-between :
+    (f : Format) (low-end x high-end : Float) → T (fits f low-end) → T (fits f high-end) → finite low-end ≡ true → finite high-end ≡ true → (x ≡ nan → ⊥)
+    → place-in f low-end ≤ place-in f x → place-in f x ≤ place-in f high-end → finite x ≡ true
+unfolding place-in
+finite-between f a nan b p q h k real lower upper = absurd (real refl)
+finite-between f a (inf true) b p q h k real lower upper = let within = between-infinities f a p h in absurd (omega (arith, within .0))
+finite-between f a (inf false) b p q h k real lower upper = let within = between-infinities f b q k in absurd (omega (arith, within .1))
+finite-between f a (fin s m e) b p q h k real lower upper = refl
 
 pub lt-places : (f : Format) (x y : Float) → T (fits f x) → T (fits f y) → (x ≡ nan → ⊥) → (y ≡ nan → ⊥) → lt x y ≡ ltb (place-in f x) (place-in f y)
 unfolding lt place-in

@@ -1,8 +1,9 @@
--- A test's two arms, and what holds of both.
+-- A test's two arms, and what holds of both; and a test that fails everywhere.
 use mathlib.Core.Path.{_≡_, refl}
 use mathlib.Core.Bool.{Bool, true, false}
-use Prim.Native.Nat.{ℕ}
+use Prim.Native.Nat.{ℕ, zero, suc, _<_}
 use native.Mathlib.Omega.{arith}
+use Rattle.rules.specs.Numbers.{any}
 
 abbrev pub arms : {A : Type 0} → Bool → A → A → A
 arms b x y = elim b [ true ↦ x | false ↦ y ]
@@ -20,3 +21,9 @@ arms-one false first second = second refl
 -- no test is true and false
 pub not-both : {A : Type 0} (b : Bool) → b ≡ true → b ≡ false → A
 not-both b holds fails = absurd (let z : _≡_ {A = ℕ} 0 1 = cc in omega arith)
+
+-- a test that fails at each index below n is met at none
+pub any-never : (test : ℕ → Bool) (n : ℕ) → ((i : ℕ) → i < n → test i ≡ false) → any test n ≡ false
+unfolding any
+any-never test zero fails = refl
+any-never test (suc n) fails = rw (any-never test n (λ i l. fails i (omega arith)), fails n (omega arith)) refl

@@ -2,10 +2,10 @@
 use mathlib.Core.Path.{_≡_, refl, sym, ap, _∙_}
 use mathlib.Core.Bool.{Bool, true, false, cond, _||_}
 use mathlib.Core.List.{List}
-use Prim.Native.Nat.{ℕ, zero, suc, _<_}
+use Prim.Native.Nat.{ℕ, _<_}
 use native.Mathlib.Omega.{arith}
 use lib.Ieee.{Float}
-use Rattle.rules.specs.Numbers.{at, any}
+use Rattle.rules.specs.Numbers.{at}
 use Rattle.rules.specs.Sizes.{Grid, knots}
 use Rattle.rules.specs.Refusals.{axes-refused, some-points-refused, tensor-refused, some-number-refused, some-knots-refused, some-found-cell-refused, answer-refused}
 use Rattle.rules.specs.Outside.{mode-at, side, nearest, placed, placed-on, outside-refused, some-outside-refused, with-axes, ButForModes}
@@ -17,14 +17,9 @@ use Rattle.rules.specs.declared.Mode.{Mode}
 use Rattle.rules.specs.declared.Mode.the-variants.{Extend, Hold, Refuse}
 use Rattle.rules.specs.declared.Side.{Side}
 use Rattle.rules.specs.declared.Side.the-variants.{Inside}
+use Rattle.rules.proofs.Cases.{any-never}
 use Rattle.rules.proofs.Cells.{value-at-ext}
 use Rattle.rules.proofs.WithoutModes.{knots-same, extended-without-modes, extended-quick-without-modes}
-
--- a test that fails at every index below n fails there
-none-below : (test : ℕ → Bool) (n : ℕ) → ((i : ℕ) → i < n → test i ≡ false) → any test n ≡ false
-unfolding any
-none-below test zero never = refl
-none-below test (suc n) never = rw (none-below test n (λ i l. never i (omega arith)), never n (omega arith)) refl
 
 module _ (g : Grid) (tensor coordinates : List Float) where
   -- on each axis in use the coordinate stays where it is and is not refused
@@ -34,7 +29,7 @@ module _ (g : Grid) (tensor coordinates : List Float) where
 
   module _ (ease : AtEase) where
     none-outside : some-outside-refused g (at coordinates) ≡ false
-    none-outside = none-below (λ i. outside-refused (mode-at g i) (side (knots g i) (at coordinates i))) (g .axes) (ease .passes)
+    none-outside = any-never (λ i. outside-refused (mode-at g i) (side (knots g i) (at coordinates i))) (g .axes) (ease .passes)
 
     same-value : query-in-modes g tensor (at coordinates) ≡ query g tensor (at coordinates)
     unfolding query-in-modes query

@@ -112,7 +112,7 @@ module _ (g : Grid) (all : List Axis) (same : ButForModes g all) where
       let same-refusal = build-refusal-without-modes samples out scratch in
       record {
         answer = p .answer ∙ same-refusal;
-        output = p .output ∙ rw (same-refusal, tensor-without-modes samples) refl;
+        output = cc (p .output, same-refusal, tensor-without-modes samples);
         scratch = p .scratch ∙ rw same-refusal refl;
       }
 
@@ -191,7 +191,7 @@ module _ (g : Grid) (all : List Axis) (same : ButForModes g all) where
       let same-refusal = change-refusal-without-modes old scratch changed v in
       record {
         answer = p .answer ∙ change-answer-same old scratch changed v;
-        output = p .output ∙ rw (same-refusal, changed-tensor-without-modes changed v old) refl;
+        output = cc (p .output, same-refusal, changed-tensor-without-modes changed v old);
         scratch = p .scratch ∙ rw same-refusal refl;
       }
 

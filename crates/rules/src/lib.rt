@@ -200,7 +200,7 @@ impl Axis {
     {
         Axis {
             points: 0,
-            condition: Condition::not_a_knot(),
+            condition: Condition::NOT_A_KNOT,
             mode: Mode::Extend,
         }
     }

@@ -1,15 +1,14 @@
 -- The reader of edition 1: its promise for each way that it ends, its one answer, that edition 2 shows it nothing, and that a sheet of edition 1 is read as ever: the same parts, and extend.
 use mathlib.Core.Path.{_≡_, refl, sym, ap, _∙_}
-use mathlib.Core.Bool.{Bool, true, false, not, cond}
+use mathlib.Core.Bool.{Bool, true, false, cond}
 use mathlib.Core.List.{List, [], _∷_}
 use Prim.Native.Nat.{ℕ, zero, suc, _+_, _*_, _<_, _≤_}
 use native.Mathlib.Omega.{arith}
 use borrow.Author.Tests.{lt-ltb, le-ltb, eq-eqb, ne-eqb}
-use lib.Dec.{ltb, eqb}
+use lib.Dec.{ltb}
 use lib.ListN.{length, getD}
 use lib.Ieee.{Float}
 use Rattle.rules.proofs.Tables.{at-table}
-use Rattle.rules.proofs.Refused.{unchanged}
 use Rattle.rules.specs.Numbers.{table}
 use Rattle.rules.specs.Sizes.{most-axes, unused-axis}
 use Rattle.rules.specs.declared.Axis.{Axis}

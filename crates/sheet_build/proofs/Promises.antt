@@ -11,7 +11,7 @@ use Rattle.rules.specs.Refusals.{length-refused}
 use Rattle.rules.specs.Calls.{stored, scratch-after}
 use Rattle.rules.proofs.Refused.{or-else-met, unchanged}
 use Rattle.checks.proofs.Rows.{axes-few, in-range, exact}
-use Rattle.sheet.specs.Fields.{edition, axes, entries, sheet-grid, sheet-samples}
+use Rattle.sheet.specs.Fields.{edition, axes, sheet-grid, sheet-samples}
 use Rattle.sheet.specs.Faults.{sheet-refusal}
 use Rattle.sheet.specs.Read.{over, read-refusal, ReadPromise}
 use Rattle.sheet.specs.declared.ReadAnswer.{ReadAnswer}

@@ -2,10 +2,10 @@
 use mathlib.Core.Path.{_≡_, refl, sym, _∙_}
 use mathlib.Core.List.{List, [], _∷_}
 use Prim.Native.Nat.{ℕ, _≤_}
-use lib.ListN.{length, take, getD}
+use lib.ListN.{take, getD}
 use lib.Ieee.{Float}
 use Rattle.rules.specs.Numbers.{at}
-use Rattle.rules.specs.Sizes.{Grid, points, knots-length, samples-length}
+use Rattle.rules.specs.Sizes.{Grid, knots-length, samples-length}
 use Rattle.rules.specs.Outside.{with-axes, ButForModes}
 use Rattle.rules.specs.declared.Axis.{Axis}
 use Rattle.rules.proofs.Refused.{or-else-passed}

@@ -2,18 +2,17 @@
 use mathlib.Core.Path.{_≡_, refl, sym, ap, ap₂, subst, _∙_}
 use mathlib.Core.Bool.{Bool, true, false, cond}
 use mathlib.Core.Logic.{⊎-elim}
-use mathlib.Core.List.{List, [], _∷_, _++_, append-nil, append-assoc}
-use Prim.Native.Nat.{ℕ, zero, suc, _+_, _-_, _*_, _<_, _≤_}
-use native.Mathlib.Nat.{not-suc-le-zero, le-of-suc-le-suc, eq-or-lt-of-le, le-refl}
+use mathlib.Core.List.{List, [], _++_, append-nil, append-assoc}
+use Prim.Native.Nat.{ℕ, zero, suc, _+_, _*_, _<_, _≤_}
+use native.Mathlib.Nat.{le-of-suc-le-suc, eq-or-lt-of-le, le-refl}
 use native.Mathlib.Omega.{arith}
 use borrow.Author.Tests.{ltb-true}
-use lib.Dec.{T, ltb}
+use lib.Dec.{ltb}
 use lib.ListN.{length, getD, take, drop}
 use lib.Seq.{take-add, take-at, drop-at}
-use lib.Ieee.{Float, binary64, fits, isNan}
+use lib.Ieee.{Float}
 use Rattle.rules.specs.Numbers.{table}
 use Rattle.rules.specs.Sizes.{most-axes, unused-axis, Grid, points, condition, sum-below, knots}
-use Rattle.rules.specs.Calls.{or-else}
 use Rattle.rules.specs.declared.Axis.{Axis}
 use Rattle.rules.proofs.Tables.{table-ext}
 use Rattle.grid.proofs.Knots.{knots-of-axis}

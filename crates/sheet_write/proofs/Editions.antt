@@ -1,9 +1,9 @@
 -- What an edition that is not refused says: it is one of the two, and there is room for each mode in its field; and that the writer refuses no sheet's own edition.
-use mathlib.Core.Path.{_≡_, refl, sym, ap, _∙_}
-use mathlib.Core.Bool.{Bool, true, false, not, cond, _&&_}
+use mathlib.Core.Path.{_≡_, refl}
+use mathlib.Core.Bool.{Bool, true, false, _&&_}
 use mathlib.Core.List.{List}
 use mathlib.Core.Logic.{⊎-elim, _⊎_, inl, inr}
-use Prim.Native.Nat.{ℕ, zero, suc, _^_, _<_, _≤_}
+use Prim.Native.Nat.{ℕ, zero, suc, _^_, _<_}
 use native.Mathlib.Omega.{arith}
 use borrow.Author.Tests.{eqb-true, not-false}
 use lib.Dec.{eqb, lit<}
@@ -11,7 +11,6 @@ use lib.ListN.{getD}
 use Rattle.base.proofs.Scan.{any-at, any-never}
 use Rattle.rules.specs.Outside.{mode-number}
 use Rattle.rules.specs.Sizes.{unused-axis, Grid}
-use Rattle.rules.specs.declared.Axis.{Axis}
 use Rattle.rules.specs.declared.Mode.{Mode}
 use Rattle.rules.specs.declared.Mode.the-variants.{Extend, Hold, Refuse}
 use Rattle.rules.proofs.Cases.{not-both}

@@ -3,8 +3,7 @@ use mathlib.Core.Path.{_≡_, refl}
 use mathlib.Core.Bool.{true}
 use mathlib.Core.List.{List, [], _∷_, _++_}
 use Prim.Native.Nat.{ℕ}
-use lib.ListN.{length, replicate}
-use lib.Ieee.{Float, nan, inf, binary64, ofBits, toBits, lt, sub, add, neg}
+use lib.Ieee.{Float, nan, inf, ofBits, toBits, lt, sub, add, neg}
 use Rattle.rules.specs.Numbers.{plus-zero, one, any}
 use Rattle.rules.specs.Ends.{natural, not-a-knot}
 use Rattle.rules.specs.Steps.{h}

@@ -1,16 +1,14 @@
 -- The bits of a sheet counted from its sizes, and how long it can be: 10,309 bytes at most, 10,308 in edition 1, and a grid of 256 × 4 with four numbers at its ends has them.
-use mathlib.Core.Path.{_≡_, refl, sym, ap, _∙_}
+use mathlib.Core.Path.{_≡_, _∙_}
 use mathlib.Core.List.{List}
-use Prim.Native.Nat.{ℕ, zero, suc, _+_, _-_, _*_, _/_, _^_, _<_, _≤_}
+use Prim.Native.Nat.{ℕ, zero, suc, _+_, _-_, _*_, _^_, _<_, _≤_}
 use native.Mathlib.Nat.{le-refl, mul-le-mul, suc-mul, mul-suc, one-mul, add-mul, mul-add}
 use native.Mathlib.Decide.{decLt}
 use native.Mathlib.Omega.{arith}
 use lib.ListN.{length}
 use lib.Ieee.{Float}
-use Rattle.rules.specs.Sizes.{Grid, points, condition, sum-below, product-below, knots, knots-length, samples-length}
-use Rattle.rules.specs.declared.Axis.{Axis}
+use Rattle.rules.specs.Sizes.{Grid, points, condition, sum-below, product-below, knots}
 use Rattle.rules.specs.declared.Condition.{Condition}
-use Rattle.grid.specs.Given.{grid, sizes-of}
 use Rattle.grid.proofs.Knots.{knots-of-axis}
 use Rattle.kinds.specs.Kinds.{lower-kind-of, upper-kind-of}
 use Rattle.bits.specs.Written.{bits-in, bytes-for}

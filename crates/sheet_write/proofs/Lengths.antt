@@ -1,14 +1,12 @@
 -- How many bits the fields of axes and of a whole sheet have, and how many bytes a sheet has: at most 10,309, and the largest has them.
-use mathlib.Core.Path.{_≡_, refl, sym, ap, _∙_}
-use mathlib.Core.List.{List, [], _∷_, _++_}
-use Prim.Native.Nat.{ℕ, zero, suc, _+_, _-_, _*_, _/_, _%_, _^_, _<_, _≤_}
+use mathlib.Core.Path.{_≡_, refl, _∙_}
+use mathlib.Core.List.{List, [], _∷_}
+use Prim.Native.Nat.{ℕ, suc, _+_, _-_, _*_, _%_}
 use native.Mathlib.Omega.{arith}
 use lib.ListN.{length, getD}
 use lib.Ieee.{Float}
-use Rattle.rules.specs.Sizes.{unused-axis, Grid, points, condition, knots, sum-below, samples-length}
+use Rattle.rules.specs.Sizes.{unused-axis, Grid, knots}
 use Rattle.rules.specs.declared.Axis.{Axis}
-use Rattle.rules.specs.declared.Condition.{Condition}
-use Rattle.kinds.specs.Kinds.{values-of-kind, lower-kind-of, upper-kind-of}
 use Rattle.kinds.specs.Editions.{mode-width}
 use Rattle.bits.specs.Written.{bits-in, number-fields, filler, bytes-for}
 use Rattle.bits.proofs.Rows.{bits-in-append, packed-length}

@@ -1,18 +1,16 @@
 -- The writer's promise for each way that it ends.
-use mathlib.Core.Path.{_≡_, refl, sym, ap, _∙_}
-use mathlib.Core.Bool.{true, false, cond}
-use mathlib.Core.List.{List, _++_}
-use Prim.Native.Nat.{ℕ, zero, suc, _+_, _*_, _<_, _≤_}
+use mathlib.Core.Path.{_≡_, refl, sym, _∙_}
+use mathlib.Core.List.{List}
+use Prim.Native.Nat.{ℕ, zero, suc, _<_, _≤_}
 use native.Mathlib.Omega.{arith}
 use borrow.Author.Tests.{lt-ltb, le-ltb}
 use lib.ListN.{length}
 use lib.Ieee.{Float}
 use Rattle.rules.specs.Sizes.{Grid}
-use Rattle.rules.specs.Calls.{or-else, stored, counted}
+use Rattle.rules.specs.Calls.{counted}
 use Rattle.rules.specs.declared.Axis.{Axis}
 use Rattle.grid.specs.Given.{grid, sizes-of}
 use Rattle.rules.proofs.Refused.{or-else-met, unchanged}
-use Rattle.bits.specs.Within.{Within}
 use Rattle.bits.specs.Written.{bits-in, with-fields, bytes-for}
 use Rattle.bits.proofs.Writes.{Bytes}
 use Rattle.bits.proofs.Rows.{over-any}
@@ -20,8 +18,7 @@ use Rattle.sheet.specs.Read.{over}
 use Rattle.sheet.proofs.Extents.{width-most}
 use Rattle.sheet_write.specs.SheetOf.{part-fields, sheet-fields, sheet-of}
 use Rattle.sheet_write.specs.Write.{no-sheet-refusal, edition-refusal, write-refusal, write-answer, WritePromise}
-use Rattle.sheet_write.specs.Within.{FieldsGiven, SheetGiven, parts-bits}
-use Rattle.sheet_write.specs.declared.WriteAnswer.{WriteAnswer}
+use Rattle.sheet_write.specs.Within.{SheetGiven, parts-bits}
 use Rattle.sheet_write.proofs.Lengths.{sheet-bits, sheet-length}
 use Rattle.sheet_write.proofs.Parts.{Known, known}
 use Rattle.sheet_write.proofs.Largest.{part-count, bits-most}

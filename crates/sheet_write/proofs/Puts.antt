@@ -1,17 +1,16 @@
 -- Fields put one after the other, on plain lists: what stands afterwards, where the next begins, and that there is room for each.
 use mathlib.Core.Path.{_≡_, refl, sym, ap, ap₂, _∙_}
-use mathlib.Core.Bool.{false, not}
+use mathlib.Core.Bool.{false}
 use mathlib.Core.List.{List, [], _∷_, _++_}
-use Prim.Native.Nat.{ℕ, zero, suc, _+_, _-_, _*_, _%_, min, _<_, _≤_}
-use native.Mathlib.Nat.{add-zero, add-assoc, le-refl}
+use Prim.Native.Nat.{ℕ, suc, _+_, _-_, _*_, _%_, min, _<_, _≤_}
 use native.Mathlib.Numerals.{add-one}
 use native.Mathlib.Omega.{arith}
-use lib.ListN.{length, getD, take, drop, length-take, length-drop}
+use lib.ListN.{length, take, drop, length-take, length-drop}
 use lib.Seq.{getD-take, getD-drop}
 use lib.Ieee.{Float, nan, binary64, toBits}
 use Rattle.base.proofs.Scan.{any-at, any-never}
 use Rattle.rules.specs.Numbers.{at}
-use Rattle.rules.specs.Sizes.{unused-axis, Grid, points, condition, sum-below, knots, knots-length}
+use Rattle.rules.specs.Sizes.{Grid, points, sum-below, knots}
 use Rattle.rules.specs.Outside.{mode-number}
 use Rattle.rules.specs.Refusals.{number-refused, some-number-refused}
 use Rattle.rules.specs.declared.Axis.{Axis}
@@ -19,12 +18,11 @@ use Rattle.grid.proofs.Products.{sum-within, sum-more}
 use Rattle.kinds.specs.Kinds.{lower-kind-of, upper-kind-of}
 use Rattle.kinds.specs.Editions.{mode-width}
 use Rattle.bits.specs.Within.{Within}
-use Rattle.bits.specs.Written.{with-field, Field, wide, number-field, number-fields, bits-in, with-fields, filler}
+use Rattle.bits.specs.Written.{with-field, Field, number-field, number-fields, bits-in, with-fields, filler}
 use Rattle.bits.proofs.Rows.{bits-in-append, with-fields-append, fields-length}
-use Rattle.bits.proofs.Numbers.{numbers-bits}
 use Rattle.sheet.proofs.Extents.{width-most}
 use Rattle.sheet_write.specs.SheetOf.{ends-fields, axis-fields, axes-fields, part-fields, sheet-fields}
-use Rattle.sheet_write.specs.Within.{HeadGiven, with-head, AxisGiven, FieldsGiven, AxesGiven, SheetGiven}
+use Rattle.sheet_write.specs.Within.{HeadGiven, with-head, AxisGiven, AxesGiven, SheetGiven}
 use Rattle.sheet_write.proofs.Ends.{ends-bits}
 use Rattle.sheet_write.proofs.Lengths.{axis-bits, axes-next, part-bits}
 use Rattle.sheet_write.proofs.Axes.{entry, axes-append, first-bits}

@@ -1,8 +1,8 @@
 -- Where the fields of an axis stand in bytes, the reader finds that axis and its knots; and where it finds an axis, the fields of what it found stand.
-use mathlib.Core.Path.{_≡_, refl, sym, ap, subst, _∙_}
+use mathlib.Core.Path.{_≡_, sym, _∙_}
 use mathlib.Core.Bool.{false}
-use mathlib.Core.List.{List, [], _∷_, _++_}
-use Prim.Native.Nat.{ℕ, zero, suc, _+_, _-_, _*_, _<_, _≤_}
+use mathlib.Core.List.{List, _++_}
+use Prim.Native.Nat.{ℕ, _+_, _-_, _*_, _≤_}
 use native.Mathlib.Omega.{arith}
 use borrow.Author.Tests.{le-ltb}
 use lib.ListN.{length}
@@ -10,10 +10,10 @@ use lib.Ieee.{Float}
 use Rattle.rules.specs.Refusals.{points-refused}
 use Rattle.rules.specs.Outside.{mode-number}
 use Rattle.rules.specs.declared.Axis.{Axis}
-use Rattle.kinds.specs.Kinds.{values-of-kind, periodic-at-one-end, lower-kind-of, upper-kind-of}
+use Rattle.kinds.specs.Kinds.{periodic-at-one-end, lower-kind-of, upper-kind-of}
 use Rattle.kinds.specs.Modes.{unknown-mode}
 use Rattle.kinds.proofs.Told.{mode-again, mode-known, number-again}
-use Rattle.bits.specs.Bits.{field, short, number, numbers, numbers-short}
+use Rattle.bits.specs.Bits.{field, numbers-short}
 use Rattle.bits.specs.Written.{bits-in, number-fields}
 use Rattle.bits.proofs.Runs.{field-below, short-together}
 use Rattle.bits.proofs.Rows.{Stand, stand-first, stand-second, stand-append}

@@ -1,33 +1,32 @@
 -- Reading and writing undo each other: the sheet of parts is accepted and has these parts, and the sheet of an accepted sheet's parts is that sheet.
 use mathlib.Core.Path.{_≡_, refl, sym, ap, ap₂, subst, _∙_}
-use mathlib.Core.Bool.{Bool, true, false, not, cond, _||_}
+use mathlib.Core.Bool.{false, not, cond}
 use mathlib.Core.List.{List, [], _∷_, _++_}
-use Prim.Native.Nat.{ℕ, zero, suc, _+_, _-_, _*_, _/_, _%_, _^_, _<_, _≤_}
+use Prim.Native.Nat.{ℕ, zero, suc, _+_, _-_, _*_, _%_, _^_, _<_, _≤_}
 use native.Mathlib.Nat.{le-refl}
 use native.Mathlib.Omega.{arith}
-use borrow.Author.Tests.{le-ltb, lt-ltb, lt-leb, leb-false, eq-eqb, eqb-true, not-false}
-use lib.Dec.{ltb, leb, eqb, lit<}
+use borrow.Author.Tests.{le-ltb, lt-ltb, lt-leb, leb-false, eqb-true, not-false}
+use lib.Dec.{ltb, eqb}
 use lib.ListN.{length, getD, take, drop}
 use lib.Pow.{pow-pos}
 use lib.Seq.{take-all}
 use lib.Ieee.{Float}
 use Rattle.base.proofs.Scan.{neither}
-use Rattle.rules.specs.Numbers.{any, table}
-use Rattle.rules.specs.Sizes.{most-axes, unused-axis, Grid, points, sum-below, product-below, knots-length, samples-length, tensor-length}
-use Rattle.rules.specs.Refusals.{axes-refused, tensor-refused}
-use Rattle.rules.specs.Calls.{or-else}
+use Rattle.rules.specs.Numbers.{any}
+use Rattle.rules.specs.Sizes.{most-axes, unused-axis, Grid, points, sum-below, knots-length, samples-length, tensor-length}
+use Rattle.rules.specs.Refusals.{tensor-refused}
 use Rattle.rules.specs.declared.Axis.{Axis}
 use Rattle.rules.proofs.Tables.{at-table, length-table}
 use Rattle.rules.proofs.Sums.{product-ext}
 use Rattle.bits.specs.Bits.{bit, field, number, numbers-short}
-use Rattle.bits.specs.Written.{Field, wide, number-fields, bits-in, filler, bytes-for, packed}
+use Rattle.bits.specs.Written.{number-fields, bits-in, filler}
 use Rattle.bits.proofs.Runs.{short-together}
 use Rattle.bits.proofs.Writes.{Bytes}
 use Rattle.bits.proofs.Rows.{Stand, Sized, stand-first, stand-second, stand-append, sized-append, packed-stand, packed-of, bits-in-append}
-use Rattle.bits.proofs.Numbers.{Held, numbers-sized, numbers-read, NoNan, numbers-stand, numbers-bits, each-take, each-drop}
+use Rattle.bits.proofs.Numbers.{numbers-sized, numbers-read, numbers-stand, each-take, each-drop}
 use Rattle.kinds.specs.Editions.{mode-width}
-use Rattle.sheet.specs.Fields.{edition as edition-said, axes, mode-bits, axis-begin, entries, knots-below, sheet-grid, samples-begin, sheet-samples, samples-end}
-use Rattle.sheet.specs.Faults.{axes-fault, tail-refused, samples-fault, sheet-refusal}
+use Rattle.sheet.specs.Fields.{edition as edition-said, axes, mode-bits, entries, knots-below, sheet-grid, samples-begin, sheet-samples, samples-end}
+use Rattle.sheet.specs.Faults.{tail-refused, samples-fault, sheet-refusal}
 use Rattle.sheet.proofs.Samples.{bits-set, product-least}
 use Rattle.sheet.proofs.Sheets.{Accepted, accepted, axes-allowed, some-axes, samples-room}
 use Rattle.sheet_write.specs.SheetOf.{ends-fields, axis-fields, axes-fields, part-fields, sheet-fields, sheet-of}

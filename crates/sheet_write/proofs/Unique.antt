@@ -1,20 +1,13 @@
 -- The writer's promise has one answer, it takes what has a sheet and room for it, and reading and writing undo each other.
-use mathlib.Core.Path.{_≡_, refl, sym, ap, _∙_}
-use mathlib.Core.Bool.{cond}
+use mathlib.Core.Path.{_≡_, sym, ap, _∙_}
 use mathlib.Core.List.{List}
-use Prim.Native.Nat.{ℕ, zero, suc, _<_, _≤_}
-use native.Mathlib.Nat.{le-refl}
-use native.Mathlib.Omega.{arith}
+use Prim.Native.Nat.{ℕ, _≤_}
 use borrow.Author.Tests.{le-ltb}
-use lib.Dec.{ltb}
 use lib.ListN.{length, take}
-use lib.Seq.{take-at}
 use lib.Ieee.{Float}
 use Rattle.rules.specs.Sizes.{Grid, knots-length, samples-length}
 use Rattle.rules.specs.declared.Axis.{Axis}
-use Rattle.rules.specs.Calls.{or-else, stored, counted}
 use Rattle.rules.proofs.Refused.{or-else-passed}
-use Rattle.rules.proofs.Tables.{length-table}
 use Rattle.grid.specs.Given.{grid, sizes-of}
 use Rattle.bits.proofs.Writes.{Bytes}
 use Rattle.sheet.specs.Fields.{edition as edition-said, axes, entries, knots-below, sheet-grid, sheet-samples}
@@ -27,7 +20,7 @@ use Rattle.sheet_write.specs.SheetOf.{sheet-of}
 use Rattle.sheet_write.specs.Write.{no-sheet-refusal, edition-refusal, write-refusal, write-answer, WritePromise}
 use Rattle.sheet_write.specs.declared.WriteAnswer.{WriteAnswer}
 use Rattle.sheet_write.proofs.Axes.{PartsHeld, in-use}
-use Rattle.sheet_write.proofs.Sheets.{SheetRead, read-of-sheet, sheet-of-read}
+use Rattle.sheet_write.proofs.Sheets.{read-of-sheet, sheet-of-read}
 
 pub write-unique :
     (edition : ℕ) (g : Grid) (samples : List Float) (buffer : List ℕ) (a a′ : WriteAnswer) (b b′ : List ℕ)

@@ -1,1 +1,2 @@
+pub mod SlopeTurns
 pub mod PublicCalls

@@ -3,53 +3,32 @@ use native.Mathlib.Omega.{arith}
 use mathlib.Core.Path.{_≡_, refl, sym, ap, ap₂, _∙_}
 use mathlib.Core.Bool.{Bool, true, false, not, cond}
 use mathlib.Core.List.{List, _++_}
-use Prim.Native.Nat.{ℕ, _+_, _-_, _<_, _≤_}
-use lib.ListN.{length, take, drop, length-append, length-drop}
+use Prim.Native.Nat.{ℕ, _+_, _-_, _≤_}
+use lib.ListN.{length, take, drop, length-append, length-take, length-drop}
 use lib.Seq.{getD-take, getD-drop, length-take-le, take-at}
 use lib.Ieee.{Float, nan}
 use lib.Ieee.Scale.{finite}
-use Rattle.rules.specs.Numbers.{at, plus-zero, zeros}
+use Rattle.rules.specs.Numbers.{plus-zero, zeros}
 use borrow.Author.Tests.{ltb-false}
 use Rattle.rules.specs.Ends.{fewest-points}
-use Rattle.rules.specs.Refusals.{number-refused, outcome-refused, answer-refused}
+use Rattle.rules.specs.Refusals.{outcome-refused, answer-refused}
 use Rattle.rules.specs.Moments.{moment, moments}
-use Rattle.rules.specs.Curve.{knot-slope, knot-slopes, curve-in-cell, curve}
+use Rattle.rules.specs.Curve.{knot-slopes, curve-in-cell, curve}
 use Rattle.rules.specs.Calls.{stored, scratch-after, moments-refusal, MomentsPromise, curve-answer, CurvePromise, SlopesPromise}
 use Rattle.rules.specs.declared.Condition.{Condition}
 use Rattle.rules.specs.declared.CurveAnswer.{CurveAnswer}
-use Rattle.rules.proofs.Tables.{length-table, at-table, table-is}
+use Rattle.rules.proofs.Tables.{table-is}
 use Rattle.checks.specs.Check.{moments-check, curve-check, slopes-check}
-use Rattle.checks.specs.Given.{MomentsGiven, CurveGiven}
+use Rattle.checks.specs.Given.{MomentsGiven, CurveGiven, SlopesGiven}
 use Rattle.checks.proofs.ThenOutcome.{refused, outcome, outcome-bad, outcome-good, moments-outcome, curve-outcome, slopes-outcome}
 use Rattle.checks.proofs.Accepted.{moments-given, curve-given, slopes-given}
 use Rattle.locate.specs.Answers.{Located}
 use Rattle.locate.proofs.Accepted.{accepted-rise}
 use Rattle.rows.specs.Rows.{samples-in, RowsFit}
 use Rattle.moments.specs.Lanes.{MomentsSolved}
-use Rattle.spline.specs.Work.{outcome-number, MomentsWorked}
+use Rattle.spline.specs.Work.{outcome-number, MomentsWorked, SlopesWorked}
+use Rattle.spline.proofs.SlopeTurns.{slopes-length}
 use Rattle.moments.specs.Curve.{AxisLengths}
-
--- ---- the knot slopes, one by one
-
-module _ (x y m : List Float) (some : 2 ≤ length x) where
-  abbrev slopes : List Float
-  slopes = knot-slopes x (length x - 1) y m
-
-  pub slopes-length : length slopes ≡ length x
-  unfolding knot-slopes
-  slopes-length = length-table (length x - 1 + 1) _ ∙ omega arith
-
-  pub slope-at : (k : ℕ) → k < length x → at slopes k ≡ knot-slope x (length x - 1) y m k
-  unfolding knot-slopes
-  slope-at k below = at-table (length x - 1 + 1) _ k nan (omega arith)
-
-  -- the slope that was looked at is refused, or not
-  pub slope-refused :
-      (k : ℕ) → k < length x → (slope : Float) (good refuses : Bool)
-      → slope ≡ knot-slope x (length x - 1) y m k → good ≡ finite slope → not good ≡ refuses
-      → number-refused (at slopes k) ≡ refuses
-  slope-refused k below slope good refuses e f g =
-      ap (λ (v : Float). not (finite v)) (slope-at k below ∙ sym e) ∙ ap not (sym f) ∙ g
 
 -- ---- the call of the knot slopes
 
@@ -61,29 +40,40 @@ module _ (n : ℕ) (x y m out : List Float) where
       record { answer = e ∙ sym (told .same); output = told .output out _ }
 
   module _ (none : slopes-check n x y (length m) (length out) ≡ 0) where
+    pub slopes-known : SlopesGiven n x y (length m) (length out)
+    slopes-known = slopes-given n x y (length m) (length out) none
+
     pub slopes-lengths : AxisLengths x y m
     slopes-lengths =
-        let given = slopes-given n x y (length m) (length out) none in
-        let axis = given .axis in
-        record { least = omega (arith, axis, given); samples = omega (arith, axis, given); moments = omega (arith, axis, given) }
+        let axis = slopes-known .axis in
+        let exact = slopes-known .moments-exact in
+        record { least = omega arith; samples = omega arith; moments = omega arith }
 
-    pub slopes-exact : length out ≡ length x
-    slopes-exact = let given = slopes-given n x y (length m) (length out) none in let axis = given .axis in omega (arith, axis, given)
+    -- the first places of the row are as many as the knots
+    pub slopes-row : (row : List Float) → length row ≡ 256 → length (take (n - 0) row) ≡ length x
+    slopes-row row e = let axis = slopes-known .axis in rw length-take (omega arith)
 
     same-slopes : knot-slopes x (length x - 1) y m ≡ knot-slopes x (n - 1) y m
-    same-slopes = ap (λ (k : ℕ). knot-slopes x (k - 1) y m) (slopes-given n x y (length m) (length out) none .axis .knots-exact)
+    same-slopes = ap (λ (k : ℕ). knot-slopes x (k - 1) y m) (slopes-known .axis .knots-exact)
 
-    pub slopes-bad : (b : Bool) → b ≡ outcome-refused (knot-slopes x (length x - 1) y m) → b ≡ true → SlopesPromise n x y m out 10 out
-    slopes-bad b e f =
-        let ten = outcome-bad (slopes-outcome n x y m out) none (ap outcome-refused (sym same-slopes) ∙ sym e ∙ f) in
-        record { answer = sym ten; output = rw ten }
+    module _ (flag : Bool) (part : List Float) (worked : SlopesWorked x y m flag part) where
+      pub part-length : length part ≡ n
+      part-length =
+          let axis = slopes-known .axis in
+          ap length (worked .output) ∙ slopes-length x y m (omega arith) ∙ axis .knots-exact
 
-    pub slopes-good :
-        (b : Bool) (later : List Float) → b ≡ outcome-refused (knot-slopes x (length x - 1) y m) → b ≡ false
-        → later ≡ knot-slopes x (length x - 1) y m → SlopesPromise n x y m out 0 later
-    slopes-good b later e f g =
-        let zero = outcome-good (slopes-outcome n x y m out) none (ap outcome-refused (sym same-slopes) ∙ sym e ∙ f) in
-        record { answer = sym zero; output = rw zero (g ∙ same-slopes) }
+      outcome-is : outcome-refused (knot-slopes x (n - 1) y m) ≡ flag
+      outcome-is = ap outcome-refused (sym same-slopes) ∙ sym (worked .answer)
+
+      pub slopes-bad : flag ≡ true → SlopesPromise n x y m out 10 out
+      slopes-bad f =
+          let ten = outcome-bad (slopes-outcome n x y m out) none (outcome-is ∙ f) in
+          record { answer = sym ten; output = rw ten }
+
+      pub slopes-good : flag ≡ false → (rest later : List Float) → later ≡ take (n - 0) (part ++ rest) → SlopesPromise n x y m out 0 later
+      slopes-good f rest later e =
+          let zero = outcome-good (slopes-outcome n x y m out) none (outcome-is ∙ f) in
+          record { answer = sym zero; output = rw zero (e ∙ take-at part rest (n - 0) (omega (arith, part-length)) ∙ worked .output ∙ same-slopes) }
 
 -- ---- the call of the curve
 

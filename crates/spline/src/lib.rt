@@ -1,13 +1,11 @@
 // The public calls on one axis: the moments of a curve, its value at a point, and its slopes at the knots.
 ghost use mathlib.Core.Path.{_≡_};
-ghost use Prim.Native.Nat.{_+_, _-_, _<_, _≤_};
+ghost use Prim.Native.Nat.{_≤_};
 ghost use lib.ListN.{length};
 ghost use Rattle.rules.specs.Ends.{fewest-points};
-ghost use Rattle.rules.specs.Curve.{knot-slopes};
-ghost use Rattle.rules.specs.Refusals.{outcome-refused};
 ghost use Rattle.rules.specs.Calls.{MomentsPromise, CurvePromise, SlopesPromise};
 ghost use Rattle.rows.specs.Rows.{RowsFit};
-ghost use Rattle.spline.specs.Work.{MomentsWorked};
+ghost use Rattle.spline.specs.Work.{SlopesWorked, MomentsWorked};
 ghost use Rattle.moments.specs.Curve.{AxisLengths};
 use moments::curve::curve_in_cell;
 use moments::curve::knot_slope;
@@ -15,31 +13,25 @@ use rules::Condition;
 use rules::CurveAnswer;
 use scratch::MOMENTS;
 
-// Whether a knot slope would be an infinity or NaN. Not public: it requires what `knot_slope` does.
-fn some_slope_refused(x: &[f64], y: &[f64], m: &[f64]) -> bool
-    requires { ⌜ AxisLengths (now x) (now y) (now m) ⌝ }
-    ensures { λ r. ⌜ r ≡ outcome-refused (knot-slopes (now (x .entry)) (length (now (x .entry)) - 1) (now (y .entry)) (now (m .entry))) ⌝ }
+// All the knot slopes go to a row, and whether one of them is an infinity or NaN is told. The flag is kept to the last knot, whose slope
+// is taken after the others, so the compiler works out several at a time. Not public: it requires what `knot_slope` does, and a place for
+// each slope.
+fn some_slope_refused(x: &[f64], y: &[f64], m: &[f64], row: &mut [f64]) -> bool
+    requires { ⌜ AxisLengths (now x) (now y) (now m) × (length (now row) ≡ length (now x)) ⌝ }
+    ensures { λ r. ⌜ SlopesWorked (now (x .entry)) (now (y .entry)) (now (m .entry)) r (now (row .exit)) ⌝ }
 {
+    let last = x.len() - 1;
+    let mut refused = false;
     let mut i = 0;
-    while i < x.len() {
-        if !base::is_finite(knot_slope(x, y, m, i)) {
-            return true;
-        }
+    while i < last {
+        let slope = knot_slope(x, y, m, i);
+        refused = refused | !base::is_finite(slope);
+        row[i] = slope;
         i += 1;
     }
-    false
-}
-
-// All the knot slopes. Not public: it requires what `knot_slope` does, and a place for each slope.
-fn store_slopes(x: &[f64], y: &[f64], m: &[f64], slopes: &mut [f64])
-    requires { ⌜ AxisLengths (now x) (now y) (now m) × (length (now slopes) ≡ length (now x)) ⌝ }
-    ensures { λ _. ⌜ now (slopes .exit) ≡ knot-slopes (now (x .entry)) (length (now (x .entry)) - 1) (now (y .entry)) (now (m .entry)) ⌝ }
-{
-    let mut i = 0;
-    while i < x.len() {
-        slopes[i] = knot_slope(x, y, m, i);
-        i += 1;
-    }
+    let slope = knot_slope(x, y, m, last);
+    row[last] = slope;
+    refused | !base::is_finite(slope)
 }
 
 // PUBLIC. The knot slopes of the curve with these moments, stored when all are finite. Refuses 2 4 7 8 10; then the slopes stay as they were.
@@ -56,10 +48,11 @@ pub fn knot_slopes(
     if refusal != 0 {
         return refusal;
     }
-    if some_slope_refused(knots, samples, moments) {
+    let mut row = [0.0; 256];
+    if some_slope_refused(knots, samples, moments, &mut row[0..points]) {
         return 10;
     }
-    store_slopes(knots, samples, moments, slopes);
+    base::copy(slopes, &row[0..points]);
     0
 }
 

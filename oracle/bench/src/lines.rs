@@ -34,7 +34,7 @@ const HERMITE: &str = "a Hermite in f64";
 const OUR_CELL: &str = "our cell";
 
 /// Why no measured call is refused.
-const ACCEPTED: &str = "the inputs are good ones";
+pub const ACCEPTED: &str = "the inputs are good ones";
 
 /// Every line, in the order of the table.
 pub fn lines(inputs: &Inputs) -> Vec<Line<'_>> {
@@ -66,7 +66,7 @@ pub fn lines(inputs: &Inputs) -> Vec<Line<'_>> {
     lines
 }
 
-fn builds(inputs: &Inputs) -> [Line<'_>; 4] {
+fn builds(inputs: &Inputs) -> [Line<'_>; 5] {
     let line = |name, surface| Line {
         name,
         held_against: THE_RUST,
@@ -75,13 +75,14 @@ fn builds(inputs: &Inputs) -> [Line<'_>; 4] {
     };
     [
         line("build, 16×16 natural", &inputs.two_axes),
+        line("build, 16×16 periodic", &inputs.two_axes_periodic),
         line("build, 6×6×6 not-a-knot", &inputs.three_axes),
         line("build, 4×4×4×4 natural", &inputs.four_axes),
         line("build, one axis of 256 natural", &inputs.line_of_256),
     ]
 }
 
-fn our_build(surface: &Surface) -> Work<'_> {
+pub fn our_build(surface: &Surface) -> Work<'_> {
     let mut tensor = vec![0.0; surface.axes.tensor_length()];
     let mut scratch = surface.scratch();
     Box::new(move || {
@@ -122,7 +123,7 @@ fn queries(inputs: &Inputs) -> [Line<'_>; 5] {
     ]
 }
 
-fn our_query(surface: &Surface) -> Work<'_> {
+pub fn our_query(surface: &Surface) -> Work<'_> {
     let tensor: Vec<f64> = surface.tensor().iter().copied().collect();
     let point = surface.middle_point();
     Box::new(move || {
@@ -152,7 +153,7 @@ fn quick_queries(inputs: &Inputs) -> Vec<Line<'_>> {
     rust.into_iter().chain(full).collect()
 }
 
-fn our_quick_query(surface: &Surface) -> Work<'_> {
+pub fn our_quick_query(surface: &Surface) -> Work<'_> {
     let tensor: Vec<f64> = surface.tensor().iter().copied().collect();
     let point = surface.middle_point();
     Box::new(move || {
@@ -215,7 +216,7 @@ fn changes(inputs: &Inputs) -> [Line<'_>; 4] {
     ]
 }
 
-fn our_change(surface: &Surface) -> Work<'_> {
+pub fn our_change(surface: &Surface) -> Work<'_> {
     let mut tensor: Vec<f64> = surface.tensor().iter().copied().collect();
     let mut scratch = surface.scratch();
     let place = surface.middle_place();

@@ -6,6 +6,8 @@
 mod hullashlar;
 mod inputs;
 mod instructions;
+#[cfg(limit)]
+mod limit;
 mod lines;
 mod nanoseconds;
 mod sheet;
@@ -15,12 +17,16 @@ mod table;
 mod tests;
 
 use inputs::Inputs;
+#[cfg(limit)]
+use limit::lines as limit_lines;
 use lines::{lines, Line};
 use std::env;
 
 fn main() {
     let inputs = Inputs::new();
     let mut lines = lines(&inputs);
+    let first_of_the_limit = lines.len();
+    lines.extend(limit_lines(&inputs));
     lines.iter_mut().for_each(check_same_outcome);
     if env::args().nth(1).as_deref() == Some(instructions::COUNTED_CALLS) {
         instructions::make_counted_calls(&mut lines);
@@ -28,8 +34,16 @@ fn main() {
     }
     let instructions = instructions::count(lines.len());
     let nanoseconds: Vec<_> = lines.iter_mut().map(nanoseconds::medians).collect();
-    table::print_lines(&lines, &instructions, &nanoseconds);
+    let rows = table::rows(&lines, &instructions, &nanoseconds);
+    table::print_lines(&rows[..first_of_the_limit]);
+    table::print_limit(&rows[first_of_the_limit..]);
     table::print_stacks(&stack::stacks(&inputs));
+}
+
+/// Where the limit is not at hand, it has no lines.
+#[cfg(not(limit))]
+fn limit_lines(_: &Inputs) -> [Line<'_>; 0] {
+    []
 }
 
 /// What is compared must do the same work: both sides end in the same bits.

@@ -3,23 +3,59 @@
 use crate::lines::Line;
 use crate::stack::Stack;
 
+/// What was measured of a line, ours first.
+pub struct Row {
+    name: &'static str,
+    held_against: &'static str,
+    instructions: [f64; 2],
+    nanoseconds: [f64; 2],
+}
+
+/// The rows of so many lines.
+pub fn rows(lines: &[Line], instructions: &[[u64; 2]], nanoseconds: &[[f64; 2]]) -> Vec<Row> {
+    let measured = instructions.iter().zip(nanoseconds);
+    let row = |(line, (counts, times)): (&Line, (&[u64; 2], &[f64; 2]))| Row {
+        name: line.name,
+        held_against: line.held_against,
+        instructions: counts.map(|count| count as f64),
+        nanoseconds: *times,
+    };
+    lines.iter().zip(measured).map(row).collect()
+}
+
 /// One row for each line; a ratio says how many times ours the other side needs.
-pub fn print_lines(lines: &[Line], instructions: &[[u64; 2]], nanoseconds: &[[f64; 2]]) {
+pub fn print_lines(rows: &[Row]) {
     println!("| Call | Held against | Instructions, ours | the other | ratio | Nanoseconds, ours | the other | ratio |");
     println!("|---|---|--:|--:|--:|--:|--:|--:|");
-    for (line, (counts, times)) in lines.iter().zip(instructions.iter().zip(nanoseconds)) {
-        let count_ratio = counts[1] as f64 / counts[0] as f64;
-        let time_ratio = times[1] / times[0];
-        println!(
-            "| {} | {} | {} | {} | {count_ratio:.2} | {} | {} | {time_ratio:.2} |",
-            line.name,
-            line.held_against,
-            grouped(counts[0]),
-            grouped(counts[1]),
-            grouped(times[0].round() as u64),
-            grouped(times[1].round() as u64),
-        );
+    for row in rows {
+        let count = columns(row.instructions, |ours, other| other / ours);
+        let time = columns(row.nanoseconds, |ours, other| other / ours);
+        println!("| {} | {} | {count} | {time} |", row.name, row.held_against);
     }
+}
+
+/// One row for each line of the limit; here a ratio says how many times the limit ours needs.
+pub fn print_limit(rows: &[Row]) {
+    println!();
+    if rows.is_empty() {
+        println!("The limit is not at hand: LIMIT_SRC names the folder of its C.");
+        return;
+    }
+    println!(
+        "| Call | Instructions, ours | the limit | ratio | Nanoseconds, ours | the limit | ratio |"
+    );
+    println!("|---|--:|--:|--:|--:|--:|--:|");
+    for row in rows {
+        let count = columns(row.instructions, |ours, limit| ours / limit);
+        let time = columns(row.nanoseconds, |ours, limit| ours / limit);
+        println!("| {} | {count} | {time} |", row.name);
+    }
+}
+
+/// Ours, the other, and their ratio.
+fn columns(both: [f64; 2], ratio: fn(f64, f64) -> f64) -> String {
+    let [ours, other] = both.map(|number| grouped(number.round() as u64));
+    format!("{ours} | {other} | {:.2}", ratio(both[0], both[1]))
 }
 
 /// One row for each exported call.

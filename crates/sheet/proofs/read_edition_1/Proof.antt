@@ -1,9 +1,8 @@
-use mathlib.Core.Path.{_≡_, sym, ap, _∙_}
+use mathlib.Core.Path.{sym, ap, _∙_}
 use Prim.Native.Nat.{_+_, _*_, _≤_}
 use native.Mathlib.Omega.{arith}
 use borrow.Author.Tests.{ltb-true, ltb-false}
 use lib.ListN.{length}
-use Rattle.sheet.specs.Fields.{edition}
 use Rattle.sheet.specs.Read.{edition-1-answer}
 use Rattle.sheet.proofs.Edition1.{knots-refused, samples-refused, edition-short, edition-refused, as-read}
 use borrow.Author.Needs.{needs}

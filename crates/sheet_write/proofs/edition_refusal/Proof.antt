@@ -1,4 +1,4 @@
-use mathlib.Core.Path.{_≡_, sym, _∙_}
+use mathlib.Core.Path.{sym, _∙_}
 use Rattle.sheet_write.specs.Write.{edition-refusal}
 use borrow.Author.Needs.{needs}
 use Rattle.sheet_write.proofs.edition_refusal.Statement.{statement}

@@ -1,7 +1,6 @@
-use mathlib.Core.Path.{_≡_, refl}
-use mathlib.Core.Bool.{_||_}
+use mathlib.Core.Path.{refl}
 use Rattle.checks.proofs.Rows.{first, second, stop, pass}
-use Rattle.boundary.specs.OwnRefusals.{found-slots-refused, modes-or-slot-refused, sheet-tensor-own-refusal}
+use Rattle.boundary.specs.OwnRefusals.{sheet-tensor-own-refusal}
 use borrow.Author.Needs.{needs}
 use Rattle.boundary.proofs.own.sheet_tensor_own_refusal.Statement.{statement}
 use Rattle.boundary.proofs.own.sheet_tensor_own_refusal.Tie as tie

@@ -1,50 +1,40 @@
-use Prim.Native.Nat.{_≤_, _-_}
-use mathlib.Core.Path.{_≡_, sym, ap, _∙_}
 use native.Mathlib.Omega.{arith}
+use mathlib.Core.Path.{sym, _∙_}
 use lib.ListN.{length}
-use Rattle.rules.specs.Numbers.{any}
-use Rattle.rules.specs.Steps.{h}
-use Rattle.rules.specs.Refusals.{step-refused}
-use Rattle.base.proofs.Scan.{any-none, any-next}
+use Rattle.checks.proofs.RisingKnots.{no-steps, not-risen, finite-steps}
 use borrow.Author.Needs.{needs}
 use Rattle.checks.proofs.rising.knots_refused.Statement.{statement}
 use Rattle.checks.proofs.rising.knots_refused.Tie as tie
 
-abbrev Inv-loop : tie.InvT-loop
-Inv-loop knots refused₀ i₀ refused i = (i ≤ length knots - 1) × (refused ≡ any (step-refused knots) i)
+returns : tie.Need-returns
+returns c = let a = c .before .before .args in sym (no-steps (a .knots .now) (length (a .knots .now)) (omega arith))
 
-abbrev μ-loop : tie.MeasureT-loop
-μ-loop knots refused₀ i₀ refused i = length knots - i
+returns-2 : tie.Need-returns-2
+returns-2 c =
+    let a = c .before .before .before .before .args in
+    sym (not-risen (a .knots .now) (length (a .knots .now)) (sym (c .before .some-knot-not-rising .ensures) ∙ c .if2 .taken))
 
-loop-holds : tie.Need-loop-holds Inv-loop μ-loop
-loop-holds c = (search needs, sym (any-none _))
-
-loop-again : tie.Need-loop-again Inv-loop μ-loop
-unfolding step-refused h
-loop-again c =
-    let turn = c .before .before .before .before in
-    (search needs, rw (any-next, ← turn .loop .inv .1, ← c .step-refused .ensures))
-
-returns : tie.Need-returns Inv-loop μ-loop
-returns c =
-    let e : c .before .loop .i ≡ length (c .before .before .before .args .knots .now) - 1 = omega arith in
-    c .before .loop .inv .1 ∙ ap (any (step-refused _)) e
+returns-3 : tie.Need-returns-3
+returns-3 c =
+    let risen = c .before .before .before .before in
+    let a = risen .before .before .before .before .args in
+    sym
+    (finite-steps (a .knots .now) (length (a .knots .now)) (c .before .before .shared-slice-known3 .given) (omega arith)
+    (sym (risen .before .some-knot-not-rising .ensures) ∙ risen .if2 .left)
+    (sym (c .before .is-finite .ensures) ∙ c .if3 .taken))
 
 pub knots-refused-spec : {M : Type 1} → statement M
 knots-refused-spec =
     tie.close
     (tie.spec
-    Inv-loop
-    μ-loop
-    loop-holds
-    (λ c. search needs)
-    (λ c. search needs)
+    returns
+    (λ c κs. search needs)
+    returns-2
     (λ c. search needs)
     (λ c. search needs)
     (λ c. search needs)
     (λ c. search needs)
     (λ c κs. search needs)
-    (λ c. search needs)
-    (λ c. search needs)
-    loop-again
-    returns)
+    returns-3
+    (λ c κs. search needs)
+    (λ c. search needs))

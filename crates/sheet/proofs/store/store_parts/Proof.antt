@@ -4,10 +4,9 @@ use native.Mathlib.Omega.{arith}
 use lib.ListN.{length, length-take}
 use Rattle.rules.specs.Sizes.{samples-length}
 use Rattle.kinds.specs.Editions.{mode-width}
-use Rattle.sheet.specs.Fields.{axes, sheet-grid, samples-begin}
-use Rattle.sheet.specs.Within.{PartsRoom}
+use Rattle.sheet.specs.Fields.{sheet-grid, samples-begin}
 use Rattle.sheet.proofs.Samples.{count-is}
-use Rattle.sheet.proofs.Sheets.{Accepted, accepted, no-fault, all-ended, samples-most}
+use Rattle.sheet.proofs.Sheets.{Accepted, accepted, no-fault, all-ended}
 use Rattle.sheet.proofs.Promises.{samples-within, samples-stored}
 use borrow.Author.Needs.{needs}
 use Rattle.sheet.proofs.store.store_parts.Statement.{statement}

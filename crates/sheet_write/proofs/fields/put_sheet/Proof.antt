@@ -1,7 +1,7 @@
-use mathlib.Core.Path.{_≡_, refl}
+use mathlib.Core.Path.{refl}
 use native.Mathlib.Omega.{arith}
 use Rattle.grid.specs.Given.{grid}
-use Rattle.sheet_write.proofs.Puts.{Ends, ends, axes-given, axes-end-is, axes-put-is, last-within, sheet-put}
+use Rattle.sheet_write.proofs.Puts.{ends, axes-given, axes-end-is, axes-put-is, last-within, sheet-put}
 use borrow.Author.Needs.{needs}
 use Rattle.sheet_write.proofs.fields.put_sheet.Statement.{statement}
 use Rattle.sheet_write.proofs.fields.put_sheet.Tie as tie

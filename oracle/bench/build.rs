@@ -1,0 +1,55 @@
+//! Links the archive, and the limit where the folder of its C is at hand: that of LIMIT_SRC, by default the one beside the
+//! repository. Where there is none, the benchmark is built without the limit's lines.
+
+#[path = "../archive.rs"]
+mod archive;
+
+use std::env;
+use std::path::{Path, PathBuf};
+use std::process::Command;
+
+fn main() {
+    archive::link();
+    println!("cargo::rerun-if-env-changed=LIMIT_SRC");
+    println!("cargo::rustc-check-cfg=cfg(limit)");
+    let source = limit_folder().join("limit.c");
+    println!("cargo::rerun-if-changed={}", source.display());
+    if source.is_file() {
+        link_limit(&source);
+        println!("cargo::rustc-cfg=limit");
+    }
+}
+
+fn limit_folder() -> PathBuf {
+    let manifest = env::var("CARGO_MANIFEST_DIR").expect("cargo sets CARGO_MANIFEST_DIR");
+    let beside = Path::new(&manifest).join("../../../shared/limit");
+    env::var_os("LIMIT_SRC").map_or(beside, PathBuf::from)
+}
+
+/// The flags are those that the limit's own page asks for.
+fn link_limit(source: &Path) {
+    let folder = PathBuf::from(env::var_os("OUT_DIR").expect("cargo sets OUT_DIR"));
+    let object = folder.join("limit.o");
+    run(Command::new("gcc")
+        .args([
+            "-std=c11",
+            "-O3",
+            "-march=x86-64",
+            "-ffp-contract=off",
+            "-c",
+        ])
+        .arg(source)
+        .arg("-o")
+        .arg(&object));
+    run(Command::new("ar")
+        .arg("crs")
+        .arg(folder.join("liblimit.a"))
+        .arg(&object));
+    println!("cargo::rustc-link-search=native={}", folder.display());
+    println!("cargo::rustc-link-lib=static=limit");
+}
+
+fn run(command: &mut Command) {
+    let ended = command.status().expect("gcc and ar are installed");
+    assert!(ended.success(), "the limit can be compiled");
+}

@@ -1,0 +1,66 @@
+//! The lines of the limit: build, change and query in hand-written C that ends in the same bits. It is no part of the repository;
+//! `build.rs` says where it is looked for.
+
+mod calls;
+
+use crate::inputs::Inputs;
+use crate::lines::{our_build, our_change, our_query, our_quick_query, Line, Work};
+
+/// Every call that the limit has, on the grids that a goal is set for.
+pub fn lines(inputs: &Inputs) -> Vec<Line<'_>> {
+    let mut lines = Vec::new();
+    lines.extend(builds(inputs));
+    lines.extend(changes(inputs));
+    lines.extend(queries(inputs));
+    lines.extend(quick_queries(inputs));
+    lines
+}
+
+fn line<'a>(name: &'static str, ours: Work<'a>, other: Work<'a>) -> Line<'a> {
+    Line {
+        name,
+        held_against: "the limit",
+        ours,
+        other,
+    }
+}
+
+fn builds(inputs: &Inputs) -> [Line<'_>; 5] {
+    let build = |name, surface| line(name, our_build(surface), calls::build(surface));
+    [
+        build("build, 4×4×4×4 natural", &inputs.four_axes),
+        build("build, 6×6×6 not-a-knot", &inputs.three_axes),
+        build("build, 16×16 natural", &inputs.two_axes),
+        build("build, 16×16 periodic", &inputs.two_axes_periodic),
+        build("build, one axis of 256 natural", &inputs.line_of_256),
+    ]
+}
+
+fn changes(inputs: &Inputs) -> [Line<'_>; 3] {
+    let change = |name, surface| line(name, our_change(surface), calls::change(surface));
+    [
+        change("change, middle of 4×4×4×4", &inputs.four_axes),
+        change("change, middle of 6×6×6", &inputs.three_axes),
+        change("change, middle of 16×16", &inputs.two_axes),
+    ]
+}
+
+fn queries(inputs: &Inputs) -> [Line<'_>; 4] {
+    let query = |name, surface| line(name, our_query(surface), calls::query(surface));
+    [
+        query("query, 4×4×4×4", &inputs.four_axes),
+        query("query, 6×6×6", &inputs.three_axes),
+        query("query, 16×16", &inputs.two_axes),
+        query("query, one axis of 256", &inputs.line_of_256),
+    ]
+}
+
+fn quick_queries(inputs: &Inputs) -> [Line<'_>; 4] {
+    let query = |name, surface| line(name, our_quick_query(surface), calls::quick_query(surface));
+    [
+        query("quick query, 4×4×4×4", &inputs.four_axes),
+        query("quick query, 6×6×6", &inputs.three_axes),
+        query("quick query, 16×16", &inputs.two_axes),
+        query("quick query, one axis of 256", &inputs.line_of_256),
+    ]
+}

@@ -1,0 +1,173 @@
+//! The calls of the limit, each with buffers of its own.
+
+use crate::inputs::{Surface, CHANGED};
+use crate::lines::{Work, ACCEPTED};
+use std::ffi::c_int;
+
+/// The ends of an axis in the limit's form.
+#[repr(C)]
+struct Ends {
+    lower_kind: c_int,
+    upper_kind: c_int,
+    lower: f64,
+    upper: f64,
+}
+
+/// What a query is given.
+#[repr(C)]
+struct Sheet {
+    axes: c_int,
+    points: [c_int; 4],
+    knots_length: usize,
+    tensor_length: usize,
+    knots: *const f64,
+    tensor: *const f64,
+}
+
+/// What a query answers.
+#[repr(C)]
+#[derive(Default)]
+struct Answer {
+    value: f64,
+    refusal: c_int,
+    cells: [c_int; 4],
+    labels: [c_int; 4],
+}
+
+type Query = unsafe extern "C" fn(*const Sheet, *const f64, usize, *mut Answer);
+
+extern "C" {
+    fn lim_build(
+        axes: c_int,
+        points: *const c_int,
+        ends: *const Ends,
+        knots: *const f64,
+        knots_length: usize,
+        samples: *const f64,
+        samples_length: usize,
+        tensor: *mut f64,
+        tensor_length: usize,
+        scratch: *mut f64,
+        scratch_length: usize,
+    ) -> c_int;
+    fn lim_change(
+        axes: c_int,
+        points: *const c_int,
+        ends: *const Ends,
+        knots: *const f64,
+        knots_length: usize,
+        place: *const c_int,
+        value: f64,
+        tensor: *mut f64,
+        tensor_length: usize,
+        scratch: *mut f64,
+        scratch_length: usize,
+    ) -> c_int;
+    fn lim_query_full(sheet: *const Sheet, point: *const f64, length: usize, answer: *mut Answer);
+    fn lim_query_quick(sheet: *const Sheet, point: *const f64, length: usize, answer: *mut Answer);
+}
+
+fn small(number: usize) -> c_int {
+    c_int::try_from(number).expect("a grid's numbers are small")
+}
+
+fn ends(surface: &Surface) -> [Ends; 4] {
+    let (kinds, values) = (surface.axes.kinds, surface.axes.values);
+    [0, 1, 2, 3].map(|axis| Ends {
+        lower_kind: kinds[2 * axis].into(),
+        upper_kind: kinds[2 * axis + 1].into(),
+        lower: values[2 * axis],
+        upper: values[2 * axis + 1],
+    })
+}
+
+pub fn build(surface: &Surface) -> Work<'_> {
+    let points = surface.axes.points.map(small);
+    let ends = ends(surface);
+    let mut tensor = vec![0.0; surface.axes.tensor_length()];
+    let mut scratch = surface.scratch();
+    Box::new(move || {
+        let Surface {
+            axes,
+            knots,
+            samples,
+            ..
+        } = surface;
+        // SAFETY: every pointer is that of a slice that is there, with its own length behind it.
+        let refusal = unsafe {
+            lim_build(
+                small(axes.count),
+                points.as_ptr(),
+                ends.as_ptr(),
+                knots.as_ptr(),
+                knots.len(),
+                samples.as_ptr(),
+                samples.len(),
+                tensor.as_mut_ptr(),
+                tensor.len(),
+                scratch.as_mut_ptr(),
+                scratch.len(),
+            )
+        };
+        assert_eq!(refusal, 0, "{ACCEPTED}");
+        tensor[tensor.len() - 1]
+    })
+}
+
+pub fn change(surface: &Surface) -> Work<'_> {
+    let points = surface.axes.points.map(small);
+    let place = surface.middle_place().map(small);
+    let ends = ends(surface);
+    let mut tensor: Vec<f64> = surface.tensor().iter().copied().collect();
+    let mut scratch = surface.scratch();
+    Box::new(move || {
+        let Surface { axes, knots, .. } = surface;
+        // SAFETY: as above; there are four indices.
+        let lanes = unsafe {
+            lim_change(
+                small(axes.count),
+                points.as_ptr(),
+                ends.as_ptr(),
+                knots.as_ptr(),
+                knots.len(),
+                place.as_ptr(),
+                CHANGED,
+                tensor.as_mut_ptr(),
+                tensor.len(),
+                scratch.as_mut_ptr(),
+                scratch.len(),
+            )
+        };
+        assert!(lanes > 0, "{ACCEPTED}");
+        tensor[tensor.len() - 1]
+    })
+}
+
+pub fn query(surface: &Surface) -> Work<'_> {
+    asked(surface, lim_query_full)
+}
+
+pub fn quick_query(surface: &Surface) -> Work<'_> {
+    asked(surface, lim_query_quick)
+}
+
+fn asked(surface: &Surface, query: Query) -> Work<'_> {
+    let tensor: Vec<f64> = surface.tensor().iter().copied().collect();
+    let point = surface.middle_point();
+    let points = surface.axes.points.map(small);
+    Box::new(move || {
+        let sheet = Sheet {
+            axes: small(surface.axes.count),
+            points,
+            knots_length: surface.knots.len(),
+            tensor_length: tensor.len(),
+            knots: surface.knots.as_ptr(),
+            tensor: tensor.as_ptr(),
+        };
+        let mut answer = Answer::default();
+        // SAFETY: the slices are there for the whole call, with their own lengths.
+        unsafe { query(&sheet, point.as_ptr(), point.len(), &mut answer) };
+        assert_eq!(answer.refusal, 0, "{ACCEPTED}");
+        answer.value
+    })
+}
