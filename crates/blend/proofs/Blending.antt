@@ -12,15 +12,21 @@ use lib.Ieee.{Float, nan}
 use Rattle.rules.specs.Numbers.{at}
 use Rattle.rules.specs.Query.{without-lowest, blend}
 use Rattle.rules.proofs.Cells.{blend-ext}
-use Rattle.blend.specs.Blend.{Removed}
+use Rattle.blend.specs.Blend.{ByFours, Removed}
 
 -- a quarter of a cell is the cell of one axis fewer
 pub quarter : (left n : ℕ) → left ≢ 0 → n ≡ 4 ^ left → n / 4 ≡ 4 ^ (left - 1)
 quarter zero n some e = absurd (some refl)
 quarter (suc left) n some e = let less : suc left - 1 ≡ left = omega arith in rw less (omega (arith, pow-suc 4 left))
 
-pub few : (left : ℕ) → left ≤ 3 → 4 ^ left ≤ 64
-few left h = pow-le-pow-right (lit< tt) {i = left} {j = 3} h
+pub few : (left : ℕ) → left ≤ 4 → 4 ^ left ≤ 256
+few left h = pow-le-pow-right (lit< tt) {i = left} {j = 4} h
+
+-- of two axes or more it comes in fours
+pub by-fours : (left n : ℕ) → left ≢ 0 → n ≡ 4 ^ left → ByFours (n / 4)
+by-fours zero n some e one = absurd (some refl)
+by-fours (suc zero) n some e one = absurd (one (omega arith))
+by-fours (suc (suc left)) n some e one = omega (arith, pow-suc 4 (suc left), pow-suc 4 left)
 
 -- no axis is left
 pub none-left : (left lowest : ℕ) (widths ts : ℕ → Float) (cell : List Float) → left ≡ 0 → at cell 0 ≡ blend left lowest widths ts (at cell)

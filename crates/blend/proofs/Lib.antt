@@ -1,2 +1,4 @@
+mod Filling
+mod Running
 mod Removal
 pub mod Blending

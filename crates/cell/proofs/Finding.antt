@@ -1,23 +1,28 @@
 -- The turns of a loop that finds the cells of a point from axis to axis, on plain lists, whatever cells they are; and what is known of the cell in the end.
 use native.Mathlib.Omega.{arith}
-use mathlib.Core.Path.{_≡_, refl, _∙_}
+use mathlib.Core.Path.{_≡_, refl, sym, subst, _∙_}
 use mathlib.Core.Bool.{Bool, false, _||_}
 use mathlib.Core.List.{List}
-use Prim.Native.Nat.{ℕ, _+_, _<_, _≤_}
+use Prim.Native.Nat.{ℕ, _+_, _*_, _^_, _<_, _≤_}
 use native.Mathlib.Numerals.{add-one}
 use lib.ListN.{length, set, replicate, length-set, getD-replicate}
 use lib.Seq.{getD-set-same, getD-set-other}
 use lib.Ieee.{Float, nan}
 use borrow.Author.Count.{below-more}
 use Rattle.rules.specs.Numbers.{plus-zero, at, any}
-use Rattle.rules.specs.Sizes.{most-in-a-tensor, Grid, points, knots, sum-below, tensor-length, Place, place-of}
-use Rattle.rules.specs.Outside.{mode-at}
+use Rattle.rules.specs.Sizes.{most-in-a-tensor, Grid, points, knots, sum-below, product-below, tensor-length, Place, place-of}
+use Rattle.rules.specs.Steps.{h}
+use Rattle.rules.specs.Outside.{mode-at, placed-on}
+use Rattle.rules.specs.Query.{fraction}
+use Rattle.grid.specs.Given.{CellInside}
 use Rattle.grid.proofs.Products.{sum-more}
 use Rattle.grid.proofs.Knots as of-axis
 use Rattle.locate.specs.Answers.{Placed}
 use Rattle.locate.specs.declared.outside.PlacedPoint.{PlacedPoint}
 use Rattle.cell.specs.Searched.{SearchGiven, FoundOn}
-use Rattle.cell.specs.Answers.{CellGiven}
+use Rattle.cell.specs.Points.{CellAt}
+use Rattle.cell.specs.Answers.{WithinCell}
+use Rattle.cell.specs.declared.Within.{Within}
 use Rattle.cell.specs.declared.searched.Found.{Found}
 
 -- the cells of the first i axes are found, and the knots of the next begin at `begin`
@@ -28,7 +33,7 @@ pub record Turn (g : Grid) (coordinates : List Float) (cells : Place) (r : Found
   pub found-on : FoundOn g coordinates cells i r
 
 module _ (g : Grid) (coordinates : List Float) (cells : Place) where
-  pub turn-first : SearchGiven g coordinates → Turn g coordinates cells (record { lower = replicate 4 0; placed = replicate 4 plus-zero; refused = false }) 0 0
+  pub turn-first : SearchGiven g coordinates → Turn g coordinates cells (record { lower = replicate 4 0; widths = replicate 4 plus-zero; ts = replicate 4 plus-zero; refused = false }) 0 0
   unfolding sum-below any
   turn-first given = record {
     given = given;
@@ -39,8 +44,10 @@ module _ (g : Grid) (coordinates : List Float) (cells : Place) where
       found = λ j h. absurd (omega arith);
       inside = λ j h. absurd (omega arith);
       unused = λ j h l. getD-replicate 4 j 0 0 l;
-      placed-four = refl;
-      placed = λ j h. absurd (omega arith);
+      four-widths = refl;
+      four-fractions = refl;
+      width = λ j h. absurd (omega arith);
+      fraction = λ j h. absurd (omega arith);
       refused = refl;
     };
   }
@@ -76,8 +83,14 @@ module _ (g : Grid) (coordinates : List Float) (cells : Place) where
         pub other : (j : ℕ) → (j ≡ i → ⊥) → place-of (set (r .lower) i cell) j ≡ place-of (r .lower) j
         other j ne = getD-set-other (r .lower) i j cell 0 ne
 
-        module _ (point : PlacedPoint) (stands : Placed (mode-at g i) part (at coordinates i) point) where
-          pub turn-next : cell ≡ cells i → cell + 1 < points g i → (refused : Bool) → refused ≡ (r .refused || point .refused) → Turn g coordinates cells (record { lower = set (r .lower) i cell; placed = set (r .placed) i (point .coordinate); refused = refused }) (begin + points g i) (i + 1)
+        module _ (point : PlacedPoint) (stands : Placed (mode-at g i) part (at coordinates i) point) (within : Within) (lies : WithinCell part cell (point .coordinate) within) where
+          width-is : within .width ≡ h (knots g i) cell
+          width-is = lies .width ∙ rw part-is refl
+
+          fraction-is : within .t ≡ fraction (knots g i) cell (placed-on g (at coordinates) i)
+          fraction-is = lies .fraction ∙ rw (stands .coordinate, part-is) refl
+
+          pub turn-next : cell ≡ cells i → cell + 1 < points g i → (refused : Bool) → refused ≡ (r .refused || point .refused) → Turn g coordinates cells (record { lower = set (r .lower) i cell; widths = set (r .widths) i (within .width); ts = set (r .ts) i (within .t); refused = refused }) (begin + points g i) (i + 1)
           unfolding any
           turn-next is-cell inside refused either = record {
             given = turn .given;
@@ -88,10 +101,14 @@ module _ (g : Grid) (coordinates : List Float) (cells : Place) where
               found = below-more _ i (λ j h. other j (omega arith) ∙ turn .found-on .found j h) (stored ∙ is-cell);
               inside = below-more _ i (λ j h. rw (other j (omega arith)) (turn .found-on .inside j h)) (rw stored inside);
               unused = λ j h l. other j (omega arith) ∙ turn .found-on .unused j (omega arith) l;
-              placed-four = simp length-set (turn .found-on .placed-four);
-              placed = below-more _ i
-                  (λ j h. getD-set-other (r .placed) i j (point .coordinate) nan (omega arith) ∙ turn .found-on .placed j h)
-                  (getD-set-same (r .placed) i (point .coordinate) nan (omega (arith, turn .found-on .placed-four, turn .given .in-range .few-axes)) ∙ stands .coordinate ∙ rw part-is refl);
+              four-widths = simp length-set (turn .found-on .four-widths);
+              four-fractions = simp length-set (turn .found-on .four-fractions);
+              width = below-more _ i
+                  (λ j k. getD-set-other (r .widths) i j (within .width) nan (omega arith) ∙ rw (other j (omega arith)) (turn .found-on .width j k))
+                  (getD-set-same (r .widths) i (within .width) nan (omega (arith, turn .found-on .four-widths, turn .given .in-range .few-axes)) ∙ rw stored width-is);
+              fraction = below-more _ i
+                  (λ j k. getD-set-other (r .ts) i j (within .t) nan (omega arith) ∙ rw (other j (omega arith)) (turn .found-on .fraction j k))
+                  (getD-set-same (r .ts) i (within .t) nan (omega (arith, turn .found-on .four-fractions, turn .given .in-range .few-axes)) ∙ rw stored fraction-is);
               refused = either ∙ rw (add-one, turn .found-on .refused, stands .refused, part-is) refl;
             };
           }
@@ -103,14 +120,12 @@ module _ (g : Grid) (coordinates : List Float) (cells : Place) where
     turn-last h = rw (all-axes h) at (turn .found-on)
 
   -- what is found on all axes is a cell of the grid, and can be evaluated
-  pub cell-given : (r : Found) → FoundOn g coordinates cells (g .axes) r → SearchGiven g coordinates → tensor-length g ≤ most-in-a-tensor → CellGiven g (place-of (r .lower)) (r .placed)
-  cell-given r found given small = record {
-    inside = record {
-      some-axes = given .in-range .some-axes;
-      few-axes = given .in-range .few-axes;
-      small = small;
-      upper = found .inside;
-    };
-    knots-exact = given .knots-exact;
-    coordinates-enough = omega (arith, found .placed-four, given .in-range .few-axes);
-  }
+  module _ (r : Found) (found : FoundOn g coordinates cells (g .axes) r) (given : SearchGiven g coordinates) (small : tensor-length g ≤ most-in-a-tensor) where
+    pub cell-inside : CellInside (g .axes) (g .entries) (place-of (r .lower))
+    cell-inside = record { some-axes = given .in-range .some-axes; few-axes = given .in-range .few-axes; small = small; upper = found .inside }
+
+    -- .. by its points alone, too
+    pub cell-given : {tensor-given : ℕ} → tensor-given ≡ tensor-length g → (n : ℕ → ℕ) → n ≡ points g → CellAt (g .axes) n (place-of (r .lower)) × (tensor-given ≡ product-below n (g .axes) * 2 ^ g .axes)
+    cell-given {tensor-given} exact n same =
+        subst (λ (m : ℕ → ℕ). CellAt (g .axes) m (place-of (r .lower)) × (tensor-given ≡ product-below m (g .axes) * 2 ^ g .axes)) (sym same)
+        (record { some-axes = given .in-range .some-axes; few-axes = given .in-range .few-axes; small = small; upper = found .inside }, exact)

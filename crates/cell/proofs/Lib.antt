@@ -1,6 +1,8 @@
-pub mod Gathering
+mod Apart
+mod Spotting
+mod Runs
+pub mod Removing
 pub mod Accepted
 pub mod Finding
 mod Searching
-mod Lying
 pub mod Answering

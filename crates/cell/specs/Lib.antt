@@ -1,3 +1,3 @@
-pub mod Gathered
+pub mod Points
 pub mod Searched
 pub mod Answers

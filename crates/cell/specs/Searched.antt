@@ -8,8 +8,9 @@ use lib.Ieee.{Float}
 use lib.Ieee.Scale.{finite}
 use Rattle.rules.specs.Numbers.{at, any}
 use Rattle.rules.specs.Sizes.{most-axes, Grid, points, knots-length, knots, Place, place-of}
+use Rattle.rules.specs.Steps.{h}
 use Rattle.rules.specs.Outside.{mode-at, side, placed-on, outside-refused}
-use Rattle.rules.specs.Query.{cell-of, quick-cell-of}
+use Rattle.rules.specs.Query.{fraction, cell-of, quick-cell-of}
 use Rattle.grid.specs.Given.{InRange}
 use Rattle.locate.specs.Answers.{Rising}
 use Rattle.cell.specs.declared.searched.Found.{Found}
@@ -20,14 +21,16 @@ pub record SearchGiven (g : Grid) (coordinates : List Float) : Type 0 where
   pub knots-exact : length (g .flat-knots) ≡ knots-length g
   pub coordinates-exact : length coordinates ≡ g .axes
 
--- what is found on the first i axes, where these are the cells of the point: their lower knots, and 0 past them, the coordinates that the modes make of the point, and whether one of them refuses it
+-- what is found on the first i axes, where these are the cells of the point: their lower knots, and 0 past them, their widths, where in them the point lies that the modes make of the given one, and whether one of them refuses it
 pub record FoundOn (g : Grid) (coordinates : List Float) (cells : Place) (i : ℕ) (r : Found) : Type 0 where
   pub four : length (r .lower) ≡ most-axes
   pub found : (j : ℕ) → j < i → place-of (r .lower) j ≡ cells j
   pub inside : (j : ℕ) → j < i → place-of (r .lower) j + 1 < points g j
   pub unused : (j : ℕ) → i ≤ j → j < most-axes → place-of (r .lower) j ≡ 0
-  pub placed-four : length (r .placed) ≡ most-axes
-  pub placed : (j : ℕ) → j < i → at (r .placed) j ≡ placed-on g (at coordinates) j
+  pub four-widths : length (r .widths) ≡ most-axes
+  pub four-fractions : length (r .ts) ≡ most-axes
+  pub width : (j : ℕ) → j < i → at (r .widths) j ≡ h (knots g j) (place-of (r .lower) j)
+  pub fraction : (j : ℕ) → j < i → at (r .ts) j ≡ fraction (knots g j) (place-of (r .lower) j) (placed-on g (at coordinates) j)
   pub refused : r .refused ≡ any (λ j. outside-refused (mode-at g j) (side (knots g j) (at coordinates j))) i
 
 -- by the search: the cells may be those of any knots, and on rising ones they are those of the rules' scan

@@ -4,15 +4,15 @@ use mathlib.Core.Path.{_≡_, refl, sym, ap, _∙_}
 use mathlib.Core.Logic.{_≢_}
 use mathlib.Core.Bool.{Bool, true, false, cond}
 use mathlib.Core.List.{List}
-use Prim.Native.Nat.{ℕ, _<_}
+use Prim.Native.Nat.{ℕ, _*_, _^_, _<_}
 use lib.Dec.{ltb}
 use lib.ListN.{length}
 use lib.Ieee.{Float}
 use borrow.Author.Tests.{lt-ltb}
 use Rattle.rules.specs.Numbers.{at}
-use Rattle.rules.specs.Sizes.{Grid, place-of, tensor-length}
+use Rattle.rules.specs.Sizes.{Grid, points, product-below, place-of}
 use Rattle.rules.specs.Refusals.{answer-refused}
-use Rattle.rules.specs.Outside.{placed-on, some-outside-refused}
+use Rattle.rules.specs.Outside.{some-outside-refused}
 use Rattle.rules.specs.Even.{some-uneven-refused}
 use Rattle.rules.specs.Query.{even-cell-of, even-query}
 use Rattle.rules.specs.Calls.{or-else}
@@ -27,7 +27,8 @@ use Rattle.checks.proofs.Accepted.{query-given}
 use Rattle.checks.proofs.Rows.{rows-then, rows-below-10}
 use Rattle.cell.specs.Searched.{SearchGiven, FoundOn}
 use Rattle.cell.specs.declared.searched.Found.{Found}
-use Rattle.cell.specs.Answers.{CellGiven, refused-with, answer-in}
+use Rattle.cell.specs.Points.{CellAt}
+use Rattle.cell.specs.Answers.{refused-with, answer-in}
 use Rattle.cell.proofs.Finding as finding
 use Rattle.cell.proofs.Answering.{refused-is, answer-is}
 use Rattle.even_query.specs.Uneven.{FirstUneven, refused-uneven}
@@ -43,8 +44,9 @@ module _ (g : Grid) (tensor-given : ℕ) (coordinates : List Float) (given : Que
     coordinates-exact = given .coordinates-exact;
   }
 
-  pub cell-given : (found : Found) → FoundOn g coordinates (even-cell-of g (at coordinates)) (g .axes) found → CellGiven g (place-of (found .lower)) (found .placed) × (tensor-given ≡ tensor-length g)
-  cell-given found is = (finding.cell-given g coordinates _ found is locate-given (given .grid-given .small), given .grid-given .tensor-exact)
+  -- n are the points of the grid
+  pub cell-given : (found : Found) → FoundOn g coordinates (even-cell-of g (at coordinates)) (g .axes) found → (n : ℕ → ℕ) → n ≡ points g → CellAt (g .axes) n (place-of (found .lower)) × (tensor-given ≡ product-below n (g .axes) * 2 ^ g .axes)
+  cell-given found is = finding.cell-given g coordinates _ found is locate-given (given .grid-given .small) (given .grid-given .tensor-exact)
 
 -- ---- the answers
 
@@ -112,17 +114,15 @@ module _ (g : Grid) (tensor coordinates : List Float) where
         mode-refuses e = refused-by 18 (after-axes ∙ ap (λ (b : Bool). cond b 18 (cond value-refused 10 0)) e) (λ z. omega arith) (λ z. omega arith)
 
         -- none does
-        pub cell-answers : found .refused ≡ false → (r : EvenAnswer) (answer : QueryAnswer) → answer ≡ answer-in g tensor (found .lower) (at (found .placed)) → r ≡ nothing-told answer → EvenQueryPromise g tensor coordinates r
+        pub cell-answers : found .refused ≡ false → (n : ℕ → ℕ) → n ≡ points g → (r : EvenAnswer) (answer : QueryAnswer) → answer ≡ answer-in (g .axes) n tensor found → r ≡ nothing-told answer → EvenQueryPromise g tensor coordinates r
         unfolding even-query-answer even-query even-labels
-        cell-answers e r answer evaluated is =
+        cell-answers e n same r answer evaluated is =
             let last : refusal ≡ cond value-refused 10 0 = after-axes ∙ ap (λ (b : Bool). cond b 18 (cond value-refused 10 0)) e in
             record {
               answer = is
                   ∙ ap nothing-told (
                   evaluated
-                  ∙ answer-is g tensor (at (found .placed)) (placed-on g (at coordinates)) (is-found .placed) (found .lower) (even-cell-of g (at coordinates))
-                  (is-found .four) (is-found .found) (is-found .unused)
-                  refusal last
+                  ∙ answer-is g tensor coordinates _ found is-found n same (even-cell-of g (at coordinates)) (is-found .found) refusal last
                   )
                   ∙ sym (answers-as-query refusal _ _ _ _ (outcome-low value-refused last));
             }

@@ -15,6 +15,8 @@ use Rattle.rules.specs.Query.{even-cell-of}
 use Rattle.rules.proofs.EvenAxes.{direct-cell-inside}
 use Rattle.locate.specs.Answers.{Placed}
 use Rattle.locate.specs.declared.outside.PlacedPoint.{PlacedPoint}
+use Rattle.cell.specs.Answers.{WithinCell}
+use Rattle.cell.specs.declared.Within.{Within}
 use Rattle.cell.specs.declared.searched.Found.{Found}
 use Rattle.cell.proofs.Finding as finding
 
@@ -35,7 +37,7 @@ module _ (g : Grid) (coordinates : List Float) where
       unfolding even-cell-of direct-cell-of
       is-cell = direct ∙ rw (finding.exact g coordinates cells r begin i turn lt, stands .coordinate, finding.part-is g coordinates cells r begin i turn) refl
 
-      inside : cell + 1 < points g i
+      pub inside : cell + 1 < length part
       inside =
           omega (
             arith,
@@ -45,5 +47,7 @@ module _ (g : Grid) (coordinates : List Float) where
             turn .given .in-range .some-points i lt,
           )
 
-      pub turn-next : (refused : Bool) → refused ≡ (r .refused || point .refused) → Turn (record { lower = set (r .lower) i cell; placed = set (r .placed) i (point .coordinate); refused = refused }) (begin + points g i) (i + 1)
-      turn-next = finding.turn-next g coordinates cells r begin i turn lt cell point stands is-cell inside
+      pub turn-next : (within : Within) → WithinCell part cell (point .coordinate) within → (refused : Bool) → refused ≡ (r .refused || point .refused) → Turn (record { lower = set (r .lower) i cell; widths = set (r .widths) i (within .width); ts = set (r .ts) i (within .t); refused = refused }) (begin + points g i) (i + 1)
+      turn-next within lies =
+          finding.turn-next g coordinates cells r begin i turn lt cell point stands within lies is-cell
+          (omega (arith, inside, finding.exact g coordinates cells r begin i turn lt))

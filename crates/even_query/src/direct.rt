@@ -26,7 +26,8 @@ pub fn locate_on_axes(axes: usize, all: [Axis; 4], knots: &[f64], coordinates: &
     ensures { λ r. ⌜ FoundOn (grid axes all (now (knots .entry))) (now (coordinates .entry)) (even-cell-of (grid axes all (now (knots .entry))) (at (now (coordinates .entry)))) axes r ⌝ }
 {
     let mut lower = [0; 4];
-    let mut placed = [0.0; 4];
+    let mut widths = [0.0; 4];
+    let mut ts = [0.0; 4];
     let mut refused = false;
     let mut begin = 0;
     let mut i = 0;
@@ -36,15 +37,19 @@ pub fn locate_on_axes(axes: usize, all: [Axis; 4], knots: &[f64], coordinates: &
         let end = begin + axis.points;
         let given = coordinates[i];
         let point = outside::place_on_axis(mode, &knots[begin..end], given);
-        lower[i] = cell_on_axis(&knots[begin..end], point.coordinate);
-        placed[i] = point.coordinate;
+        let cell = cell_on_axis(&knots[begin..end], point.coordinate);
+        let within = cell::point_within(&knots[begin..end], cell, point.coordinate);
+        lower[i] = cell;
+        widths[i] = within.width;
+        ts[i] = within.t;
         refused = refused | point.refused;
         begin = end;
         i += 1;
     }
     Found {
         lower,
-        placed,
+        widths,
+        ts,
         refused,
     }
 }

@@ -61,7 +61,6 @@ pub fn even_query(
     if found.refused {
         return nothing_told(cell::refused(18));
     }
-    let lower = found.lower;
-    let placed = found.placed;
-    nothing_told(cell::answer_in(axes, all, knots, tensor, lower, &placed))
+    let points = grid::points_of(all);
+    nothing_told(cell::answer_in(axes, points, tensor, found))
 }

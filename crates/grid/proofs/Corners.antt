@@ -1,17 +1,14 @@
--- The corners of a cell: they are on the grid, two that differ on the last axis alone stand side by side, and the turns of `corner_number` count to them.
+-- The corners of a cell: they are on the grid, and two that differ on the last axis alone stand side by side.
 use native.Mathlib.Omega.{arith}
 use mathlib.Core.Path.{_≡_, refl, ap}
 use mathlib.Core.List.{List}
 use Prim.Native.Nat.{ℕ, zero, suc, _+_, _-_, _*_, _/_, _%_, _^_, _<_, _≤_}
-use native.Mathlib.Nat.{le-mul-of-pos-right, pow-succ', div-div-eq-div-mul}
-use native.Mathlib.Numerals.{add-one}
-use lib.Pow.{pow-pos}
-use Rattle.rules.specs.Sizes.{Place, flat, product-below}
+use native.Mathlib.Nat.{pow-succ', div-div-eq-div-mul}
+use Rattle.rules.specs.Sizes.{Place, flat}
 use Rattle.rules.specs.Query.{corner}
 use Rattle.rules.specs.declared.Axis.{Axis}
-use Rattle.rules.proofs.Places.{OnGrid, flat-below, flat-ext}
+use Rattle.rules.proofs.Places.{OnGrid, flat-ext}
 use Rattle.grid.specs.Given.{points-of, CellInside}
-use Rattle.grid.proofs.Products.{product-grows}
 
 -- ---- two corners side by side
 
@@ -39,48 +36,8 @@ module _ (lower : Place) (bits : ℕ) (even : bits % 2 ≡ 0) where
   side-by-side n (suc d) h =
       rw (flat-ext n d (corner (suc d) lower (bits + 1)) (corner (suc d) lower bits) (same-before d), one-further d) (omega arith)
 
--- ---- counting to a corner
+-- ---- all of them
 
-module _ (axes : ℕ) (all : List Axis) (lower : Place) (bits : ℕ) (given : CellInside axes all lower) where
-  pub corner-on-grid : OnGrid (points-of all) axes (corner axes lower bits)
-  unfolding corner
-  corner-on-grid i h = omega (arith, given .upper i h)
-
-  -- how far the count can come
-  corner-below : (i : ℕ) → i ≤ axes → flat (points-of all) i (corner axes lower bits) < 4096
-  corner-below i h =
-      omega (
-        arith,
-        flat-below (points-of all) i (corner axes lower bits) (λ j g. corner-on-grid j (omega arith)),
-        product-grows (points-of all) i axes (λ j g. omega (arith, given .upper j g)) h,
-        le-mul-of-pos-right (product-below (points-of all) axes) (pow-pos axes),
-        given .small,
-      )
-
--- the corner on the first i axes is counted
-pub record Turn (axes : ℕ) (all : List Axis) (lower : Place) (bits number i : ℕ) : Type 0 where
-  pub inside : CellInside axes all lower
-  pub most : i ≤ axes
-  pub counted : number ≡ flat (points-of all) i (corner axes lower bits)
-
-module _ (axes : ℕ) (all : List Axis) (lower : Place) (bits : ℕ) where
-  pub turn-first : CellInside axes all lower → Turn axes all lower bits 0 0
-  unfolding flat
-  turn-first inside = record { inside = inside; most = omega arith; counted = refl }
-
-  module _ (number i : ℕ) (turn : Turn axes all lower bits number i) where
-    abbrev digit : ℕ
-    digit = lower i + bits / 2 ^ (axes - 1 - i) % 2
-
-    next : number * points-of all i + digit ≡ flat (points-of all) (i + 1) (corner axes lower bits)
-    unfolding flat corner
-    next = rw (add-one, turn .counted) refl
-
-    pub turn-small : i < axes → number * points-of all i + digit < 4096
-    turn-small lt = rw next (corner-below axes all lower bits (turn .inside) (i + 1) (omega arith))
-
-    pub turn-next : i < axes → Turn axes all lower bits (number * points-of all i + digit) (i + 1)
-    turn-next lt = record { inside = turn .inside; most = omega arith; counted = next }
-
-    pub turn-last : axes ≤ i → number ≡ flat (points-of all) axes (corner axes lower bits)
-    turn-last h = let e : i ≡ axes = omega (arith, turn .most) in rw e at (turn .counted)
+pub corner-on-grid : (axes : ℕ) (all : List Axis) (lower : Place) (bits : ℕ) → CellInside axes all lower → OnGrid (points-of all) axes (corner axes lower bits)
+unfolding corner
+corner-on-grid axes all lower bits given i h = omega (arith, given .upper i h)

@@ -1,11 +1,10 @@
-// The grid as numbers: how long its slices are, where the knots of an axis begin, where a place and a corner of a cell stand, how far apart neighbours are, and masks.
+// The grid as numbers: how long its slices are, where the knots of an axis begin, where a place stands, how far apart neighbours are, and masks.
 // None of these is public: each requires what refusals 1 to 3 leave, or a part of it.
 ghost use mathlib.Core.Path.{_≡_};
 ghost use Prim.Native.Nat.{ℕ, _^_, _<_, _≤_};
 ghost use lib.ListN.{length};
 ghost use Rattle.rules.specs.Sizes.{knots-length, samples-length, tensor-length, place-of, sum-below, product-below, flat, in-mask};
-ghost use Rattle.rules.specs.Query as rule;
-ghost use Rattle.grid.specs.Given.{sizes-of, points-of, InRange, SizesGiven, CellInside};
+ghost use Rattle.grid.specs.Given.{sizes-of, points-of, InRange, SizesGiven};
 ghost use Rattle.grid.specs.Strides.{stride};
 use rules::Axis;
 
@@ -119,21 +118,6 @@ pub fn place_number(axes: usize, all: [Axis; 4], place: [usize; 4]) -> usize
         let entry = all[j];
         number = number * entry.points + place[j];
         j += 1;
-    }
-    number
-}
-
-// The flat number of the corner of a cell with these bits, where the cell is given by its lower indices.
-pub fn corner_number(axes: usize, all: [Axis; 4], lower: [usize; 4], bits: usize) -> usize
-    requires { ⌜ CellInside axes all (place-of lower) ⌝ }
-    ensures { λ r. ⌜ r ≡ flat (points-of all) axes (rule.corner axes (place-of lower) bits) ⌝ }
-{
-    let mut number = 0;
-    let mut i = 0;
-    while i < axes {
-        let corner = lower[i] + (bits >> (axes - 1 - i)) % 2;
-        number = number * all[i].points + corner;
-        i += 1;
     }
     number
 }

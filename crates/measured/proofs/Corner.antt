@@ -14,7 +14,7 @@ use Rattle.rules.proofs.Places.{below-or-last, flat-below, unflat-last, unflat-
 use Rattle.floats.specs.Place.{Real}
 use Rattle.floats.specs.Zeros.{Equal}
 use Rattle.floats.proofs.Equals.{equal-then, equal-finite}
-use Rattle.cell.proofs.Gathering.{four-power}
+use Rattle.cell.proofs.Removing.{four-power}
 use Rattle.measured.proofs.Hermite.{FiniteEnds, hermite-fits, AtEnd, at-lower, at-upper, end-below, hermite-at-lower, hermite-at-upper}
 
 -- ---- the number of a corner

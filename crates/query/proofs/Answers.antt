@@ -4,15 +4,15 @@ use mathlib.Core.Path.{_≡_, refl, sym, ap, _∙_}
 use mathlib.Core.Logic.{_≢_}
 use mathlib.Core.Bool.{Bool, true, false, cond}
 use mathlib.Core.List.{List}
-use Prim.Native.Nat.{ℕ, _<_}
+use Prim.Native.Nat.{ℕ, _*_, _^_, _<_}
 use lib.ListN.{length}
 use lib.Ieee.{Float}
 use lib.Ieee.Scale.{finite}
 use borrow.Author.Tests.{not-false}
 use Rattle.rules.specs.Numbers.{at}
-use Rattle.rules.specs.Sizes.{Grid, points, knots, place-of, tensor-length}
+use Rattle.rules.specs.Sizes.{Grid, points, knots, product-below, place-of}
 use Rattle.rules.specs.Refusals.{number-refused, answer-refused}
-use Rattle.rules.specs.Outside.{placed-on, some-outside-refused}
+use Rattle.rules.specs.Outside.{some-outside-refused}
 use Rattle.rules.specs.Query.{cell-of, query-in-modes}
 use Rattle.rules.specs.Calls.{or-else, labels, query-refusal, query-answer, QueryPromise}
 use Rattle.rules.specs.declared.QueryAnswer.{QueryAnswer}
@@ -25,7 +25,8 @@ use Rattle.checks.proofs.Rows.{rows-then}
 use Rattle.locate.specs.Answers.{Rising}
 use Rattle.cell.specs.Searched.{SearchGiven, Searched}
 use Rattle.cell.specs.declared.searched.Found.{Found}
-use Rattle.cell.specs.Answers.{CellGiven, refused-with, answer-in}
+use Rattle.cell.specs.Points.{CellAt}
+use Rattle.cell.specs.Answers.{refused-with, answer-in}
 use Rattle.cell.proofs.Accepted.{rising-on-axis}
 use Rattle.cell.proofs.Finding as finding
 use Rattle.cell.proofs.Answering.{refused-is, answer-is}
@@ -51,8 +52,9 @@ module _ (g : Grid) (tensor-given : ℕ) (coordinates : List Float) (given : Que
     point-finite = not-false _ (any-at (λ j. number-refused (at coordinates j)) (length coordinates) (given .coordinates-finite) i (omega (arith, given .coordinates-exact)))
 
   module _ (found : Found) (searched : Searched g coordinates (g .axes) found) where
-    pub cell-given : CellGiven g (place-of (found .lower)) (found .placed) × (tensor-given ≡ tensor-length g)
-    cell-given = (finding.cell-given g coordinates _ found (searched .found-on) search-given (on-grid .small), on-grid .tensor-exact)
+    -- n are the points of the grid
+    pub cell-given : (n : ℕ → ℕ) → n ≡ points g → CellAt (g .axes) n (place-of (found .lower)) × (tensor-given ≡ product-below n (g .axes) * 2 ^ g .axes)
+    cell-given = finding.cell-given g coordinates _ found (searched .found-on) search-given (on-grid .small) (on-grid .tensor-exact)
 
     pub cell-found : (i : ℕ) → i < g .axes → place-of (found .lower) i ≡ cell-of g (at coordinates) i
     cell-found i lt = searched .rising i lt (rising i lt) (point-finite i lt)
@@ -92,11 +94,11 @@ module _ (g : Grid) (tensor coordinates : List Float) where
       mode-refuses e = refused-by 18 (later-is ∙ ap (λ (b : Bool). cond b 18 (cond value-refused 10 0)) e) (λ z. omega arith)
 
       -- none does
-      pub cell-answers : found .refused ≡ false → (r : QueryAnswer) → r ≡ answer-in g tensor (found .lower) (at (found .placed)) → QueryPromise g tensor coordinates r
+      pub cell-answers : (n : ℕ → ℕ) → n ≡ points g → found .refused ≡ false → (r : QueryAnswer) → r ≡ answer-in (g .axes) n tensor found → QueryPromise g tensor coordinates r
       unfolding query-answer query-in-modes labels
-      cell-answers e r is = record {
+      cell-answers n same e r is = record {
         answer = is
-            ∙ answer-is g tensor (at (found .placed)) (placed-on g (at coordinates)) (searched .found-on .placed) (found .lower) (cell-of g (at coordinates))
-            (searched .found-on .four) (cell-found g (length tensor) coordinates (check-passes none) found searched) (searched .found-on .unused)
+            ∙ answer-is g tensor coordinates _ found (searched .found-on) n same (cell-of g (at coordinates))
+            (cell-found g (length tensor) coordinates (check-passes none) found searched)
             (query-refusal g tensor coordinates) (later-is ∙ ap (λ (b : Bool). cond b 18 (cond value-refused 10 0)) e);
       }

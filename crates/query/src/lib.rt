@@ -44,7 +44,5 @@ pub fn query_after_sizes(
     if found.refused {
         return cell::refused(18);
     }
-    let lower = found.lower;
-    let placed = found.placed;
-    cell::answer_in(axes, all, knots, tensor, lower, &placed)
+    cell::answer_in(axes, points, tensor, found)
 }

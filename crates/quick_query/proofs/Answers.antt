@@ -4,14 +4,14 @@ use mathlib.Core.Path.{_≡_, refl, sym, ap, _∙_}
 use mathlib.Core.Logic.{_≢_}
 use mathlib.Core.Bool.{Bool, true, false, cond}
 use mathlib.Core.List.{List}
-use Prim.Native.Nat.{ℕ}
+use Prim.Native.Nat.{ℕ, _*_, _^_}
 use lib.ListN.{length}
 use lib.Ieee.{Float}
 use borrow.Author.Tests.{ltb-false}
 use Rattle.rules.specs.Numbers.{at}
-use Rattle.rules.specs.Sizes.{most-in-a-tensor, Grid, knots, place-of, knots-length, tensor-length}
+use Rattle.rules.specs.Sizes.{most-in-a-tensor, Grid, points, knots, product-below, place-of, knots-length, tensor-length}
 use Rattle.rules.specs.Refusals.{found-cell-refused, some-found-cell-refused, answer-refused}
-use Rattle.rules.specs.Outside.{placed-on, some-outside-refused}
+use Rattle.rules.specs.Outside.{some-outside-refused}
 use Rattle.rules.specs.Query.{quick-cell-of, quick-query-in-modes}
 use Rattle.rules.specs.Calls.{or-else, quick-labels, quick-query-refusal, quick-query-answer, QuickQueryPromise}
 use Rattle.rules.specs.declared.QueryAnswer.{QueryAnswer}
@@ -19,7 +19,9 @@ use Rattle.rules.proofs.Refused.{or-else-met, any-ext}
 use Rattle.checks.proofs.Rows.{rows-then, none-applies, axes-few, in-range, exact-3}
 use Rattle.cell.specs.Searched.{SearchGiven, Searched}
 use Rattle.cell.specs.declared.searched.Found.{Found}
-use Rattle.cell.specs.Answers.{CellGiven, refused-with, answer-in}
+use Rattle.grid.specs.Given.{CellInside}
+use Rattle.cell.specs.Points.{CellAt}
+use Rattle.cell.specs.Answers.{refused-with, answer-in}
 use Rattle.cell.proofs.Finding as finding
 use Rattle.cell.proofs.Answering.{refused-is, answer-is}
 use Rattle.quick_query.specs.Check.{quick-query-rows, quick-query-check, QuickQueryGiven}
@@ -50,8 +52,13 @@ module _ (g : Grid) (tensor-given : ℕ) (coordinates : List Float) where
       coordinates-exact = given .coordinates-exact;
     }
 
-    pub cell-given : (found : Found) → Searched g coordinates (g .axes) found → CellGiven g (place-of (found .lower)) (found .placed) × (tensor-given ≡ tensor-length g)
-    cell-given found searched = (finding.cell-given g coordinates _ found (searched .found-on) search-given (given .small), given .tensor-exact)
+    module _ (found : Found) (searched : Searched g coordinates (g .axes) found) where
+      pub cell-inside : CellInside (g .axes) (g .entries) (place-of (found .lower)) × (length (g .flat-knots) ≡ knots-length g)
+      cell-inside = (finding.cell-inside g coordinates _ found (searched .found-on) search-given (given .small), given .knots-exact)
+
+      -- n are the points of the grid
+      pub cell-given : (n : ℕ → ℕ) → n ≡ points g → CellAt (g .axes) n (place-of (found .lower)) × (tensor-given ≡ product-below n (g .axes) * 2 ^ g .axes)
+      cell-given = finding.cell-given g coordinates _ found (searched .found-on) search-given (given .small) (given .tensor-exact)
 
 -- ---- the answers
 
@@ -106,11 +113,10 @@ module _ (g : Grid) (tensor coordinates : List Float) where
         mode-refuses e = refused-by 18 (later-is ∙ rw (cells-pass, e) refl) (λ z. omega arith)
 
         -- none does
-        pub cell-answers : found .refused ≡ false → (r : QueryAnswer) → r ≡ answer-in g tensor (found .lower) (at (found .placed)) → QuickQueryPromise g tensor coordinates r
+        pub cell-answers : found .refused ≡ false → (n : ℕ → ℕ) → n ≡ points g → (r : QueryAnswer) → r ≡ answer-in (g .axes) n tensor found → QuickQueryPromise g tensor coordinates r
         unfolding quick-query-answer quick-query-in-modes quick-labels
-        cell-answers e r is = record {
+        cell-answers e n same r is = record {
           answer = is
-              ∙ answer-is g tensor (at (found .placed)) (placed-on g (at coordinates)) (searched .found-on .placed) (found .lower) (quick-cell-of g (at coordinates))
-              (searched .found-on .four) (searched .found-on .found) (searched .found-on .unused)
+              ∙ answer-is g tensor coordinates _ found (searched .found-on) n same (quick-cell-of g (at coordinates)) (searched .found-on .found)
               (quick-query-refusal g tensor coordinates) (later-is ∙ rw (cells-pass, e) refl);
         }

@@ -90,6 +90,6 @@ pub fn quick_query_after_sizes(
     if found.refused {
         return cell::refused(18);
     }
-    let placed = found.placed;
-    cell::answer_in(axes, all, knots, tensor, lower, &placed)
+    let points = grid::points_of(all);
+    cell::answer_in(axes, points, tensor, found)
 }

@@ -9,7 +9,7 @@ use borrow.Author.Needs.{needs}
 use borrow.Fn.Kinds.{In}
 use borrow.Fn.PlainCycle.{Measures, is, falls, and}
 use Rattle.rules.specs.Numbers.{at}
-use Rattle.blend.proofs.Blending.{quarter, few, none-left, one-fewer}
+use Rattle.blend.proofs.Blending.{quarter, few, by-fours, none-left, one-fewer}
 use Rattle.blend.proofs.blend.Reads as blend
 use Rattle.blend.proofs.blend.Kinds as blend-kinds
 use Rattle.blend.proofs.+blend.Lts-blend as blend-lts
@@ -44,7 +44,8 @@ pub +blend-spec : {M : Type 1} → statement M
     (λ c. search needs)
     (λ c κs. (let s = c .before .before .before in
     let q = quarter (s .args .left) _ (c .before .if1 .left) (s .pre .1 .0) in
-    let f = few (s .args .left - 1) (omega (arith, s .pre .1 .1, s .pre .1 .2)) in (omega arith, omega arith)))
+    let f = few (s .args .left) (omega (arith, s .pre .1 .1, s .pre .1 .2)) in
+    (omega arith, omega (arith, s .pre .1 .0), by-fours (s .args .left) _ (c .before .if1 .left) (s .pre .1 .0))))
     (λ c. search needs)
     (λ c. search needs)
     (λ c. (let k = c .before .before .remove-lowest .kept .0 in omega arith))

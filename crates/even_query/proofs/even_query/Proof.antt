@@ -39,22 +39,22 @@ returns-3 c =
 
 answer-in-requires : tie.Need-answer-in-requires
 answer-in-requires c κs =
-    let located = c .before .before .before .before in
+    let located = c .before .before in
     let passed = located .before .before .before .before in
     let check = passed .before in
     let s = check .before .before .before .before .args in
     cell-given (grid (s .axes) (s .all) (s .knots .now)) _ (s .coordinates .now)
     (check-passes _ (s .tensor .now) _ _ (check .query-refusal .ensures) (passed .if1 .left))
-    _ (located .locate-on-axes .ensures)
+    _ (located .locate-on-axes .ensures) _ (c .points-of .ensures)
 
 returns-4 : tie.Need-returns-4
 returns-4 c =
-    let inside = c .before .before .before .before .before in
+    let inside = c .before .before .before in
     let located = inside .before in
     let first = located .before .before .before in
     let check = first .before .before in
     cell-answers _ _ _ _ (check .query-refusal .ensures) (first .before .if1 .left) _ (first .first-uneven .ensures) (located .before .if2 .left)
-    _ (located .locate-on-axes .ensures) (inside .if3 .left) _ _ (c .before .answer-in .ensures) (c .nothing-told3 .ensures)
+    _ (located .locate-on-axes .ensures) (inside .if3 .left) _ (c .before .before .points-of .ensures) _ _ (c .before .answer-in .ensures) (c .nothing-told3 .ensures)
 
 pub even-query-spec : {M : Type 1} → statement M
 even-query-spec =
@@ -71,7 +71,7 @@ even-query-spec =
     (λ c κs. search needs)
     (λ c κs. search needs)
     returns-3
-    (λ c. search needs)
+    (λ c κs. search needs)
     answer-in-requires
     (λ c κs. search needs)
     returns-4)

@@ -41,19 +41,19 @@ returns-2 c =
 
 answer-in-requires : tie.Need-answer-in-requires
 answer-in-requires c κs =
-    let searched = c .before .before .before .before in
+    let searched = c .before in
     let check = searched .before .before in
     let s = start check .args in
     cell-given (grid (s .axes) (s .all) (s .knots .now)) _ (s .coordinates .now)
     (check-passes _ (s .tensor .now) _ _ (checked check) (searched .before .if1 .left))
-    _ (searched .search-on-axes .ensures)
+    _ (searched .search-on-axes .ensures) _ (check .before .before .points-of .ensures)
 
 returns-3 : tie.Need-returns-3
 returns-3 c =
-    let passed = c .before .before .before .before in
+    let passed = c .before in
     let searched = passed .before in
     let check = searched .before .before in
-    cell-answers _ _ _ _ (checked check) (searched .before .if1 .left) _ (searched .search-on-axes .ensures) (passed .if2 .left) _ (c .answer-in .ensures)
+    cell-answers _ _ _ _ (checked check) (searched .before .if1 .left) _ (searched .search-on-axes .ensures) _ (check .before .before .points-of .ensures) (passed .if2 .left) _ (c .answer-in .ensures)
 
 pub query-after-sizes-spec : {M : Type 1} → statement M
 query-after-sizes-spec =
@@ -67,6 +67,5 @@ query-after-sizes-spec =
     search-on-axes-requires
     (λ c κs. search needs)
     returns-2
-    (λ c. search needs)
     answer-in-requires
     returns-3)

@@ -1,5 +1,5 @@
 use Rattle.grid.specs.Given.{grid}
-use Rattle.quick_query.proofs.Answers.{search-given, cell-given, check-refuses, check-passes, cell-refused, mode-refuses, cell-answers}
+use Rattle.quick_query.proofs.Answers.{search-given, cell-inside, cell-given, check-refuses, check-passes, cell-refused, mode-refuses, cell-answers}
 use borrow.Author.Needs.{needs}
 use Rattle.quick_query.proofs.quick_query_after_sizes.Statement.{statement}
 use Rattle.quick_query.proofs.quick_query_after_sizes.Tie as tie
@@ -20,9 +20,8 @@ some-found-cell-refused-requires c κs =
     let searched = c .before in
     let check = searched .before .before in
     let s = check .before .before .before .before .args in
-    let given = cell-given (grid (s .axes) (s .all) (s .knots .now)) _ (s .coordinates .now)
-    (check-passes _ (s .tensor .now) _ _ (check .quick-query-refusal .ensures) (searched .before .if1 .left)) _ (searched .search-on-axes .ensures) .0 in
-    (given .inside, given .knots-exact)
+    cell-inside (grid (s .axes) (s .all) (s .knots .now)) _ (s .coordinates .now)
+    (check-passes _ (s .tensor .now) _ _ (check .quick-query-refusal .ensures) (searched .before .if1 .left)) _ (searched .search-on-axes .ensures)
 
 returns-2 : tie.Need-returns-2
 returns-2 c =
@@ -41,21 +40,21 @@ returns-3 c =
 
 answer-in-requires : tie.Need-answer-in-requires
 answer-in-requires c κs =
-    let searched = c .before .before .before .before .before .before in
+    let searched = c .before .before .before .before .before in
     let check = searched .before .before in
     let s = check .before .before .before .before .args in
     cell-given (grid (s .axes) (s .all) (s .knots .now)) _ (s .coordinates .now)
     (check-passes _ (s .tensor .now) _ _ (check .quick-query-refusal .ensures) (searched .before .if1 .left))
-    _ (searched .search-on-axes .ensures)
+    _ (searched .search-on-axes .ensures) _ (c .points-of .ensures)
 
 returns-4 : tie.Need-returns-4
 returns-4 c =
-    let inside = c .before .before .before in
+    let inside = c .before .before in
     let passed = inside .before in
     let tested = passed .before in
     let searched = tested .before .before in
     let check = searched .before .before in
-    cell-answers _ _ _ _ (check .quick-query-refusal .ensures) (searched .before .if1 .left) _ (searched .search-on-axes .ensures) (tested .some-found-cell-refused .ensures) (passed .if2 .left) (inside .if3 .left) _ (c .answer-in .ensures)
+    cell-answers _ _ _ _ (check .quick-query-refusal .ensures) (searched .before .if1 .left) _ (searched .search-on-axes .ensures) (tested .some-found-cell-refused .ensures) (passed .if2 .left) (inside .if3 .left) _ (c .before .points-of .ensures) _ (c .answer-in .ensures)
 
 pub quick-query-after-sizes-spec : {M : Type 1} → statement M
 quick-query-after-sizes-spec =
@@ -70,6 +69,6 @@ quick-query-after-sizes-spec =
     returns-2
     (λ c κs. search needs)
     returns-3
-    (λ c. search needs)
+    (λ c κs. search needs)
     answer-in-requires
     returns-4)

@@ -4,35 +4,31 @@ use mathlib.Core.Path.{refl}
 use Prim.Native.Nat.{_-_}
 use Rattle.grid.specs.Given.{grid}
 use Rattle.cell.proofs.Finding.{turn-first, end-within, size-given, some-knot, turn-last}
-use Rattle.even_query.proofs.DirectCells.{Turn, turn-next}
+use Rattle.even_query.proofs.DirectCells.{Turn, inside, turn-next}
 use Rattle.even_query.proofs.direct.locate_on_axes.Statement.{statement}
 use Rattle.even_query.proofs.direct.locate_on_axes.Tie as tie
 
 abbrev Inv-loop : tie.InvT-loop
-Inv-loop axes knots coordinates all lower₀ placed₀ refused₀ begin₀ i₀ lower placed refused begin i =
-    Turn (grid axes all knots) coordinates (record { lower = lower; placed = placed; refused = refused }) begin i
+Inv-loop axes knots coordinates all lower₀ widths₀ ts₀ refused₀ begin₀ i₀ lower widths ts refused begin i =
+    Turn (grid axes all knots) coordinates (record { lower = lower; widths = widths; ts = ts; refused = refused }) begin i
 
 abbrev μ-loop : tie.MeasureT-loop
-μ-loop axes knots coordinates all lower₀ placed₀ refused₀ begin₀ i₀ lower placed refused begin i = axes - i
+μ-loop axes knots coordinates all lower₀ widths₀ ts₀ refused₀ begin₀ i₀ lower widths ts refused begin i = axes - i
 
 loop-holds : tie.Need-loop-holds Inv-loop μ-loop
 loop-holds c = turn-first _ _ _ (c .before .before .pre)
 
 place-on-axis-requires : tie.Need-place-on-axis-requires Inv-loop μ-loop
-place-on-axis-requires c κs =
-    let turn = c .before .before .before .before in
-    some-knot _ _ _ _ _ _ (turn .before .loop .inv) (turn .loop-test .taken)
+place-on-axis-requires c κs = some-knot _ _ _ _ _ _ (c .before .before .before .before .before .loop .inv) (c .before .before .before .before .loop-test .taken)
 
 cell-on-axis-requires : tie.Need-cell-on-axis-requires Inv-loop μ-loop
-cell-on-axis-requires c κs =
-    let turn = c .before .before .before .before .before .before in
-    size-given _ _ _ _ _ _ (turn .before .loop .inv) (turn .loop-test .taken) .0
+cell-on-axis-requires c κs = size-given _ _ _ _ _ _ (c .before .before .before .before .before .before .before .loop .inv) (c .before .before .before .before .before .before .loop-test .taken) .0
+
+point-within-requires : tie.Need-point-within-requires Inv-loop μ-loop
+point-within-requires c κs = inside _ _ _ _ _ (c .before .before .before .before .before .before .before .before .before .loop .inv) (c .before .before .before .before .before .before .before .before .loop-test .taken) _ (c .before .before .before .place-on-axis .ensures) _ (c .before .cell-on-axis .ensures)
 
 loop-again : tie.Need-loop-again Inv-loop μ-loop
-loop-again c =
-    let placed = c .before .before .before in
-    let turn = placed .before .before .before .before .before in
-    turn-next _ _ _ _ _ (turn .before .loop .inv) (turn .loop-test .taken) _ (placed .place-on-axis .ensures) _ (c .before .cell-on-axis .ensures) _ refl
+loop-again c = turn-next _ _ _ _ _ (c .before .before .before .before .before .before .before .before .before .before .before .loop .inv) (c .before .before .before .before .before .before .before .before .before .before .loop-test .taken) _ (c .before .before .before .before .before .place-on-axis .ensures) _ (c .before .before .before .cell-on-axis .ensures) _ (c .before .point-within .ensures) _ refl
 
 returns : tie.Need-returns Inv-loop μ-loop
 returns c = turn-last _ _ _ _ _ _ (c .before .loop .inv) (c .loop-test .left)
@@ -46,19 +42,26 @@ locate-on-axes-spec =
     loop-holds
     (λ c. search needs)
     (λ c. search needs)
-    (λ c. let turn = c .before .before in omega (arith, end-within _ _ _ _ _ _ (turn .before .loop .inv) (turn .loop-test .taken)))
+    (λ c. omega (arith, end-within _ _ _ _ _ _ (c .before .before .before .loop .inv) (c .before .before .loop-test .taken)))
     (λ c. search needs)
     (λ c. search needs)
-    (λ c. let turn = c .before .before .before in omega (arith, end-within _ _ _ _ _ _ (turn .before .loop .inv) (turn .loop-test .taken)))
-    (λ c. let turn = c .before .before .before in omega (arith, end-within _ _ _ _ _ _ (turn .before .loop .inv) (turn .loop-test .taken)))
-    (λ c. let turn = c .before .before .before in omega (arith, end-within _ _ _ _ _ _ (turn .before .loop .inv) (turn .loop-test .taken)))
-    (λ c. let turn = c .before .before .before in omega (arith, end-within _ _ _ _ _ _ (turn .before .loop .inv) (turn .loop-test .taken)))
+    (λ c. omega (arith, end-within _ _ _ _ _ _ (c .before .before .before .before .loop .inv) (c .before .before .before .loop-test .taken)))
+    (λ c. omega (arith, end-within _ _ _ _ _ _ (c .before .before .before .before .loop .inv) (c .before .before .before .loop-test .taken)))
+    (λ c. omega (arith, end-within _ _ _ _ _ _ (c .before .before .before .before .loop .inv) (c .before .before .before .loop-test .taken)))
+    (λ c. omega (arith, end-within _ _ _ _ _ _ (c .before .before .before .before .loop .inv) (c .before .before .before .loop-test .taken)))
     place-on-axis-requires
-    (λ c. let turn = c .before .before .before .before .before in omega (arith, end-within _ _ _ _ _ _ (turn .before .loop .inv) (turn .loop-test .taken)))
-    (λ c. let turn = c .before .before .before .before .before in omega (arith, end-within _ _ _ _ _ _ (turn .before .loop .inv) (turn .loop-test .taken)))
-    (λ c. let turn = c .before .before .before .before .before in omega (arith, end-within _ _ _ _ _ _ (turn .before .loop .inv) (turn .loop-test .taken)))
-    (λ c. let turn = c .before .before .before .before .before in omega (arith, end-within _ _ _ _ _ _ (turn .before .loop .inv) (turn .loop-test .taken)))
+    (λ c. omega (arith, end-within _ _ _ _ _ _ (c .before .before .before .before .before .before .loop .inv) (c .before .before .before .before .before .loop-test .taken)))
+    (λ c. omega (arith, end-within _ _ _ _ _ _ (c .before .before .before .before .before .before .loop .inv) (c .before .before .before .before .before .loop-test .taken)))
+    (λ c. omega (arith, end-within _ _ _ _ _ _ (c .before .before .before .before .before .before .loop .inv) (c .before .before .before .before .before .loop-test .taken)))
+    (λ c. omega (arith, end-within _ _ _ _ _ _ (c .before .before .before .before .before .before .loop .inv) (c .before .before .before .before .before .loop-test .taken)))
     cell-on-axis-requires
+    (λ c. omega (arith, end-within _ _ _ _ _ _ (c .before .before .before .before .before .before .before .before .loop .inv) (c .before .before .before .before .before .before .before .loop-test .taken)))
+    (λ c. omega (arith, end-within _ _ _ _ _ _ (c .before .before .before .before .before .before .before .before .loop .inv) (c .before .before .before .before .before .before .before .loop-test .taken)))
+    (λ c. omega (arith, end-within _ _ _ _ _ _ (c .before .before .before .before .before .before .before .before .loop .inv) (c .before .before .before .before .before .before .before .loop-test .taken)))
+    (λ c. omega (arith, end-within _ _ _ _ _ _ (c .before .before .before .before .before .before .before .before .loop .inv) (c .before .before .before .before .before .before .before .loop-test .taken)))
+    point-within-requires
+    (λ c. search needs)
+    (λ c. search needs)
     (λ c. search needs)
     (λ c. search needs)
     (λ c. search needs)
