@@ -1,6 +1,7 @@
 pub mod Pass
 pub mod Refresh
 pub mod Count
-pub mod WalkTurns
+pub mod PlannedPasses
 pub mod MaskTurns
+pub mod PlannedAxis
 pub mod AxisTurns

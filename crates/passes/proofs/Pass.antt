@@ -1,8 +1,8 @@
 -- What a pass is given, where the lanes of its walk stand in the working tensor, and what it leaves there.
 use native.Mathlib.Omega.{arith}
-use native.Mathlib.Nat.{add-mul, mul-assoc, mul-pos, mul-le-mul, le-trans, le-refl, le-mul-of-pos-right, pow-le-pow-right, lt-of-lt-of-le, two-pow-succ, eq-or-lt-of-le}
-use mathlib.Core.Path.{_≡_, refl, sym, ap, ap₂, _∙_, subst}
-use mathlib.Core.Logic.{_≢_, ⊎-elim}
+use native.Mathlib.Nat.{add-mul, mul-assoc, mul-pos, mul-le-mul, le-trans, le-refl, le-mul-of-pos-right, pow-le-pow-right, lt-of-lt-of-le, two-pow-succ}
+use mathlib.Core.Path.{_≡_, refl, sym, ap, _∙_, subst}
+use mathlib.Core.Logic.{_≢_}
 use mathlib.Core.List.{List}
 use mathlib.Core.Bool.{Bool, true, false, cond}
 use Prim.Native.Nat.{ℕ, zero, suc, _+_, _-_, _*_, _/_, _%_, _^_, _<_, _≤_}
@@ -14,14 +14,12 @@ use lib.Seq.{length-take-le}
 use lib.Pow.{pow-pos, pow-mono}
 use lib.Ieee.{Float}
 use Rattle.rules.specs.Numbers.{at}
-use Rattle.rules.specs.Ends.{zero-valued, condition-at, dropped, fewest-points}
+use Rattle.rules.specs.Ends.{condition-at, fewest-points}
 use Rattle.rules.specs.Sizes.{Grid, points, condition, knots, masks, Place, moved, flat, sum-below, product-below, spot}
 use Rattle.grid.specs.Strides.{stride}
 use Rattle.rules.specs.Change.{agree}
 use Rattle.rules.specs.Curve.{lane-slope}
 use Rattle.rules.specs.Tensor.{slope-along}
-use Rattle.rules.specs.declared.End.{End}
-use Rattle.rules.specs.declared.End.the-variants.{NotAKnot, FirstDerivative, SecondDerivative}
 use Rattle.rules.specs.declared.Condition.{Condition}
 use Rattle.rules.specs.declared.Condition.the-variants.{Endpoints, Periodic}
 use Rattle.rules.proofs.Cases.{not-both}
@@ -37,7 +35,8 @@ use Rattle.lane_starts.proofs.Agreement.{agree-at, agree-all, varies-own, varie
 use Rattle.lane_starts.specs.Walks.{lane-start, LanesGiven, Walks}
 use Rattle.lane_starts.specs.declared.Walk.{Walk}
 use Rattle.lane_starts.proofs.Axes.{lanes-most}
-use Rattle.passes.specs.Walked.{number-place, slope-place, WalkGiven, WalkSolved}
+use Rattle.axis_plan.proofs.EndRows.{same-dropped}
+use Rattle.walks.specs.Walked.{number-place, slope-place, WalkGiven, WalkSolved}
 use Rattle.passes.specs.Passes.{solves, lanes-solved, working, WorkGiven, PassGiven, Passed}
 
 -- two numbers of two digits each that are equal have the same digits
@@ -54,12 +53,7 @@ target-below i mask d l h = lt-of-lt-of-le (let s : mask + 2 ^ i < 2 ^ suc i = o
 -- a cross pass has as many rows
 fewest-at : (mask : ℕ) (ends : Condition) → fewest-points (condition-at mask ends) ≡ fewest-points ends
 fewest-at zero ends = refl
-fewest-at (suc mask) (Endpoints lower upper) = ap₂ (λ (a b : ℕ). 2 + a + b) (same lower) (same upper)
-  where
-    same : (end : End) → dropped (zero-valued end) ≡ dropped end
-    same NotAKnot = refl
-    same (FirstDerivative v) = refl
-    same (SecondDerivative v) = refl
+fewest-at (suc mask) (Endpoints lower upper) = omega (arith, same-dropped lower, same-dropped upper)
 fewest-at (suc mask) Periodic = refl
 
 -- the sizes of a grid that was not refused
@@ -232,13 +226,14 @@ module _ (g : Grid) (whole : Bool) (place : Place) (i mask : ℕ) (w₀ : List F
           go false t =
               agree-at (free whole target) p place d e j below (sym (varies-other whole target i j (eqb-false j i t)) ∙ v)
 
-  -- a number that stands in lane t's slopes is one at the target, of a place that is solved, by lane t
+  -- a number that stands at place k of lane t's slopes is one at the target, of a place that is solved, by lane t, with the index k
   of-lane :
       (p : Place) (m t k : ℕ) → On g p → m < masks g → t < lanes-solved n d whole i mask → k < points g i
       → 2048 + spot g p m ≡ 2048 + (begin t * masks g + target) + k * step
-      → (m ≡ target) × (solves g whole place target p ≡ true) × (number-of p ≡ t)
+      → (m ≡ target) × (solves g whole place target p ≡ true) × (number-of p ≡ t) × (p i ≡ k)
   unfolding solves lanes-solved
-  of-lane p m t k on small lt below e = (both .1, is-solved, number-of-start n vary fixed d t p fixed-on lt at-start)
+  of-lane p m t k on small lt below e =
+      (both .1, is-solved, number-of-start n vary fixed d t p fixed-on lt at-start, one i in-use ∙ moved-on (start t) i k)
     where
       both : (flat n d p ≡ flat n d (moved (start t) i k)) × (m ≡ target)
       both =
@@ -275,12 +270,12 @@ module _ (g : Grid) (whole : Bool) (place : Place) (i mask : ℕ) (w₀ : List F
     slope-of-lane :
         (t u k j : ℕ) → t < walk .lanes → u < walk .lanes → k < points g i → j < points g i → (m : ℕ) → m < masks g
         → 2048 + (begin t * masks g + m) + k * step ≡ slope-place walk (2 ^ i) step u j
-        → (m ≡ target) × (number-of (moved (start t) i k) ≡ u)
+        → (m ≡ target) × (number-of (moved (start t) i k) ≡ u) × (k ≡ j)
     slope-of-lane t u k j less less′ below below′ m small e =
         let found =
         of-lane (moved (start t) i k) m u j (moved-on-grid n d i k (start t) (start-on t) below) small (omega (arith, all-lanes)) below′
         (moved-stands (start t) (begin t) k m (start-begins t) ∙ e ∙ sym (slope-stands u j less′)) in
-        (found .0, found .2)
+        (found .0, found .2, sym (moved-on (start t) i k) ∙ found .3)
 
     pub walk-given :
         (x : List Float) → length x ≡ points g i → WalkGiven w₀ x (condition-at mask (condition g i)) walk (2 ^ i) step
@@ -297,8 +292,9 @@ module _ (g : Grid) (whole : Bool) (place : Place) (i mask : ℕ) (w₀ : List F
               let to : 2048 + lane-start walk t + 2 ^ i ≡ 2048 + (begin t * masks g + target) = omega (arith, walks .starts t less) in
               rw (to, from) (lane-given w x t long x-long);
           own = λ t u k j less less′ below below′ e.
-              sym (slope-of-lane t t k k less less (omega arith) (omega arith) target top (slope-stands t k less) .1)
-              ∙ slope-of-lane t u k j less less′ (omega arith) (omega arith) target top (slope-stands t k less ∙ e) .1;
+              let here = slope-of-lane t t k k less less (omega arith) (omega arith) target top (slope-stands t k less) in
+              let there = slope-of-lane t u k j less less′ (omega arith) (omega arith) target top (slope-stands t k less ∙ e) in
+              (sym (here .1) ∙ there .1, there .2);
           apart = λ t u k j less less′ below below′ e.
               let same : mask ≡ target = slope-of-lane t u k j less less′ (omega arith) (omega arith) mask (omega arith) (number-stands t k less ∙ e) .0 in
               omega (arith, pow-pos i);

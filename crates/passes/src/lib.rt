@@ -1,23 +1,27 @@
 // A pass solves the lanes along an axis of the numbers at one mask, and stores their slopes at the target, the mask with the axis put in:
 // the whole of them for a build, for a change those that agree with its place on every axis outside the target. None of these is a public call.
 ghost use mathlib.Core.Path.{_≡_};
-ghost use Prim.Native.Nat.{_^_};
-ghost use Rattle.rules.specs.Ends.{condition-at};
-ghost use Rattle.rules.specs.Sizes.{place-of};
+ghost use mathlib.Core.Bool.{true};
+ghost use Prim.Native.Nat.{_^_, _≤_};
+ghost use lib.ListN.{length};
+ghost use Rattle.rules.specs.Ends.{condition-at, fewest-points};
+ghost use Rattle.rules.specs.Sizes.{scratch-of-rows, place-of};
+ghost use Rattle.scratch.specs.Layout.{plan-row-length};
 ghost use Rattle.grid.specs.Given.{grid, points-of, On};
-ghost use Rattle.passes.specs.Walked.{WalkGiven, WalkSolved};
+ghost use Rattle.axis_plan.specs.Plans.{fewest-planned};
+ghost use Rattle.walks.specs.ByFour.{PlanKept};
+ghost use Rattle.passes.specs.Planned.{Planned, PlannedFor};
 ghost use Rattle.passes.specs.Passes.{lanes-solved, lanes-on-axis, lanes-solved-below, PassGiven, WorkGiven, Passed, AxisPassed, Refreshed};
+use axis_plan::AxisPlan;
+use axis_plan::no_plan;
+use axis_plan::plan_axis;
 use grid::knots_before;
 use grid::masks;
 use grid::stride;
-use lane_starts::Walk;
 use lane_starts::walk_over;
-use lane_starts::walking::first;
-use lane_starts::walking::next;
-use lanes::solve_lane;
 use rules::Axis;
 use rules::Condition;
-use scratch::TENSOR;
+use walks::solve_walk;
 
 // The condition of an axis for the numbers at a mask: its own for samples, which stand at mask 0, and for derivatives the crossed one.
 fn condition_at(mask: usize, condition: Condition) -> Condition
@@ -30,21 +34,7 @@ fn condition_at(mask: usize, condition: Condition) -> Condition
     }
 }
 
-// All lanes of a walk are solved, one after the other: the numbers of each stand where it starts, its slopes go `to` further on.
-fn solve_walk(w: &mut [f64], x: &[f64], condition: Condition, walk: Walk, to: usize, step: usize)
-    requires { ⌜ WalkGiven (now w) (now x) condition walk to step ⌝ }
-    ensures { λ _. ⌜ WalkSolved (now (w .entry)) (now (w .exit)) (now (x .entry)) condition walk to step (walk .lanes) ⌝ }
-{
-    let mut cursor = first(walk);
-    while cursor.lane < walk.lanes {
-        let from = TENSOR + cursor.at;
-        solve_lane(w, x, condition, from, from + to, step);
-        let after = next(cursor, walk);
-        cursor = after;
-    }
-}
-
-// One pass. It answers how many lanes it solved.
+// One pass, by the plan of its axis where that was made. It answers how many lanes it solved.
 fn solve_lanes(
     w: &mut [f64],
     axes: usize,
@@ -54,9 +44,10 @@ fn solve_lanes(
     whole: bool,
     axis: usize,
     mask: usize,
+    plan: AxisPlan,
 ) -> usize
-    requires { ⌜ PassGiven (grid axes all (now knots)) (now w) (place-of place) axis mask ⌝ }
-    ensures { λ r. ⌜ Passed (grid axes all (now (knots .entry))) (now (w .entry)) (now (w .exit)) whole (place-of place) axis mask × (r ≡ lanes-solved (points-of all) axes whole axis mask) ⌝ }
+    requires { ⌜ PassGiven (grid axes all (now knots)) (now w) (place-of place) axis mask × Planned (grid axes all (now knots)) (now w) axis plan ⌝ }
+    ensures { λ r. ⌜ Passed (grid axes all (now (knots .entry))) (now (w .entry)) (now (w .exit)) whole (place-of place) axis mask × (r ≡ lanes-solved (points-of all) axes whole axis mask) × (plan .made ≡ true → PlanKept (now (w .entry)) (now (w .exit))) ⌝ }
 {
     let entry = all[axis];
     let n = entry.points;
@@ -67,7 +58,7 @@ fn solve_lanes(
     let bit = masks(axis);
     let step = stride(axes, all, axis) * masks(axes);
     let walk = walk_over(axes, all, place, whole, mask + bit, axis, mask);
-    solve_walk(w, x, condition, walk, bit, step);
+    solve_walk(w, x, condition, plan, walk, bit, step);
     walk.lanes
 }
 
@@ -80,18 +71,68 @@ fn solve_masks(
     place: [usize; 4],
     whole: bool,
     axis: usize,
+    plan: AxisPlan,
 ) -> usize
-    requires { ⌜ PassGiven (grid axes all (now knots)) (now w) (place-of place) axis 0 ⌝ }
+    requires { ⌜ PassGiven (grid axes all (now knots)) (now w) (place-of place) axis 0 × Planned (grid axes all (now knots)) (now w) axis plan ⌝ }
     ensures { λ r. ⌜ AxisPassed (grid axes all (now (knots .entry))) (now (w .entry)) (now (w .exit)) whole (place-of place) axis (2 ^ axis) × (r ≡ lanes-on-axis (points-of all) axes whole axis) ⌝ }
 {
     let limit = masks(axis);
     let mut lanes = 0;
     let mut mask = 0;
     while mask < limit {
-        lanes += solve_lanes(w, axes, all, knots, place, whole, axis, mask);
+        lanes += solve_lanes(w, axes, all, knots, place, whole, axis, mask, plan);
         mask += 1;
     }
     lanes
+}
+
+// Whether the lanes along an axis of n points are solved by four. A grid of one axis has a single lane, and no plan is longer than 128
+// points; two points of a periodic axis leave nothing to solve.
+fn goes_by_four(axes: usize, n: usize, ends: Condition) -> bool
+    ensures { λ r. ⌜ (r ≡ true → fewest-points ends ≤ n → (n ≤ plan-row-length) × (fewest-planned ends ≤ n)) ⌝ }
+{
+    if axes == 1 {
+        return false;
+    }
+    if 128 < n {
+        return false;
+    }
+    match ends {
+        Condition::Endpoints(_, _) => true,
+        Condition::Periodic => 2 < n,
+    }
+}
+
+// The plan of an axis whose lanes are solved by four; of another, that there is none.
+fn plan_for(w: &mut [f64], x: &[f64], axes: usize, ends: Condition) -> AxisPlan
+    requires { ⌜ (scratch-of-rows ≤ length (now w)) × (fewest-points ends ≤ length (now x)) ⌝ }
+    ensures { λ r. ⌜ PlannedFor (now (w .entry)) (now (w .exit)) (now (x .entry)) ends r ⌝ }
+{
+    if goes_by_four(axes, x.len(), ends) {
+        return plan_axis(w, x, ends);
+    }
+    no_plan()
+}
+
+// The passes along an axis, which is planned once for all of them. It answers how many lanes they solved.
+fn solve_along(
+    w: &mut [f64],
+    axes: usize,
+    all: [Axis; 4],
+    knots: &[f64],
+    place: [usize; 4],
+    whole: bool,
+    axis: usize,
+) -> usize
+    requires { ⌜ PassGiven (grid axes all (now knots)) (now w) (place-of place) axis 0 ⌝ }
+    ensures { λ r. ⌜ AxisPassed (grid axes all (now (knots .entry))) (now (w .entry)) (now (w .exit)) whole (place-of place) axis (2 ^ axis) × (r ≡ lanes-on-axis (points-of all) axes whole axis) ⌝ }
+{
+    let entry = all[axis];
+    let n = entry.points;
+    let from = knots_before(all, axis);
+    let ends = entry.condition;
+    let plan = plan_for(w, &knots[from..from + n], axes, ends);
+    solve_masks(w, axes, all, knots, place, whole, axis, plan)
 }
 
 // The passes along each axis, in rising order. It answers how many lanes they solved.
@@ -110,7 +151,7 @@ pub fn solve_axes(
     let mut lanes = 0;
     let mut axis = 0;
     while axis < axes {
-        lanes += solve_masks(w, axes, all, knots, place, whole, axis);
+        lanes += solve_along(w, axes, all, knots, place, whole, axis);
         axis += 1;
     }
     lanes

@@ -50,3 +50,35 @@ row w base k = at w (base + k)
 -- j is none of the n places that begin at base
 abbrev pub Outside : ℕ → ℕ → ℕ → Type 0
 Outside base n j = (k : ℕ) → k < n → j ≢ base + k
+
+-- ---- the layout by four
+
+-- how many numbers a row of a plan has, and some of them together
+abbrev pub plan-row-length : ℕ
+plan-row-length = 128
+
+abbrev pub plan-rows : ℕ → ℕ
+plan-rows count = count * plan-row-length
+
+-- where each row of a plan begins, and where the last ends; the steps stand in front of all
+abbrev pub divisors-row : ℕ
+divisors-row = 128
+
+abbrev pub helpers-row : ℕ
+helpers-row = 256
+
+abbrev pub second-row : ℕ
+second-row = 384
+
+abbrev pub plan-end : ℕ
+plan-end = 512
+
+-- where the blocks of rows of four begin, and how many numbers some of them have
+abbrev pub four-slopes : ℕ
+four-slopes = 1024
+
+abbrev pub four-moments : ℕ
+four-moments = 1536
+
+abbrev pub four-blocks : ℕ → ℕ
+four-blocks count = count * 512

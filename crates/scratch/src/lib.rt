@@ -1,5 +1,6 @@
 // The layout of the scratch: eight rows of 256 numbers, and behind them the working tensor. A lane of at most 256 numbers is solved in the
-// rows, one lane after the other; nothing in them outlives its lane, and a call clears all of its scratch before it returns.
+// rows, one lane after the other; nothing in them outlives its lane, and a call clears all of its scratch before it returns. Lanes that are
+// solved by four have the rows laid out otherwise: the second picture.
 //
 //   begins   row       what stands there                          written by                     read until
 //        0             the lane's numbers, one for each knot      lanes::gather, spline          its slopes are stored
@@ -36,3 +37,30 @@ pub const MOMENTS: usize = 1792;
 
 // Where the working tensor begins.
 pub const TENSOR: usize = 2048;
+
+// By four: the plan of an axis has a row of 128 numbers for each of its parts and outlives its lanes, for it serves all of them. Behind it
+// stand two blocks, in which row k has four numbers, those of four lanes at knot k.
+//
+//   begins   row            what stands there                          written by              read until
+//        0                  the steps of the axis                      axis_plan               its last lane is solved
+//      128   DIVISORS       what each row is divided by                axis_plan               its last lane is solved
+//      256   HELPERS        the first helper row                       axis_plan               its last lane is solved
+//      384   SECOND         of a periodic axis z, the second solve.    axis_plan               its last lane is solved
+//                           Else free
+//     1024   FOUR_SLOPES    the slopes of the lanes' steps, then       four_lanes              the next four lanes
+//                           their knot slopes
+//     1536   FOUR_MOMENTS   the second helper rows, then the moments   four_lanes              the next four lanes
+//                           over them
+//     2048   TENSOR         the working tensor                         tensor, four_lanes      the call ends
+
+// Where the rows of a plan begin; the steps stand in front of all.
+pub const DIVISORS: usize = 128;
+
+pub const HELPERS: usize = 256;
+
+pub const SECOND: usize = 384;
+
+// Where the two blocks of rows of four begin.
+pub const FOUR_SLOPES: usize = 1024;
+
+pub const FOUR_MOMENTS: usize = 1536;

@@ -17,20 +17,20 @@ abbrev μ-loop : tie.MeasureT-loop
 loop-holds : tie.Need-loop-holds Inv-loop μ-loop
 loop-holds c = let pre = c .before .before .pre in turn-first _ _ _ _ (pre .0) (pre .1)
 
-solve-masks-requires : tie.Need-solve-masks-requires Inv-loop μ-loop
-solve-masks-requires c κs = let turn = c .before .before .loop .inv in pass-given _ _ _ _ _ _ _ turn (omega arith)
+solve-along-requires : tie.Need-solve-along-requires Inv-loop μ-loop
+solve-along-requires c κs = let turn = c .before .before .loop .inv in pass-given _ _ _ _ _ _ _ turn (omega arith)
 
 add-lanes : tie.Need-add-lanes Inv-loop μ-loop
 add-lanes c =
     let solved = c .before .before in
     let turn = solved .before .before .before .loop .inv in
-    omega (arith, count-fits _ _ _ _ _ _ _ turn _ _ (omega arith) (solved .solve-masks .ensures))
+    omega (arith, count-fits _ _ _ _ _ _ _ turn _ _ (omega arith) (solved .solve-along .ensures))
 
 loop-again : tie.Need-loop-again Inv-loop μ-loop
 loop-again c =
     let solved = c .before .before in
     let turn = solved .before .before .before .loop .inv in
-    turn-next _ _ _ _ _ _ _ turn _ _ (omega arith) (solved .solve-masks .ensures)
+    turn-next _ _ _ _ _ _ _ turn _ _ (omega arith) (solved .solve-along .ensures)
 
 returns : tie.Need-returns Inv-loop μ-loop
 returns c = turn-last _ _ _ _ _ _ _ (c .before .loop .inv) (c .loop-test .left)
@@ -42,7 +42,7 @@ solve-axes-spec =
     Inv-loop
     μ-loop
     loop-holds
-    solve-masks-requires
+    solve-along-requires
     add-lanes
     (λ c. search needs)
     (λ c. search needs)

@@ -9,36 +9,36 @@ use Rattle.passes.proofs.solve_masks.Statement.{statement}
 use Rattle.passes.proofs.solve_masks.Tie as tie
 
 abbrev Inv-loop : tie.InvT-loop
-Inv-loop w₀ axes all knots place whole axis masks lanes₀ mask₀ w lanes mask =
-    (masks ≡ 2 ^ axis) × Turn (grid axes all knots) w₀ w whole (place-of place) axis lanes mask
+Inv-loop w₀ axes all knots place whole axis plan masks lanes₀ mask₀ w lanes mask =
+    (masks ≡ 2 ^ axis) × Turn (grid axes all knots) w₀ w whole (place-of place) axis plan lanes mask
 
 abbrev μ-loop : tie.MeasureT-loop
-μ-loop w₀ axes all knots place whole axis masks lanes₀ mask₀ w lanes mask = masks - mask
+μ-loop w₀ axes all knots place whole axis plan masks lanes₀ mask₀ w lanes mask = masks - mask
 
 masks-requires : tie.Need-masks-requires Inv-loop μ-loop
-masks-requires c κs = let pre = c .before .before .pre in omega (arith, pre .in-use, pre .given .in-range .few-axes)
+masks-requires c κs = let pre = c .before .before .pre .0 in omega (arith, pre .in-use, pre .given .in-range .few-axes)
 
 loop-holds : tie.Need-loop-holds Inv-loop μ-loop
-loop-holds c = (c .masks .ensures .0, turn-first _ _ _ _ _ (c .before .before .before .pre))
+loop-holds c = (c .masks .ensures .0, turn-first _ _ _ _ _ _ (c .before .before .before .pre))
 
 solve-lanes-requires : tie.Need-solve-lanes-requires Inv-loop μ-loop
 solve-lanes-requires c κs =
-    let turn = c .before .before .loop .inv in pass-given _ _ _ _ _ _ _ _ (turn .1) (omega (arith, turn .0))
+    let turn = c .before .before .loop .inv in pass-given _ _ _ _ _ _ _ _ _ (turn .1) (omega (arith, turn .0))
 
 add-lanes : tie.Need-add-lanes Inv-loop μ-loop
 add-lanes c =
     let solved = c .before .before in
     let turn = solved .before .before .before .loop .inv in
-    omega (arith, count-fits _ _ _ _ _ _ _ _ (turn .1) _ _ (omega (arith, turn .0)) (solved .solve-lanes .ensures))
+    omega (arith, count-fits _ _ _ _ _ _ _ _ _ (turn .1) _ _ (omega (arith, turn .0)) (solved .solve-lanes .ensures))
 
 loop-again : tie.Need-loop-again Inv-loop μ-loop
 loop-again c =
     let solved = c .before .before in
     let turn = solved .before .before .before .loop .inv in
-    (turn .0, turn-next _ _ _ _ _ _ _ _ (turn .1) _ _ (omega (arith, turn .0)) (solved .solve-lanes .ensures))
+    (turn .0, turn-next _ _ _ _ _ _ _ _ _ (turn .1) _ _ (omega (arith, turn .0)) (solved .solve-lanes .ensures))
 
 returns : tie.Need-returns Inv-loop μ-loop
-returns c = let turn = c .before .loop .inv in turn-last _ _ _ _ _ _ _ _ (turn .1) (omega (arith, turn .0))
+returns c = let turn = c .before .loop .inv in turn-last _ _ _ _ _ _ _ _ _ (turn .1) (omega (arith, turn .0))
 
 pub solve-masks-spec : {M : Type 1} → statement M
 solve-masks-spec =

@@ -1,10 +1,10 @@
--- The turns of `solve_walk`: one lane after another.
+-- The turns of `solve_singly`: one lane after another.
 use native.Mathlib.Omega.{arith}
 use native.Mathlib.Nat.{eq-or-lt-of-le}
-use mathlib.Core.Path.{_≡_, refl, sym, ap, _∙_}
+use mathlib.Core.Path.{_≡_, refl, ap, _∙_}
 use mathlib.Core.Logic.{_≢_, ⊎-elim}
 use mathlib.Core.List.{List}
-use Prim.Native.Nat.{ℕ, _+_, _-_, _*_, _<_, _≤_}
+use Prim.Native.Nat.{ℕ, _+_, _-_, _<_, _≤_}
 use lib.ListN.{length}
 use lib.Ieee.{Float}
 use Rattle.rules.specs.Numbers.{at, table}
@@ -16,7 +16,7 @@ use Rattle.lane_starts.specs.Walks.{lane-start, Stands, Small}
 use Rattle.lane_starts.specs.declared.Walk.{Walk}
 use Rattle.lane_starts.specs.declared.Cursor.{Cursor}
 use Rattle.lane_starts.proofs.Cursors.{stands-at}
-use Rattle.passes.specs.Walked.{number-place, slope-place, WalkGiven, WalkSolved}
+use Rattle.walks.specs.Walked.{number-place, slope-place, WalkGiven, WalkSolved}
 
 pub record Turn (w₀ w x : List Float) (condition : Condition) (walk : Walk) (to step : ℕ) (c : Cursor) : Type 0 where
   pub given : WalkGiven w₀ x condition walk to step
@@ -77,7 +77,7 @@ module _ (w₀ x : List Float) (condition : Condition) (walk : Walk) (to step : 
       before : (t : ℕ) → t < c .lane → (k : ℕ) → k < length x → at w′ (slope-place walk to step t k) ≡ at w (slope-place walk to step t k)
       before t earlier k below =
           other (slope-place walk to step t k) (omega arith)
-          (λ i h e. absurd (let same : t ≡ c .lane = given .own t (c .lane) k i (omega (arith, turn .most)) less below h e in omega arith))
+          (λ i h e. absurd (let same : t ≡ c .lane = given .own t (c .lane) k i (omega (arith, turn .most)) less below h e .0 in omega arith))
 
       pub turn-next : (r : Cursor) → (r .lane ≡ c .lane + 1) × Stands r walk → Turn w₀ w′ x condition walk to step r
       turn-next r moved = record {

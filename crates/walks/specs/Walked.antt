@@ -20,7 +20,7 @@ number-place walk step t k = tensor-begin + lane-start walk t + k * step
 abbrev pub slope-place : Walk → ℕ → ℕ → ℕ → ℕ → ℕ
 slope-place walk to step t k = tensor-begin + lane-start walk t + to + k * step
 
--- lanes that can be solved: no place takes slopes of two lanes, and none that takes a slope has a lane's number
+-- lanes that can be solved: no place takes two slopes, and none that takes a slope has a lane's number
 pub record WalkGiven (w x : List Float) (condition : Condition) (walk : Walk) (to step : ℕ) : Type 0 where
   pub some-inner : 0 < walk .inner
   pub some-middle : 0 < walk .middle
@@ -30,7 +30,7 @@ pub record WalkGiven (w x : List Float) (condition : Condition) (walk : Walk) (t
   pub lane : (w′ : List Float) → length w′ ≡ length w → (t : ℕ) → t < walk .lanes
       → LaneGiven w′ x condition (tensor-begin + lane-start walk t) (tensor-begin + lane-start walk t + to) step
   pub own : (t u k i : ℕ) → t < walk .lanes → u < walk .lanes → k < length x → i < length x
-      → slope-place walk to step t k ≡ slope-place walk to step u i → t ≡ u
+      → slope-place walk to step t k ≡ slope-place walk to step u i → (t ≡ u) × (k ≡ i)
   pub apart : (t u k i : ℕ) → t < walk .lanes → u < walk .lanes → k < length x → i < length x
       → number-place walk step t k ≢ slope-place walk to step u i
 

@@ -1,9 +1,9 @@
 use native.Mathlib.Omega.{arith}
 use Prim.Native.Nat.{_-_}
-use Rattle.passes.proofs.WalkTurns.{Turn, turn-first, inside, lane-given, next-given, turn-next, turn-last}
+use Rattle.walks.proofs.WalkTurns.{Turn, turn-first, inside, lane-given, next-given, turn-next, turn-last}
 use borrow.Author.Needs.{needs}
-use Rattle.passes.proofs.solve_walk.Statement.{statement}
-use Rattle.passes.proofs.solve_walk.Tie as tie
+use Rattle.walks.proofs.solve_singly.Statement.{statement}
+use Rattle.walks.proofs.solve_singly.Tie as tie
 
 abbrev Inv-loop : tie.InvT-loop
 Inv-loop w₀ x condition walk to step cursor₀ w cursor = Turn w₀ w x condition walk to step cursor
@@ -38,8 +38,8 @@ loop-again c = turn-next _ _ _ _ _ _ _ _ (c .before .before .before .before .bef
 returns : tie.Need-returns Inv-loop μ-loop
 returns c = turn-last _ _ _ _ _ _ _ _ (c .before .before .before .loop .inv) (c .if1 .left)
 
-pub solve-walk-spec : {M : Type 1} → statement M
-solve-walk-spec =
+pub solve-singly-spec : {M : Type 1} → statement M
+solve-singly-spec =
     tie.close
     (tie.spec
     Inv-loop

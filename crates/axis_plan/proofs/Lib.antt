@@ -1,0 +1,7 @@
+pub mod StepTurns
+pub mod DivisorTurns
+pub mod SecondTurns
+pub mod EndRows
+pub mod PlanOfEnds
+pub mod PlanOfCycle
+pub mod Plans

@@ -1,0 +1,10 @@
+pub mod SlopeTurns
+pub mod ForwardTurns
+pub mod BackTurns
+pub mod StoreTurns
+pub mod SubtractTurns
+pub mod InnerMoments
+pub mod EndpointMoments
+pub mod CyclicMoments
+pub mod Groups
+pub mod Held

@@ -1,0 +1,2 @@
+pub mod WalkTurns
+pub mod FourTurns

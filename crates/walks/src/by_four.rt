@@ -1,0 +1,73 @@
+// The lanes of a walk four at a time, by the plan of their axis. Not public.
+ghost use Prim.Native.Nat.{_<_, _≤_};
+ghost use Rattle.lane_starts.specs.Walks.{Small, Stands};
+ghost use Rattle.walks.specs.Walked.{WalkGiven, WalkSolved};
+ghost use Rattle.walks.specs.ByFour.{AxisStands, PlanKept, Onward, FourSolved};
+use axis_plan::AxisPlan;
+use four_lanes::solve_four;
+use lane_starts::Cursor;
+use lane_starts::Walk;
+use lane_starts::walking::first;
+use lane_starts::walking::next;
+use rules::Condition;
+use scratch::TENSOR;
+
+// The walk one lane further, or where it stands if that is the last.
+fn onward(cursor: Cursor, walk: Walk) -> Cursor
+    requires { ⌜ Stands cursor walk × Small walk × (walk .lanes ≤ 4096) × (cursor .lane < walk .lanes) × (cursor .at ≤ 4096) ⌝ }
+    ensures { λ r. ⌜ Onward cursor r walk ⌝ }
+{
+    if cursor.lane + 1 < walk.lanes {
+        return next(cursor, walk);
+    }
+    cursor
+}
+
+// The next four lanes; where fewer are left, the last stands in for those that are missing. It answers the walk behind them.
+fn solve_next_four(
+    w: &mut [f64],
+    x: &[f64],
+    condition: Condition,
+    plan: AxisPlan,
+    walk: Walk,
+    to: usize,
+    step: usize,
+    cursor: Cursor,
+) -> Cursor
+    requires { ⌜ WalkGiven (now w) (now x) condition walk to step × AxisStands (now w) (now x) condition plan × Stands cursor walk × (cursor .lane < walk .lanes) ⌝ }
+    ensures { λ r. ⌜ FourSolved (now (w .entry)) (now (w .exit)) (now (x .entry)) condition walk to step cursor r ⌝ }
+{
+    let second = onward(cursor, walk);
+    let third = onward(second, walk);
+    let fourth = onward(third, walk);
+    let places = [
+        TENSOR + cursor.at,
+        TENSOR + second.at,
+        TENSOR + third.at,
+        TENSOR + fourth.at,
+    ];
+    solve_four(w, x, condition, plan, places, to, step);
+    onward(fourth, walk)
+}
+
+// All lanes of a walk.
+pub fn solve_by_four(
+    w: &mut [f64],
+    x: &[f64],
+    condition: Condition,
+    plan: AxisPlan,
+    walk: Walk,
+    to: usize,
+    step: usize,
+)
+    requires { ⌜ WalkGiven (now w) (now x) condition walk to step × AxisStands (now w) (now x) condition plan ⌝ }
+    ensures { λ _. ⌜ WalkSolved (now (w .entry)) (now (w .exit)) (now (x .entry)) condition walk to step (walk .lanes) × PlanKept (now (w .entry)) (now (w .exit)) ⌝ }
+{
+    let mut cursor = first(walk);
+    let mut done = 0;
+    while done < walk.lanes {
+        let after = solve_next_four(w, x, condition, plan, walk, to, step, cursor);
+        cursor = after;
+        done += 4;
+    }
+}
