@@ -65,6 +65,6 @@ pub record Stands (c : Cursor) (k : Walk) : Type 0 where
   pub inner-below : c .inner < k .inner
   pub middle-below : c .middle < k .middle
   pub lane-is : c .lane ≡ (outer * k .middle + c .middle) * k .inner + c .inner
-  pub sheet-is : c .sheet ≡ k .start + outer * k .farthest
-  pub run-is : c .run ≡ c .sheet + c .middle * k .far
+  pub slab-is : c .slab ≡ k .start + outer * k .farthest
+  pub run-is : c .run ≡ c .slab + c .middle * k .far
   pub at-is : c .at ≡ c .run + c .inner * k .near

@@ -24,14 +24,14 @@ pub struct Walk {
 }
 
 // Where a walk stands: the number of the lane and where it starts, its indices on the last two axes that the lanes go through, and where
-// the lanes start that have index 0 on the last (`run`) and on both (`sheet`).
+// the lanes start that have index 0 on the last (`run`) and on both (`slab`).
 pub struct Cursor {
     pub lane: usize,
     pub at: usize,
     pub inner: usize,
     pub middle: usize,
     pub run: usize,
-    pub sheet: usize,
+    pub slab: usize,
 }
 
 // Whether the lanes along `axis` go through all indices on axis j: on one that is free, but not on their own.

@@ -16,7 +16,7 @@ pub fn first(walk: Walk) -> Cursor
         inner: 0,
         middle: 0,
         run: walk.start,
-        sheet: walk.start,
+        slab: walk.start,
     }
 }
 
@@ -34,7 +34,7 @@ pub fn next(cursor: Cursor, walk: Walk) -> Cursor
             inner,
             middle: cursor.middle,
             run: cursor.run,
-            sheet: cursor.sheet,
+            slab: cursor.slab,
         };
     }
     let middle = cursor.middle + 1;
@@ -46,16 +46,16 @@ pub fn next(cursor: Cursor, walk: Walk) -> Cursor
             inner: 0,
             middle,
             run,
-            sheet: cursor.sheet,
+            slab: cursor.slab,
         };
     }
-    let sheet = cursor.sheet + walk.farthest;
+    let slab = cursor.slab + walk.farthest;
     Cursor {
         lane,
-        at: sheet,
+        at: slab,
         inner: 0,
         middle: 0,
-        run: sheet,
-        sheet,
+        run: slab,
+        slab,
     }
 }
