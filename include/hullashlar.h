@@ -390,7 +390,7 @@ size_t hullashlar_cursor_next(const uint8_t *curve, size_t curve_length,
  *         return true;
  *     }
  *
- * Stack: 35,384 bytes. 28,672 of them are buffers: scratch 20,480, tensor 4,096, knots 2,048, samples 2,048. The rest
+ * Stack: 32,040 bytes. 28,672 of them are buffers: scratch 20,480, tensor 4,096, knots 2,048, samples 2,048. The rest
  * are the frames of the functions that read, build and ask.
  * Written: nothing. Refuses by the first of 11, 12, 1, 2, 13, 22, 3, 14 that is met on the way through the sheet; then
  * by 16, 17; then as a build by 7, 8, 9, 10; then as a query by 7, 18, 10. */
