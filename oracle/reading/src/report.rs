@@ -115,8 +115,8 @@ impl Report {
         report
     }
 
-    /// Counts a sheet. The order of an entry is the number of ones in its mask, which is fastest
-    /// in a tensor.
+    /// Counts a sheet. An entry's order is how many ones its mask has; the mask is fastest in a
+    /// tensor.
     pub fn count(&mut self, sheet: &StreamSheet) {
         self.sheets += 1;
         match sheet.refusal {
