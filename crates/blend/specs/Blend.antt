@@ -34,6 +34,14 @@ with-four s e four = set (set (set (set s e (at four 0)) (e + 1) (at four 1)) (e
 pub record WeightsOf (width t : Float) (w : Weights) : Type 0 where
   pub blended : (p0 m0 p1 m1 : Float) → weighted w p0 m0 p1 m1 ≡ hermite p0 m0 p1 m1 width t
 
+-- the weights of axis a, where those of the axes stand one after the other, four to an axis
+abbrev pub weights-in : List Float → ℕ → Weights
+weights-in weights a = record { h00 = at weights (4 * a); h10 = at weights (4 * a + 1); h01 = at weights (4 * a + 2); h11 = at weights (4 * a + 3) }
+
+-- so many axes have the weights of their widths and fractions, where the first of them is axis `lowest`
+abbrev pub WeightsOn : ℕ → ℕ → (ℕ → Float) → (ℕ → Float) → List Float → Type 0
+WeightsOn axes lowest widths ts weights = (a : ℕ) → a < axes → WeightsOf (widths (lowest + a)) (ts (lowest + a)) (weights-in weights a)
+
 -- pairs for a run of so many blends, which come in fours
 pub record RunGiven (count : ℕ) (numbers : List Float) (lower upper : ℕ) : Type 0 where
   pub fours : count % 4 ≡ 0
