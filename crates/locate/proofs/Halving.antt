@@ -1,5 +1,5 @@
 -- A turn of the loop is one halving, and for at most 256 knots 8 of them end it.
-use mathlib.Core.Path.{_≡_, refl, sym, _∙_}
+use mathlib.Core.Path.{_≡_, refl, sym, subst, _∙_}
 use mathlib.Core.List.{List}
 use mathlib.Core.Bool.{true, false}
 use Prim.Native.Nat.{ℕ, zero, suc, _+_, _-_, _/_, _^_, _<_, _≤_}
@@ -50,18 +50,26 @@ module _ (knots : List Float) (point : Float) where
     fewer-left : (next : ℕ) → next ≤ (high - low) / 2 → size next ≤ most-halvings
     fewer-left next h = let d = fewer-digits (high - low) next (omega arith) h in let f = t .left in omega arith
 
-    pub turn-down : le point (at knots (middle low high)) ≡ true → Turn last low (middle low high)
-    turn-down e = record {
+    down : le point (at knots (middle low high)) ≡ true → Turn last low (middle low high)
+    down e = record {
       order = omega arith;
       most = (let m = t .most in omega arith);
       left = fewer-left (middle low high - low) (omega arith);
       same = t .same ∙ halving-down knots point 7 low high l e ∙ again low (middle low high) (omega arith);
     }
 
-    pub turn-up : le point (at knots (middle low high)) ≡ false → Turn last (middle low high + 1) high
-    turn-up e = record {
+    up : le point (at knots (middle low high)) ≡ false → Turn last (middle low high + 1) high
+    up e = record {
       order = omega arith;
       most = t .most;
       left = fewer-left (high - (middle low high + 1)) (omega arith);
       same = t .same ∙ halving-up knots point 7 low high l e ∙ again (middle low high + 1) high (omega arith);
     }
+
+    -- whichever way halfway is worked out
+    module _ (mid : ℕ) (is : mid ≡ middle low high) where
+      pub turn-down : le point (at knots mid) ≡ true → Turn last low mid
+      turn-down e = subst (Turn last low) (sym is) (down (rw is at e))
+
+      pub turn-up : le point (at knots mid) ≡ false → Turn last (mid + 1) high
+      turn-up e = subst (λ (m : ℕ). Turn last (m + 1) high) (sym is) (up (rw is at e))

@@ -50,7 +50,7 @@ pub fn locate_lower_index(knots: &[f64], point: f64) -> usize
         if low >= high {
             break held(one_back(knots, point, low), knots.len());
         }
-        let mid = low + (high - low) / 2;
+        let mid = (low + high) / 2;
         if knots[mid] >= point {
             high = mid;
         } else {

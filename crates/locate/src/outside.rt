@@ -3,8 +3,8 @@ ghost use mathlib.Core.Path.{_≡_};
 ghost use Prim.Native.Nat.{_≤_};
 ghost use lib.ListN.{length};
 ghost use Rattle.rules.specs.Outside.{side, nearest, outside};
+ghost use Rattle.kinds.specs.Modes.{mode-of-number};
 ghost use Rattle.locate.specs.Answers.{Placed};
-use rules::Mode;
 use rules::Side;
 
 // The coordinate at which a query works its value out on an axis, and whether the mode refuses it.
@@ -50,23 +50,23 @@ fn is_outside(side: Side) -> bool
     }
 }
 
-// What a mode makes of a point: extend looks at no knot.
-pub fn place_on_axis(mode: Mode, knots: &[f64], point: f64) -> PlacedPoint
+// What the mode of a number makes of a point, as the numbers are read where modes are: 1 is hold, 2 is refuse, any other extends and looks at no knot.
+pub fn place_on_axis(mode: u8, knots: &[f64], point: f64) -> PlacedPoint
     requires { ⌜ 1 ≤ length (now knots) ⌝ }
-    ensures { λ r. ⌜ Placed mode (now (knots .entry)) point r ⌝ }
+    ensures { λ r. ⌜ Placed (mode-of-number mode) (now (knots .entry)) point r ⌝ }
 {
     match mode {
-        Mode::Extend => PlacedPoint {
-            coordinate: point,
-            refused: false,
-        },
-        Mode::Hold => PlacedPoint {
+        1 => PlacedPoint {
             coordinate: nearest(side_of(knots, point), knots, point),
             refused: false,
         },
-        Mode::Refuse => PlacedPoint {
+        2 => PlacedPoint {
             coordinate: point,
             refused: is_outside(side_of(knots, point)),
+        },
+        _ => PlacedPoint {
+            coordinate: point,
+            refused: false,
         },
     }
 }

@@ -35,13 +35,13 @@ loop-less : tie.Need-loop-less Inv-loop μ-loop
 loop-less c = let l = c .before .before .before .loop in fewer-digits (l .high - l .low) _ (omega arith) (omega arith)
 
 loop-again : tie.Need-loop-again Inv-loop μ-loop
-loop-again c = let l = c .before .before .before .loop in turn-down _ _ _ (l .low) (l .high) (l .inv) (omega arith) (c .if4 .taken)
+loop-again c = let l = c .before .before .before .loop in turn-down _ _ _ (l .low) (l .high) (l .inv) (omega arith) _ (omega arith) (c .if4 .taken)
 
 loop-less-2 : tie.Need-loop-less-2 Inv-loop μ-loop
 loop-less-2 c = let l = c .before .before .before .loop in fewer-digits (l .high - l .low) _ (omega arith) (omega arith)
 
 loop-again-2 : tie.Need-loop-again-2 Inv-loop μ-loop
-loop-again-2 c = let l = c .before .before .before .loop in turn-up _ _ _ (l .low) (l .high) (l .inv) (omega arith) (c .if4 .left)
+loop-again-2 c = let l = c .before .before .before .loop in turn-up _ _ _ (l .low) (l .high) (l .inv) (omega arith) _ (omega arith) (c .if4 .left)
 
 returns-3 : tie.Need-returns-3 Inv-loop μ-loop
 returns-3 c =
@@ -69,7 +69,6 @@ locate-lower-index-spec =
     loop-holds
     (λ c κs. search needs)
     (λ c κs. search needs)
-    (λ c. search needs)
     (λ c. search needs)
     (λ c. search needs)
     (λ c. search needs)
