@@ -1,0 +1,5 @@
+mod Cells
+mod Weighing
+mod Finding
+pub mod Accepted
+pub mod Answering

@@ -1,0 +1,18 @@
+use borrow.Author.Needs.{needs}
+use Rattle.rules.specs.Steps.{h}
+use Rattle.answer.proofs.ways.direct_cell.Statement.{statement}
+use Rattle.answer.proofs.ways.direct_cell.Tie as tie
+
+returns : tie.Need-returns
+unfolding h
+returns c = c .locate-lower-index-uniform .ensures
+
+pub direct-cell-spec : {M : Type 1} → statement M
+direct-cell-spec =
+    tie.close
+    (tie.spec
+    (λ c. search needs)
+    (λ c. search needs)
+    (λ c. search needs)
+    (λ c κs. search needs)
+    returns)

@@ -1,0 +1,45 @@
+// What every query answers once its sizes and lengths are in order: its cell found on the axes, and 7, 8, 18 and 10 in this order. None of these is public: callers see to all that is refused before.
+ghost use mathlib.Core.Path.{_≡_};
+ghost use Rattle.answer.specs.Given.{QueryFits};
+ghost use Rattle.answer.specs.Answers.{refused-with, answer-in, knots-refusal, AnswerAmong};
+use rules::QueryAnswer;
+use ways::Way;
+
+pub mod ways; // ways.rt: the ways of finding a cell
+pub mod searched; // searched.rt: a point looked for on the axes
+
+// A refusal: its number, +0.0, and labels 0.
+pub fn refused(refusal: usize) -> QueryAnswer
+    ensures { λ r. ⌜ r ≡ refused-with refusal ⌝ }
+{
+    QueryAnswer {
+        refusal,
+        value: 0.0,
+        labels: [0; 4],
+    }
+}
+
+// Which number it is where knots are refused: a walk has passed over those that are infinite or NaN, which are 7.
+fn knots_refusal(way: Way, knots: &[f64]) -> usize
+    ensures { λ r. ⌜ r ≡ knots-refusal way (now (knots .entry)) ⌝ }
+{
+    match way {
+        Way::Walked => { if base::any_not_finite(knots) { 7 } else { 8 } }
+        Way::Searched => 8,
+        Way::Direct => 8,
+    }
+}
+
+// A value and the cell that it was worked out in, or 10.
+fn answer_in(value: f64, lower: [usize; 4]) -> QueryAnswer
+    ensures { λ r. ⌜ r ≡ answer-in value lower ⌝ }
+{
+    if base::is_finite(value) {
+        return QueryAnswer {
+            refusal: 0,
+            value,
+            labels: lower,
+        };
+    }
+    refused(10)
+}
