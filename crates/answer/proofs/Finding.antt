@@ -27,7 +27,7 @@ use Rattle.locate.specs.declared.outside.PlacedPoint.{PlacedPoint}
 use Rattle.blend.specs.Blend.{WeightsOf, weights-in}
 use Rattle.answer.specs.Given.{AxesOf, SearchFits}
 use Rattle.answer.specs.Ways.{cell-on, by-search, knots-refused-by, CellOn}
-use Rattle.answer.specs.Found.{WeightsStored, Unfound, cells-by, FoundOn, FoundAmong}
+use Rattle.answer.specs.Found.{WeightsStored, Unfound, cells-by, FoundOn, CellsPlaced, FoundAmong}
 use Rattle.answer.specs.declared.ways.Way.{Way}
 use Rattle.answer.specs.declared.ways.Way.the-variants.{Walked, Searched, Direct}
 use Rattle.answer.specs.declared.searched.Refusals.{Refusals}
@@ -45,8 +45,7 @@ module _ (way : Way) (axes : ℕ) (points-in modes-in : List ℕ) (x coordinates
     pub fits : SearchFits axes points-in modes-in x coordinates
     pub most : i ≤ axes
     pub begun : begin ≡ sum-below (place-of points-in) i
-    pub four : length lower ≡ 4
-    pub sixteen : length weights ≡ 16
+    pub placed : CellsPlaced points-in i lower weights
     pub found : (all : List Axis) → AxesOf axes points-in modes-in all → FoundOn way (grid axes all x) coordinates i lower weights r
 
   pub turn-first :
@@ -57,14 +56,14 @@ module _ (way : Way) (axes : ℕ) (points-in modes-in : List ℕ) (x coordinates
     fits = given .0;
     most = omega arith;
     begun = refl;
-    four = rw (given .1 .no-cells) refl;
-    sixteen = given .1 .sixteen;
-    found = λ all are. record {
+    placed = record {
       four = rw (given .1 .no-cells) refl;
-      found = λ j l. absurd (omega arith);
       inside = λ j l. absurd (omega arith);
       unused = λ j l few. rw (given .1 .no-cells) (getD-replicate 4 j 0 0 few);
       sixteen = given .1 .sixteen;
+    };
+    found = λ all are. record {
+      found = λ j l. absurd (omega arith);
       weighted = λ j l. absurd (omega arith);
       coordinates-refused = refl;
       knots-refused = refl;
@@ -106,7 +105,7 @@ module _ (way : Way) (axes : ℕ) (points-in modes-in : List ℕ) (x coordinates
         told = record { coordinates = r .coordinates || not number; knots = r .knots || knots-refused; outside = r .outside || placed .refused }
 
         stored-here : place-of (set lower i cell) i ≡ cell
-        stored-here = getD-set-same lower i cell 0 (omega (arith, turn .four, axis-few))
+        stored-here = getD-set-same lower i cell 0 (omega (arith, turn .placed .four, axis-few))
 
         other : (j : ℕ) → (j ≡ i → ⊥) → place-of (set lower i cell) j ≡ place-of lower j
         other j ne = getD-set-other lower i j cell 0 ne
@@ -148,11 +147,7 @@ module _ (way : Way) (axes : ℕ) (points-in modes-in : List ℕ) (x coordinates
           found-here : FoundOn way g coordinates (i + 1) (set lower i cell) later told
           unfolding any
           found-here = record {
-            four = simp length-set (before .four);
             found = below-more _ i (λ j l. other j (omega arith) ∙ before .found j l) (stored-here ∙ is-cell);
-            inside = below-more _ i (λ j l. rw (other j (omega arith)) (before .inside j l)) (rw (stored-here, points-here, ← exact) (on .inside));
-            unused = λ j l few. other j (omega arith) ∙ before .unused j (omega arith) few;
-            sixteen = stored .same-length ∙ before .sixteen;
             weighted = below-more _ i (λ j l. rw (other j (omega arith), stored .others j (omega arith)) (before .weighted j l)) weighs;
             coordinates-refused = rw (add-one, ← before .coordinates-refused, is-number) refl;
             knots-refused = rw (add-one, ← before .knots-refused, judged, part-is, is-cell) refl;
@@ -165,11 +160,19 @@ module _ (way : Way) (axes : ℕ) (points-in modes-in : List ℕ) (x coordinates
           fits = turn .fits;
           most = omega arith;
           begun = rw (sum-more, turn .begun) refl;
-          four = simp length-set (turn .four);
-          sixteen = stored .same-length ∙ turn .sixteen;
+          placed = record {
+            four = simp length-set (turn .placed .four);
+            inside = below-more _ i (λ j l. rw (other j (omega arith)) (turn .placed .inside j l)) (rw (stored-here, ← exact) (on .inside));
+            unused = λ j l few. other j (omega arith) ∙ turn .placed .unused j (omega arith) few;
+            sixteen = stored .same-length ∙ turn .placed .sixteen;
+          };
           found = found-here;
         }
 
     pub turn-last : axes ≤ i → FoundAmong way axes points-in modes-in x coordinates lower weights r
-    turn-last ge all are =
-        let all-axes : i ≡ axes = omega (arith, turn .most) in subst (λ (k : ℕ). FoundOn way (grid axes all x) coordinates k lower weights r) all-axes (turn .found all are)
+    turn-last ge =
+        let all-axes : i ≡ axes = omega (arith, turn .most) in
+        record {
+          placed = subst (λ (k : ℕ). CellsPlaced points-in k lower weights) all-axes (turn .placed);
+          on = λ all are. subst (λ (k : ℕ). FoundOn way (grid axes all x) coordinates k lower weights r) all-axes (turn .found all are);
+        }

@@ -50,20 +50,23 @@ module _ (way : Way) (g : Grid) (coordinates : List Float) where
   abbrev pub mode-refuses : ℕ → Bool
   mode-refuses j = outside-refused (mode-at g j) (side (knots g j) (at coordinates j))
 
-  -- what is found on the first i axes: the cells, and 0 past them, the weights there of the point that the modes make of the given one, and whether these axes refuse it
+  -- what is found on the first i axes: the cells, the weights there of the point that the modes make of the given one, and whether these axes refuse it
   pub record FoundOn (i : ℕ) (lower : List ℕ) (weights : List Float) (r : Refusals) : Type 0 where
-    pub four : length lower ≡ most-axes
     pub found : (j : ℕ) → j < i → place-of lower j ≡ cells-by way g coordinates j
-    pub inside : (j : ℕ) → j < i → place-of lower j + 1 < points g j
-    pub unused : (j : ℕ) → i ≤ j → j < most-axes → place-of lower j ≡ 0
-    pub sixteen : length weights ≡ 16
     pub weighted : (j : ℕ) → j < i → WeightsOf (h (knots g j) (place-of lower j)) (fraction (knots g j) (place-of lower j) (placed-on g (at coordinates) j)) (weights-in weights j)
     pub coordinates-refused : r .coordinates ≡ any coordinate-refuses i
     pub knots-refused : r .knots ≡ any knots-refuse i
     pub outside-refused : r .outside ≡ any mode-refuses i
     pub rising : by-search way ≡ true → (j : ℕ) → j < i → Rising (knots g j) (points g j) → finite (at coordinates j) ≡ true → cells-by way g coordinates j ≡ cell-of g (at coordinates) j
 
--- so on all of any axes that have these points and modes
-abbrev pub FoundAmong : Way → ℕ → List ℕ → List ℕ → List Float → List Float → List ℕ → List Float → Refusals → Type 0
-FoundAmong way axes points modes x coordinates lower weights r =
-    (all : List Axis) → AxesOf axes points modes all → FoundOn way (grid axes all x) coordinates axes lower weights r
+-- cells on the first i of axes with these points, 0 past them, and the places of the weights
+pub record CellsPlaced (points : List ℕ) (i : ℕ) (lower : List ℕ) (weights : List Float) : Type 0 where
+  pub four : length lower ≡ most-axes
+  pub inside : (j : ℕ) → j < i → place-of lower j + 1 < place-of points j
+  pub unused : (j : ℕ) → i ≤ j → j < most-axes → place-of lower j ≡ 0
+  pub sixteen : length weights ≡ 16
+
+-- what is found on all axes, whichever have these points and modes
+pub record FoundAmong (way : Way) (axes : ℕ) (points modes : List ℕ) (x coordinates : List Float) (lower : List ℕ) (weights : List Float) (r : Refusals) : Type 0 where
+  pub placed : CellsPlaced points axes lower weights
+  pub on : (all : List Axis) → AxesOf axes points modes all → FoundOn way (grid axes all x) coordinates axes lower weights r

@@ -6,7 +6,7 @@ use rules::QueryAnswer;
 use ways::Way;
 
 pub mod ways; // ways.rt: the ways of finding a cell
-pub mod searched; // searched.rt: a point looked for on the axes
+mod searched; // searched.rt: a point looked for on the axes
 
 // A refusal: its number, +0.0, and labels 0.
 pub fn refused(refusal: usize) -> QueryAnswer
@@ -42,4 +42,42 @@ fn answer_in(value: f64, lower: [usize; 4]) -> QueryAnswer
         };
     }
     refused(10)
+}
+
+// The answer at a point on axes of these points, with a mode's number for each: of their ends nothing is read.
+pub fn answer(
+    way: Way,
+    axes: usize,
+    points: &[usize],
+    modes: &[u8],
+    knots: &[f64],
+    tensor: &[f64],
+    coordinates: &[f64],
+) -> QueryAnswer
+    requires { ⌜ QueryFits axes (now points) (now modes) (now knots) (now tensor) (now coordinates) ⌝ }
+    ensures { λ r. ⌜ AnswerAmong way axes (now (points .entry)) (now (modes .entry)) (now (knots .entry)) (now (tensor .entry)) (now (coordinates .entry)) r ⌝ }
+{
+    let mut lower = [0; 4];
+    let mut weights = [0.0; 16];
+    let refusals = searched::search_on_axes(
+        way,
+        axes,
+        points,
+        modes,
+        knots,
+        coordinates,
+        &mut lower,
+        &mut weights,
+    );
+    if refusals.coordinates {
+        return refused(7);
+    }
+    if refusals.knots {
+        return refused(knots_refusal(way, knots));
+    }
+    if refusals.outside {
+        return refused(18);
+    }
+    let value = cell::value(axes, points, &lower, &weights, tensor);
+    answer_in(value, lower)
 }

@@ -48,7 +48,7 @@ cell-on-axis-requires : tie.Need-cell-on-axis-requires Inv-loop μ-loop
 cell-on-axis-requires c κs = size-given _ _ _ _ _ _ _ _ _ _ _ (c .before .before .before .before .before .before .before .loop .inv) (c .before .before .before .before .before .before .loop-test .taken)
 
 slice-write-lower : tie.Need-slice-write-lower Inv-loop μ-loop
-slice-write-lower c = omega (arith, c .before .before .before .before .before .before .before .before .loop .inv .four, axis-few _ _ _ _ _ _ _ _ _ _ _ (c .before .before .before .before .before .before .before .before .loop .inv) (c .before .before .before .before .before .before .before .loop-test .taken))
+slice-write-lower c = omega (arith, c .before .before .before .before .before .before .before .before .loop .inv .placed .four, axis-few _ _ _ _ _ _ _ _ _ _ _ (c .before .before .before .before .before .before .before .before .loop .inv) (c .before .before .before .before .before .before .before .loop-test .taken))
 
 mul-store-weights : tie.Need-mul-store-weights Inv-loop μ-loop
 mul-store-weights c = omega (arith, end-within _ _ _ _ _ _ _ _ _ _ _ (c .before .before .before .before .before .before .before .before .before .loop .inv) (c .before .before .before .before .before .before .before .before .loop-test .taken))
@@ -63,7 +63,7 @@ part-store-weights-end : tie.Need-part-store-weights-end Inv-loop μ-loop
 part-store-weights-end c = omega (arith, end-within _ _ _ _ _ _ _ _ _ _ _ (c .before .before .before .before .before .before .before .before .before .loop .inv) (c .before .before .before .before .before .before .before .before .loop-test .taken))
 
 store-weights-requires : tie.Need-store-weights-requires Inv-loop μ-loop
-store-weights-requires c κs = (axis-few _ _ _ _ _ _ _ _ _ _ _ (c .before .before .before .before .before .before .before .before .before .before .loop .inv) (c .before .before .before .before .before .before .before .before .before .loop-test .taken), c .before .before .before .before .before .before .before .before .before .before .loop .inv .sixteen, c .before .before .cell-on-axis .ensures .inside)
+store-weights-requires c κs = (axis-few _ _ _ _ _ _ _ _ _ _ _ (c .before .before .before .before .before .before .before .before .before .before .loop .inv) (c .before .before .before .before .before .before .before .before .before .loop-test .taken), c .before .before .before .before .before .before .before .before .before .before .loop .inv .placed .sixteen, c .before .before .cell-on-axis .ensures .inside)
 
 mul-knots-refused : tie.Need-mul-knots-refused Inv-loop μ-loop
 mul-knots-refused c = omega (arith, end-within _ _ _ _ _ _ _ _ _ _ _ (c .before .before .before .before .before .before .before .before .before .before .before .before .before .before .loop .inv) (c .before .before .before .before .before .before .before .before .before .before .before .before .before .loop-test .taken))
