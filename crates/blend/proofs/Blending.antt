@@ -71,7 +71,7 @@ blended-on left lowest widths ts weights cell later on smaller =
     (λ e h. smaller e h ∙ lowest-weights .blended _ _ _ _)
 
 -- the blend of as many axes by whatever widths and fractions they have these weights of
-abbrev pub Value : ℕ → List Float → (ℕ → Float) → Float → Type 0
+abbrev Value : ℕ → List Float → (ℕ → Float) → Float → Type 0
 Value left weights cell r = (lowest : ℕ) (widths ts : ℕ → Float) → WeightsOn left lowest widths ts weights → r ≡ blend left lowest widths ts cell
 
 -- what stands in the front once the lowest axis is removed is blended on
