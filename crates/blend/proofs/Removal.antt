@@ -1,4 +1,4 @@
--- The turns of `remove_by_fours`, on plain lists: they leave the smaller cell in the front, and read each number before it is overwritten. And what that is by the weights of a width and a fraction.
+-- The turns of `remove_by_fours`, on plain lists: they leave the smaller cell in the front, and read each number before it is overwritten.
 use native.Mathlib.Omega.{arith}
 use mathlib.Core.Path.{_≡_, refl, ap₂, _∙_}
 use mathlib.Core.List.{List}
@@ -6,8 +6,7 @@ use Prim.Native.Nat.{ℕ, _+_, _*_, _%_, _<_, _≤_}
 use lib.ListN.{length, set}
 use lib.Ieee.{Float}
 use Rattle.rules.specs.Numbers.{at}
-use Rattle.rules.specs.Query.{without-lowest}
-use Rattle.blend.specs.Blend.{weighted-at, four-weighted, with-four, WeightsOf, Blended, Removed}
+use Rattle.blend.specs.Blend.{weighted-at, four-weighted, with-four, Blended}
 use Rattle.blend.specs.declared.Weights.{Weights}
 use Rattle.blend.proofs.Filling.{Reached, reached-none, reached-more, reached-four}
 
@@ -82,15 +81,9 @@ turn-last cell₀ cell size w e turn ge = record {
   smaller = λ k h. turn .reached .done k (omega arith);
 }
 
--- ---- by a width and a fraction
+-- ---- one number is left
 
-module _ (cell : List Float) (size : ℕ) (width t : Float) (w : Weights) (of-axis : WeightsOf width t w) where
-  pub removed : (later : List Float) → Blended cell later size w → Removed cell later size width t
-  unfolding without-lowest
-  removed later b = record { same-length = b .same-length; smaller = λ e h. b .smaller e h ∙ of-axis .blended _ _ _ _ }
-
-  -- one number is left
-  pub one-left : (r : Float) → size ≡ 1 → r ≡ weighted-at w (at cell) 0 2 → 4 * size ≤ length cell → Removed cell (set cell 0 r) size width t
-  one-left r one is room =
-      let last = reached-more cell (blended-at cell size w) cell 0 (reached-none cell (blended-at cell size w)) r (rw one is) (omega arith) 1 (omega arith) in
-      removed (set cell 0 r) (record { same-length = last .same-length; smaller = λ e h. last .done e (omega arith) })
+pub one-left : (cell : List Float) (size : ℕ) (w : Weights) (r : Float) → size ≡ 1 → r ≡ weighted-at w (at cell) 0 2 → 4 * size ≤ length cell → Blended cell (set cell 0 r) size w
+one-left cell size w r one is room =
+    let last = reached-more cell (blended-at cell size w) cell 0 (reached-none cell (blended-at cell size w)) r (rw one is) (omega arith) 1 (omega arith) in
+    record { same-length = last .same-length; smaller = λ e h. last .done e (omega arith) }

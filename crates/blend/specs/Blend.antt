@@ -6,7 +6,7 @@ use Prim.Native.Nat.{ℕ, _+_, _*_, _%_, _<_, _≤_}
 use lib.ListN.{length, set}
 use lib.Ieee.{Float}
 use Rattle.rules.specs.Numbers.{_⊕_, _⊗_, at}
-use Rattle.rules.specs.Query.{hermite, without-lowest}
+use Rattle.rules.specs.Query.{hermite}
 use Rattle.blend.specs.declared.Weights.{Weights}
 
 -- the last line of `evaluate_hermite_1d`
@@ -58,12 +58,7 @@ pub record RunBlended (count : ℕ) (numbers : List Float) (lower upper : ℕ) (
 abbrev pub ByFours : ℕ → Type 0
 ByFours size = size ≢ 1 → size % 4 ≡ 0
 
--- one axis removed in place by its weights
+-- one axis removed in place by its weights: the first numbers are those of the smaller cell
 pub record Blended (cell later : List Float) (size : ℕ) (w : Weights) : Type 0 where
   pub same-length : length later ≡ length cell
   pub smaller : (e : ℕ) → e < size → at later e ≡ weighted-at w (at cell) (2 * e) (2 * size + 2 * e)
-
--- one axis removed in place: the first numbers are those of the smaller cell
-pub record Removed (cell later : List Float) (size : ℕ) (width t : Float) : Type 0 where
-  pub same-length : length later ≡ length cell
-  pub smaller : (e : ℕ) → e < size → at later e ≡ without-lowest size width t (at cell) e

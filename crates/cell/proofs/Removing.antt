@@ -1,7 +1,7 @@
 -- The turns of `remove_first`, on plain lists: each blends a run. Together the runs are the cell without its first axis, and the blend of what is left is that of the cell.
 use native.Mathlib.Omega.{arith}
 use mathlib.Core.Path.{_≡_, refl, sym, ap, ap₂, _∙_}
-use mathlib.Core.Logic.{⊎-elim}
+use mathlib.Core.Logic.{_≢_, ⊎-elim}
 use mathlib.Core.Bool.{Bool, true, false}
 use mathlib.Core.List.{List, _++_}
 use Prim.Native.Nat.{ℕ, zero, suc, _+_, _-_, _*_, _/_, _%_, _^_, _<_, _≤_}
@@ -16,15 +16,15 @@ use lib.Ieee.{Float, nan}
 use borrow.Author.Tests.{ltb-true, ltb-false}
 use Rattle.rules.specs.Numbers.{at}
 use Rattle.rules.specs.Sizes.{Place, place-of, flat, product-below}
-use Rattle.rules.specs.Query.{corner, blend, without-lowest}
+use Rattle.rules.specs.Query.{corner, blend}
 use Rattle.rules.proofs.Places.{OnGrid, flat-below}
-use Rattle.rules.proofs.Cells.{blend-ext}
 use Rattle.grid.specs.Strides.{stride}
 use Rattle.grid.proofs.Corners.{side-by-side}
-use Rattle.blend.specs.Blend.{weighted, weighted-at, WeightsOf, RunGiven, RunBlended}
+use Rattle.blend.specs.Blend.{weighted-at, four-weighted, weights-in, WeightsOn, RunGiven, RunBlended}
 use Rattle.blend.specs.declared.Weights.{Weights}
-use Rattle.cell.specs.Points.{CellAt, numbers, SpotsOf, run-start, run-above, RunsGiven, RunsRemoved}
-use Rattle.cell.specs.declared.blended.Spots.{Spots}
+use Rattle.blend.proofs.Blending.{weights-of-rest, blended-on}
+use Rattle.cell.specs.Points.{CellAt, numbers, blended, SpotsOf, run-start, run-above, RunsGiven, RunsRemoved, RunsBlended}
+use Rattle.cell.specs.declared.Spots.{Spots}
 use Rattle.cell.proofs.Runs.{run-at, corner-above}
 
 -- ---- a part of a list replaced by another of the same length
@@ -102,7 +102,7 @@ counts (suc (suc (suc (suc (suc axes))))) some few = absurd (omega arith)
 module _ (cell₀ : List Float) (axes : ℕ) (spots : Spots) (tensor : List Float) (w : Weights) (masks : ℕ) where
   -- a number of a run
   abbrev run-number : ℕ → ℕ → Float
-  run-number run k = weighted-at w (at tensor) (run-start axes spots run + 2 * k) (run-above axes spots run + 2 * k)
+  run-number run k = weighted-at w (at tensor) (run-start spots run + 2 * k) (run-above spots run + 2 * k)
 
   -- the runs below `run` are blended
   pub record Turn (cell : List Float) (run : ℕ) : Type 0 where
@@ -147,7 +147,7 @@ module _ (cell₀ : List Float) (axes : ℕ) (spots : Spots) (tensor : List Floa
     pub record Room : Type 0 where
       pub to : run * masks + masks ≤ length cell
       pub few : length cell ≤ 64
-      pub there : run-above axes spots run + 2 * masks ≤ length tensor
+      pub there : run-above spots run + 2 * masks ≤ length tensor
       pub small : length tensor ≤ 4096
 
     pub room : Room
@@ -165,7 +165,7 @@ module _ (cell₀ : List Float) (axes : ℕ) (spots : Spots) (tensor : List Floa
     part-length : length part ≡ masks
     part-length = rw add-sub-cancel-left (length-take-le masks (drop (run * masks) cell) (rw length-drop (omega (arith, room .to))))
 
-    pub run-given : RunGiven (length part) tensor (run-start axes spots run) (run-above axes spots run)
+    pub run-given : RunGiven (length part) tensor (run-start spots run) (run-above spots run)
     run-given = rw part-length (record {
       fours = omega (arith, these .runs-of-four, turn .power);
       lower-there = omega (arith, room .there);
@@ -173,7 +173,7 @@ module _ (cell₀ : List Float) (axes : ℕ) (spots : Spots) (tensor : List Floa
       few = room .small;
     })
 
-    module _ (new : List Float) (is : RunBlended (length part) tensor (run-start axes spots run) (run-above axes spots run) w new) where
+    module _ (new : List Float) (is : RunBlended (length part) tensor (run-start spots run) (run-above spots run) w new) where
       abbrev later : List Float
       later = take (run * masks) cell ++ (new ++ drop (run * masks + masks - run * masks) (drop (run * masks) cell))
 
@@ -265,9 +265,9 @@ module _ (axes : ℕ) (n : ℕ → ℕ) (lower : Place) (tensor : List Float) (s
     even-far : far-bits % 2 ≡ 0
     even-far = omega (arith, powers .runs-of-four)
 
-    start-is : run-start axes spots run ≡ flat n axes (corner axes lower near-bits) * masks
+    start-is : run-start spots run ≡ flat n axes (corner axes lower near-bits) * masks
     start-is =
-        rw (spotted .first, spotted .apart 1 (omega (arith, two)), spotted .apart (axes - 2) (omega (arith, two)), run-at n lower run axes two (inside .few-axes) lt)
+        rw (spotted .first, spotted .next, spotted .last, run-at n lower run axes two (inside .few-axes) lt)
         (omega (
           arith,
           add-mul (flat n axes lower + run / 2 * stride n axes 1) (run % 2 * stride n axes (axes - 2)) masks,
@@ -276,43 +276,43 @@ module _ (axes : ℕ) (n : ℕ → ℕ) (lower : Place) (tensor : List Float) (s
           mul-assoc (run % 2) (stride n axes (axes - 2)) masks,
         ))
 
-    above-is : run-above axes spots run ≡ flat n axes (corner axes lower far-bits) * masks
+    above-is : run-above spots run ≡ flat n axes (corner axes lower far-bits) * masks
     above-is =
-        ap₂ _+_ start-is (spotted .apart 0 (omega (arith, two)))
+        ap₂ _+_ start-is (spotted .above)
         ∙ rw (corner-above n lower run axes two (inside .few-axes) lt) (sym (add-mul (flat n axes (corner axes lower near-bits)) (stride n axes 0) masks))
 
-    there : run-above axes spots run + 2 * masks ≤ length tensor
+    there : run-above spots run + 2 * masks ≤ length tensor
     there = rw above-is (within far-bits even-far)
 
     -- where a number of the lower half of the cell stands, and one of the upper
-    lower-half : (k b : ℕ) → 2 * k + b < 2 * masks → X (2 * (run * masks + k) + b) ≡ at tensor (run-start axes spots run + 2 * k + b)
+    lower-half : (k b : ℕ) → 2 * k + b < 2 * masks → X (2 * (run * masks + k) + b) ≡ at tensor (run-start spots run + 2 * k + b)
     lower-half k b h =
         let place : 2 * (run * masks + k) + b ≡ near-bits * masks + (2 * k + b) = omega (arith, mul-assoc 2 run masks) in
-        let spot : run-start axes spots run + 2 * k + b ≡ flat n axes (corner axes lower near-bits) * masks + (2 * k + b) = omega (arith, start-is) in
+        let spot : run-start spots run + 2 * k + b ≡ flat n axes (corner axes lower near-bits) * masks + (2 * k + b) = omega (arith, start-is) in
         ap X place ∙ two-corners axes n tensor lower masks refl near-bits even-near (inside .some-axes) (2 * k + b) h ∙ ap (at tensor) (sym spot)
 
-    upper-half : (k b : ℕ) → 2 * k + b < 2 * masks → X (2 * size + 2 * (run * masks + k) + b) ≡ at tensor (run-above axes spots run + 2 * k + b)
+    upper-half : (k b : ℕ) → 2 * k + b < 2 * masks → X (2 * size + 2 * (run * masks + k) + b) ≡ at tensor (run-above spots run + 2 * k + b)
     upper-half k b h =
         let half : masks / 2 ≡ 2 * (masks / 4) = omega (arith, powers .runs-of-four) in
         let halves : masks / 2 * masks ≡ 2 * size = rw half (omega (arith, mul-assoc 2 (masks / 4) masks, powers .all-runs)) in
         let place : 2 * size + 2 * (run * masks + k) + b ≡ far-bits * masks + (2 * k + b) = omega (arith, mul-assoc 2 run masks, add-mul (2 * run) (masks / 2) masks, halves) in
-        let spot : run-above axes spots run + 2 * k + b ≡ flat n axes (corner axes lower far-bits) * masks + (2 * k + b) = omega (arith, above-is) in
+        let spot : run-above spots run + 2 * k + b ≡ flat n axes (corner axes lower far-bits) * masks + (2 * k + b) = omega (arith, above-is) in
         ap X place ∙ two-corners axes n tensor lower masks refl far-bits even-far (inside .some-axes) (2 * k + b) h ∙ ap (at tensor) (sym spot)
 
     module _ (k : ℕ) (h : k < masks) where
-      lower-value : X (2 * (run * masks + k)) ≡ at tensor (run-start axes spots run + 2 * k)
+      lower-value : X (2 * (run * masks + k)) ≡ at tensor (run-start spots run + 2 * k)
       lower-value =
           let place : 2 * (run * masks + k) ≡ 2 * (run * masks + k) + 0 = omega arith in
-          let spot : run-start axes spots run + 2 * k + 0 ≡ run-start axes spots run + 2 * k = omega arith in
+          let spot : run-start spots run + 2 * k + 0 ≡ run-start spots run + 2 * k = omega arith in
           ap X place ∙ lower-half k 0 (omega arith) ∙ ap (at tensor) spot
 
-      upper-value : X (2 * size + 2 * (run * masks + k)) ≡ at tensor (run-above axes spots run + 2 * k)
+      upper-value : X (2 * size + 2 * (run * masks + k)) ≡ at tensor (run-above spots run + 2 * k)
       upper-value =
           let place : 2 * size + 2 * (run * masks + k) ≡ 2 * size + 2 * (run * masks + k) + 0 = omega arith in
-          let spot : run-above axes spots run + 2 * k + 0 ≡ run-above axes spots run + 2 * k = omega arith in
+          let spot : run-above spots run + 2 * k + 0 ≡ run-above spots run + 2 * k = omega arith in
           ap X place ∙ upper-half k 0 (omega arith) ∙ ap (at tensor) spot
 
-      run-is : (w : Weights) → weighted-at w (at tensor) (run-start axes spots run + 2 * k) (run-above axes spots run + 2 * k) ≡ weighted-at w X (2 * (run * masks + k)) (2 * size + 2 * (run * masks + k))
+      run-is : (w : Weights) → weighted-at w (at tensor) (run-start spots run + 2 * k) (run-above spots run + 2 * k) ≡ weighted-at w X (2 * (run * masks + k)) (2 * size + 2 * (run * masks + k))
       run-is w = cc (lower-value, lower-half k 1 (omega arith), upper-value, upper-half k 1 (omega arith))
 
   pub runs-given : RunsGiven axes spots tensor
@@ -332,42 +332,62 @@ module _ (axes : ℕ) (n : ℕ → ℕ) (lower : Place) (tensor : List Float) (s
 
 -- ---- the blend of what is left
 
-pub left-blend :
-    (axes : ℕ) (n : ℕ → ℕ) (lower : Place) (tensor : List Float) (spots : Spots) (widths ts : ℕ → Float) (w : Weights) → WeightsOf (widths 0) (ts 0) w
+pub value-by-runs :
+    (axes : ℕ) (n : ℕ → ℕ) (lower : Place) (tensor weights : List Float) (spots : Spots)
     → CellAt axes n lower → 2 ≤ axes → length tensor ≡ product-below n axes * 2 ^ axes → SpotsOf axes n lower spots
-    → (left : List Float) → RunsRemoved axes spots tensor w left
-    → (r : Float) → r ≡ blend (axes - 1) (axes - (axes - 1)) widths ts (at left) → r ≡ blend axes 0 widths ts (numbers axes n tensor lower)
-unfolding blend without-lowest
-left-blend zero n lower tensor spots widths ts w of-axis inside two exact spotted left removed r is = absurd (omega arith)
-left-blend (suc d) n lower tensor spots widths ts w of-axis inside two exact spotted left removed r is =
+    → (r : Float) → RunsBlended axes spots tensor weights r → (widths ts : ℕ → Float) → WeightsOn axes 0 widths ts weights → r ≡ blended axes n lower widths ts tensor
+value-by-runs zero n lower tensor weights spots inside two exact spotted r runs widths ts on = absurd (omega arith)
+value-by-runs (suc d) n lower tensor weights spots inside two exact spotted r runs widths ts on =
     let less : suc d - 1 ≡ d = omega arith in
-    let next : suc d - d ≡ 1 = omega arith in
-    let smaller = rw less at (left-of-cell (suc d) n lower tensor spots inside two exact spotted w left removed) in
-    is
-    ∙ rw (less, next)
-    (blend-ext d 1 widths widths ts ts (at left) (without-lowest (4 ^ d) (widths 0) (ts 0) (numbers (suc d) n tensor lower))
-    (λ i a b. refl)
-    (λ i a b. refl)
-    (λ e h. smaller e h ∙ of-axis .blended _ _ _ _))
+    let left = runs .left in
+    let rest = rw less at (runs .value) in
+    let smaller = rw less at (left-of-cell (suc d) n lower tensor spots inside two exact spotted (weights-in weights 0) left (runs .removed)) in
+    rest 1 widths ts (weights-of-rest d 0 widths ts weights on)
+    ∙ blended-on d 0 widths ts weights (numbers (suc d) n tensor lower) (at left) on smaller
+
+-- two axes have one run, of four numbers
+module _ (spots : Spots) (tensor : List Float) where
+  pub four-there : RunsGiven 2 spots tensor → (spots .first + 7 < length tensor) × (spots .first + spots .above + 7 < length tensor) × (length tensor ≤ 4096)
+  four-there given = let there = given .there 0 (omega arith) in (omega arith, omega arith, given .few)
+
+  module _ (w : Weights) where
+    abbrev four : List Float
+    four = four-weighted w (at tensor) (spots .first) (spots .first + spots .above)
+
+    run-number-is : (run k : ℕ) → run < 1 → k < 4 → at four (run * 4 + k) ≡ weighted-at w (at tensor) (run-start spots run + 2 * k) (run-above spots run + 2 * k)
+    run-number-is (suc run) k h l = absurd (omega arith)
+    run-number-is zero zero h l = ap₂ (weighted-at w (at tensor)) (omega arith) (omega arith)
+    run-number-is zero (suc zero) h l = ap₂ (weighted-at w (at tensor)) (omega arith) (omega arith)
+    run-number-is zero (suc (suc zero)) h l = ap₂ (weighted-at w (at tensor)) (omega arith) (omega arith)
+    run-number-is zero (suc (suc (suc zero))) h l = ap₂ (weighted-at w (at tensor)) (omega arith) (omega arith)
+    run-number-is zero (suc (suc (suc (suc k)))) h l = absurd (omega arith)
+
+    pub one-run : (left : List Float) → left ≡ four → RunsRemoved 2 spots tensor w left
+    one-run left is = rw is (record { exact = refl; number = run-number-is })
 
 -- one axis: its four numbers stand side by side
 pub one-axis :
-    (n : ℕ → ℕ) (tensor : List Float) (lower : Place) (widths ts : ℕ → Float) (w : Weights) → WeightsOf (widths 0) (ts 0) w
-    → (r : Float) → r ≡ weighted-at w (at tensor) (2 * lower 0) (2 * lower 0 + 2) → r ≡ blend 1 0 widths ts (numbers 1 n tensor lower)
-unfolding blend without-lowest flat corner
-one-axis n tensor lower widths ts w of-axis r is =
+    (n : ℕ → ℕ) (tensor : List Float) (lower : Place) (weights : List Float)
+    → (r : Float) → r ≡ weighted-at (weights-in weights 0) (at tensor) (2 * lower 0) (2 * lower 0 + 2)
+    → (widths ts : ℕ → Float) → WeightsOn 1 0 widths ts weights → r ≡ blended 1 n lower widths ts tensor
+unfolding blend flat corner
+one-axis n tensor lower weights r is widths ts on =
     let X : ℕ → Float = numbers 1 n tensor lower in
     let p0 : at tensor (2 * lower 0) ≡ X 0 = ap (at tensor) (omega arith) in
     let m0 : at tensor (2 * lower 0 + 1) ≡ X 1 = ap (at tensor) (omega arith) in
     let p1 : at tensor (2 * lower 0 + 2) ≡ X 2 = ap (at tensor) (omega arith) in
     let m1 : at tensor (2 * lower 0 + 2 + 1) ≡ X 3 = ap (at tensor) (omega arith) in
-    is ∙ rw (p0, m0, p1, m1) refl ∙ of-axis .blended (X 0) (X 1) (X 2) (X 3)
+    blended-on 0 0 widths ts weights X (λ e. r) on (λ e h. let none : e ≡ 0 = omega arith in is ∙ rw (p0, m0, p1, m1, none) refl)
 
 pub one-within :
-    (axes : ℕ) (n : ℕ → ℕ) (lower : Place) (tensor : List Float) → axes ≡ 1 → CellAt axes n lower × (length tensor ≡ product-below n axes * 2 ^ axes)
+    (axes : ℕ) (n : ℕ → ℕ) (lower : Place) (tensor : List Float) → axes ≡ 1 → CellAt axes n lower → length tensor ≡ product-below n axes * 2 ^ axes
     → (2 * lower 0 + 4 ≤ length tensor) × (length tensor ≤ 4096)
 unfolding product-below
-one-within axes n lower tensor one given =
-    let upper : lower 0 + 1 < n 0 = given .0 .upper 0 (omega arith) in
-    let exact : length tensor ≡ 1 * n 0 * 2 = given .1 ∙ rw one refl in
-    (omega arith, omega (arith, given .0 .small, given .1))
+one-within axes n lower tensor one inside exact =
+    let upper : lower 0 + 1 < n 0 = inside .upper 0 (omega arith) in
+    let all : length tensor ≡ 1 * n 0 * 2 = exact ∙ rw one refl in
+    (omega arith, omega (arith, inside .small, exact))
+
+-- neither one, nor two, nor three
+pub four-axes : (axes : ℕ) (n : ℕ → ℕ) (lower : Place) → CellAt axes n lower → axes ≢ 1 → axes ≢ 2 → axes ≢ 3 → axes ≡ 4
+four-axes axes n lower inside one two three = omega (arith, inside .some-axes, inside .few-axes)

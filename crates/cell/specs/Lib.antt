@@ -1,3 +1,1 @@
 pub mod Points
-pub mod Searched
-pub mod Answers

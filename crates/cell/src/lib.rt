@@ -1,61 +1,125 @@
-// The cell of the tensor in which a point is evaluated, and what a query answers of it. None of these is public: callers see to all that is refused before.
+// The surface's value in a cell of the tensor, straight from the tensor: the cell's first axis is removed where its numbers stand, so no more than a quarter of them is put anywhere.
+// `points` and `lower` are the points of each axis and the cell's lower index on it, `weights` the weights of the axes one after the other, four to an axis.
 ghost use mathlib.Core.Path.{_≡_};
-ghost use Prim.Native.Nat.{_+_, _*_, _^_, _<_};
+ghost use Prim.Native.Nat.{ℕ, _-_, _*_, _^_};
 ghost use lib.ListN.{length};
+ghost use lib.Ieee.{Float};
 ghost use Rattle.rules.specs.Sizes.{place-of, product-below};
-ghost use Rattle.cell.specs.Points.{CellAt};
-ghost use Rattle.cell.specs.Answers.{WithinCell, refused-with, answer-in};
-use rules::QueryAnswer;
-use searched::Found;
+ghost use Rattle.blend.specs.Blend.{WeightsOn};
+ghost use Rattle.cell.specs.Points.{CellAt, RunsGiven, RunsRemoved, RunsBlended, blended};
+use blend::Weights;
 
-mod blended; // blended.rt: the numbers of the cell, blended straight from the tensor
-pub mod searched; // searched.rt: the cell that the search finds
-
-// Where a point lies in a cell of an axis: the cell's width, and the fraction of it.
-pub struct Within {
-    pub width: f64,
-    pub t: f64,
+// Where the lowest of a cell's numbers stands in the tensor, and how far apart there two neighbours are along the first axis, along the second, and along the last but one.
+struct Spots {
+    first: usize,
+    above: usize,
+    next: usize,
+    last: usize,
 }
 
-// Where a point lies in the cell of an axis with this lower knot.
-pub fn point_within(knots: &[f64], lower: usize, point: f64) -> Within
-    requires { ⌜ lower + 1 < length (now knots) ⌝ }
-    ensures { λ r. ⌜ WithinCell (now (knots .entry)) lower point r ⌝ }
+// The first axis of two or more removed by its weights. Two corners that differ on the last axis alone stand side by side in the tensor, so the blends of both are one run; the runs
+// differ on the axes between the first and the last, of which there are at most two.
+fn remove_first(cell: &mut [f64], axes: usize, spots: Spots, weights: Weights, tensor: &[f64])
+    requires { ⌜ RunsGiven axes spots (now tensor) × (length (now cell) ≡ 4 ^ (axes - 1)) ⌝ }
+    ensures { λ _. ⌜ RunsRemoved axes spots (now (tensor .entry)) weights (now (cell .exit)) ⌝ }
 {
-    let width = knots[lower + 1] - knots[lower];
-    Within {
-        width,
-        t: (point - knots[lower]) / width,
+    let masks = grid::masks(axes);
+    let mut run = 0;
+    while run < masks / 4 {
+        let start = spots.first + run / 2 * spots.next + run % 2 * spots.last;
+        let to = run * masks;
+        blend::blend_run(
+            &mut cell[to..to + masks],
+            tensor,
+            start,
+            start + spots.above,
+            weights,
+        );
+        run += 1;
     }
 }
 
-// A refusal: its number, +0.0, and labels 0.
-pub fn refused(refusal: usize) -> QueryAnswer
-    ensures { λ r. ⌜ r ≡ refused-with refusal ⌝ }
+// The blend of a cell whose numbers stand at these spots, with a quarter as many numbers lent for it as it has.
+fn blend_in(cell: &mut [f64], axes: usize, spots: Spots, weights: &[f64], tensor: &[f64]) -> f64
+    requires { ⌜ RunsGiven axes spots (now tensor) × (length (now cell) ≡ 4 ^ (axes - 1)) × (length (now weights) ≡ 16) ⌝ }
+    ensures { λ r. ⌜ RunsBlended axes spots (now (tensor .entry)) (now (weights .entry)) r ⌝ }
 {
-    QueryAnswer {
-        refusal,
-        value: 0.0,
-        labels: [0; 4],
-    }
+    remove_first(cell, axes, spots, blend::weights_at(weights), tensor);
+    blend::blend(cell, axes - 1, &weights[4..])
 }
 
-// What a query answers that refuses nothing before it evaluates the cell that was found, on axes of so many points: the value and, as labels, the cell, or 10.
-pub fn answer_in(axes: usize, points: [usize; 4], tensor: &[f64], found: Found) -> QueryAnswer
-    requires { ⌜ CellAt axes (place-of points) (place-of (found .lower)) × (length (now tensor) ≡ product-below (place-of points) axes * 2 ^ axes) ⌝ }
-    ensures { λ r. ⌜ r ≡ answer-in axes (place-of points) (now (tensor .entry)) found ⌝ }
+// Two axes: what is left without the first is one run of four.
+fn value_of_two(points: &[usize], lower: &[usize], weights: &[f64], tensor: &[f64]) -> f64
+    requires { ⌜ CellAt 2 (place-of (now points)) (place-of (now lower)) × ((length (now points) ≡ 4) × (length (now lower) ≡ 4) × (length (now weights) ≡ 16)) × (length (now tensor) ≡ product-below (place-of (now points)) 2 * 2 ^ 2) ⌝ }
+    ensures { λ r. ⌜ ((widths ts : ℕ → Float) → WeightsOn 2 0 widths ts (now (weights .entry)) → r ≡ blended 2 (place-of (now (points .entry))) (place-of (now (lower .entry))) widths ts (now (tensor .entry))) ⌝ }
 {
-    let lower = found.lower;
-    let widths = found.widths;
-    let ts = found.ts;
-    let value = blended::value(axes, points, lower, widths, ts, tensor);
-    if base::is_finite(value) {
-        QueryAnswer {
-            refusal: 0,
-            value,
-            labels: lower,
-        }
-    } else {
-        refused(10)
+    let above = 4 * points[1];
+    let first = lower[0] * above + 4 * lower[1];
+    let mut cell = blend::four_blended(tensor, first, first + above, blend::weights_at(weights));
+    blend::blend(&mut cell, 1, &weights[4..])
+}
+
+// Three axes: the second is the last but one.
+fn value_of_three(points: &[usize], lower: &[usize], weights: &[f64], tensor: &[f64]) -> f64
+    requires { ⌜ CellAt 3 (place-of (now points)) (place-of (now lower)) × ((length (now points) ≡ 4) × (length (now lower) ≡ 4) × (length (now weights) ≡ 16)) × (length (now tensor) ≡ product-below (place-of (now points)) 3 * 2 ^ 3) ⌝ }
+    ensures { λ r. ⌜ ((widths ts : ℕ → Float) → WeightsOn 3 0 widths ts (now (weights .entry)) → r ≡ blended 3 (place-of (now (points .entry))) (place-of (now (lower .entry))) widths ts (now (tensor .entry))) ⌝ }
+{
+    let next = 8 * points[2];
+    let above = next * points[1];
+    let first = lower[0] * above + lower[1] * next + 8 * lower[2];
+    let mut cell = [0.0; 16];
+    blend_in(
+        &mut cell,
+        3,
+        Spots {
+            first,
+            above,
+            next,
+            last: next,
+        },
+        weights,
+        tensor,
+    )
+}
+
+fn value_of_four(points: &[usize], lower: &[usize], weights: &[f64], tensor: &[f64]) -> f64
+    requires { ⌜ CellAt 4 (place-of (now points)) (place-of (now lower)) × ((length (now points) ≡ 4) × (length (now lower) ≡ 4) × (length (now weights) ≡ 16)) × (length (now tensor) ≡ product-below (place-of (now points)) 4 * 2 ^ 4) ⌝ }
+    ensures { λ r. ⌜ ((widths ts : ℕ → Float) → WeightsOn 4 0 widths ts (now (weights .entry)) → r ≡ blended 4 (place-of (now (points .entry))) (place-of (now (lower .entry))) widths ts (now (tensor .entry))) ⌝ }
+{
+    let last = 16 * points[3];
+    let next = last * points[2];
+    let above = next * points[1];
+    let first = lower[0] * above + lower[1] * next + lower[2] * last + 16 * lower[3];
+    let mut cell = [0.0; 64];
+    blend_in(
+        &mut cell,
+        4,
+        Spots {
+            first,
+            above,
+            next,
+            last,
+        },
+        weights,
+        tensor,
+    )
+}
+
+// The surface's value in a cell: no more numbers are cleared than are put.
+// Not public: callers see to all that is refused before.
+pub fn value(axes: usize, points: &[usize], lower: &[usize], weights: &[f64], tensor: &[f64]) -> f64
+    requires { ⌜ CellAt axes (place-of (now points)) (place-of (now lower)) × ((length (now points) ≡ 4) × (length (now lower) ≡ 4) × (length (now weights) ≡ 16)) × (length (now tensor) ≡ product-below (place-of (now points)) axes * 2 ^ axes) ⌝ }
+    ensures { λ r. ⌜ ((widths ts : ℕ → Float) → WeightsOn axes 0 widths ts (now (weights .entry)) → r ≡ blended axes (place-of (now (points .entry))) (place-of (now (lower .entry))) widths ts (now (tensor .entry))) ⌝ }
+{
+    match axes {
+        1 => blend::one_blended(
+            tensor,
+            2 * lower[0],
+            2 * lower[0] + 2,
+            blend::weights_at(weights),
+        ),
+        2 => value_of_two(points, lower, weights, tensor),
+        3 => value_of_three(points, lower, weights, tensor),
+        _ => value_of_four(points, lower, weights, tensor),
     }
 }
