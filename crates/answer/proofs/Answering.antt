@@ -48,12 +48,12 @@ pub refused-is : (refusal number : ℕ) (value : Float) (labels : List ℕ) → 
 refused-is refusal zero value labels e some = absurd (some refl)
 refused-is refusal (suc number) value labels e some = rw e refl
 
-seven-or-eight : (not-finite : Bool) → cond not-finite 7 8 ≢ 0
+seven-or-eight : (not-finite : Bool) → cond {A = ℕ} not-finite 7 8 ≢ 0
 seven-or-eight true z = omega arith
 seven-or-eight false z = omega arith
 
 some-refusal : (way : Way) (x : List Float) → knots-refusal way x ≢ 0
-some-refusal Walked x = seven-or-eight (some-number-refused x)
+some-refusal Walked x z = seven-or-eight (some-number-refused x) z
 some-refusal Searched x z = omega arith
 some-refusal Direct x z = omega arith
 
@@ -83,8 +83,10 @@ module _ (way : Way) (axes : ℕ) (points-in modes-in : List ℕ) (x tensor coor
     refusal-is = rw (on .coordinates-refused, on .knots-refused, on .outside-refused, fits .search-fits .coordinates-exact) refl
 
     -- the value by the weights is that of the cell
-    width fraction-there : ℕ → Float
+    abbrev width : ℕ → Float
     width i = h (knots g i) (place-of lower i)
+
+    abbrev fraction-there : ℕ → Float
     fraction-there i = fraction (knots g i) (place-of lower i) (placed-on g (at coordinates) i)
 
     weights-on : WeightsOn axes 0 width fraction-there weights
