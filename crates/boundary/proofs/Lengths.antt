@@ -1,18 +1,20 @@
 -- Where the host itself refuses nothing, the slices have their lengths.
-use mathlib.Core.Path.{_≡_, refl}
+use mathlib.Core.Path.{_≡_, refl, sym, _∙_}
 use mathlib.Core.Bool.{Bool, true, false, cond, _||_}
 use mathlib.Core.List.{List}
-use Prim.Native.Nat.{ℕ, suc}
+use Prim.Native.Nat.{ℕ, suc, _*_, _^_, _≤_}
 use native.Mathlib.Omega.{arith}
 use lib.ListN.{length}
 use lib.Ieee.{Float}
-use Rattle.rules.specs.Sizes.{most-axes, knots-length, samples-length, tensor-length}
+use borrow.Author.Tests.{ltb-false}
+use Rattle.rules.specs.Sizes.{most-axes, place-of, sum-below, product-below, knots-length, samples-length, tensor-length}
 use Rattle.rules.specs.Refusals.{length-refused}
 use Rattle.base.proofs.Scan.{neither}
-use Rattle.checks.proofs.Rows.{none-applies, exact, exact-2}
-use Rattle.boundary.specs.OwnRefusals.{sizes-given, two-ends-refused, eight-ends-refused, place-or-lanes-refused, query-slots-refused, modes-or-slots-refused, modes-or-slot-refused, found-slots-refused, moments-own-rows, moments-own-refusal, build-own-rows, build-own-refusal, change-own-rows, change-own-refusal, write-own-rows, write-own-refusal, read-edition-1-own-refusal, read-own-refusal, sheet-tensor-own-refusal}
-use Rattle.boundary.specs.Within.{LeftToTheCall}
-use Rattle.boundary.proofs.Rows.{points-four}
+use Rattle.grid.specs.Given.{InRange}
+use Rattle.checks.proofs.Rows.{NoneApplies, none-applies, axes-few, in-range, exact, exact-2, exact-3}
+use Rattle.plain_axes.specs.Axes.{some-modes-refused}
+use Rattle.boundary.specs.OwnRefusals.{sizes-given, two-ends-refused, eight-ends-refused, place-or-lanes-refused, query-slots-refused, modes-or-slots-refused, modes-or-slot-refused, found-slots-refused, moments-own-rows, moments-own-refusal, build-own-rows, build-own-refusal, change-own-rows, change-own-refusal, write-own-rows, write-own-refusal, axes-rows, query-later-rows, query-own-rows, query-own-refusal, even-query-own-rows, even-query-own-refusal, read-edition-1-own-refusal, read-own-refusal, sheet-tensor-own-refusal}
+use Rattle.boundary.proofs.Rows.{refused-given, sum-given, product-given}
 
 -- one row that does not apply
 not-the-first : (applies : Bool) (number : ℕ) → cond applies (suc number) 0 ≡ 0 → applies ≡ false
@@ -83,12 +85,57 @@ pub mode-lengths : (modes : List ℕ) (value : List Float) (labels : List ℕ) �
 mode-lengths modes value labels none =
     exact (length modes) 4 (neither (length-refused (length modes) 4) (query-slots-refused value labels) none .0)
 
--- of a query, whose call may still refuse its own slices
-pub query-lengths :
-    (axes : ℕ) (points modes : List ℕ) (knots tensor coordinates value : List Float) (labels : List ℕ) {own : ℕ}
-    → LeftToTheCall axes points modes knots tensor coordinates value labels own → (length points ≡ 4) × (length modes ≡ 4)
-query-lengths axes points modes knots tensor coordinates value labels left =
-    (points-four axes points refl (left .axes-fine), mode-lengths modes value labels (left .slots-fine))
+-- of a query: where nothing is refused of its own, its slices have their lengths, its axes are in range, and its modes are known
+pub record QueryFits (axes : ℕ) (points modes : List ℕ) (knots tensor coordinates value : List Float) (labels : List ℕ) : Type 0 where
+  pub four-points : length points ≡ 4
+  pub four-modes : length modes ≡ 4
+  pub one-value : length value ≡ 1
+  pub four-labels : length labels ≡ 4
+  pub in-range : InRange axes (place-of points)
+  pub small : product-below (place-of points) axes * 2 ^ axes ≤ 4096
+  pub knots-exact : length knots ≡ sum-below (place-of points) axes
+  pub tensor-exact : length tensor ≡ product-below (place-of points) axes * 2 ^ axes
+  pub coordinates-exact : length coordinates ≡ axes
+  pub known-modes : some-modes-refused axes modes ≡ false
+
+module _ (axes : ℕ) (points modes : List ℕ) (knots tensor coordinates value : List Float) (labels : List ℕ) where
+  -- neither the rows of the axes apply nor those after them
+  fits : NoneApplies (axes-rows axes points) → NoneApplies (query-later-rows axes points modes knots tensor coordinates value labels) → QueryFits axes points modes knots tensor coordinates value labels
+  fits first later =
+      let g = sizes-given axes points in
+      let few = axes-few {axes = axes} (first .0) in
+      let sums = sum-given axes points (few .1) in
+      let products = product-given axes points (few .1) in
+      let both = neither (modes-or-slots-refused modes value labels) (length-refused (length knots) (knots-length g) || length-refused (length tensor) (tensor-length g) || length-refused (length coordinates) axes) (later .0) in
+      let slots = neither (length-refused (length modes) 4) (query-slots-refused value labels) (both .0) in
+      let answer = slot-lengths value labels (slots .1) in
+      let slices = exact-3 (length knots) (knots-length g) (length tensor) (tensor-length g) (length coordinates) axes (both .1) in
+      record {
+        four-points = exact (length points) 4 (first .1 .0);
+        four-modes = exact (length modes) 4 (slots .0);
+        one-value = answer .0;
+        four-labels = answer .1;
+        in-range = in-range (few .0) (few .1) (sym (refused-given axes points (few .1)) ∙ first .1 .1 .0);
+        small = rw products at (ltb-false 4096 (tensor-length g) (first .1 .1 .1 .0));
+        knots-exact = slices .0 ∙ sums;
+        tensor-exact = rw products at (slices .1);
+        coordinates-exact = slices .2;
+        known-modes = later .1 .0;
+      }
+
+  pub query-fits : query-own-refusal axes points modes knots tensor coordinates value labels ≡ 0 → QueryFits axes points modes knots tensor coordinates value labels
+  unfolding query-own-refusal
+  query-fits none =
+      let rows = none-applies (query-own-rows axes points modes knots tensor coordinates value labels) tt none in
+      fits (rows .0, (rows .1 .0, (rows .1 .1 .0, (rows .1 .1 .1 .0, tt)))) (rows .1 .1 .1 .1)
+
+  pub even-query-fits :
+      (uneven : List ℕ) → even-query-own-refusal axes points modes knots tensor coordinates value labels uneven ≡ 0
+      → QueryFits axes points modes knots tensor coordinates value labels × (length uneven ≡ 2)
+  unfolding even-query-own-refusal
+  even-query-fits uneven none =
+      let rows = none-applies (even-query-own-rows axes points modes knots tensor coordinates value labels uneven) tt none in
+      (fits (rows .0, (rows .1 .0, (rows .1 .1 .0, (rows .1 .1 .1 .0, tt)))) (rows .1 .1 .1 .1 .1), exact (length uneven) 2 (rows .1 .1 .1 .1 .0))
 
 found-lengths :
     (axes points kinds : List ℕ) (values : List Float)

@@ -1,24 +1,29 @@
--- The rows that every call with axes meets first, asked by a function of their own: they answer, or those below do, and then the points are four and in range, and are those of the axes made of them.
+-- The rows that every call with axes meets first, asked by a function of their own: they answer, or those below do, and then the points are four and in range, are those of the axes made of them, and their sizes are those found.
 use mathlib.Core.Path.{_≡_, refl, sym, ap, ap₂, _∙_}
-use mathlib.Core.Bool.{Bool, cond, _||_}
+use mathlib.Core.Bool.{Bool, true, false, cond, _||_}
 use mathlib.Core.List.{List, [], _∷_}
 use Prim.Native.Nat.{ℕ, zero, suc, _*_, _^_, _<_, _≤_}
 use native.Mathlib.Omega.{arith}
 use lib.Dec.{ltb}
-use lib.ListN.{length, drop, getD}
+use lib.ListN.{length, getD}
+use lib.Ieee.{Float}
 use borrow.Author.Tests.{lt-ltb}
 use Rattle.rules.specs.Ends.{not-a-knot}
-use Rattle.rules.specs.Sizes.{unused-axis, place-of, knots-length, tensor-length}
+use Rattle.rules.specs.Sizes.{most-axes, unused-axis, place-of, sum-below, product-below, knots-length, samples-length}
+use Rattle.rules.specs.Numbers.{any}
 use Rattle.rules.specs.Refusals.{points-refused, length-refused}
 use Rattle.rules.specs.declared.Mode.the-variants.{Extend}
 use Rattle.rules.proofs.Refused.{any-ext}
 use Rattle.rules.proofs.Sums.{sum-ext, product-ext}
 use Rattle.grid.specs.Given.{points-of, InRange}
-use Rattle.checks.specs.Check.{points-check, lengths-of-points-refused}
+use Rattle.checks.specs.Check.{points-check}
+use Rattle.checks.specs.Found.{SizesFound}
 use Rattle.checks.specs.Tables.{row, lowest}
-use Rattle.checks.proofs.Rows.{none-applies, rows-stop, rows-pass, axes-few, in-range, exact}
+use Rattle.checks.specs.declared.sizes.Sizes.{Sizes}
+use Rattle.checks.proofs.Rows.{stop, pass, none-applies, rows-stop, rows-pass, axes-few, in-range, exact}
 use Rattle.plain_axes.specs.Axes.{axis-without-ends, axes-without-ends}
-use Rattle.boundary.specs.OwnRefusals.{sizes-given, axes-rows, axes-own-refusal}
+use Rattle.boundary.specs.OwnRefusals.{sizes-given, axes-rows, axes-own-refusal, query-later-rows}
+use Rattle.boundary.specs.OwnSizes.{OwnSizes, rows-of-sizes}
 
 module _ (axes : ℕ) (points : List ℕ) {number : ℕ} (e : number ≡ axes-own-refusal axes points) where
   pub axes-stop : (later : ℕ) → (number ≡ 0 → ⊥) → number ≡ lowest (axes-rows axes points) later
@@ -55,34 +60,51 @@ module _ (axes : ℕ) (points : List ℕ) where
   given-below few (suc (suc (suc zero))) l = in-use 3 l
   given-below few (suc (suc (suc (suc i)))) l = absurd (omega arith)
 
-  -- what `points_refusal` answers: the rows of 2 and 3
-  pub points-after-axes : axes ≤ 4 → {number : ℕ} → number ≡ points-check axes (place-of points) → number ≡ lowest (drop 2 (axes-rows axes points)) 0
-  unfolding points-check
-  points-after-axes few e =
-      let same = given-below few in
-      e
-      ∙ sym
-      (ap₂ (λ (fewest : Bool) (product : ℕ). lowest (row 2 fewest ∷ row 3 (ltb 4096 (product * 2 ^ axes)) ∷ []) 0)
-      (any-ext _ _ axes (λ i l. ap points-refused (same i l))) (product-ext _ _ axes same))
+  module _ (few : axes ≤ 4) where
+    pub refused-given : any (λ i. points-refused (points-of (axes-without-ends axes points) i)) axes ≡ any (λ i. points-refused (place-of points i)) axes
+    refused-given = any-ext _ _ axes (λ i l. ap points-refused (given-below few i l))
 
-  -- what `query_of_points_refused` answers: 4 of the call's own slices
-  pub slices-of-points :
-      axes ≤ 4 → (knots tensor coordinates : ℕ) {r : Bool} → r ≡ lengths-of-points-refused axes (place-of points) knots tensor coordinates
-      → r ≡ (length-refused knots (knots-length (sizes-given axes points)) || length-refused tensor (tensor-length (sizes-given axes points)) || length-refused coordinates axes)
-  slices-of-points few knots tensor coordinates e =
-      let same = given-below few in
-      e
-      ∙ sym
-      (ap₂ (λ (sum product : ℕ). length-refused knots sum || length-refused tensor (product * 2 ^ axes) || length-refused coordinates axes)
-      (sum-ext _ _ axes same) (product-ext _ _ axes same))
+    pub sum-given : knots-length (sizes-given axes points) ≡ sum-below (place-of points) axes
+    sum-given = sum-ext _ _ axes (given-below few)
 
-  -- where the axes are not refused, the points are in range
-  pub given-in-range : axes-own-refusal axes points ≡ 0 → InRange axes (place-of points)
-  given-in-range none =
-      let range = points-in-range axes points refl none in
-      record {
-        some-axes = range .some-axes;
-        few-axes = range .few-axes;
-        some-points = λ i l. rw (← given-below (range .few-axes) i l) (range .some-points i l);
-        few-points = λ i l. rw (← given-below (range .few-axes) i l) (range .few-points i l);
-      }
+    pub product-given : samples-length (sizes-given axes points) ≡ product-below (place-of points) axes
+    product-given = product-ext _ _ axes (given-below few)
+
+  -- what is found where the number of axes is refused
+  pub refused-axes : (ltb axes 1 || ltb most-axes axes) ≡ true → OwnSizes axes points (record { refusal = 1; knots = 0; numbers = 0 })
+  unfolding axes-own-refusal
+  refused-axes bad = record { refusal = stop _ refl bad; knots = λ z. absurd (omega arith); numbers = λ z. absurd (omega arith) }
+
+  module _ (some : (ltb axes 1 || ltb most-axes axes) ≡ false) where
+    -- and where the points are not four
+    pub refused-points : length-refused (length points) most-axes ≡ true → OwnSizes axes points (record { refusal = 4; knots = 0; numbers = 0 })
+    unfolding axes-own-refusal
+    refused-points bad = record {
+      refusal = pass _ refl some (stop _ refl bad);
+      knots = λ z. absurd (omega arith);
+      numbers = λ z. absurd (omega arith);
+    }
+
+    -- where they are, the sizes found of them are those of the axes
+    pub sizes-of-four : {r : Sizes} → length-refused (length points) most-axes ≡ false → SizesFound axes (place-of points) r → OwnSizes axes points r
+    unfolding points-check axes-own-refusal
+    sizes-of-four four found =
+        let few = axes-few {axes = axes} some .1 in
+        record {
+          refusal =
+              pass _ refl some
+              (pass _ refl four
+              (found .refusal
+              ∙ sym
+              (ap₂ (λ (refused : Bool) (product : ℕ). lowest (row 2 refused ∷ row 3 (ltb 4096 (product * 2 ^ axes)) ∷ []) 0)
+              (refused-given few) (product-given few))));
+          knots = λ none. found .knots none ∙ sym (sum-given few);
+          numbers = λ none. found .numbers none ∙ sym (ap (λ (product : ℕ). product * 2 ^ axes) (product-given few));
+        }
+
+  -- a query's rows by the sizes that were found are its rows by the points
+  pub later-of-sizes :
+      {r : Sizes} → OwnSizes axes points r → r .refusal ≡ 0 → (modes : List ℕ) (knots tensor coordinates value : List Float) (labels : List ℕ) {number : ℕ}
+      → number ≡ lowest (rows-of-sizes axes r modes knots tensor coordinates value labels) 0
+      → number ≡ lowest (query-later-rows axes points modes knots tensor coordinates value labels) 0
+  later-of-sizes found none modes knots tensor coordinates value labels e = rw (← found .knots none, ← found .numbers none) e

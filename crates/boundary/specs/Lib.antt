@@ -1,3 +1,3 @@
 pub mod OwnRefusals
+pub mod OwnSizes
 pub mod Slots
-pub mod Within

@@ -1,14 +1,16 @@
 // The host's own refusals, in the one order of every export: with axes 1, 4 for the points, 2, 3, 4 for every other slice and slot, 13 for the kinds and 22 for the modes; on one axis 2, 4 and 13. Each is 0 where none applies, and then the call's own follow.
 ghost use mathlib.Core.Path.{_≡_};
 ghost use mathlib.Core.Bool.{_||_};
+ghost use Prim.Native.Nat.{_≤_};
 ghost use Rattle.rules.specs.Sizes.{knots-length, samples-length};
 ghost use Rattle.rules.specs.Refusals.{length-refused};
 ghost use Rattle.grid.specs.Given.{sizes-of, points-of, InRange};
-ghost use Rattle.boundary.specs.OwnRefusals.{two-ends-refused, eight-ends-refused, place-or-lanes-refused, query-slots-refused, modes-or-slots-refused, found-slots-refused, moments-own-refusal, curve-own-refusal, axes-own-refusal, build-own-refusal, change-own-refusal, write-own-refusal, query-own-refusal, modes-or-slot-refused, read-edition-1-own-refusal, read-own-refusal, sheet-tensor-own-refusal, query-later-rows, even-query-own-refusal};
-ghost use Rattle.boundary.specs.Within.{Asked};
+ghost use Rattle.boundary.specs.OwnRefusals.{two-ends-refused, eight-ends-refused, place-or-lanes-refused, query-slots-refused, modes-or-slots-refused, found-slots-refused, moments-own-refusal, curve-own-refusal, axes-own-refusal, build-own-refusal, change-own-refusal, write-own-refusal, query-own-refusal, modes-or-slot-refused, read-edition-1-own-refusal, read-own-refusal, sheet-tensor-own-refusal, even-query-own-refusal};
+ghost use Rattle.boundary.specs.OwnSizes.{OwnSizes, rows-of-sizes};
 ghost use Rattle.checks.specs.Tables.{lowest};
 use checks::lengths;
 use checks::sizes;
+use checks::sizes::Sizes;
 use kinds::ends::kinds_refused;
 use kinds::ends::wide;
 use plain_axes::axes_without_ends;
@@ -65,17 +67,33 @@ pub fn curve_own_refusal(points: usize, value: &[f64]) -> usize
     0
 }
 
-// What every call with axes meets first: 1 for their number alone, 4 for points that are not four, 2, 3, or 0.
+// What every call with axes meets first, with the sizes that were found: 1 for the number of axes alone, 4 for points that are not four, 2, 3, or 0.
+pub fn axes_own_sizes(axes: usize, points: &[usize]) -> Sizes
+    ensures { λ r. ⌜ OwnSizes axes (now (points .entry)) r ⌝ }
+{
+    if sizes::axes_refused(axes) {
+        return Sizes {
+            refusal: 1,
+            knots: 0,
+            numbers: 0,
+        };
+    }
+    if lengths::length_refused(points.len(), 4) {
+        return Sizes {
+            refusal: 4,
+            knots: 0,
+            numbers: 0,
+        };
+    }
+    sizes::sizes_of_points(axes, points)
+}
+
+// The same number alone.
 pub fn axes_own_refusal(axes: usize, points: &[usize]) -> usize
     ensures { λ r. ⌜ r ≡ axes-own-refusal axes (now (points .entry)) ⌝ }
 {
-    if sizes::axes_refused(axes) {
-        return 1;
-    }
-    if lengths::length_refused(points.len(), 4) {
-        return 4;
-    }
-    sizes::points_refusal(axes, points)
+    let found = axes_own_sizes(axes, points);
+    found.refusal
 }
 
 // Whether kinds or values are not those of the eight ends of four axes.
@@ -235,10 +253,10 @@ fn modes_or_slots_refused(modes: &[u8], value: &[f64], labels: &[usize]) -> bool
     query_slots_refused(value, labels)
 }
 
-// What a query meets after its axes: 4 for the modes and the slots of its answer, and 22. The call's own slices, which 22 comes after, are looked at where a mode is unknown; where none is, 4 for them is left to the call, which looks at them too. Not public: what is met before is required to be nothing.
+// What a query on axes of these sizes meets after them: 4 for the modes, the slots of its answer and its own slices, and 22. Not public: few axes are required.
 fn query_later_refusal(
     axes: usize,
-    points: &[usize],
+    sizes: Sizes,
     modes: &[u8],
     knots: &[f64],
     tensor: &[f64],
@@ -246,28 +264,22 @@ fn query_later_refusal(
     value: &[f64],
     labels: &[usize],
 ) -> usize
-    requires { ⌜ axes-own-refusal axes (now points) ≡ 0 ⌝ }
-    ensures { λ r. ⌜ Asked axes (now (points .entry)) (now (modes .entry)) (now (knots .entry)) (now (tensor .entry)) (now (coordinates .entry)) (now (value .entry)) (now (labels .entry)) (lowest (query-later-rows axes (now (points .entry)) (now (modes .entry)) (now (knots .entry)) (now (tensor .entry)) (now (coordinates .entry)) (now (value .entry)) (now (labels .entry))) 0) r ⌝ }
+    requires { ⌜ axes ≤ 4 ⌝ }
+    ensures { λ r. ⌜ r ≡ lowest (rows-of-sizes axes sizes (now (modes .entry)) (now (knots .entry)) (now (tensor .entry)) (now (coordinates .entry)) (now (value .entry)) (now (labels .entry))) 0 ⌝ }
 {
     if modes_or_slots_refused(modes, value, labels) {
         return 4;
     }
+    if lengths::query_lengths_refused(axes, sizes, knots.len(), tensor.len(), coordinates.len()) {
+        return 4;
+    }
     if some_modes_refused(axes, modes) {
-        if lengths::query_of_points_refused(
-            axes,
-            points,
-            knots.len(),
-            tensor.len(),
-            coordinates.len(),
-        ) {
-            return 4;
-        }
         return 22;
     }
     0
 }
 
-// Of a query: its axes, and then these, with the same left to the call.
+// Of a query: its axes, and then these.
 pub fn query_own_refusal(
     axes: usize,
     points: &[usize],
@@ -278,15 +290,15 @@ pub fn query_own_refusal(
     value: &[f64],
     labels: &[usize],
 ) -> usize
-    ensures { λ r. ⌜ Asked axes (now (points .entry)) (now (modes .entry)) (now (knots .entry)) (now (tensor .entry)) (now (coordinates .entry)) (now (value .entry)) (now (labels .entry)) (query-own-refusal axes (now (points .entry)) (now (modes .entry)) (now (knots .entry)) (now (tensor .entry)) (now (coordinates .entry)) (now (value .entry)) (now (labels .entry))) r ⌝ }
+    ensures { λ r. ⌜ r ≡ query-own-refusal axes (now (points .entry)) (now (modes .entry)) (now (knots .entry)) (now (tensor .entry)) (now (coordinates .entry)) (now (value .entry)) (now (labels .entry)) ⌝ }
 {
-    let refusal = axes_own_refusal(axes, points);
-    if refusal != 0 {
-        return refusal;
+    let found = axes_own_sizes(axes, points);
+    if found.refusal != 0 {
+        return found.refusal;
     }
     query_later_refusal(
         axes,
-        points,
+        found,
         modes,
         knots,
         tensor,
@@ -296,7 +308,7 @@ pub fn query_own_refusal(
     )
 }
 
-// Of the query of even axes: the same, and 4 for the slot of an axis that is not even.
+// Of the query of even axes: the same, and before the other slots 4 for that of an axis that is not even.
 pub fn even_query_own_refusal(
     axes: usize,
     points: &[usize],
@@ -308,18 +320,18 @@ pub fn even_query_own_refusal(
     labels: &[usize],
     uneven: &[usize],
 ) -> usize
-    ensures { λ r. ⌜ Asked axes (now (points .entry)) (now (modes .entry)) (now (knots .entry)) (now (tensor .entry)) (now (coordinates .entry)) (now (value .entry)) (now (labels .entry)) (even-query-own-refusal axes (now (points .entry)) (now (modes .entry)) (now (knots .entry)) (now (tensor .entry)) (now (coordinates .entry)) (now (value .entry)) (now (labels .entry)) (now (uneven .entry))) r ⌝ }
+    ensures { λ r. ⌜ r ≡ even-query-own-refusal axes (now (points .entry)) (now (modes .entry)) (now (knots .entry)) (now (tensor .entry)) (now (coordinates .entry)) (now (value .entry)) (now (labels .entry)) (now (uneven .entry)) ⌝ }
 {
-    let refusal = axes_own_refusal(axes, points);
-    if refusal != 0 {
-        return refusal;
+    let found = axes_own_sizes(axes, points);
+    if found.refusal != 0 {
+        return found.refusal;
     }
     if lengths::length_refused(uneven.len(), 2) {
         return 4;
     }
     query_later_refusal(
         axes,
-        points,
+        found,
         modes,
         knots,
         tensor,

@@ -1,4 +1,5 @@
 pub mod Rows
+mod Counting
 pub mod Points
 pub mod ThenOutcome
 pub mod Accepted

@@ -6,7 +6,7 @@ use lib.Dec.{ltb}
 use lib.ListN.{length, take, drop}
 use lib.Ieee.{Float}
 use Rattle.rules.specs.Numbers.{any}
-use Rattle.rules.specs.Sizes.{most-in-a-tensor, scratch-of-rows, Grid, sum-below, product-below, knots-length, samples-length, tensor-length, scratch-length, Place}
+use Rattle.rules.specs.Sizes.{most-axes, most-in-a-tensor, scratch-of-rows, Grid, sum-below, product-below, knots-length, samples-length, tensor-length, scratch-length, Place}
 use Rattle.rules.specs.Refusals.{axes-refused, points-refused, some-points-refused, tensor-refused, length-refused, scratch-refused, place-refused, number-refused, some-number-refused, ends-refused, some-ends-refused, knots-refused, some-knots-refused, fewness-refused, some-fewness-refused}
 use Rattle.rules.specs.declared.Axis.{Axis}
 use Rattle.rules.specs.declared.Condition.{Condition}
@@ -70,13 +70,28 @@ lengths-of-points-refused axes n knots tensor coordinates =
 abbrev pub knots-of-points-refused : ℕ → (ℕ → ℕ) → List Float → Bool
 knots-of-points-refused axes n knots = any (λ i. knots-refused (take (n i) (drop (sum-below n i) knots)) (n i)) axes
 
--- what a query meets below these
+-- what a query meets of its sizes and lengths
+abbrev pub query-sizes-rows : ℕ → (ℕ → ℕ) → ℕ → ℕ → ℕ → List Refusal
+query-sizes-rows axes n knots tensor coordinates =
+    row 1 (ltb axes 1 || ltb most-axes axes)
+    ∷ (points-rows axes n ++ (row 4 (lengths-of-points-refused axes n knots tensor coordinates) ∷ []))
+
+unfoldable pub query-sizes-check : ℕ → (ℕ → ℕ) → ℕ → ℕ → ℕ → ℕ
+query-sizes-check axes n knots tensor coordinates = lowest (query-sizes-rows axes n knots tensor coordinates) 0
+
+-- what it meets below these: of its knots and coordinates
+abbrev pub knots-and-coordinates-rows : ℕ → (ℕ → ℕ) → List Float → List Float → List Refusal
+knots-and-coordinates-rows axes n knots coordinates =
+    row 7 (some-number-refused knots || some-number-refused coordinates) ∷ row 8 (knots-of-points-refused axes n knots) ∷ []
+
+unfoldable pub knots-and-coordinates-check : ℕ → (ℕ → ℕ) → List Float → List Float → ℕ
+knots-and-coordinates-check axes n knots coordinates = lowest (knots-and-coordinates-rows axes n knots coordinates) 0
+
+-- what it meets below its sizes
 abbrev pub query-numbers-rows : ℕ → (ℕ → ℕ) → List Float → ℕ → List Float → List Refusal
 query-numbers-rows axes n knots tensor-given coordinates =
     row 4 (lengths-of-points-refused axes n (length knots) tensor-given (length coordinates))
-    ∷ row 7 (some-number-refused knots || some-number-refused coordinates)
-    ∷ row 8 (knots-of-points-refused axes n knots)
-    ∷ []
+    ∷ knots-and-coordinates-rows axes n knots coordinates
 
 unfoldable pub query-numbers-check : ℕ → (ℕ → ℕ) → List Float → ℕ → List Float → ℕ
 query-numbers-check axes n knots tensor-given coordinates = lowest (query-numbers-rows axes n knots tensor-given coordinates) 0

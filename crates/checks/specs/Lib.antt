@@ -1,4 +1,5 @@
 pub mod Given
 pub mod Tables
 pub mod Check
+pub mod Found
 pub mod Rising

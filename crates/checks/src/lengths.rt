@@ -1,11 +1,10 @@
 // Refusals 4 and 5: each slice is given by its length alone.
 ghost use mathlib.Core.Path.{_≡_};
 ghost use mathlib.Core.Bool.{_||_};
-ghost use lib.ListN.{length};
-ghost use Rattle.rules.specs.Sizes.{place-of, knots-length, samples-length, tensor-length, scratch-length};
+ghost use Rattle.rules.specs.Sizes.{knots-length, samples-length, tensor-length, scratch-length};
 ghost use Rattle.rules.specs.Refusals.{length-refused, scratch-refused};
 ghost use Rattle.grid.specs.Given.{sizes-of, points-of, InRange};
-ghost use Rattle.checks.specs.Check.{lengths-of-points-refused};
+use crate::sizes::Sizes;
 use rules::Axis;
 
 // Whether a slice is not of the exact length.
@@ -75,42 +74,23 @@ pub fn change_refused(axes: usize, all: [Axis; 4], knots: usize, tensor: usize) 
     length_refused(tensor, grid::tensor_length(axes, all))
 }
 
-// Whether knots, tensor or coordinates are not as long as a query of so many points asks for. Not public, as above, and four points are required.
-pub fn query_of_points_refused(
+// Whether knots, tensor or coordinates are not as long as a query on axes of these sizes asks for.
+pub fn query_lengths_refused(
     axes: usize,
-    points: &[usize],
+    sizes: Sizes,
     knots: usize,
     tensor: usize,
     coordinates: usize,
 ) -> bool
-    requires { ⌜ InRange axes (place-of (now points)) × (length (now points) ≡ 4) ⌝ }
-    ensures { λ r. ⌜ r ≡ lengths-of-points-refused axes (place-of (now (points .entry))) knots tensor coordinates ⌝ }
+    ensures { λ r. ⌜ r ≡ (length-refused knots (sizes .knots) || length-refused tensor (sizes .numbers) || length-refused coordinates axes) ⌝ }
 {
-    if length_refused(knots, grid::sum_of_points(axes, points)) {
+    if length_refused(knots, sizes.knots) {
         return true;
     }
-    if length_refused(
-        tensor,
-        grid::product_of_points(axes, points) * grid::masks(axes),
-    ) {
+    if length_refused(tensor, sizes.numbers) {
         return true;
     }
     length_refused(coordinates, axes)
-}
-
-// Whether knots, tensor or coordinates are not as long as a query asks for. Not public, as above.
-pub fn query_refused(
-    axes: usize,
-    all: [Axis; 4],
-    knots: usize,
-    tensor: usize,
-    coordinates: usize,
-) -> bool
-    requires { ⌜ InRange axes (points-of all) ⌝ }
-    ensures { λ r. ⌜ r ≡ (length-refused knots (knots-length (sizes-of axes all)) || length-refused tensor (tensor-length (sizes-of axes all)) || length-refused coordinates axes) ⌝ }
-{
-    let points = grid::points_of(all);
-    query_of_points_refused(axes, &points, knots, tensor, coordinates)
 }
 
 // Whether scratch is too short for the tensor and the rows. Not public, as above.

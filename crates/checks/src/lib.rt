@@ -1,9 +1,10 @@
 // Refusals 1 to 9 as code: for each public call the lowest number that it meets before it works, and 0 where there is none. Of a slice that the call will write, only the length is looked at. The pass over the knots for refusal 8 is made before the numbers are looked at for refusal 7: where it finds nothing, every knot is finite.
 ghost use mathlib.Core.Path.{_≡_};
 ghost use lib.ListN.{length};
-ghost use Rattle.rules.specs.Sizes.{place-of};
+ghost use Rattle.rules.specs.Sizes.{place-of, sum-below};
 ghost use Rattle.grid.specs.Given.{grid, InRange};
-ghost use Rattle.checks.specs.Check.{moments-check, curve-check, slopes-check, build-check, change-check, query-numbers-check, query-check};
+ghost use Rattle.checks.specs.Check.{moments-check, curve-check, slopes-check, build-check, change-check, query-sizes-check, knots-and-coordinates-check, query-numbers-check, query-check};
+use crate::sizes::Sizes;
 use rules::Axis;
 use rules::Condition;
 
@@ -176,7 +177,51 @@ pub fn change_refusal(
     0
 }
 
-// What a query meets whose axes are of so many points: 4, 7, 8, or 0. Not public: what refusals 1 to 3 leave is required, and four points.
+// What a query meets of its sizes and lengths, whose axes are of so many points: 1, 2, 3, 4, or 0. Not public: four points are required.
+pub fn query_sizes_refusal(
+    axes: usize,
+    points: &[usize],
+    knots: usize,
+    tensor: usize,
+    coordinates: usize,
+) -> usize
+    requires { ⌜ length (now points) ≡ 4 ⌝ }
+    ensures { λ r. ⌜ r ≡ query-sizes-check axes (place-of (now (points .entry))) knots tensor coordinates ⌝ }
+{
+    if sizes::axes_refused(axes) {
+        return 1;
+    }
+    let found = sizes::sizes_of_points(axes, points);
+    if found.refusal != 0 {
+        return found.refusal;
+    }
+    if lengths::query_lengths_refused(axes, found, knots, tensor, coordinates) {
+        return 4;
+    }
+    0
+}
+
+// What a query meets of its knots and coordinates: 7, 8, or 0. Not public: what refusals 1, 2 and 4 leave is required, and four points.
+pub fn knots_and_coordinates_refusal(
+    axes: usize,
+    points: &[usize],
+    knots: &[f64],
+    coordinates: &[f64],
+) -> usize
+    requires { ⌜ InRange axes (place-of (now points)) × (length (now points) ≡ 4) × (length (now knots) ≡ sum-below (place-of (now points)) axes) ⌝ }
+    ensures { λ r. ⌜ r ≡ knots-and-coordinates-check axes (place-of (now (points .entry))) (now (knots .entry)) (now (coordinates .entry)) ⌝ }
+{
+    let knots_refused = rising::knots_of_points_refused(axes, points, knots);
+    if numbers::slices_refused(knots_refused, knots, coordinates) {
+        return 7;
+    }
+    if knots_refused {
+        return 8;
+    }
+    0
+}
+
+// What a query meets whose axes are of so many points: 4, 7, 8, or 0. Not public: what refusals 1 and 2 leave is required, and four points.
 pub fn query_numbers_refusal(
     axes: usize,
     points: &[usize],
@@ -187,23 +232,15 @@ pub fn query_numbers_refusal(
     requires { ⌜ InRange axes (place-of (now points)) × (length (now points) ≡ 4) ⌝ }
     ensures { λ r. ⌜ r ≡ query-numbers-check axes (place-of (now (points .entry))) (now (knots .entry)) «tensor_length» (now (coordinates .entry)) ⌝ }
 {
-    if lengths::query_of_points_refused(
-        axes,
-        points,
-        knots.len(),
-        tensor_length,
-        coordinates.len(),
-    ) {
+    let sizes = Sizes {
+        refusal: 0,
+        knots: grid::sum_of_points(axes, points),
+        numbers: grid::product_of_points(axes, points) * grid::masks(axes),
+    };
+    if lengths::query_lengths_refused(axes, sizes, knots.len(), tensor_length, coordinates.len()) {
         return 4;
     }
-    let knots_refused = rising::knots_of_points_refused(axes, points, knots);
-    if numbers::slices_refused(knots_refused, knots, coordinates) {
-        return 7;
-    }
-    if knots_refused {
-        return 8;
-    }
-    0
+    knots_and_coordinates_refusal(axes, points, knots, coordinates)
 }
 
 // What a query meets: 1, 2, 3, 4, 7, 8, or 0.
@@ -216,10 +253,10 @@ pub fn query_refusal(
 ) -> usize
     ensures { λ r. ⌜ r ≡ query-check (grid axes all (now (knots .entry))) «tensor_length» (now (coordinates .entry)) ⌝ }
 {
-    let refusal = sizes::sizes_refusal(axes, all);
+    let points = grid::points_of(all);
+    let refusal = query_sizes_refusal(axes, &points, knots.len(), tensor_length, coordinates.len());
     if refusal != 0 {
         return refusal;
     }
-    let points = grid::points_of(all);
-    query_numbers_refusal(axes, &points, knots, tensor_length, coordinates)
+    knots_and_coordinates_refusal(axes, &points, knots, coordinates)
 }

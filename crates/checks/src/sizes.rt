@@ -4,11 +4,11 @@ ghost use mathlib.Core.Bool.{_||_};
 ghost use Prim.Native.Nat.{_≤_};
 ghost use lib.Dec.{ltb};
 ghost use lib.ListN.{length};
-ghost use Rattle.rules.specs.Numbers.{any};
 ghost use Rattle.rules.specs.Sizes.{most-axes, place-of};
 ghost use Rattle.rules.specs.Refusals.{points-refused, place-refused};
 ghost use Rattle.grid.specs.Given.{sizes-of};
 ghost use Rattle.checks.specs.Check.{points-check, sizes-check};
+ghost use Rattle.checks.specs.Found.{SizesFound};
 use rules::Axis;
 
 // Whether there is no axis, or more than four.
@@ -25,33 +25,55 @@ pub fn points_refused(points: usize) -> bool
     if points < 2 { true } else { 256 < points }
 }
 
-// Whether so for an axis in use. Not public: few axes and four points are required.
-pub fn some_points_refused(axes: usize, points: &[usize]) -> bool
-    requires { ⌜ (axes ≤ 4) × (length (now points) ≡ 4) ⌝ }
-    ensures { λ r. ⌜ r ≡ any (λ i. points-refused (place-of (now (points .entry)) i)) axes ⌝ }
-{
-    let mut i = 0;
-    while i < axes {
-        if points_refused(points[i]) {
-            return true;
-        }
-        i += 1;
-    }
-    false
+// What the sizes of a grid come to: 2, 3, or 0, and where it is 0 how many knots its axes have together and how many numbers its tensor.
+pub struct Sizes {
+    pub refusal: usize,
+    pub knots: usize,
+    pub numbers: usize,
 }
 
-// What axes of so many points meet: 2, 3, or 0. Not public: one to four axes and four points are required.
+// They are found in one pass over the axes. Not public: one to four axes and four points are required.
+pub fn sizes_of_points(axes: usize, points: &[usize]) -> Sizes
+    requires { ⌜ (1 ≤ axes) × (axes ≤ 4) × (length (now points) ≡ 4) ⌝ }
+    ensures { λ r. ⌜ SizesFound axes (place-of (now (points .entry))) r ⌝ }
+{
+    let mut knots = 0;
+    let mut numbers = grid::masks(axes);
+    let mut i = 0;
+    while i < axes {
+        let count = points[i];
+        if points_refused(count) {
+            return Sizes {
+                refusal: 2,
+                knots: 0,
+                numbers: 0,
+            };
+        }
+        knots += count;
+        numbers = numbers * count;
+        i += 1;
+    }
+    if 4096 < numbers {
+        return Sizes {
+            refusal: 3,
+            knots: 0,
+            numbers: 0,
+        };
+    }
+    Sizes {
+        refusal: 0,
+        knots,
+        numbers,
+    }
+}
+
+// What axes of so many points meet: 2, 3, or 0. Not public, as above.
 pub fn points_refusal(axes: usize, points: &[usize]) -> usize
     requires { ⌜ (1 ≤ axes) × (axes ≤ 4) × (length (now points) ≡ 4) ⌝ }
     ensures { λ r. ⌜ r ≡ points-check axes (place-of (now (points .entry))) ⌝ }
 {
-    if some_points_refused(axes, points) {
-        return 2;
-    }
-    if 4096 < grid::product_of_points(axes, points) * grid::masks(axes) {
-        return 3;
-    }
-    0
+    let found = sizes_of_points(axes, points);
+    found.refusal
 }
 
 // What every call on a grid meets first: 1, 2, 3, or 0.

@@ -1,69 +1,53 @@
-use mathlib.Core.Path.{_≡_, refl, sym, _∙_}
-use mathlib.Core.List.{List}
-use Prim.Native.Nat.{ℕ, _*_, _^_}
+use mathlib.Core.Path.{_≡_, sym, _∙_}
+use Prim.Native.Nat.{_*_, _^_}
 use lib.ListN.{length}
 use Rattle.rules.specs.Sizes.{place-of, sum-below, product-below}
-use Rattle.checks.specs.Given.{FiniteUnless}
-use Rattle.checks.specs.Check.{query-numbers-rows, query-numbers-check}
-use Rattle.checks.specs.Tables.{Refusal}
-use Rattle.checks.proofs.Rows.{stop, pass, Past, exact-3}
-use Rattle.checks.proofs.FiniteKnots.{points-finite}
+use Rattle.grid.proofs.Products.{with-masks, fits-64}
+use Rattle.checks.specs.Check.{lengths-of-points-refused, knots-and-coordinates-check, query-numbers-check}
+use Rattle.checks.proofs.Rows.{stop, pass, exact-3}
 use borrow.Author.Needs.{needs}
 use Rattle.checks.proofs.query_numbers_refusal.Statement.{statement}
 use Rattle.checks.proofs.query_numbers_refusal.Tie as tie
 
-abbrev n : tie.Start → ℕ → ℕ
-n s = place-of (s .args .points .now)
+abbrev start : tie.After-query-lengths-refused → tie.Start
+start c = c .before .before .before .before .before .before .before
 
-abbrev rows : tie.Start → List Refusal
-rows s = query-numbers-rows (s .args .axes) (n s) (s .args .knots .now) (s .args .tensor-length) (s .args .coordinates .now)
+mul-query-lengths-refused : tie.Need-mul-query-lengths-refused
+mul-query-lengths-refused c = fits-64 (with-masks (c .before .product-of-points .ensures .1) (c .masks .ensures .1))
 
-abbrev start : tie.Else1 → tie.Start
-start c = c .before .before .before .before .before
-
-knots-exact : (c : tie.Else1) → length (start c .args .knots .now) ≡ sum-below (n (start c)) (start c .args .axes)
-knots-exact c =
-    let s = start c in
-    exact-3
-    (length (s .args .knots .now)) (sum-below (n s) (s .args .axes)) (s .args .tensor-length) (product-below (n s) (s .args .axes) * 2 ^ (s .args .axes)) (length (s .args .coordinates .now)) (s .args .axes)
-    (sym (c .before .query-of-points-refused .ensures) ∙ c .if1 .left)
-    .0
-
-knots-finite : (c : tie.After-knots-of-points-refused) → FiniteUnless (c .knots-of-points-refused .result) (start (c .before) .args .knots .now)
-knots-finite c =
-    let s = start (c .before) in
-    points-finite (s .args .axes) (n s) (s .args .knots .now) (s .pre .0) (knots-exact (c .before)) (c .knots-of-points-refused .ensures)
-
-past-1 : (c : tie.Else1) → Past (rows (start c)) 1
-past-1 c answer e = pass _ (c .before .query-of-points-refused .ensures) (c .if1 .left) e
-
-past-2 : (c : tie.Else2) → Past (rows (start (c .before .before .before))) 2
-past-2 c answer e = past-1 (c .before .before .before) _ (pass _ (c .before .slices-refused .ensures) (c .if2 .left) e)
+checked : (c : tie.After-query-lengths-refused) → let s = start c .args in c .query-lengths-refused .result ≡ lengths-of-points-refused (s .axes) (place-of (s .points .now)) (length (s .knots .now)) (s .tensor-length) (length (s .coordinates .now))
+checked c =
+    let places = c .before .before in
+    rw (← places .before .sum-of-points .ensures .0, ← places .product-of-points .ensures .0, ← c .before .masks .ensures .0)
+    (c .query-lengths-refused .ensures)
 
 returns : tie.Need-returns
 unfolding query-numbers-check
-returns c = stop _ (c .before .query-of-points-refused .ensures) (c .if1 .taken)
+returns c = stop _ (checked (c .before)) (c .if1 .taken)
+
+knots-and-coordinates-refusal-requires : tie.Need-knots-and-coordinates-refusal-requires
+knots-and-coordinates-refusal-requires c κs =
+    let s = start (c .before) in
+    let n = place-of (s .args .points .now) in
+    let three =
+    exact-3
+    (length (s .args .knots .now)) (sum-below n (s .args .axes)) (s .args .tensor-length) (product-below n (s .args .axes) * 2 ^ (s .args .axes)) (length (s .args .coordinates .now)) (s .args .axes)
+    (sym (checked (c .before)) ∙ c .if1 .left) in
+    (s .pre .0, s .pre .1, three .0)
 
 returns-2 : tie.Need-returns-2
-unfolding query-numbers-check
-returns-2 c = past-1 (c .before .before .before) _ (stop _ (c .before .slices-refused .ensures) (c .if2 .taken))
-
-returns-3 : tie.Need-returns-3
-unfolding query-numbers-check
-returns-3 c = past-2 (c .before) _ (stop _ (c .before .before .before .knots-of-points-refused .ensures) (c .if3 .taken))
-
-returns-4 : tie.Need-returns-4
-unfolding query-numbers-check
-returns-4 c = past-2 (c .before) _ (pass _ (c .before .before .before .knots-of-points-refused .ensures) (c .if3 .left) refl)
+unfolding query-numbers-check knots-and-coordinates-check
+returns-2 c = pass _ (checked (c .before .before)) (c .before .if1 .left) (c .knots-and-coordinates-refusal .ensures)
 
 pub query-numbers-refusal-spec : {M : Type 1} → statement M
 query-numbers-refusal-spec =
     tie.close
     (tie.spec
     (λ c κs. search needs)
+    (λ c κs. search needs)
+    (λ c κs. search needs)
+    mul-query-lengths-refused
+    (λ c κs. search needs)
     returns
-    (λ c κs. (start c .pre .0, start c .pre .1, knots-exact c))
-    (λ c κs. knots-finite c)
-    returns-2
-    returns-3
-    returns-4)
+    knots-and-coordinates-refusal-requires
+    returns-2)

@@ -1,34 +1,37 @@
-use mathlib.Core.Path.{sym, _∙_}
-use Rattle.checks.specs.Check.{query-check}
-use Rattle.checks.proofs.Rows.{sizes-stop}
-use Rattle.checks.proofs.Points.{range-accepted, numbers-are-the-check}
+use Rattle.checks.proofs.Points.{query-refused, query-left, query-then}
 use borrow.Author.Needs.{needs}
 use Rattle.checks.proofs.query_refusal.Statement.{statement}
 use Rattle.checks.proofs.query_refusal.Tie as tie
 
 returns : tie.Need-returns
-unfolding query-check
-returns c = sizes-stop _ _ (c .before .sizes-refusal .ensures) _ (c .if1 .taken)
+returns c =
+    let taken = c .before .before .before in
+    let s = taken .before .before .before in
+    query-refused (s .args .axes) (s .args .all) (taken .points-of .result) (taken .points-of .ensures) (s .args .knots .now) (s .args .tensor-length) (s .args .coordinates .now) (c .before .query-sizes-refusal .ensures) (c .if1 .taken)
 
-query-numbers-refusal-requires : tie.Need-query-numbers-refusal-requires
-query-numbers-refusal-requires c κs =
-    let passed = c .before .before in
-    (range-accepted (passed .before .before .before .before .args .axes) (passed .before .before .before .before .args .all) (c .before .points-of .result) (c .before .points-of .ensures) (sym (passed .before .sizes-refusal .ensures) ∙ passed .if1 .left), search needs)
+knots-and-coordinates-refusal-requires : tie.Need-knots-and-coordinates-refusal-requires
+knots-and-coordinates-refusal-requires c κs =
+    let asked = c .before .before in
+    let taken = asked .before .before in
+    let s = taken .before .before .before in
+    let left = query-left (s .args .axes) (s .args .all) (taken .points-of .result) (taken .points-of .ensures) (s .args .knots .now) (s .args .tensor-length) (s .args .coordinates .now) (asked .query-sizes-refusal .ensures) (c .before .if1 .left) in
+    (left .0, search needs, left .1)
 
 returns-2 : tie.Need-returns-2
 returns-2 c =
-    let taken = c .before .before in
-    let passed = taken .before in
-    numbers-are-the-check (passed .before .before .before .before .args .axes) (passed .before .before .before .before .args .all) (taken .points-of .result) (taken .points-of .ensures) (sym (passed .before .sizes-refusal .ensures) ∙ passed .if1 .left) _ _ _
-    (c .query-numbers-refusal .ensures)
+    let passed = c .before .before in
+    let taken = passed .before .before .before in
+    let s = taken .before .before .before in
+    query-then (s .args .axes) (s .args .all) (taken .points-of .result) (taken .points-of .ensures) (s .args .knots .now) (s .args .tensor-length) (s .args .coordinates .now) (passed .before .query-sizes-refusal .ensures) (passed .if1 .left) (c .knots-and-coordinates-refusal .ensures)
 
 pub query-refusal-spec : {M : Type 1} → statement M
 query-refusal-spec =
     tie.close
     (tie.spec
     (λ c κs. search needs)
-    returns
-    (λ c κs. search needs)
     (λ c. search needs)
-    query-numbers-refusal-requires
+    (λ c κs. search needs)
+    returns
+    (λ c. search needs)
+    knots-and-coordinates-refusal-requires
     returns-2)
