@@ -48,7 +48,7 @@ pub refused-is : (refusal number : ℕ) (value : Float) (labels : List ℕ) → 
 refused-is refusal zero value labels e some = absurd (some refl)
 refused-is refusal (suc number) value labels e some = rw e refl
 
-seven-or-eight : (not-finite : Bool) → cond {A = ℕ} not-finite 7 8 ≢ 0
+pub seven-or-eight : (not-finite : Bool) → cond {A = ℕ} not-finite 7 8 ≢ 0
 seven-or-eight true z = omega arith
 seven-or-eight false z = omega arith
 

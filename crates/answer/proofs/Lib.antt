@@ -3,3 +3,5 @@ mod Weighing
 mod Finding
 pub mod Accepted
 pub mod Answering
+mod Modes
+pub mod Promised

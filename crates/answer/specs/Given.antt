@@ -14,6 +14,11 @@ use Rattle.grid.specs.Given.{points-of, InRange}
 abbrev pub modes-of : List Axis → ℕ → Mode
 modes-of entries i = getD entries i unused-axis .mode
 
+-- the numbers of the modes of four axes
+pub record ModesOf (all : List Axis) (modes : List ℕ) : Type 0 where
+  pub four : length modes ≡ most-axes
+  pub number : (i : ℕ) → i < most-axes → modes-of all i ≡ mode-of-number (place-of modes i)
+
 -- axes whose points, and whose modes' numbers, these are, as far as they are in use
 pub record AxesOf (axes : ℕ) (points modes : List ℕ) (all : List Axis) : Type 0 where
   pub points-are : (i : ℕ) → i < axes → points-of all i ≡ place-of points i

@@ -1,12 +1,34 @@
 // What every query answers once its sizes and lengths are in order: its cell found on the axes, and 7, 8, 18 and 10 in this order. None of these is public: callers see to all that is refused before.
 ghost use mathlib.Core.Path.{_≡_};
-ghost use Rattle.answer.specs.Given.{QueryFits};
+ghost use Rattle.rules.specs.Outside.{mode-number};
+ghost use Rattle.answer.specs.Given.{ModesOf, QueryFits};
 ghost use Rattle.answer.specs.Answers.{refused-with, answer-in, knots-refusal, AnswerAmong};
+use rules::Axis;
 use rules::QueryAnswer;
 use ways::Way;
 
 pub mod ways; // ways.rt: the ways of finding a cell
 mod searched; // searched.rt: a point looked for on the axes
+
+// The number of an axis's mode.
+fn mode_of(axis: Axis) -> u8
+    ensures { λ r. ⌜ r ≡ mode-number (axis .mode) ⌝ }
+{
+    let mode = axis.mode;
+    kinds::modes::mode_number(mode)
+}
+
+// The numbers of the modes of the four axes: with their points they are all that a query reads of them.
+pub fn modes_of(all: [Axis; 4]) -> [u8; 4]
+    ensures { λ r. ⌜ ModesOf all r ⌝ }
+{
+    [
+        mode_of(all[0]),
+        mode_of(all[1]),
+        mode_of(all[2]),
+        mode_of(all[3]),
+    ]
+}
 
 // A refusal: its number, +0.0, and labels 0.
 pub fn refused(refusal: usize) -> QueryAnswer

@@ -1,104 +1,131 @@
--- What the query answers: on knots that its check lets pass the search finds the cell of the rules, so the value in that cell and its labels are theirs.
+-- What the query answers: its sizes and lengths refuse, or the walk finds the cell of the rules on knots that it lets pass, so the value in that cell and its labels are theirs.
 use native.Mathlib.Omega.{arith}
 use mathlib.Core.Path.{_≡_, refl, sym, ap, _∙_}
 use mathlib.Core.Logic.{_≢_}
-use mathlib.Core.Bool.{Bool, true, false, cond}
+use mathlib.Core.Bool.{Bool, true, false, cond, _||_}
 use mathlib.Core.List.{List}
-use Prim.Native.Nat.{ℕ, _*_, _^_, _<_}
+use Prim.Native.Nat.{ℕ, _<_}
 use lib.ListN.{length}
 use lib.Ieee.{Float}
 use lib.Ieee.Scale.{finite}
 use borrow.Author.Tests.{not-false}
-use Rattle.rules.specs.Numbers.{at}
-use Rattle.rules.specs.Sizes.{Grid, points, knots, product-below, place-of}
-use Rattle.rules.specs.Refusals.{number-refused, answer-refused}
-use Rattle.rules.specs.Outside.{some-outside-refused}
-use Rattle.rules.specs.Query.{cell-of, query-in-modes}
-use Rattle.rules.specs.Calls.{or-else, labels, query-refusal, query-answer, QueryPromise}
+use Rattle.rules.specs.Numbers.{at, any}
+use Rattle.rules.specs.Sizes.{Grid, points, knots, sum-below, place-of}
+use Rattle.rules.specs.Refusals.{number-refused, some-number-refused, knots-refused, some-knots-refused, answer-refused}
+use Rattle.rules.specs.Outside.{placed-on, some-outside-refused}
+use Rattle.rules.specs.Query.{value-in, cell-of, quick-cell-of, query-in-modes}
+use Rattle.rules.specs.Calls.{labels-of, answer-of, labels, query-refusal, query-answer, QueryPromise}
+use Rattle.rules.specs.declared.Axis.{Axis}
 use Rattle.rules.specs.declared.QueryAnswer.{QueryAnswer}
-use Rattle.rules.proofs.Refused.{or-else-met}
+use Rattle.rules.proofs.Places.{One}
+use Rattle.rules.proofs.Refused.{any-ext}
+use Rattle.rules.proofs.Cells.{value-in-ext, labels-ext}
 use Rattle.base.proofs.Scan.{any-at}
-use Rattle.checks.specs.Given.{GridGiven, QueryGiven}
-use Rattle.checks.specs.Check.{query-rows, query-check}
-use Rattle.checks.proofs.Accepted.{query-given}
-use Rattle.checks.proofs.Rows.{rows-then}
-use Rattle.locate.specs.Answers.{Rising}
-use Rattle.cell.specs.Searched.{SearchGiven, Searched}
-use Rattle.cell.specs.declared.searched.Found.{Found}
-use Rattle.cell.specs.Points.{CellAt}
-use Rattle.cell.specs.Answers.{refused-with, answer-in}
-use Rattle.cell.proofs.Accepted.{rising-on-axis}
-use Rattle.cell.proofs.Finding as finding
-use Rattle.cell.proofs.Answering.{refused-is, answer-is}
+use Rattle.grid.specs.Given.{grid, points-of, InRange}
+use Rattle.grid.proofs.Knots.{knots-of-axis}
+use Rattle.checks.specs.Check.{query-sizes-check}
+use Rattle.checks.proofs.FiniteKnots.{grid-finite}
+use Rattle.answer.specs.Given.{AxesOf, QueryFits}
+use Rattle.answer.specs.Answers.{refused-with, some-knots-refuse, value-by, refusal-by, AnswerBy}
+use Rattle.answer.specs.declared.ways.Way.the-variants.{Walked}
+use Rattle.answer.proofs.Accepted.{rising-on-axis}
+use Rattle.answer.proofs.Answering.{refused-is, seven-or-eight}
+use Rattle.answer.proofs.Promised.{knots-exact, from-7, sizes-refuse, same-refused}
 
--- ---- what the check lets pass
+-- a test beside one that applies, and beside one that does not
+or-true : (a : Bool) → (a || true) ≡ true
+or-true true = refl
+or-true false = refl
 
-module _ (g : Grid) (tensor-given : ℕ) (coordinates : List Float) (given : QueryGiven g tensor-given coordinates) where
-  abbrev on-grid : GridGiven g tensor-given
-  on-grid = given .grid-given
+or-false : (a : Bool) → (a || false) ≡ a
+or-false true = refl
+or-false false = refl
 
-  pub search-given : SearchGiven g coordinates
-  search-given = record {
-    in-range = on-grid .in-range;
-    knots-exact = on-grid .knots-exact;
-    coordinates-exact = given .coordinates-exact;
+-- sizes or lengths are refused
+module _ (axes : ℕ) (all : List Axis) (x tensor coordinates : List Float) (points-in : List ℕ) (same : place-of points-in ≡ points-of all)
+    (number : ℕ) (is : number ≡ query-sizes-check axes (place-of points-in) (length x) (length tensor) (length coordinates)) (some : number ≢ 0) where
+  refusal-met : query-refusal (grid axes all x) tensor coordinates ≡ number
+  unfolding query-refusal
+  refusal-met =
+      sizes-refuse axes all x tensor coordinates (some-number-refused x || some-number-refused coordinates) (some-knots-refused (grid axes all x))
+      (answer-refused (query-in-modes (grid axes all x) tensor (at coordinates))) points-in same number is some
+
+  pub sizes-answer : (r : QueryAnswer) → r ≡ refused-with number → QueryPromise (grid axes all x) tensor coordinates r
+  unfolding query-answer
+  sizes-answer r refused =
+      record { answer = refused ∙ refused-is (query-refusal (grid axes all x) tensor coordinates) number (query-in-modes (grid axes all x) tensor (at coordinates)) (labels (grid axes all x) coordinates) refusal-met some }
+
+-- they are not: the walk answers
+module _ (axes : ℕ) (points-in modes-in : List ℕ) (x tensor coordinates : List Float) (fits : QueryFits axes points-in modes-in x tensor coordinates) (all : List Axis) (are : AxesOf axes points-in modes-in all)
+    (r : QueryAnswer) (by : AnswerBy Walked (grid axes all x) tensor coordinates r) where
+  abbrev g : Grid
+  g = grid axes all x
+
+  exact : length x ≡ sum-below (points g) axes
+  exact = knots-exact axes points-in modes-in x tensor coordinates fits all are
+
+  range : InRange axes (points g)
+  range = record {
+    some-axes = fits .search-fits .in-range .some-axes;
+    few-axes = fits .search-fits .in-range .few-axes;
+    some-points = λ i l. rw (are .points-are i l) (fits .search-fits .in-range .some-points i l);
+    few-points = λ i l. rw (are .points-are i l) (fits .search-fits .in-range .few-points i l);
   }
 
-  module _ (i : ℕ) (lt : i < g .axes) where
-    rising : Rising (knots g i) (points g i)
-    rising = rising-on-axis g (on-grid .knots-exact) (on-grid .knots-finite) i lt (on-grid .knots-rise i lt)
+  -- the walk looks at as many knots as there are points
+  walked : some-knots-refuse Walked g tensor coordinates ≡ some-knots-refused g
+  walked = any-ext _ _ axes (λ i l. ap (knots-refused (knots g i)) (knots-of-axis g exact i l))
 
-    point-finite : finite (at coordinates i) ≡ true
-    point-finite = not-false _ (any-at (λ j. number-refused (at coordinates j)) (length coordinates) (given .coordinates-finite) i (omega (arith, given .coordinates-exact)))
+  abbrev outside : Bool
+  outside = some-outside-refused g (at coordinates)
 
-  module _ (found : Found) (searched : Searched g coordinates (g .axes) found) where
-    -- n are the points of the grid
-    pub cell-given : (n : ℕ → ℕ) → n ≡ points g → CellAt (g .axes) n (place-of (found .lower)) × (tensor-given ≡ product-below n (g .axes) * 2 ^ g .axes)
-    cell-given = finding.cell-given g coordinates _ found (searched .found-on) search-given (on-grid .small) (on-grid .tensor-exact)
+  -- what is left to the value, by the cells of the walk and by those of the rules
+  abbrev rest : Float → ℕ
+  rest value = cond outside 18 (cond (answer-refused value) 10 0)
 
-    pub cell-found : (i : ℕ) → i < g .axes → place-of (found .lower) i ≡ cell-of g (at coordinates) i
-    cell-found i lt = searched .rising i lt (rising i lt) (point-finite i lt)
+  refusal-of : query-refusal g tensor coordinates ≡ cond (some-number-refused x || some-number-refused coordinates) 7 (cond (some-knots-refused g) 8 (rest (query-in-modes g tensor (at coordinates))))
+  unfolding query-refusal
+  refusal-of =
+      from-7 axes points-in modes-in x tensor coordinates fits all are
+      (some-number-refused x || some-number-refused coordinates) (some-knots-refused g) (answer-refused (query-in-modes g tensor (at coordinates)))
 
--- ---- the answers
+  -- where neither a coordinate nor the knots are refused, the cells are those of the rules
+  module _ (numbers : some-number-refused coordinates ≡ false) (rise : some-knots-refused g ≡ false) where
+    knots-finite : some-number-refused x ≡ false
+    knots-finite = grid-finite axes all x range exact refl rise
 
-module _ (g : Grid) (tensor coordinates : List Float) where
-  abbrev outside-refused : Bool
-  outside-refused = some-outside-refused g (at coordinates)
+    one-cell : One axes (quick-cell-of g (at coordinates)) (cell-of g (at coordinates))
+    one-cell i l =
+        by .rising refl i l
+        (rising-on-axis g exact knots-finite i l (any-at (λ j. knots-refused (knots g j) (points g j)) axes rise i l))
+        (not-false _ (any-at (λ j. number-refused (at coordinates j)) (length coordinates) numbers i (omega (arith, fits .search-fits .coordinates-exact))))
 
-  abbrev value-refused : Bool
-  value-refused = answer-refused (query-in-modes g tensor (at coordinates))
+    same-value : value-by Walked g tensor coordinates ≡ query-in-modes g tensor (at coordinates)
+    unfolding query-in-modes
+    same-value = value-in-ext g tensor _ _ (placed-on g (at coordinates)) one-cell
 
-  refusal-is : query-refusal g tensor coordinates ≡ or-else (query-check g (length tensor) coordinates) (cond outside-refused 18 (cond value-refused 10 0))
-  unfolding query-refusal query-check
-  refusal-is = rows-then (query-rows g (length tensor) coordinates) (cond outside-refused 18 (cond value-refused 10 0)) tt
+    same-labels : labels-of g (quick-cell-of g (at coordinates)) ≡ labels g coordinates
+    unfolding labels
+    same-labels = labels-ext g _ _ one-cell
 
-  module _ (check : ℕ) (checked : check ≡ query-check g (length tensor) coordinates) where
-    refused-by : (number : ℕ) → query-refusal g tensor coordinates ≡ number → number ≢ 0 → (r : QueryAnswer) → r ≡ refused-with number → QueryPromise g tensor coordinates r
-    unfolding query-answer
-    refused-by number e some r is = record { answer = is ∙ refused-is _ number _ _ e some }
+  -- the answers by what is refused
+  promised :
+      (number refused : Bool) → some-number-refused coordinates ≡ number → some-knots-refused g ≡ refused
+      → answer-of (refusal-by Walked g tensor coordinates) (value-by Walked g tensor coordinates) (labels-of g (quick-cell-of g (at coordinates)))
+      ≡ answer-of (query-refusal g tensor coordinates) (query-in-modes g tensor (at coordinates)) (labels g coordinates)
+  promised true refused n k =
+      let own : refusal-by Walked g tensor coordinates ≡ 7 = rw n refl in
+      let its : query-refusal g tensor coordinates ≡ 7 = refusal-of ∙ rw (n, or-true (some-number-refused x)) refl in
+      rw (own, its) refl
+  promised false true n k =
+      let own : refusal-by Walked g tensor coordinates ≡ cond (some-number-refused x) 7 8 = rw (n, walked, k) refl in
+      let its : query-refusal g tensor coordinates ≡ cond (some-number-refused x) 7 8 = refusal-of ∙ rw (n, or-false (some-number-refused x), k) refl in
+      rw (own, its) (same-refused _ (seven-or-eight (some-number-refused x)) _ _ _ _)
+  promised false false n k =
+      let own : refusal-by Walked g tensor coordinates ≡ rest (value-by Walked g tensor coordinates) = rw (n, walked, k) refl in
+      let its : query-refusal g tensor coordinates ≡ rest (query-in-modes g tensor (at coordinates)) = refusal-of ∙ rw (n, knots-finite n k, k) refl in
+      rw (own, its, same-value n k, same-labels n k) refl
 
-    -- the check refuses
-    pub check-refuses : check ≢ 0 → (r : QueryAnswer) → r ≡ refused-with check → QueryPromise g tensor coordinates r
-    check-refuses some = refused-by check (refusal-is ∙ rw (← checked) (or-else-met check _ some)) some
-
-    -- it does not
-    pub check-passes : check ≡ 0 → QueryGiven g (length tensor) coordinates
-    check-passes none = query-given g (length tensor) coordinates (sym checked ∙ none)
-
-    module _ (none : check ≡ 0) (found : Found) (searched : Searched g coordinates (g .axes) found) where
-      later-is : query-refusal g tensor coordinates ≡ cond (found .refused) 18 (cond value-refused 10 0)
-      later-is = refusal-is ∙ rw (← checked, none, searched .found-on .refused) refl
-
-      -- a mode refuses
-      pub mode-refuses : found .refused ≡ true → (r : QueryAnswer) → r ≡ refused-with 18 → QueryPromise g tensor coordinates r
-      mode-refuses e = refused-by 18 (later-is ∙ ap (λ (b : Bool). cond b 18 (cond value-refused 10 0)) e) (λ z. omega arith)
-
-      -- none does
-      pub cell-answers : (n : ℕ → ℕ) → n ≡ points g → found .refused ≡ false → (r : QueryAnswer) → r ≡ answer-in (g .axes) n tensor found → QueryPromise g tensor coordinates r
-      unfolding query-answer query-in-modes labels
-      cell-answers n same e r is = record {
-        answer = is
-            ∙ answer-is g tensor coordinates _ found (searched .found-on) n same (cell-of g (at coordinates))
-            (cell-found g (length tensor) coordinates (check-passes none) found searched)
-            (query-refusal g tensor coordinates) (later-is ∙ ap (λ (b : Bool). cond b 18 (cond value-refused 10 0)) e);
-      }
+  pub walk-answers : QueryPromise g tensor coordinates r
+  unfolding query-answer
+  walk-answers = record { answer = by .answer ∙ promised _ _ refl refl }

@@ -1,8 +1,9 @@
 // The query of a tensor: a point located on each axis, and the blend of the cell around it.
-ghost use mathlib.Core.Path.{_≡_};
 ghost use Rattle.rules.specs.Calls.{QueryPromise};
 ghost use Rattle.grid.specs.Given.{grid};
-ghost use Rattle.checks.specs.Check.{sizes-check};
+ghost use Rattle.answer.specs.Given.{QueryFits};
+ghost use Rattle.query.specs.Among.{QueryAmong};
+use answer::ways::Way;
 use rules::Axis;
 use rules::QueryAnswer;
 
@@ -17,32 +18,32 @@ pub fn query(
 ) -> QueryAnswer
     ensures { λ r. ⌜ QueryPromise (grid axes all (now (knots .entry))) (now (tensor .entry)) (now (coordinates .entry)) r ⌝ }
 {
-    let refusal = checks::sizes::sizes_refusal(axes, all);
+    let points = grid::points_of(all);
+    let refusal = checks::query_sizes_refusal(
+        axes,
+        &points,
+        knots.len(),
+        tensor.len(),
+        coordinates.len(),
+    );
     if refusal != 0 {
-        return cell::refused(refusal);
+        return answer::refused(refusal);
     }
-    query_after_sizes(axes, all, knots, tensor, coordinates)
+    let modes = answer::modes_of(all);
+    query_of_points(axes, &points, &modes, knots, tensor, coordinates)
 }
 
-// The same where 1, 2 and 3 do not apply, which a caller that has looked at the sizes hands on. Not public: that they do not is required.
-pub fn query_after_sizes(
+// The same on axes of these points, with a mode's number for each, where 1 to 4 do not apply. Not public: that they do not is required.
+pub fn query_of_points(
     axes: usize,
-    all: [Axis; 4],
+    points: &[usize],
+    modes: &[u8],
     knots: &[f64],
     tensor: &[f64],
     coordinates: &[f64],
 ) -> QueryAnswer
-    requires { ⌜ sizes-check axes all ≡ 0 ⌝ }
-    ensures { λ r. ⌜ QueryPromise (grid axes all (now (knots .entry))) (now (tensor .entry)) (now (coordinates .entry)) r ⌝ }
+    requires { ⌜ QueryFits axes (now points) (now modes) (now knots) (now tensor) (now coordinates) ⌝ }
+    ensures { λ r. ⌜ QueryAmong axes (now (points .entry)) (now (modes .entry)) (now (knots .entry)) (now (tensor .entry)) (now (coordinates .entry)) r ⌝ }
 {
-    let points = grid::points_of(all);
-    let refusal = checks::query_numbers_refusal(axes, &points, knots, tensor.len(), coordinates);
-    if refusal != 0 {
-        return cell::refused(refusal);
-    }
-    let found = cell::searched::search_on_axes(axes, all, knots, coordinates);
-    if found.refused {
-        return cell::refused(18);
-    }
-    cell::answer_in(axes, points, tensor, found)
+    answer::answer(Way::Walked, axes, points, modes, knots, tensor, coordinates)
 }
