@@ -33,11 +33,11 @@ pub none-left : (left lowest : ℕ) (widths ts : ℕ → Float) (cell : List Flo
 unfolding blend
 none-left left lowest widths ts cell e = rw e refl
 
--- all numbers after the first four
-pub all-after : (weights : List Float) → take (length weights - 4) (drop 4 weights) ≡ drop 4 weights
-all-after weights = take-all (length weights - 4) (drop 4 weights) (rw length-drop (omega arith))
+-- all numbers after the first k
+pub all-after : (k : ℕ) (weights : List Float) → take (length weights - k) (drop k weights) ≡ drop k weights
+all-after k weights = take-all (length weights - k) (drop k weights) (rw length-drop (omega arith))
 
--- the axes after the first have their weights there
+-- the axes after the first have their weights after the first four numbers
 weights-after : (weights : List Float) (a : ℕ) → weights-in (drop 4 weights) a ≡ weights-in weights (suc a)
 weights-after weights a =
     let h00 : 4 + 4 * a ≡ 4 * suc a = omega arith in

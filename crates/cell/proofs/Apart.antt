@@ -1,9 +1,9 @@
 -- How far apart places stand: an index more on an axis is a stride more, and the stride of an axis is that of the next times its points.
-use mathlib.Core.Path.{_≡_, refl, sym, ap, _∙_}
+use mathlib.Core.Path.{_≡_, refl, sym}
 use mathlib.Core.Logic.{⊎-elim}
-use Prim.Native.Nat.{ℕ, zero, suc, _+_, _-_, _*_, _<_, _≤_}
+use Prim.Native.Nat.{ℕ, zero, suc, _+_, _*_, _<_}
 use native.Mathlib.Omega.{arith}
-use native.Mathlib.Nat.{add-mul, mul-right-comm, eq-or-lt-of-le, le-of-suc-le-suc, one-mul}
+use native.Mathlib.Nat.{add-mul, mul-right-comm, eq-or-lt-of-le, le-of-suc-le-suc}
 use native.Mathlib.Numerals.{add-one}
 use Rattle.rules.specs.Sizes.{Place, moved, flat}
 use Rattle.rules.proofs.Places.{moved-own, flat-ext}

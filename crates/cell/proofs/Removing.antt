@@ -15,7 +15,7 @@ use lib.Seq.{length-take-le, getD-take, getD-append-add}
 use lib.Ieee.{Float, nan}
 use borrow.Author.Tests.{ltb-true, ltb-false}
 use Rattle.rules.specs.Numbers.{at}
-use Rattle.rules.specs.Sizes.{Place, place-of, flat, product-below}
+use Rattle.rules.specs.Sizes.{Place, flat, product-below}
 use Rattle.rules.specs.Query.{corner, blend}
 use Rattle.rules.proofs.Places.{OnGrid, flat-below}
 use Rattle.grid.specs.Strides.{stride}

@@ -1,8 +1,8 @@
 -- The runs of a cell without its first axis, of two axes or more: where the corners of a run stand, and those above them on the first axis.
 use native.Mathlib.Omega.{arith}
-use mathlib.Core.Path.{_≡_, refl, sym, ap, _∙_}
+use mathlib.Core.Path.{_≡_, refl, ap, _∙_}
 use Prim.Native.Nat.{ℕ, zero, suc, _+_, _-_, _*_, _/_, _%_, _^_, _<_, _≤_}
-use native.Mathlib.Nat.{one-mul, zero-mul}
+use native.Mathlib.Nat.{one-mul}
 use Rattle.rules.specs.Sizes.{Place, moved, flat}
 use Rattle.rules.specs.Query.{corner}
 use Rattle.rules.proofs.Places.{One, flat-ext}

@@ -1,7 +1,7 @@
 -- Where a cell's numbers stand, counted from the last axis back: each axis is as many times as far apart as the next as that has points.
 use native.Mathlib.Omega.{arith}
-use mathlib.Core.Path.{_≡_, refl, sym, ap, _∙_}
-use Prim.Native.Nat.{ℕ, zero, suc, _+_, _-_, _*_, _^_, _<_, _≤_}
+use mathlib.Core.Path.{_≡_, ap, _∙_}
+use Prim.Native.Nat.{ℕ, suc, _+_, _-_, _*_, _^_, _<_, _≤_}
 use native.Mathlib.Nat.{add-mul, mul-assoc, mul-comm, mul-right-comm, mul-le-mul-right}
 use Rattle.rules.specs.Sizes.{Place, moved, flat, product-below}
 use Rattle.rules.proofs.Places.{OnGrid, moved-on-grid, flat-below}
@@ -34,7 +34,7 @@ flat-none : (n : ℕ → ℕ) (lower : Place) (apart : ℕ) → flat n 0 lower *
 unfolding flat
 flat-none n lower apart = omega arith
 
--- ---- two axes, three, and four
+-- ---- the spots of a cell of two axes, of three, and of four, as the code works them out
 
 module _ (n : ℕ → ℕ) (lower : Place) where
   abbrev pub two : Spots

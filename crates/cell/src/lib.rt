@@ -59,7 +59,7 @@ fn value_of_two(points: &[usize], lower: &[usize], weights: &[f64], tensor: &[f6
     blend::blend(&mut cell, 1, &weights[4..])
 }
 
-// Three axes: the second is the last but one.
+// Three axes: the second is the last but one, and the two runs differ on it.
 fn value_of_three(points: &[usize], lower: &[usize], weights: &[f64], tensor: &[f64]) -> f64
     requires { ⌜ CellAt 3 (place-of (now points)) (place-of (now lower)) × ((length (now points) ≡ 4) × (length (now lower) ≡ 4) × (length (now weights) ≡ 16)) × (length (now tensor) ≡ product-below (place-of (now points)) 3 * 2 ^ 3) ⌝ }
     ensures { λ r. ⌜ ((widths ts : ℕ → Float) → WeightsOn 3 0 widths ts (now (weights .entry)) → r ≡ blended 3 (place-of (now (points .entry))) (place-of (now (lower .entry))) widths ts (now (tensor .entry))) ⌝ }
@@ -82,6 +82,7 @@ fn value_of_three(points: &[usize], lower: &[usize], weights: &[f64], tensor: &[
     )
 }
 
+// Four axes: the runs differ on the second and on the third.
 fn value_of_four(points: &[usize], lower: &[usize], weights: &[f64], tensor: &[f64]) -> f64
     requires { ⌜ CellAt 4 (place-of (now points)) (place-of (now lower)) × ((length (now points) ≡ 4) × (length (now lower) ≡ 4) × (length (now weights) ≡ 16)) × (length (now tensor) ≡ product-below (place-of (now points)) 4 * 2 ^ 4) ⌝ }
     ensures { λ r. ⌜ ((widths ts : ℕ → Float) → WeightsOn 4 0 widths ts (now (weights .entry)) → r ≡ blended 4 (place-of (now (points .entry))) (place-of (now (lower .entry))) widths ts (now (tensor .entry))) ⌝ }

@@ -1,5 +1,5 @@
 -- The measure is the number of axes that are left.
-use Prim.Native.Nat.{ℕ, _^_, _-_, _/_, _<_}
+use Prim.Native.Nat.{ℕ, _^_, _/_, _<_}
 use mathlib.Core.Path.{_≡_}
 use native.Mathlib.Nat.{sub-zero}
 use native.Mathlib.Omega.{arith}

@@ -1,10 +1,16 @@
-use Rattle.blend.proofs.Blending.{all-after}
 use borrow.Author.Needs.{needs}
+use Rattle.blend.proofs.Blending.{all-after}
 use Rattle.cell.proofs.blend_in.Statement.{statement}
 use Rattle.cell.proofs.blend_in.Tie as tie
 
 returns : tie.Need-returns
-returns c = record { left = c .before .before .before .before .before .before .before .remove-first .last .0; removed = rw (c .before .before .before .before .before .before .before .before .weights-at .ensures) at (c .before .before .before .before .before .before .before .remove-first .ensures); value = rw all-after at (c .before .before .blend .ensures) }
+returns c =
+    let removed = c .before .before .before .before .before .before .before in
+    record {
+      left = removed .remove-first .last .0;
+      removed = rw (removed .before .weights-at .ensures) at (removed .remove-first .ensures);
+      value = rw all-after at (c .before .before .blend .ensures);
+    }
 
 pub blend-in-spec : {M : Type 1} → statement M
 blend-in-spec =

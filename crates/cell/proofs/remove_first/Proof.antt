@@ -1,7 +1,7 @@
+use borrow.Author.Needs.{needs}
 use native.Mathlib.Omega.{arith}
 use Prim.Native.Nat.{_-_, _/_}
 use Rattle.cell.proofs.Removing.{Turn, turn-first, room, run-given, turn-next, turn-last}
-use borrow.Author.Needs.{needs}
 use Rattle.cell.proofs.remove_first.Statement.{statement}
 use Rattle.cell.proofs.remove_first.Tie as tie
 
@@ -16,39 +16,6 @@ masks-requires c κs = c .before .before .pre .0 .few-axes
 
 loop-holds : tie.Need-loop-holds Inv-loop μ-loop
 loop-holds c = turn-first _ _ _ _ _ _ (c .before .before .before .pre) (c .masks .ensures .0)
-
-mul-start : tie.Need-mul-start Inv-loop μ-loop
-mul-start c = let r = room _ _ _ _ _ _ _ _ (c .before .before .loop .inv) (c .before .loop-test .taken) in omega arith
-
-add-start : tie.Need-add-start Inv-loop μ-loop
-add-start c = let r = room _ _ _ _ _ _ _ _ (c .before .before .before .loop .inv) (c .before .before .loop-test .taken) in omega arith
-
-mul-start-2 : tie.Need-mul-start-2 Inv-loop μ-loop
-mul-start-2 c = let r = room _ _ _ _ _ _ _ _ (c .before .before .before .before .loop .inv) (c .before .before .before .loop-test .taken) in omega arith
-
-add-start-2 : tie.Need-add-start-2 Inv-loop μ-loop
-add-start-2 c = let r = room _ _ _ _ _ _ _ _ (c .before .before .before .before .loop .inv) (c .before .before .before .loop-test .taken) in omega arith
-
-mul-to : tie.Need-mul-to Inv-loop μ-loop
-mul-to c = let r = room _ _ _ _ _ _ _ _ (c .before .before .before .before .loop .inv) (c .before .before .before .loop-test .taken) in omega arith
-
-add-blend-run : tie.Need-add-blend-run Inv-loop μ-loop
-add-blend-run c = let r = room _ _ _ _ _ _ _ _ (c .before .before .before .before .loop .inv) (c .before .before .before .loop-test .taken) in omega arith
-
-mul-blend-run : tie.Need-mul-blend-run Inv-loop μ-loop
-mul-blend-run c = let r = room _ _ _ _ _ _ _ _ (c .before .before .before .before .loop .inv) (c .before .before .before .loop-test .taken) in omega arith
-
-sub-blend-run : tie.Need-sub-blend-run Inv-loop μ-loop
-sub-blend-run c = let r = room _ _ _ _ _ _ _ _ (c .before .before .before .before .loop .inv) (c .before .before .before .loop-test .taken) in omega arith
-
-part-blend-run-start : tie.Need-part-blend-run-start Inv-loop μ-loop
-part-blend-run-start c = let r = room _ _ _ _ _ _ _ _ (c .before .before .before .before .loop .inv) (c .before .before .before .loop-test .taken) in omega arith
-
-part-blend-run-end : tie.Need-part-blend-run-end Inv-loop μ-loop
-part-blend-run-end c = let r = room _ _ _ _ _ _ _ _ (c .before .before .before .before .loop .inv) (c .before .before .before .loop-test .taken) in omega arith
-
-add-blend-run-2 : tie.Need-add-blend-run-2 Inv-loop μ-loop
-add-blend-run-2 c = let r = room _ _ _ _ _ _ _ _ (c .before .before .before .before .before .before .loop .inv) (c .before .before .before .before .before .loop-test .taken) in omega arith
 
 blend-run-requires : tie.Need-blend-run-requires Inv-loop μ-loop
 blend-run-requires c κs = run-given _ _ _ _ _ _ _ _ (c .before .before .before .before .before .before .loop .inv) (c .before .before .before .before .before .loop-test .taken)
@@ -67,17 +34,17 @@ remove-first-spec =
     μ-loop
     masks-requires
     loop-holds
-    mul-start
-    add-start
-    mul-start-2
-    add-start-2
-    mul-to
-    add-blend-run
-    mul-blend-run
-    sub-blend-run
-    part-blend-run-start
-    part-blend-run-end
-    add-blend-run-2
+    (λ c. let r = room _ _ _ _ _ _ _ _ (c .before .before .loop .inv) (c .before .loop-test .taken) in omega arith)
+    (λ c. let r = room _ _ _ _ _ _ _ _ (c .before .before .before .loop .inv) (c .before .before .loop-test .taken) in omega arith)
+    (λ c. let r = room _ _ _ _ _ _ _ _ (c .before .before .before .before .loop .inv) (c .before .before .before .loop-test .taken) in omega arith)
+    (λ c. let r = room _ _ _ _ _ _ _ _ (c .before .before .before .before .loop .inv) (c .before .before .before .loop-test .taken) in omega arith)
+    (λ c. let r = room _ _ _ _ _ _ _ _ (c .before .before .before .before .loop .inv) (c .before .before .before .loop-test .taken) in omega arith)
+    (λ c. let r = room _ _ _ _ _ _ _ _ (c .before .before .before .before .loop .inv) (c .before .before .before .loop-test .taken) in omega arith)
+    (λ c. let r = room _ _ _ _ _ _ _ _ (c .before .before .before .before .loop .inv) (c .before .before .before .loop-test .taken) in omega arith)
+    (λ c. let r = room _ _ _ _ _ _ _ _ (c .before .before .before .before .loop .inv) (c .before .before .before .loop-test .taken) in omega arith)
+    (λ c. let r = room _ _ _ _ _ _ _ _ (c .before .before .before .before .loop .inv) (c .before .before .before .loop-test .taken) in omega arith)
+    (λ c. let r = room _ _ _ _ _ _ _ _ (c .before .before .before .before .loop .inv) (c .before .before .before .loop-test .taken) in omega arith)
+    (λ c. let r = room _ _ _ _ _ _ _ _ (c .before .before .before .before .before .before .loop .inv) (c .before .before .before .before .before .loop-test .taken) in omega arith)
     blend-run-requires
     (λ c. search needs)
     (λ c. search needs)
