@@ -1,3 +1,2 @@
 mod FirstAxis
-mod DirectCells
 mod Answers

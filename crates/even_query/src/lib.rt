@@ -3,11 +3,11 @@ ghost use mathlib.Core.Path.{_≡_};
 ghost use Rattle.rules.specs.EvenCalls.{nothing-told, EvenQueryPromise};
 ghost use Rattle.grid.specs.Given.{grid};
 ghost use Rattle.even_query.specs.Uneven.{refused-uneven};
+use answer::ways::Way;
 use rules::Axis;
 use rules::EvenAnswer;
 use rules::QueryAnswer;
 
-mod direct; // direct.rt: the cell by one division on each axis
 mod uneven; // uneven.rt: the lowest axis that is not even
 
 // What a query answers, with axis and interval 0.
@@ -51,16 +51,21 @@ pub fn even_query(
 {
     let refusal = checks::query_refusal(axes, all, knots, tensor.len(), coordinates);
     if refusal != 0 {
-        return nothing_told(cell::refused(refusal));
+        return nothing_told(answer::refused(refusal));
     }
     let first = uneven::first_uneven(axes, all, knots);
     if first.interval != 0 {
         return refused_uneven(first.axis, first.interval);
     }
-    let found = direct::locate_on_axes(axes, all, knots, coordinates);
-    if found.refused {
-        return nothing_told(cell::refused(18));
-    }
     let points = grid::points_of(all);
-    nothing_told(cell::answer_in(axes, points, tensor, found))
+    let modes = answer::modes_of(all);
+    nothing_told(answer::answer(
+        Way::Direct,
+        axes,
+        &points,
+        &modes,
+        knots,
+        tensor,
+        coordinates,
+    ))
 }

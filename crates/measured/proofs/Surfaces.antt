@@ -16,7 +16,7 @@ use Rattle.floats.specs.Place.{Real}
 use Rattle.grid.specs.Given.{InRange}
 use Rattle.checks.proofs.Accepted.{knots-step}
 use Rattle.checks.proofs.Rows.{axes-few, in-range}
-use Rattle.cell.proofs.Accepted.{rising-on-axis}
+use Rattle.answer.proofs.Accepted.{rising-on-axis}
 use Rattle.quick_query.proofs.QuickIsFull.{axis-fits}
 use Rattle.measured.specs.Measured.{Surface}
 use Rattle.measured.proofs.Knots.{Knots}

@@ -1,4 +1,3 @@
-mod FoundCells
 pub mod Answers
 pub mod QuickIsFull
 pub mod HoldIsExtend

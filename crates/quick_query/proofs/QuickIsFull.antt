@@ -26,7 +26,7 @@ use Rattle.checks.specs.Tables.{Refusal, row, lowest}
 use Rattle.checks.proofs.Rows.{rows-then, none-applies, axes-few, in-range, exact-3}
 use Rattle.locate.specs.Answers.{Rising}
 use Rattle.locate.proofs.Among.{lower-index-is-locate}
-use Rattle.cell.proofs.Accepted.{rising-on-axis}
+use Rattle.answer.proofs.Accepted.{rising-on-axis}
 
 -- the knots of each axis fit
 pub axis-fits : (g : Grid) → AllFit (g .flat-knots) → (i : ℕ) → AllFit (knots g i)

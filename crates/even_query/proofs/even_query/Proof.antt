@@ -1,77 +1,88 @@
-use Rattle.grid.specs.Given.{grid}
-use Rattle.even_query.proofs.Answers.{locate-given, cell-given, check-refuses, check-passes, axis-refuses, mode-refuses, cell-answers}
 use borrow.Author.Needs.{needs}
 use Rattle.even_query.proofs.even_query.Statement.{statement}
 use Rattle.even_query.proofs.even_query.Tie as tie
+use Rattle.even_query.proofs.even_query.Reads as reads
+use Rattle.even_query.proofs.even_query.Lts as lts
+use Rattle.answer.proofs.answer.Reads as answer-reads
+use Rattle.answer.proofs.modes_of.Reads as modes-of-reads
+use Rattle.answer.proofs.refused.Reads as refused-reads
+use Rattle.checks.proofs.query_refusal.Reads as query-refusal-reads
+use Rattle.even_query.proofs.nothing_told.Reads as nothing-told-reads
+use Rattle.even_query.proofs.refused_uneven.Reads as refused-uneven-reads
+use Rattle.even_query.proofs.uneven.first_uneven.Reads as first-uneven-reads
+use Rattle.grid.proofs.points_of.Reads as points-of-reads
 
+-- src/lib.rt:52:9
+query-refusal-requires : tie.Need-query-refusal-requires
+query-refusal-requires c κs = search needs
+
+-- src/lib.rt:54:29
+refused-requires : tie.Need-refused-requires
+refused-requires c κs = search needs
+
+-- src/lib.rt:54:9
+nothing-told-requires : tie.Need-nothing-told-requires
+nothing-told-requires c κs = search needs
+
+-- src/lib.rt:54:9
 returns : tie.Need-returns
-returns c =
-    let check = c .before .before .before in
-    check-refuses _ _ _ _ (check .query-refusal .ensures) (c .before .before .if1 .taken) _ _ (c .before .refused .ensures) (c .nothing-told .ensures)
+returns c = search needs
 
+-- src/lib.rt:56:9
 first-uneven-requires : tie.Need-first-uneven-requires
-first-uneven-requires c κs =
-    let check = c .before in
-    let s = check .before .before .before .before .args in
-    let given = locate-given _ _ _ (check-passes _ (s .tensor .now) _ _ (check .query-refusal .ensures) (c .if1 .left)) in
-    (given .in-range, given .knots-exact)
+first-uneven-requires c κs = search needs
 
+-- src/lib.rt:58:9
+refused-uneven-requires : tie.Need-refused-uneven-requires
+refused-uneven-requires c κs = search needs
+
+-- src/lib.rt:58:9
 returns-2 : tie.Need-returns-2
-returns-2 c =
-    let first = c .before .before .before in
-    let check = first .before .before in
-    axis-refuses _ _ _ _ (check .query-refusal .ensures) (first .before .if1 .left) _ (first .first-uneven .ensures) (c .before .if2 .taken) _ (c .refused-uneven .ensures)
+returns-2 c = search needs
 
-locate-on-axes-requires : tie.Need-locate-on-axes-requires
-locate-on-axes-requires c κs =
-    let passed = c .before .before .before in
-    let check = passed .before in
-    let s = check .before .before .before .before .args in
-    locate-given _ _ _ (check-passes _ (s .tensor .now) _ _ (check .query-refusal .ensures) (passed .if1 .left))
+-- src/lib.rt:60:18
+points-of-requires : tie.Need-points-of-requires
+points-of-requires c κs = search needs
 
+-- src/lib.rt:61:17
+modes-of-requires : tie.Need-modes-of-requires
+modes-of-requires c κs = search needs
+
+-- src/lib.rt:65:9
+slice-aggregate-answer : tie.Need-slice-aggregate-answer
+slice-aggregate-answer c = search needs
+
+-- src/lib.rt:66:9
+slice-aggregate-answer-2 : tie.Need-slice-aggregate-answer-2
+slice-aggregate-answer-2 c = search needs
+
+-- src/lib.rt:62:18
+answer-requires : tie.Need-answer-requires
+answer-requires c κs = search needs
+
+-- src/lib.rt:62:5
+nothing-told-requires-2 : tie.Need-nothing-told-requires-2
+nothing-told-requires-2 c κs = search needs
+
+-- src/lib.rt:43:1
 returns-3 : tie.Need-returns-3
-returns-3 c =
-    let located = c .before .before .before in
-    let first = located .before .before .before in
-    let check = first .before .before in
-    mode-refuses _ _ _ _ (check .query-refusal .ensures) (first .before .if1 .left) _ (first .first-uneven .ensures) (located .before .if2 .left)
-    _ (located .locate-on-axes .ensures) (c .before .before .if3 .taken) _ _ (c .before .refused2 .ensures) (c .nothing-told2 .ensures)
-
-answer-in-requires : tie.Need-answer-in-requires
-answer-in-requires c κs =
-    let located = c .before .before in
-    let passed = located .before .before .before .before in
-    let check = passed .before in
-    let s = check .before .before .before .before .args in
-    cell-given (grid (s .axes) (s .all) (s .knots .now)) _ (s .coordinates .now)
-    (check-passes _ (s .tensor .now) _ _ (check .query-refusal .ensures) (passed .if1 .left))
-    _ (located .locate-on-axes .ensures) _ (c .points-of .ensures)
-
-returns-4 : tie.Need-returns-4
-returns-4 c =
-    let inside = c .before .before .before in
-    let located = inside .before in
-    let first = located .before .before .before in
-    let check = first .before .before in
-    cell-answers _ _ _ _ (check .query-refusal .ensures) (first .before .if1 .left) _ (first .first-uneven .ensures) (located .before .if2 .left)
-    _ (located .locate-on-axes .ensures) (inside .if3 .left) _ (c .before .before .points-of .ensures) _ _ (c .before .answer-in .ensures) (c .nothing-told3 .ensures)
+returns-3 c = search needs
 
 pub even-query-spec : {M : Type 1} → statement M
 even-query-spec =
     tie.close
     (tie.spec
-    (λ c κs. search needs)
-    (λ c κs. search needs)
-    (λ c κs. search needs)
+    query-refusal-requires
+    refused-requires
+    nothing-told-requires
     returns
     first-uneven-requires
-    (λ c κs. search needs)
+    refused-uneven-requires
     returns-2
-    locate-on-axes-requires
-    (λ c κs. search needs)
-    (λ c κs. search needs)
-    returns-3
-    (λ c κs. search needs)
-    answer-in-requires
-    (λ c κs. search needs)
-    returns-4)
+    points-of-requires
+    modes-of-requires
+    slice-aggregate-answer
+    slice-aggregate-answer-2
+    answer-requires
+    nothing-told-requires-2
+    returns-3)

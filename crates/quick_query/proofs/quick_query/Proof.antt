@@ -1,39 +1,30 @@
-use mathlib.Core.Path.{_≡_, sym, _∙_}
-use mathlib.Core.Logic.{_≢_}
-use mathlib.Core.List.{List}
-use Prim.Native.Nat.{ℕ}
-use lib.ListN.{length}
-use lib.Ieee.{Float}
-use Rattle.rules.specs.declared.Axis.{Axis}
-use Rattle.grid.specs.Given.{grid}
-use Rattle.checks.specs.Check.{sizes-check}
-use Rattle.checks.proofs.Rows.{sizes-stop}
-use Rattle.quick_query.specs.Check.{quick-query-check}
-use Rattle.quick_query.proofs.Answers.{check-refuses}
+use mathlib.Core.Path.{refl, sym, _∙_}
+use Rattle.answer.proofs.Promised.{axes-of, query-fits}
+use Rattle.quick_query.proofs.Answers.{sizes-answer}
 use borrow.Author.Needs.{needs}
 use Rattle.quick_query.proofs.quick_query.Statement.{statement}
 use Rattle.quick_query.proofs.quick_query.Tie as tie
 
--- a number that the sizes give is that of the whole check
-sizes-refuse : (axes : ℕ) (all : List Axis) (knots : List Float) (tensor-given : ℕ) (coordinates : List Float) {r : ℕ} → r ≡ sizes-check axes all → r ≢ 0 → r ≡ quick-query-check (grid axes all knots) tensor-given coordinates
-unfolding quick-query-check
-sizes-refuse axes all knots tensor-given coordinates e some = sizes-stop axes all e _ some
-
 returns : tie.Need-returns
-returns c =
-    let check = c .before .before in
-    let s = check .before .before .before .before .args in
-    check-refuses _ _ _ _ (sizes-refuse (s .axes) (s .all) (s .knots .now) (length (s .tensor .now)) (s .coordinates .now) (check .sizes-refusal .ensures) (c .before .if1 .taken)) (c .before .if1 .taken) _ (c .refused .ensures)
+returns c = sizes-answer _ _ _ _ _ (c .before .before .before .before .points-of .result) (c .before .before .before .before .points-of .ensures) _ (c .before .before .query-sizes-refusal .ensures) (c .before .if1 .taken) _ (c .refused .ensures)
 
-quick-query-after-sizes-requires : tie.Need-quick-query-after-sizes-requires
-quick-query-after-sizes-requires c κs = sym (c .before .sizes-refusal .ensures) ∙ c .if1 .left
+quick-query-of-points-requires : tie.Need-quick-query-of-points-requires
+quick-query-of-points-requires c κs = query-fits (c .before .before .before .before .before .before .before .before .before .before .args .axes) (c .before .before .before .before .before .before .points-of .result) (c .before .before .modes-of .result) (c .before .before .before .before .before .before .before .before .before .before .args .knots .now) (c .before .before .before .before .before .before .before .before .before .before .args .tensor .now) (c .before .before .before .before .before .before .before .before .before .before .args .coordinates .now) (search needs) (c .before .before .modes-of .ensures .four) (sym (c .before .before .before .before .query-sizes-refusal .ensures) ∙ c .before .before .before .if1 .left)
+
+returns-2 : tie.Need-returns-2
+returns-2 c = let fits = query-fits (c .before .before .before .before .before .before .before .before .before .before .before .args .axes) (c .before .before .before .before .before .before .before .points-of .result) (c .before .before .before .modes-of .result) (c .before .before .before .before .before .before .before .before .before .before .before .args .knots .now) (c .before .before .before .before .before .before .before .before .before .before .before .args .tensor .now) (c .before .before .before .before .before .before .before .before .before .before .before .args .coordinates .now) (search needs) (c .before .before .before .modes-of .ensures .four) (sym (c .before .before .before .before .before .query-sizes-refusal .ensures) ∙ c .before .before .before .before .if1 .left) in c .quick-query-of-points .ensures (c .before .before .before .before .before .before .before .before .before .before .before .args .all) (axes-of _ _ (c .before .before .before .before .before .before .before .points-of .result) (c .before .before .before .modes-of .result) (fits .search-fits .in-range .few-axes) (c .before .before .before .before .before .before .before .points-of .ensures) (c .before .before .before .modes-of .ensures))
 
 pub quick-query-spec : {M : Type 1} → statement M
 quick-query-spec =
     tie.close
     (tie.spec
     (λ c κs. search needs)
+    (λ c. search needs)
+    (λ c κs. search needs)
     (λ c κs. search needs)
     returns
-    quick-query-after-sizes-requires
-    (λ c. search needs))
+    (λ c κs. search needs)
+    (λ c. search needs)
+    (λ c. search needs)
+    quick-query-of-points-requires
+    returns-2)
