@@ -1,88 +1,40 @@
+use Rattle.grid.specs.Given.{grid}
+use Rattle.answer.proofs.Promised.{axes-of}
+use Rattle.even_query.proofs.Answers.{axes-given, fits-given, check-refuses, check-passes, axis-refuses, direct-answers}
 use borrow.Author.Needs.{needs}
 use Rattle.even_query.proofs.even_query.Statement.{statement}
 use Rattle.even_query.proofs.even_query.Tie as tie
-use Rattle.even_query.proofs.even_query.Reads as reads
-use Rattle.even_query.proofs.even_query.Lts as lts
-use Rattle.answer.proofs.answer.Reads as answer-reads
-use Rattle.answer.proofs.modes_of.Reads as modes-of-reads
-use Rattle.answer.proofs.refused.Reads as refused-reads
-use Rattle.checks.proofs.query_refusal.Reads as query-refusal-reads
-use Rattle.even_query.proofs.nothing_told.Reads as nothing-told-reads
-use Rattle.even_query.proofs.refused_uneven.Reads as refused-uneven-reads
-use Rattle.even_query.proofs.uneven.first_uneven.Reads as first-uneven-reads
-use Rattle.grid.proofs.points_of.Reads as points-of-reads
 
--- src/lib.rt:52:9
-query-refusal-requires : tie.Need-query-refusal-requires
-query-refusal-requires c κs = search needs
-
--- src/lib.rt:54:29
-refused-requires : tie.Need-refused-requires
-refused-requires c κs = search needs
-
--- src/lib.rt:54:9
-nothing-told-requires : tie.Need-nothing-told-requires
-nothing-told-requires c κs = search needs
-
--- src/lib.rt:54:9
 returns : tie.Need-returns
-returns c = search needs
+returns c = check-refuses _ _ _ _ (c .before .before .before .query-refusal .ensures) (c .before .before .if1 .taken) _ _ (c .before .refused .ensures) (c .nothing-told .ensures)
 
--- src/lib.rt:56:9
 first-uneven-requires : tie.Need-first-uneven-requires
-first-uneven-requires c κs = search needs
+first-uneven-requires c κs = axes-given _ _ _ (c .before .before .before .before .before .args .tensor .now) _ (check-passes (grid (c .before .before .before .before .before .args .axes) (c .before .before .before .before .before .args .all) (c .before .before .before .before .before .args .knots .now)) (c .before .before .before .before .before .args .tensor .now) (c .before .before .before .before .before .args .coordinates .now) _ (c .before .query-refusal .ensures) (c .if1 .left))
 
--- src/lib.rt:58:9
-refused-uneven-requires : tie.Need-refused-uneven-requires
-refused-uneven-requires c κs = search needs
-
--- src/lib.rt:58:9
 returns-2 : tie.Need-returns-2
-returns-2 c = search needs
+returns-2 c = axis-refuses _ _ _ _ (c .before .before .before .before .before .query-refusal .ensures) (c .before .before .before .before .if1 .left) _ (c .before .before .before .first-uneven .ensures) (c .before .if2 .taken) _ (c .refused-uneven .ensures)
 
--- src/lib.rt:60:18
-points-of-requires : tie.Need-points-of-requires
-points-of-requires c κs = search needs
-
--- src/lib.rt:61:17
-modes-of-requires : tie.Need-modes-of-requires
-modes-of-requires c κs = search needs
-
--- src/lib.rt:65:9
-slice-aggregate-answer : tie.Need-slice-aggregate-answer
-slice-aggregate-answer c = search needs
-
--- src/lib.rt:66:9
-slice-aggregate-answer-2 : tie.Need-slice-aggregate-answer-2
-slice-aggregate-answer-2 c = search needs
-
--- src/lib.rt:62:18
 answer-requires : tie.Need-answer-requires
-answer-requires c κs = search needs
+answer-requires c κs = fits-given _ _ _ (c .before .before .before .before .before .before .before .before .before .before .before .before .args .tensor .now) _ (check-passes (grid (c .before .before .before .before .before .before .before .before .before .before .before .before .args .axes) (c .before .before .before .before .before .before .before .before .before .before .before .before .args .all) (c .before .before .before .before .before .before .before .before .before .before .before .before .args .knots .now)) (c .before .before .before .before .before .before .before .before .before .before .before .before .args .tensor .now) (c .before .before .before .before .before .before .before .before .before .before .before .before .args .coordinates .now) _ (c .before .before .before .before .before .before .before .before .query-refusal .ensures) (c .before .before .before .before .before .before .before .if1 .left)) (c .before .before .before .points-of .result) (c .before .before .modes-of .result) (search needs) (c .before .before .modes-of .ensures .four) (c .before .before .before .points-of .ensures)
 
--- src/lib.rt:62:5
-nothing-told-requires-2 : tie.Need-nothing-told-requires-2
-nothing-told-requires-2 c κs = search needs
-
--- src/lib.rt:43:1
 returns-3 : tie.Need-returns-3
-returns-3 c = search needs
+returns-3 c = let fits = fits-given _ _ _ (c .before .before .before .before .before .before .before .before .before .before .before .before .before .before .args .tensor .now) _ (check-passes (grid (c .before .before .before .before .before .before .before .before .before .before .before .before .before .before .args .axes) (c .before .before .before .before .before .before .before .before .before .before .before .before .before .before .args .all) (c .before .before .before .before .before .before .before .before .before .before .before .before .before .before .args .knots .now)) (c .before .before .before .before .before .before .before .before .before .before .before .before .before .before .args .tensor .now) (c .before .before .before .before .before .before .before .before .before .before .before .before .before .before .args .coordinates .now) _ (c .before .before .before .before .before .before .before .before .before .before .query-refusal .ensures) (c .before .before .before .before .before .before .before .before .before .if1 .left)) (c .before .before .before .before .before .points-of .result) (c .before .before .before .before .modes-of .result) (search needs) (c .before .before .before .before .modes-of .ensures .four) (c .before .before .before .before .before .points-of .ensures) in direct-answers _ _ _ _ (c .before .before .before .before .before .before .before .before .before .before .query-refusal .ensures) (c .before .before .before .before .before .before .before .before .before .if1 .left) _ (c .before .before .before .before .before .before .before .before .first-uneven .ensures) (c .before .before .before .before .before .before .if2 .left) _ _ (c .before .answer .ensures (c .before .before .before .before .before .before .before .before .before .before .before .before .before .before .args .all) (axes-of _ _ (c .before .before .before .before .before .points-of .result) (c .before .before .before .before .modes-of .result) (fits .search-fits .in-range .few-axes) (c .before .before .before .before .before .points-of .ensures) (c .before .before .before .before .modes-of .ensures))) (c .nothing-told2 .ensures)
 
 pub even-query-spec : {M : Type 1} → statement M
 even-query-spec =
     tie.close
     (tie.spec
-    query-refusal-requires
-    refused-requires
-    nothing-told-requires
+    (λ c κs. search needs)
+    (λ c κs. search needs)
+    (λ c κs. search needs)
     returns
     first-uneven-requires
-    refused-uneven-requires
+    (λ c κs. search needs)
     returns-2
-    points-of-requires
-    modes-of-requires
-    slice-aggregate-answer
-    slice-aggregate-answer-2
+    (λ c κs. search needs)
+    (λ c κs. search needs)
+    (λ c. search needs)
+    (λ c. search needs)
     answer-requires
-    nothing-told-requires-2
+    (λ c κs. search needs)
     returns-3)
