@@ -85,8 +85,8 @@ pub mode-lengths : (modes : List ℕ) (value : List Float) (labels : List ℕ) �
 mode-lengths modes value labels none =
     exact (length modes) 4 (neither (length-refused (length modes) 4) (query-slots-refused value labels) none .0)
 
--- of a query: where nothing is refused of its own, its slices have their lengths, its axes are in range, and its modes are known
-pub record QueryFits (axes : ℕ) (points modes : List ℕ) (knots tensor coordinates value : List Float) (labels : List ℕ) : Type 0 where
+-- of a query: where nothing is refused of its own, its slices have their lengths, and its axes are in range
+pub record OwnFits (axes : ℕ) (points modes : List ℕ) (knots tensor coordinates value : List Float) (labels : List ℕ) : Type 0 where
   pub four-points : length points ≡ 4
   pub four-modes : length modes ≡ 4
   pub one-value : length value ≡ 1
@@ -96,11 +96,10 @@ pub record QueryFits (axes : ℕ) (points modes : List ℕ) (knots tensor coordi
   pub knots-exact : length knots ≡ sum-below (place-of points) axes
   pub tensor-exact : length tensor ≡ product-below (place-of points) axes * 2 ^ axes
   pub coordinates-exact : length coordinates ≡ axes
-  pub known-modes : some-modes-refused axes modes ≡ false
 
 module _ (axes : ℕ) (points modes : List ℕ) (knots tensor coordinates value : List Float) (labels : List ℕ) where
   -- neither the rows of the axes apply nor those after them
-  fits : NoneApplies (axes-rows axes points) → NoneApplies (query-later-rows axes points modes knots tensor coordinates value labels) → QueryFits axes points modes knots tensor coordinates value labels
+  fits : NoneApplies (axes-rows axes points) → NoneApplies (query-later-rows axes points modes knots tensor coordinates value labels) → OwnFits axes points modes knots tensor coordinates value labels
   fits first later =
       let g = sizes-given axes points in
       let few = axes-few {axes = axes} (first .0) in
@@ -120,20 +119,19 @@ module _ (axes : ℕ) (points modes : List ℕ) (knots tensor coordinates value 
         knots-exact = slices .0 ∙ sums;
         tensor-exact = rw products at (slices .1);
         coordinates-exact = slices .2;
-        known-modes = later .1 .0;
       }
 
-  pub query-fits : query-own-refusal axes points modes knots tensor coordinates value labels ≡ 0 → QueryFits axes points modes knots tensor coordinates value labels
+  pub query-own-fits : query-own-refusal axes points modes knots tensor coordinates value labels ≡ 0 → OwnFits axes points modes knots tensor coordinates value labels
   unfolding query-own-refusal
-  query-fits none =
+  query-own-fits none =
       let rows = none-applies (query-own-rows axes points modes knots tensor coordinates value labels) tt none in
       fits (rows .0, (rows .1 .0, (rows .1 .1 .0, (rows .1 .1 .1 .0, tt)))) (rows .1 .1 .1 .1)
 
-  pub even-query-fits :
+  pub even-query-own-fits :
       (uneven : List ℕ) → even-query-own-refusal axes points modes knots tensor coordinates value labels uneven ≡ 0
-      → QueryFits axes points modes knots tensor coordinates value labels × (length uneven ≡ 2)
+      → OwnFits axes points modes knots tensor coordinates value labels × (length uneven ≡ 2)
   unfolding even-query-own-refusal
-  even-query-fits uneven none =
+  even-query-own-fits uneven none =
       let rows = none-applies (even-query-own-rows axes points modes knots tensor coordinates value labels uneven) tt none in
       (fits (rows .0, (rows .1 .0, (rows .1 .1 .0, (rows .1 .1 .1 .0, tt)))) (rows .1 .1 .1 .1 .1), exact (length uneven) 2 (rows .1 .1 .1 .1 .0))
 

@@ -1,3 +1,3 @@
-mod Left
+mod Given
 pub mod Exported
 pub mod Unique

@@ -30,9 +30,7 @@ pub fn query(
         slots::store_query(value, labels, 0.0, [0; 4]);
         return refusal;
     }
-    let all = plain_axes::axes_without_ends(axes, points);
-    let moded = plain_axes::axes_in_modes(axes, all, modes);
-    let answer = query::query_after_sizes(axes, moded, knots, tensor, coordinates);
+    let answer = query::query_of_points(axes, points, modes, knots, tensor, coordinates);
     let found = answer.labels;
     slots::store_query(value, labels, answer.value, found);
     answer.refusal
@@ -65,9 +63,14 @@ pub fn quick_query(
         slots::store_query(value, labels, 0.0, [0; 4]);
         return refusal;
     }
-    let all = plain_axes::axes_without_ends(axes, points);
-    let moded = plain_axes::axes_in_modes(axes, all, modes);
-    let answer = quick_query::quick_query_after_sizes(axes, moded, knots, tensor, coordinates);
+    let answer = quick_query::quick_query_of_points(
+        axes,
+        points,
+        modes,
+        knots,
+        tensor,
+        coordinates,
+    );
     let found = answer.labels;
     slots::store_query(value, labels, answer.value, found);
     answer.refusal

@@ -1,27 +1,21 @@
-use Rattle.boundary.proofs.Lengths.{query-lengths}
+use mathlib.Core.Path.{sym, _∙_}
+use Rattle.boundary.proofs.Lengths.{even-query-own-fits}
 use Rattle.query_exports.proofs.Exported.{even-query-refused, even-query-called}
 use borrow.Author.Needs.{needs}
 use Rattle.query_exports.proofs.even_query.Statement.{statement}
 use Rattle.query_exports.proofs.even_query.Tie as tie
 
 returns : tie.Need-returns
-returns c =
-    let stored = c .before .before .before .before .before .before in
-    let refused = stored .before .before .before .before in
-    even-query-refused _ _ _ _ _ _ _ _ _ (refused .before .even-query-own-refusal .ensures) (refused .if1 .taken) (stored .store-even-query .ensures)
+returns c = even-query-refused _ _ _ _ _ _ _ _ _ (c .before .before .before .before .before .before .before .before .before .before .before .even-query-own-refusal .ensures) (c .before .before .before .before .before .before .before .before .before .before .if1 .taken) (c .before .before .before .before .before .before .store-even-query .ensures)
 
 axes-without-ends-requires : tie.Need-axes-without-ends-requires
-axes-without-ends-requires c κs = query-lengths _ _ _ _ _ _ _ _ (c .before .even-query-own-refusal .ensures .passed (c .if1 .left)) .0
+axes-without-ends-requires c κs = even-query-own-fits _ _ _ _ _ _ (c .before .before .before .before .before .before .before .before .before .before .before .before .before .args .value .now) (c .before .before .before .before .before .before .before .before .before .before .before .before .before .args .labels .now) (c .before .before .before .before .before .before .before .before .before .before .before .before .before .args .uneven .now) (sym (c .before .even-query-own-refusal .ensures) ∙ c .if1 .left) .0 .four-points
 
 axes-in-modes-requires : tie.Need-axes-in-modes-requires
-axes-in-modes-requires c κs = query-lengths _ _ _ _ _ _ _ _ (c .before .before .even-query-own-refusal .ensures .passed (c .before .if1 .left)) .1
+axes-in-modes-requires c κs = even-query-own-fits _ _ _ _ _ _ (c .before .before .before .before .before .before .before .before .before .before .before .before .before .before .args .value .now) (c .before .before .before .before .before .before .before .before .before .before .before .before .before .before .args .labels .now) (c .before .before .before .before .before .before .before .before .before .before .before .before .before .before .args .uneven .now) (sym (c .before .before .even-query-own-refusal .ensures) ∙ c .before .if1 .left) .0 .four-modes
 
 returns-2 : tie.Need-returns-2
-returns-2 c =
-    let stored = c .before .before .before .before .before .before in
-    let answered = stored .before .before .before .before .before in
-    let passed = answered .before .before .before in
-    even-query-called _ _ _ _ _ _ _ _ _ (passed .before .even-query-own-refusal .ensures) (passed .if1 .left) _ (answered .before .before .axes-without-ends .ensures) _ (answered .before .axes-in-modes .ensures) _ (answered .even-query .ensures) (stored .store-even-query2 .ensures)
+returns-2 c = even-query-called _ _ _ _ _ _ _ _ _ (c .before .before .before .before .before .before .before .before .before .before .before .before .before .before .before .even-query-own-refusal .ensures) (c .before .before .before .before .before .before .before .before .before .before .before .before .before .before .if1 .left) _ (c .before .before .before .before .before .before .before .before .before .before .before .before .before .axes-without-ends .ensures) _ (c .before .before .before .before .before .before .before .before .before .before .before .before .axes-in-modes .ensures) _ (c .before .before .before .before .before .before .before .before .before .before .before .even-query .ensures) (c .before .before .before .before .before .before .store-even-query2 .ensures)
 
 pub even-query-spec : {M : Type 1} → statement M
 even-query-spec =

@@ -1,5 +1,6 @@
-use Rattle.boundary.proofs.Lengths.{query-lengths}
-use Rattle.query_exports.proofs.Left.{sizes-in-modes}
+use mathlib.Core.Path.{sym, _∙_}
+use Rattle.boundary.proofs.Lengths.{query-own-fits}
+use Rattle.query_exports.proofs.Given.{query-fits}
 use Rattle.query_exports.proofs.Exported.{quick-query-refused, quick-query-called}
 use borrow.Author.Needs.{needs}
 use Rattle.query_exports.proofs.quick_query.Statement.{statement}
@@ -8,19 +9,11 @@ use Rattle.query_exports.proofs.quick_query.Tie as tie
 returns : tie.Need-returns
 returns c = quick-query-refused _ _ _ _ _ _ _ _ (c .before .before .before .before .before .before .before .before .query-own-refusal .ensures) (c .before .before .before .before .before .before .before .if1 .taken) (c .before .before .before .before .store-query .ensures)
 
-axes-without-ends-requires : tie.Need-axes-without-ends-requires
-axes-without-ends-requires c κs = query-lengths _ _ _ _ _ _ _ _ (c .before .query-own-refusal .ensures .passed (c .if1 .left)) .0
-
-axes-in-modes-requires : tie.Need-axes-in-modes-requires
-axes-in-modes-requires c κs = query-lengths _ _ _ _ _ _ _ _ (c .before .before .query-own-refusal .ensures .passed (c .before .if1 .left)) .1
-
-quick-query-after-sizes-requires : tie.Need-quick-query-after-sizes-requires
-quick-query-after-sizes-requires c κs =
-    let passed = c .before .before in
-    rw (c .axes-in-modes .ensures, c .before .axes-without-ends .ensures) (sizes-in-modes _ _ _ (passed .before .query-own-refusal .ensures .passed (passed .if1 .left) .axes-fine))
+quick-query-of-points-requires : tie.Need-quick-query-of-points-requires
+quick-query-of-points-requires c κs = query-fits (query-own-fits _ _ _ _ _ _ (c .before .before .before .before .before .before .before .before .before .before .before .args .value .now) (c .before .before .before .before .before .before .before .before .before .before .before .args .labels .now) (sym (c .before .query-own-refusal .ensures) ∙ c .if1 .left))
 
 returns-2 : tie.Need-returns-2
-returns-2 c = quick-query-called _ _ _ _ _ _ _ _ (c .before .before .before .before .before .before .before .before .before .before .before .before .query-own-refusal .ensures) (c .before .before .before .before .before .before .before .before .before .before .before .if1 .left) _ (c .before .before .before .before .before .before .before .before .before .before .axes-without-ends .ensures) _ (c .before .before .before .before .before .before .before .before .before .axes-in-modes .ensures) _ (c .before .before .before .before .before .before .before .before .quick-query-after-sizes .ensures) (c .before .before .before .before .store-query2 .ensures)
+returns-2 c = quick-query-called _ _ _ _ _ _ _ _ (c .before .before .before .before .before .before .before .before .before .before .query-own-refusal .ensures) (c .before .before .before .before .before .before .before .before .before .if1 .left) _ (c .before .before .before .before .before .before .before .before .quick-query-of-points .ensures) (c .before .before .before .before .store-query2 .ensures)
 
 pub quick-query-spec : {M : Type 1} → statement M
 quick-query-spec =
@@ -31,9 +24,7 @@ quick-query-spec =
     (λ c. search needs)
     (λ c. search needs)
     returns
-    axes-without-ends-requires
-    axes-in-modes-requires
-    quick-query-after-sizes-requires
+    quick-query-of-points-requires
     (λ c κs. search needs)
     (λ c. search needs)
     (λ c. search needs)
