@@ -1,18 +1,17 @@
 -- What is answered where a point was looked for on the axes: the first refusal that applies, or the value in the cell that was found, and the cell as labels.
 use native.Mathlib.Omega.{arith}
-use mathlib.Core.Path.{_≡_, refl, sym, ap, _∙_}
+use mathlib.Core.Path.{_≡_, refl, sym, _∙_}
 use mathlib.Core.Logic.{_≢_}
 use mathlib.Core.Bool.{Bool, true, false, cond}
 use mathlib.Core.List.{List}
-use Prim.Native.Nat.{ℕ, zero, suc, _+_, _*_, _^_, _<_, _≤_}
+use Prim.Native.Nat.{ℕ, zero, suc, _<_}
 use native.Mathlib.Nat.{zero-add}
 use lib.Dec.{ltb}
-use lib.ListN.{length}
 use lib.Ieee.{Float}
 use lib.Ieee.Scale.{finite}
 use borrow.Author.Tests.{ltb-true, ltb-false}
 use Rattle.rules.specs.Numbers.{at}
-use Rattle.rules.specs.Sizes.{most-axes, Grid, points, knots, product-below, Place, place-of, flat}
+use Rattle.rules.specs.Sizes.{most-axes, Grid, points, knots, Place, place-of, flat}
 use Rattle.rules.specs.Steps.{h}
 use Rattle.rules.specs.Refusals.{some-number-refused, answer-refused}
 use Rattle.rules.specs.Outside.{placed-on}
@@ -27,7 +26,7 @@ use Rattle.blend.specs.Blend.{WeightsOn}
 use Rattle.cell.specs.Points.{CellAt, blended}
 use Rattle.answer.specs.Given.{AxesOf, QueryFits}
 use Rattle.answer.specs.Found.{cells-by, FoundOn, FoundAmong}
-use Rattle.answer.specs.Answers.{refused-with, answer-in, knots-refusal, some-knots-refuse, value-by, refusal-by, AnswerAmong}
+use Rattle.answer.specs.Answers.{refused-with, answer-in, knots-refusal, value-by, refusal-by, AnswerAmong}
 use Rattle.answer.specs.declared.ways.Way.{Way}
 use Rattle.answer.specs.declared.ways.Way.the-variants.{Walked, Searched, Direct}
 use Rattle.answer.specs.declared.searched.Refusals.{Refusals}

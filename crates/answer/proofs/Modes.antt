@@ -3,7 +3,6 @@ use native.Mathlib.Omega.{arith}
 use mathlib.Core.Path.{_≡_, refl, sym, ap, _∙_}
 use mathlib.Core.List.{List, [], _∷_}
 use Prim.Native.Nat.{ℕ, zero, suc, _<_}
-use lib.ListN.{length}
 use Rattle.rules.specs.Sizes.{place-of}
 use Rattle.rules.specs.Outside.{mode-number}
 use Rattle.rules.specs.declared.Axis.{Axis}

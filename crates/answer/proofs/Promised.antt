@@ -1,11 +1,10 @@
 -- From an answer to a promise: axes that have the points and modes which were taken out of them, what is left where sizes and lengths are not refused, and that these refuse nothing then.
 use native.Mathlib.Omega.{arith}
-use mathlib.Core.Path.{_≡_, refl, sym, ap, subst, _∙_}
+use mathlib.Core.Path.{_≡_, refl, sym, ap, _∙_}
 use mathlib.Core.Logic.{_≢_}
-use mathlib.Core.Bool.{Bool, false, cond, not, _||_}
+use mathlib.Core.Bool.{Bool, false, cond, not}
 use mathlib.Core.List.{List}
-use Prim.Native.Nat.{ℕ, zero, suc, _*_, _^_, _<_, _≤_}
-use lib.Dec.{ltb}
+use Prim.Native.Nat.{ℕ, zero, suc, _*_, _^_, _≤_}
 use lib.ListN.{length}
 use lib.Ieee.{Float}
 use borrow.Author.Tests.{ltb-false, le-ltb, eq-eqb}
@@ -21,7 +20,7 @@ use Rattle.base.proofs.Scan.{any-never}
 use Rattle.grid.specs.Given.{grid, points-of}
 use Rattle.checks.specs.Check.{query-sizes-rows, query-sizes-check}
 use Rattle.checks.proofs.Rows.{rows-then, none-applies, axes-few, in-range, exact-3}
-use Rattle.answer.specs.Given.{AxesOf, ModesOf, SearchFits, QueryFits}
+use Rattle.answer.specs.Given.{AxesOf, ModesOf, QueryFits}
 
 -- ---- points and modes that were taken out of axes
 

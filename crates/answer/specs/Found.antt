@@ -6,7 +6,7 @@ use Prim.Native.Nat.{ℕ, _+_, _<_, _≤_}
 use lib.ListN.{length, replicate}
 use lib.Ieee.{Float}
 use lib.Ieee.Scale.{finite}
-use Rattle.rules.specs.Numbers.{plus-zero, at, any}
+use Rattle.rules.specs.Numbers.{at, any}
 use Rattle.rules.specs.Sizes.{most-axes, Grid, points, knots, Place, place-of}
 use Rattle.rules.specs.Steps.{h}
 use Rattle.rules.specs.Refusals.{number-refused}

@@ -2,7 +2,6 @@
 ghost use mathlib.Core.Path.{_≡_};
 ghost use Prim.Native.Nat.{_+_, _<_};
 ghost use lib.ListN.{length};
-ghost use Rattle.rules.specs.Numbers.{zeros};
 ghost use Rattle.answer.specs.Given.{SearchFits};
 ghost use Rattle.answer.specs.Found.{WeightsStored, Unfound, FoundAmong};
 use crate::ways;

@@ -12,7 +12,6 @@ use Rattle.rules.specs.Refusals.{length-refused}
 use Rattle.base.proofs.Scan.{neither}
 use Rattle.grid.specs.Given.{InRange}
 use Rattle.checks.proofs.Rows.{NoneApplies, none-applies, axes-few, in-range, exact, exact-2, exact-3}
-use Rattle.plain_axes.specs.Axes.{some-modes-refused}
 use Rattle.boundary.specs.OwnRefusals.{sizes-given, two-ends-refused, eight-ends-refused, place-or-lanes-refused, query-slots-refused, modes-or-slots-refused, modes-or-slot-refused, found-slots-refused, moments-own-rows, moments-own-refusal, build-own-rows, build-own-refusal, change-own-rows, change-own-refusal, write-own-rows, write-own-refusal, axes-rows, query-later-rows, query-own-rows, query-own-refusal, even-query-own-rows, even-query-own-refusal, read-edition-1-own-refusal, read-own-refusal, sheet-tensor-own-refusal}
 use Rattle.boundary.proofs.Rows.{refused-given, sum-given, product-given}
 

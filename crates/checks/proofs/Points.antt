@@ -1,5 +1,5 @@
--- The points taken out of four axes: what is asked of them is asked of the axes. Where refusals 1 to 3 do not apply, what a query meets below these is its whole check, and where 4 does not either, what its knots and coordinates meet.
-use mathlib.Core.Path.{_≡_, refl, sym, ap, subst, _∙_}
+-- The points taken out of four axes: what is asked of them is asked of the axes. Where a query's sizes and lengths are not refused, what its knots and coordinates meet is its whole check.
+use mathlib.Core.Path.{_≡_, sym, ap, subst, _∙_}
 use mathlib.Core.Bool.{Bool}
 use mathlib.Core.List.{List}
 use Prim.Native.Nat.{ℕ, _*_, _^_}
@@ -9,9 +9,9 @@ use Rattle.rules.specs.Sizes.{place-of, sum-below, product-below}
 use Rattle.rules.specs.Refusals.{some-knots-refused}
 use Rattle.rules.specs.declared.Axis.{Axis}
 use Rattle.grid.specs.Given.{grid, sizes-of, points-of, InRange}
-use Rattle.checks.specs.Check.{points-rows, points-check, sizes-rows, sizes-check, knots-of-points-refused, query-sizes-rows, query-sizes-check, knots-and-coordinates-rows, knots-and-coordinates-check, query-numbers-rows, query-numbers-check, query-check}
+use Rattle.checks.specs.Check.{points-rows, points-check, sizes-rows, knots-of-points-refused, query-sizes-rows, query-sizes-check, knots-and-coordinates-rows, knots-and-coordinates-check, query-check}
 use Rattle.checks.specs.Tables.{lowest}
-use Rattle.checks.proofs.Rows.{none-applies, rows-stop, rows-pass, axes-few, in-range, sizes-passed, sizes-pass, exact-3}
+use Rattle.checks.proofs.Rows.{none-applies, rows-stop, rows-pass, axes-few, in-range, exact-3}
 
 module _ (axes : ℕ) (all : List Axis) (points : List ℕ) (same : place-of points ≡ points-of all) where
   pub range-of-points : InRange axes (points-of all) → InRange axes (place-of points)
@@ -23,18 +23,6 @@ module _ (axes : ℕ) (all : List Axis) (points : List ℕ) (same : place-of poi
 
   pub knots-of-points : (knots : List Float) {r : Bool} → r ≡ knots-of-points-refused axes (place-of points) knots → r ≡ some-knots-refused (grid axes all knots)
   knots-of-points knots e = e ∙ ap (λ (n : ℕ → ℕ). knots-of-points-refused axes n knots) same
-
-  module _ (accepted : sizes-check axes all ≡ 0) where
-    pub range-accepted : InRange axes (place-of points)
-    range-accepted = range-of-points (sizes-passed axes all (sym accepted) refl)
-
-    pub numbers-are-the-check :
-        (knots : List Float) (tensor-given : ℕ) (coordinates : List Float) {r : ℕ}
-        → r ≡ query-numbers-check axes (place-of points) knots tensor-given coordinates → r ≡ query-check (grid axes all knots) tensor-given coordinates
-    unfolding query-numbers-check query-check
-    numbers-are-the-check knots tensor-given coordinates e =
-        sizes-pass axes all (sym accepted) _ refl
-        (e ∙ ap (λ (n : ℕ → ℕ). lowest (query-numbers-rows axes n knots tensor-given coordinates) 0) same)
 
   -- a query's sizes and lengths are asked by the points
   module _ (knots : List Float) (tensor-given : ℕ) (coordinates : List Float) {number : ℕ} (e : number ≡ query-sizes-check axes (place-of points) (length knots) tensor-given (length coordinates)) where

@@ -87,15 +87,6 @@ knots-and-coordinates-rows axes n knots coordinates =
 unfoldable pub knots-and-coordinates-check : ℕ → (ℕ → ℕ) → List Float → List Float → ℕ
 knots-and-coordinates-check axes n knots coordinates = lowest (knots-and-coordinates-rows axes n knots coordinates) 0
 
--- what it meets below its sizes
-abbrev pub query-numbers-rows : ℕ → (ℕ → ℕ) → List Float → ℕ → List Float → List Refusal
-query-numbers-rows axes n knots tensor-given coordinates =
-    row 4 (lengths-of-points-refused axes n (length knots) tensor-given (length coordinates))
-    ∷ knots-and-coordinates-rows axes n knots coordinates
-
-unfoldable pub query-numbers-check : ℕ → (ℕ → ℕ) → List Float → ℕ → List Float → ℕ
-query-numbers-check axes n knots tensor-given coordinates = lowest (query-numbers-rows axes n knots tensor-given coordinates) 0
-
 -- the rows of every one of them, which need no knots
 abbrev pub sizes-rows : Grid → List Refusal
 sizes-rows g = row 1 (axes-refused g) ∷ row 2 (some-points-refused g) ∷ row 3 (tensor-refused g) ∷ []

@@ -3,8 +3,7 @@ ghost use mathlib.Core.Path.{_≡_};
 ghost use lib.ListN.{length};
 ghost use Rattle.rules.specs.Sizes.{place-of, sum-below};
 ghost use Rattle.grid.specs.Given.{grid, InRange};
-ghost use Rattle.checks.specs.Check.{moments-check, curve-check, slopes-check, build-check, change-check, query-sizes-check, knots-and-coordinates-check, query-numbers-check, query-check};
-use crate::sizes::Sizes;
+ghost use Rattle.checks.specs.Check.{moments-check, curve-check, slopes-check, build-check, change-check, query-sizes-check, knots-and-coordinates-check, query-check};
 use rules::Axis;
 use rules::Condition;
 
@@ -219,28 +218,6 @@ pub fn knots_and_coordinates_refusal(
         return 8;
     }
     0
-}
-
-// What a query meets whose axes are of so many points: 4, 7, 8, or 0. Not public: what refusals 1 and 2 leave is required, and four points.
-pub fn query_numbers_refusal(
-    axes: usize,
-    points: &[usize],
-    knots: &[f64],
-    tensor_length: usize,
-    coordinates: &[f64],
-) -> usize
-    requires { ⌜ InRange axes (place-of (now points)) × (length (now points) ≡ 4) ⌝ }
-    ensures { λ r. ⌜ r ≡ query-numbers-check axes (place-of (now (points .entry))) (now (knots .entry)) «tensor_length» (now (coordinates .entry)) ⌝ }
-{
-    let sizes = Sizes {
-        refusal: 0,
-        knots: grid::sum_of_points(axes, points),
-        numbers: grid::product_of_points(axes, points) * grid::masks(axes),
-    };
-    if lengths::query_lengths_refused(axes, sizes, knots.len(), tensor_length, coordinates.len()) {
-        return 4;
-    }
-    knots_and_coordinates_refusal(axes, points, knots, coordinates)
 }
 
 // What a query meets: 1, 2, 3, 4, 7, 8, or 0.

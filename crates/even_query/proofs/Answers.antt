@@ -14,8 +14,8 @@ use Rattle.rules.specs.Sizes.{Grid, points, knots-length, place-of}
 use Rattle.rules.specs.Refusals.{answer-refused}
 use Rattle.rules.specs.Outside.{some-outside-refused}
 use Rattle.rules.specs.Even.{some-uneven-refused}
-use Rattle.rules.specs.Query.{even-cell-of, even-query}
-use Rattle.rules.specs.Calls.{or-else, labels-of, answer-of}
+use Rattle.rules.specs.Query.{even-query}
+use Rattle.rules.specs.Calls.{or-else, answer-of}
 use Rattle.rules.specs.EvenCalls.{nothing-told, even-labels, even-query-refusal, even-query-answer, EvenQueryPromise}
 use Rattle.rules.specs.declared.Axis.{Axis}
 use Rattle.rules.specs.declared.EvenAnswer.{EvenAnswer}
@@ -29,7 +29,7 @@ use Rattle.checks.specs.Check.{query-rows, query-check}
 use Rattle.checks.proofs.Accepted.{query-given}
 use Rattle.checks.proofs.Rows.{rows-then, rows-below-10}
 use Rattle.answer.specs.Given.{QueryFits}
-use Rattle.answer.specs.Answers.{refused-with, some-knots-refuse, refusal-by, AnswerBy}
+use Rattle.answer.specs.Answers.{refused-with, refusal-by, AnswerBy}
 use Rattle.answer.specs.declared.ways.Way.the-variants.{Direct}
 use Rattle.answer.proofs.Answering.{refused-is}
 use Rattle.even_query.specs.Uneven.{FirstUneven, refused-uneven}

@@ -35,21 +35,7 @@ pub fn points_of(all: [Axis; 4]) -> [usize; 4]
     [all[0].points, all[1].points, all[2].points, all[3].points]
 }
 
-// How many knots axes of so many points have together.
-pub fn sum_of_points(axes: usize, points: &[usize]) -> usize
-    requires { ⌜ InRange axes (place-of (now points)) × (length (now points) ≡ 4) ⌝ }
-    ensures { λ r. ⌜ (r ≡ sum-below (place-of (now (points .entry))) axes) × (r ≤ 1024) ⌝ }
-{
-    let mut sum = 0;
-    let mut i = 0;
-    while i < axes {
-        sum += points[i];
-        i += 1;
-    }
-    sum
-}
-
-// How many places their grid has.
+// How many places the grid of axes of so many points has.
 pub fn product_of_points(axes: usize, points: &[usize]) -> usize
     requires { ⌜ InRange axes (place-of (now points)) × (length (now points) ≡ 4) ⌝ }
     ensures { λ r. ⌜ (r ≡ product-below (place-of (now (points .entry))) axes) × (r ≤ 4294967296) ⌝ }

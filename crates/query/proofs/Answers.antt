@@ -1,19 +1,18 @@
 -- What the query answers: its sizes and lengths refuse, or the walk finds the cell of the rules on knots that it lets pass, so the value in that cell and its labels are theirs.
 use native.Mathlib.Omega.{arith}
-use mathlib.Core.Path.{_≡_, refl, sym, ap, _∙_}
+use mathlib.Core.Path.{_≡_, refl, ap, _∙_}
 use mathlib.Core.Logic.{_≢_}
 use mathlib.Core.Bool.{Bool, true, false, cond, _||_}
 use mathlib.Core.List.{List}
-use Prim.Native.Nat.{ℕ, _<_}
+use Prim.Native.Nat.{ℕ}
 use lib.ListN.{length}
 use lib.Ieee.{Float}
-use lib.Ieee.Scale.{finite}
 use borrow.Author.Tests.{not-false}
-use Rattle.rules.specs.Numbers.{at, any}
+use Rattle.rules.specs.Numbers.{at}
 use Rattle.rules.specs.Sizes.{Grid, points, knots, sum-below, place-of}
 use Rattle.rules.specs.Refusals.{number-refused, some-number-refused, knots-refused, some-knots-refused, answer-refused}
 use Rattle.rules.specs.Outside.{placed-on, some-outside-refused}
-use Rattle.rules.specs.Query.{value-in, cell-of, quick-cell-of, query-in-modes}
+use Rattle.rules.specs.Query.{cell-of, quick-cell-of, query-in-modes}
 use Rattle.rules.specs.Calls.{labels-of, answer-of, labels, query-refusal, query-answer, QueryPromise}
 use Rattle.rules.specs.declared.Axis.{Axis}
 use Rattle.rules.specs.declared.QueryAnswer.{QueryAnswer}

@@ -5,7 +5,6 @@ use Prim.Native.Nat.{ℕ, _≤_}
 use lib.Ieee.{Float}
 use Rattle.rules.specs.Numbers.{plus-zero, table}
 use Rattle.rules.specs.Sizes.{most-axes}
-use Rattle.rules.specs.Calls.{QueryPromise, QuickQueryPromise}
 use Rattle.rules.specs.EvenCalls.{even-query-answer, EvenQueryPromise}
 use Rattle.rules.specs.declared.QueryAnswer.{QueryAnswer}
 use Rattle.rules.specs.declared.EvenAnswer.{EvenAnswer}
