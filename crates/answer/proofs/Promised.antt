@@ -87,32 +87,40 @@ module _ (axes : ℕ) (points-in modes-in : List ℕ) (x tensor coordinates : Li
   lengths-fine : query-lengths-refused g tensor coordinates ≡ false
   lengths-fine = rw (fine-length knots-exact, fine-length tensor-exact, fine-length (fits .search-fits .coordinates-exact)) refl
 
-  -- a query's refusal begins with 7
+  -- what is looked at after 1 to 4 decides
+  pub past-4 :
+      (later : ℕ)
+      → cond (axes-refused g) 1 (cond (some-points-refused g) 2 (cond (tensor-refused g) 3 (cond (query-lengths-refused g tensor coordinates) 4 later))) ≡ later
+  past-4 later = rw (axes-fine, points-fine, size-fine, lengths-fine) refl
+
+  -- so a query's refusal begins with 7
   pub from-7 :
       (numbers cells value : Bool)
       → refusal-in-order g tensor coordinates numbers cells value ≡ cond numbers 7 (cond cells 8 (cond (some-outside-refused g (at coordinates)) 18 (cond value 10 0)))
-  from-7 numbers cells value = rw (axes-fine, points-fine, size-fine, lengths-fine) refl
+  from-7 numbers cells value = past-4 _
 
 -- ---- they do refuse
 
-module _ (axes : ℕ) (all : List Axis) (x tensor coordinates : List Float) (numbers cells value : Bool) where
-  -- what comes after them
-  abbrev later : ℕ
-  later = cond numbers 7 (cond cells 8 (cond (some-outside-refused (grid axes all x) (at coordinates)) 18 (cond value 10 0)))
+module _ (axes : ℕ) (all : List Axis) (x tensor coordinates : List Float) where
+  abbrev given : Grid
+  given = grid axes all x
 
-  -- a query's refusal begins with what is met of its sizes and lengths
-  sizes-first : refusal-in-order (grid axes all x) tensor coordinates numbers cells value ≡ or-else (query-sizes-check axes (points-of all) (length x) (length tensor) (length coordinates)) later
+  -- 1 to 4, and what comes after them
+  abbrev sizes-then : ℕ → ℕ
+  sizes-then later = cond (axes-refused given) 1 (cond (some-points-refused given) 2 (cond (tensor-refused given) 3 (cond (query-lengths-refused given tensor coordinates) 4 later)))
+
+  sizes-first : (later : ℕ) → sizes-then later ≡ or-else (query-sizes-check axes (points-of all) (length x) (length tensor) (length coordinates)) later
   unfolding query-sizes-check
-  sizes-first = rows-then (query-sizes-rows axes (points-of all) (length x) (length tensor) (length coordinates)) later tt
+  sizes-first later = rows-then (query-sizes-rows axes (points-of all) (length x) (length tensor) (length coordinates)) later tt
 
-  -- so where they refuse it is that
+  -- where sizes or lengths are refused it is by that number, whatever comes after them
   pub sizes-refuse :
       (points-in : List ℕ) → place-of points-in ≡ points-of all → (number : ℕ) → number ≡ query-sizes-check axes (place-of points-in) (length x) (length tensor) (length coordinates) → number ≢ 0
-      → refusal-in-order (grid axes all x) tensor coordinates numbers cells value ≡ number
-  sizes-refuse points-in same number is some =
+      → (later : ℕ) → sizes-then later ≡ number
+  sizes-refuse points-in same number is some later =
       let met : query-sizes-check axes (points-of all) (length x) (length tensor) (length coordinates) ≡ number =
       sym (is ∙ ap (λ (n : ℕ → ℕ). query-sizes-check axes n (length x) (length tensor) (length coordinates)) same) in
-      sizes-first ∙ rw met (or-else-met number later some)
+      sizes-first later ∙ rw met (or-else-met number later some)
 
 -- after a refusal an answer says nothing else
 pub same-refused : (refusal : ℕ) → refusal ≢ 0 → (v v′ : Float) (l l′ : List ℕ) → answer-of refusal v l ≡ answer-of refusal v′ l′

@@ -1,17 +1,17 @@
--- What the query of even axes answers: its check, the axes, the modes and the value decide, in this order.
+-- What the query of even axes answers: its sizes and lengths, its knots and coordinates, the axes, the modes and the value decide, in this order.
 use native.Mathlib.Omega.{arith}
 use mathlib.Core.Path.{_≡_, refl, sym, ap, _∙_}
 use mathlib.Core.Logic.{_≢_}
-use mathlib.Core.Bool.{Bool, true, false, cond}
-use mathlib.Core.List.{List}
-use Prim.Native.Nat.{ℕ, _<_}
+use mathlib.Core.Bool.{Bool, true, false, cond, _||_}
+use mathlib.Core.List.{List, [], _∷_}
+use Prim.Native.Nat.{ℕ, _-_, _<_, _≤_}
 use lib.Dec.{ltb}
-use lib.ListN.{length}
+use lib.ListN.{length, take, drop}
 use lib.Ieee.{Float}
 use borrow.Author.Tests.{lt-ltb}
 use Rattle.rules.specs.Numbers.{at}
-use Rattle.rules.specs.Sizes.{Grid, points, knots-length, place-of}
-use Rattle.rules.specs.Refusals.{answer-refused}
+use Rattle.rules.specs.Sizes.{Grid, points, knots, sum-below, place-of}
+use Rattle.rules.specs.Refusals.{some-number-refused, knots-refused, some-knots-refused, answer-refused}
 use Rattle.rules.specs.Outside.{some-outside-refused}
 use Rattle.rules.specs.Even.{some-uneven-refused}
 use Rattle.rules.specs.Query.{even-query}
@@ -20,51 +20,59 @@ use Rattle.rules.specs.EvenCalls.{nothing-told, even-labels, even-query-refusal
 use Rattle.rules.specs.declared.Axis.{Axis}
 use Rattle.rules.specs.declared.EvenAnswer.{EvenAnswer}
 use Rattle.rules.specs.declared.QueryAnswer.{QueryAnswer}
-use Rattle.rules.proofs.Refused.{or-else-met}
+use Rattle.rules.proofs.Refused.{or-else-met, any-ext}
+use Rattle.rules.proofs.Sums.{sum-ext}
 use Rattle.rules.proofs.EvenIsQuery.{answers-as-query}
-use Rattle.base.proofs.Scan.{any-never}
-use Rattle.grid.specs.Given.{grid, points-of, InRange}
-use Rattle.checks.specs.Given.{QueryGiven}
-use Rattle.checks.specs.Check.{query-rows, query-check}
-use Rattle.checks.proofs.Accepted.{query-given}
-use Rattle.checks.proofs.Rows.{rows-then, rows-below-10}
-use Rattle.answer.specs.Given.{QueryFits}
+use Rattle.base.proofs.Scan.{neither, any-never}
+use Rattle.grid.specs.Given.{grid, points-of}
+use Rattle.checks.specs.Check.{query-sizes-rows, query-sizes-check, knots-of-points-refused, knots-and-coordinates-rows, knots-and-coordinates-check}
+use Rattle.checks.specs.Tables.{row, lowest}
+use Rattle.checks.proofs.Rows.{rows-then, rows-below-10, none-applies}
+use Rattle.answer.specs.Given.{AxesOf, QueryFits}
 use Rattle.answer.specs.Answers.{refused-with, refusal-by, AnswerBy}
 use Rattle.answer.specs.declared.ways.Way.the-variants.{Direct}
 use Rattle.answer.proofs.Answering.{refused-is}
+use Rattle.answer.proofs.Promised.{past-4, sizes-refuse}
 use Rattle.even_query.specs.Uneven.{FirstUneven, refused-uneven}
 use Rattle.even_query.specs.declared.uneven.Uneven.{Uneven}
 
--- ---- what the check lets pass
+-- ---- another refusal than 21
 
-module _ (axes : ℕ) (all : List Axis) (x tensor coordinates : List Float) (given : QueryGiven (grid axes all x) (length tensor) coordinates) where
-  pub axes-given : InRange axes (points-of all) × (length x ≡ knots-length (grid axes all x))
-  axes-given = (given .grid-given .in-range, given .grid-given .knots-exact)
+module _ (g : Grid) (tensor coordinates : List Float) (number : ℕ) (met : even-query-refusal g tensor coordinates ≡ number) (some : number ≢ 0) (low : number < 10) where
+  refused-by : (r : EvenAnswer) (answer : QueryAnswer) → answer ≡ refused-with number → r ≡ nothing-told answer → EvenQueryPromise g tensor coordinates r
+  unfolding even-query-answer
+  refused-by r answer refused is = record {
+    answer = is
+        ∙ ap nothing-told (refused ∙ refused-is (even-query-refusal g tensor coordinates) number (even-query g tensor (at coordinates)) (even-labels g tensor coordinates) met some)
+        ∙ sym (answers-as-query (even-query-refusal g tensor coordinates) _ _ _ _ (λ z. omega (arith, met, z)));
+  }
 
-  -- by points and modes that were taken out of the axes
-  pub fits-given : (points-in modes-in : List ℕ) → length points-in ≡ 4 → length modes-in ≡ 4 → place-of points-in ≡ points-of all → QueryFits axes points-in modes-in x tensor coordinates
-  fits-given points-in modes-in four-points four-modes same =
-      let g = given .grid-given in
-      record {
-        search-fits = record {
-          four-points = four-points;
-          four-modes = four-modes;
-          in-range = rw same (g .in-range);
-          knots-exact = rw same (g .knots-exact);
-          coordinates-exact = given .coordinates-exact;
-        };
-        small = rw same (g .small);
-        tensor-exact = rw same (g .tensor-exact);
-      }
+-- ---- sizes or lengths are refused
 
--- ---- the answers
+module _ (axes : ℕ) (all : List Axis) (x tensor coordinates : List Float) (points-in : List ℕ) (same : place-of points-in ≡ points-of all)
+    (number : ℕ) (is : number ≡ query-sizes-check axes (place-of points-in) (length x) (length tensor) (length coordinates)) (some : number ≢ 0) where
+  sizes-met : even-query-refusal (grid axes all x) tensor coordinates ≡ number
+  unfolding even-query-refusal
+  sizes-met = sizes-refuse axes all x tensor coordinates points-in same number is some _
+
+  sizes-low : number < 10
+  unfolding query-sizes-check
+  sizes-low = rw is (rows-below-10 (query-sizes-rows axes (place-of points-in) (length x) (length tensor) (length coordinates)) tt)
+
+  pub sizes-answer : (r : EvenAnswer) (answer : QueryAnswer) → answer ≡ refused-with number → r ≡ nothing-told answer → EvenQueryPromise (grid axes all x) tensor coordinates r
+  sizes-answer = refused-by (grid axes all x) tensor coordinates number sizes-met some sizes-low
+
+-- ---- they are not
 
 outcome-low : (outside refused : Bool) {refusal : ℕ} → refusal ≡ cond outside 18 (cond refused 10 0) → refusal ≢ 21
 outcome-low true refused is z = omega (arith, is, z)
 outcome-low false true is z = omega (arith, is, z)
 outcome-low false false is z = omega (arith, is, z)
 
-module _ (g : Grid) (tensor coordinates : List Float) where
+module _ (axes : ℕ) (points-in modes-in : List ℕ) (x tensor coordinates : List Float) (fits : QueryFits axes points-in modes-in x tensor coordinates) (all : List Axis) (are : AxesOf axes points-in modes-in all) where
+  abbrev g : Grid
+  g = grid axes all x
+
   abbrev refusal : ℕ
   refusal = even-query-refusal g tensor coordinates
 
@@ -74,33 +82,28 @@ module _ (g : Grid) (tensor coordinates : List Float) where
   abbrev value-refused : Bool
   value-refused = answer-refused (even-query g tensor (at coordinates))
 
-  -- what is looked at after the check
+  -- what is looked at after the knots and the coordinates
   abbrev later : Bool → ℕ
-  later axes = cond axes 21 (cond outside-refused 18 (cond value-refused 10 0))
+  later uneven = cond uneven 21 (cond outside-refused 18 (cond value-refused 10 0))
 
-  refusal-is : refusal ≡ or-else (query-check g (length tensor) coordinates) (later (some-uneven-refused g))
-  unfolding even-query-refusal query-check
-  refusal-is = rows-then (query-rows g (length tensor) coordinates) (later (some-uneven-refused g)) tt
+  same-knots : knots-of-points-refused axes (place-of points-in) x ≡ some-knots-refused g
+  same-knots = any-ext _ _ axes λ i l.
+      rw (are .points-are i l, sum-ext (points g) (place-of points-in) i (λ k h. are .points-are k (omega arith))) refl
 
-  check-low : query-check g (length tensor) coordinates < 10
-  unfolding query-check
-  check-low = rows-below-10 (query-rows g (length tensor) coordinates) tt
+  refusal-is : refusal ≡ or-else (knots-and-coordinates-check axes (place-of points-in) x coordinates) (later (some-uneven-refused g))
+  unfolding even-query-refusal knots-and-coordinates-check
+  refusal-is =
+      past-4 axes points-in modes-in x tensor coordinates fits all are _
+      ∙ rw (← same-knots) (rows-then (knots-and-coordinates-rows axes (place-of points-in) x coordinates) (later (some-uneven-refused g)) tt)
 
-  module _ (check : ℕ) (checked : check ≡ query-check g (length tensor) coordinates) where
-    -- the check refuses
+  module _ (check : ℕ) (checked : check ≡ knots-and-coordinates-check axes (place-of points-in) x coordinates) where
+    check-low : check < 10
+    unfolding knots-and-coordinates-check
+    check-low = rw checked (rows-below-10 (knots-and-coordinates-rows axes (place-of points-in) x coordinates) tt)
+
+    -- knots or coordinates are refused
     pub check-refuses : check ≢ 0 → (r : EvenAnswer) (answer : QueryAnswer) → answer ≡ refused-with check → r ≡ nothing-told answer → EvenQueryPromise g tensor coordinates r
-    unfolding even-query-answer
-    check-refuses some r answer refused is =
-        let met : refusal ≡ check = refusal-is ∙ rw (← checked) (or-else-met check _ some) in
-        record {
-          answer = is
-              ∙ ap nothing-told (refused ∙ refused-is refusal check (even-query g tensor (at coordinates)) (even-labels g tensor coordinates) met some)
-              ∙ sym (answers-as-query refusal _ _ _ _ (λ z. omega (arith, check-low, checked, met, z)));
-        }
-
-    -- it does not
-    pub check-passes : check ≡ 0 → QueryGiven g (length tensor) coordinates
-    check-passes none = query-given g (length tensor) coordinates (sym checked ∙ none)
+    check-refuses some = refused-by g tensor coordinates check (refusal-is ∙ rw (← checked) (or-else-met check _ some)) some check-low
 
     module _ (none : check ≡ 0) (first : Uneven) (tells : FirstUneven g first) where
       after-check : refusal ≡ later (ltb 0 (first .interval))
@@ -115,13 +118,18 @@ module _ (g : Grid) (tensor coordinates : List Float) where
 
       -- every axis is: the direct cell answers
       module _ (even : first .interval ≡ 0) where
+        coordinates-finite : some-number-refused coordinates ≡ false
+        unfolding knots-and-coordinates-check
+        coordinates-finite =
+            neither (some-number-refused x) (some-number-refused coordinates)
+            (none-applies (knots-and-coordinates-rows axes (place-of points-in) x coordinates) tt (sym checked ∙ none) .0) .1
+
         after-axes : refusal ≡ cond outside-refused 18 (cond value-refused 10 0)
         after-axes = after-check ∙ rw even refl
 
         by-direct : refusal-by Direct g tensor coordinates ≡ refusal
         unfolding even-query
-        by-direct =
-            rw (check-passes none .coordinates-finite, any-never (λ j. false) (g .axes) (λ j l. refl)) (sym after-axes)
+        by-direct = rw (coordinates-finite, any-never (λ j. false) axes (λ j l. refl)) (sym after-axes)
 
         pub direct-answers : (r : EvenAnswer) (answer : QueryAnswer) → AnswerBy Direct g tensor coordinates answer → r ≡ nothing-told answer → EvenQueryPromise g tensor coordinates r
         unfolding even-query-answer even-query even-labels

@@ -4,20 +4,24 @@ use mathlib.Core.Path.{_≡_, refl, sym, ap, _∙_}
 use mathlib.Core.Logic.{_≢_}
 use mathlib.Core.Bool.{Bool, true, false}
 use mathlib.Core.List.{List}
-use Prim.Native.Nat.{ℕ, _+_, _<_, _≤_}
-use native.Mathlib.Nat.{sub-zero}
-use lib.ListN.{length}
+use Prim.Native.Nat.{ℕ, _+_, _-_, _<_, _≤_}
+use native.Mathlib.Nat.{sub-zero, add-sub-cancel-left}
+use lib.ListN.{length, take, drop, length-drop}
+use lib.Seq.{length-take-le}
 use lib.Ieee.{Float}
 use borrow.Author.Tests.{lt-ltb, ltb-false}
 use Rattle.rules.specs.Numbers.{any}
-use Rattle.rules.specs.Sizes.{Grid, points, knots, sum-below, knots-length}
+use Rattle.rules.specs.Sizes.{Grid, points, knots, sum-below, knots-length, place-of}
 use Rattle.rules.specs.Even.{first-failing, uneven-refused, uneven-axis, uneven-interval}
 use Rattle.base.proofs.Scan.{any-none, any-more, any-found, any-end, any-at}
-use Rattle.grid.specs.Given.{InRange}
-use Rattle.grid.proofs.Products.{sum-none, sum-more}
+use Rattle.rules.specs.declared.Axis.{Axis}
+use Rattle.rules.proofs.Sums.{sum-ext}
+use Rattle.grid.specs.Given.{grid, points-of, InRange}
+use Rattle.grid.proofs.Products.{sum-none, sum-more, sum-within}
 use Rattle.grid.proofs.Knots as of-axis
 use Rattle.even.proofs.First as first
 use Rattle.even_query.specs.Uneven.{FirstUneven}
+use Rattle.even_query.specs.Among.{PointsOf, FirstAmong}
 use Rattle.even_query.specs.declared.uneven.Uneven.{Uneven}
 
 module _ (g : Grid) where
@@ -92,3 +96,63 @@ module _ (g : Grid) where
           interval = (let z : 0 ≡ first-failing (knots g 0) (points g 0) = omega arith in z) ∙ ap (λ (j : ℕ). first-failing (knots g j) (points g j)) lowest;
           refused = all;
         }
+
+-- ---- on any axes with these points
+
+module _ (axes : ℕ) (points-in : List ℕ) (x : List Float) where
+  -- the loop has come to axis i, whose knots begin at `begin`
+  pub record Walk (begin i : ℕ) : Type 0 where
+    pub in-range : InRange axes (place-of points-in)
+    pub knots-exact : length x ≡ sum-below (place-of points-in) axes
+    pub begun : begin ≡ sum-below (place-of points-in) i
+    pub on : (all : List Axis) → PointsOf axes points-in all → Turn (grid axes all x) begin i
+
+  pub walk-first : InRange axes (place-of points-in) × (length points-in ≡ 4) × (length x ≡ sum-below (place-of points-in) axes) → Walk 0 0
+  walk-first given = record {
+    in-range = given .0;
+    knots-exact = given .2;
+    begun = sym (sum-none _);
+    on = λ all are.
+        turn-first (grid axes all x) (
+          record {
+            some-axes = given .0 .some-axes;
+            few-axes = given .0 .few-axes;
+            some-points = λ i l. rw (are i l) (given .0 .some-points i l);
+            few-points = λ i l. rw (are i l) (given .0 .few-points i l);
+          },
+          given .2 ∙ sym (sum-ext (points-of all) (place-of points-in) axes are),
+        );
+  }
+
+  module _ (begin i : ℕ) (walk : Walk begin i) where
+    -- the knots that it lends, where there are so many
+    abbrev lent : ℕ → List Float
+    lent count = take (begin + count - begin) (drop begin x)
+
+    module _ (l : i < axes) where
+      pub walk-within : begin + place-of points-in i ≤ length x
+      walk-within = omega (arith, walk .begun, walk .knots-exact, sum-within (place-of points-in) i axes l)
+
+      pub walk-size : 2 ≤ length (lent (place-of points-in i))
+      walk-size =
+          let exact : length (lent (place-of points-in i)) ≡ place-of points-in i =
+          rw add-sub-cancel-left (length-take-le (place-of points-in i) (drop begin x) (rw length-drop (omega (arith, walk-within)))) in
+          omega (arith, walk .in-range .some-points i l)
+
+      module _ (interval : ℕ) (is : interval ≡ first-failing (lent (place-of points-in i)) (length (lent (place-of points-in i)))) where
+        own : (all : List Axis) → PointsOf axes points-in all → interval ≡ first-failing (lent (points-of all i)) (length (lent (points-of all i)))
+        own all are = rw (are i l) is
+
+        pub walk-found : interval ≢ 0 → FirstAmong axes points-in x (record { axis = i; interval = interval })
+        walk-found some all are = turn-found (grid axes all x) begin i (walk .on all are) l interval (own all are) some
+
+        pub walk-next : interval ≡ 0 → Walk (begin + place-of points-in i) (i + 1)
+        walk-next none = record {
+          in-range = walk .in-range;
+          knots-exact = walk .knots-exact;
+          begun = rw (sum-more, walk .begun) refl;
+          on = λ all are. rw (are i l) at (turn-next (grid axes all x) begin i (walk .on all are) l interval (own all are) none);
+        }
+
+    pub walk-last : axes ≤ i → FirstAmong axes points-in x (record { axis = 0; interval = 0 })
+    walk-last ge all are = turn-last (grid axes all x) begin i (walk .on all are) ge

@@ -2,6 +2,8 @@
 ghost use mathlib.Core.Path.{_≡_};
 ghost use Rattle.rules.specs.EvenCalls.{nothing-told, EvenQueryPromise};
 ghost use Rattle.grid.specs.Given.{grid};
+ghost use Rattle.answer.specs.Given.{QueryFits};
+ghost use Rattle.even_query.specs.Among.{EvenQueryAmong};
 ghost use Rattle.even_query.specs.Uneven.{refused-uneven};
 use answer::ways::Way;
 use rules::Axis;
@@ -49,23 +51,40 @@ pub fn even_query(
 ) -> EvenAnswer
     ensures { λ r. ⌜ EvenQueryPromise (grid axes all (now (knots .entry))) (now (tensor .entry)) (now (coordinates .entry)) r ⌝ }
 {
-    let refusal = checks::query_refusal(axes, all, knots, tensor.len(), coordinates);
+    let points = grid::points_of(all);
+    let refusal = checks::query_sizes_refusal(
+        axes,
+        &points,
+        knots.len(),
+        tensor.len(),
+        coordinates.len(),
+    );
     if refusal != 0 {
         return nothing_told(answer::refused(refusal));
     }
-    let first = uneven::first_uneven(axes, all, knots);
+    let modes = answer::modes_of(all);
+    even_query_of_points(axes, &points, &modes, knots, tensor, coordinates)
+}
+
+// The same on axes of these points, with a mode's number for each, where 1 to 4 do not apply. Not public: that they do not is required.
+pub fn even_query_of_points(
+    axes: usize,
+    points: &[usize],
+    modes: &[u8],
+    knots: &[f64],
+    tensor: &[f64],
+    coordinates: &[f64],
+) -> EvenAnswer
+    requires { ⌜ QueryFits axes (now points) (now modes) (now knots) (now tensor) (now coordinates) ⌝ }
+    ensures { λ r. ⌜ EvenQueryAmong axes (now (points .entry)) (now (modes .entry)) (now (knots .entry)) (now (tensor .entry)) (now (coordinates .entry)) r ⌝ }
+{
+    let refusal = checks::knots_and_coordinates_refusal(axes, points, knots, coordinates);
+    if refusal != 0 {
+        return nothing_told(answer::refused(refusal));
+    }
+    let first = uneven::first_uneven(axes, points, knots);
     if first.interval != 0 {
         return refused_uneven(first.axis, first.interval);
     }
-    let points = grid::points_of(all);
-    let modes = answer::modes_of(all);
-    nothing_told(answer::answer(
-        Way::Direct,
-        axes,
-        &points,
-        &modes,
-        knots,
-        tensor,
-        coordinates,
-    ))
+    nothing_told(answer::answer(Way::Direct, axes, points, modes, knots, tensor, coordinates))
 }

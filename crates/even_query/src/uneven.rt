@@ -1,10 +1,9 @@
 // The lowest axis in use that is not even.
 ghost use mathlib.Core.Path.{_≡_};
 ghost use lib.ListN.{length};
-ghost use Rattle.rules.specs.Sizes.{knots-length};
-ghost use Rattle.grid.specs.Given.{grid, sizes-of, points-of, InRange};
-ghost use Rattle.even_query.specs.Uneven.{FirstUneven};
-use rules::Axis;
+ghost use Rattle.rules.specs.Sizes.{place-of, sum-below};
+ghost use Rattle.grid.specs.Given.{InRange};
+ghost use Rattle.even_query.specs.Among.{FirstAmong};
 
 // An axis that is not even, and its first interval that fails; both 0 where every axis is even.
 pub struct Uneven {
@@ -12,15 +11,15 @@ pub struct Uneven {
     pub interval: usize,
 }
 
-// The lowest one.
-pub fn first_uneven(axes: usize, all: [Axis; 4], knots: &[f64]) -> Uneven
-    requires { ⌜ InRange axes (points-of all) × (length (now knots) ≡ knots-length (sizes-of axes all)) ⌝ }
-    ensures { λ r. ⌜ FirstUneven (grid axes all (now (knots .entry))) r ⌝ }
+// The lowest one, on axes of so many points.
+pub fn first_uneven(axes: usize, points: &[usize], knots: &[f64]) -> Uneven
+    requires { ⌜ InRange axes (place-of (now points)) × (length (now points) ≡ 4) × (length (now knots) ≡ sum-below (place-of (now points)) axes) ⌝ }
+    ensures { λ r. ⌜ FirstAmong axes (now (points .entry)) (now (knots .entry)) r ⌝ }
 {
     let mut begin = 0;
     let mut i = 0;
     while i < axes {
-        let end = begin + all[i].points;
+        let end = begin + points[i];
         let interval = even::validate_uniform_grid_epsilon(&knots[begin..end]);
         if interval != 0 {
             return Uneven { axis: i, interval };

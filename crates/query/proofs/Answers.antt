@@ -45,9 +45,7 @@ module _ (axes : ℕ) (all : List Axis) (x tensor coordinates : List Float) (poi
     (number : ℕ) (is : number ≡ query-sizes-check axes (place-of points-in) (length x) (length tensor) (length coordinates)) (some : number ≢ 0) where
   refusal-met : query-refusal (grid axes all x) tensor coordinates ≡ number
   unfolding query-refusal
-  refusal-met =
-      sizes-refuse axes all x tensor coordinates (some-number-refused x || some-number-refused coordinates) (some-knots-refused (grid axes all x))
-      (answer-refused (query-in-modes (grid axes all x) tensor (at coordinates))) points-in same number is some
+  refusal-met = sizes-refuse axes all x tensor coordinates points-in same number is some _
 
   pub sizes-answer : (r : QueryAnswer) → r ≡ refused-with number → QueryPromise (grid axes all x) tensor coordinates r
   unfolding query-answer

@@ -5,17 +5,17 @@ use Prim.Native.Nat.{ℕ, _≤_}
 use lib.Ieee.{Float}
 use Rattle.rules.specs.Numbers.{plus-zero, table}
 use Rattle.rules.specs.Sizes.{most-axes}
-use Rattle.rules.specs.EvenCalls.{even-query-answer, EvenQueryPromise}
+use Rattle.rules.specs.EvenCalls.{even-query-answer}
 use Rattle.rules.specs.declared.QueryAnswer.{QueryAnswer}
 use Rattle.rules.specs.declared.EvenAnswer.{EvenAnswer}
-use Rattle.rules.specs.declared.Axis.{Axis}
-use Rattle.plain_axes.specs.Axes.{axes-without-ends, axes-in-modes, grid-in-modes}
+use Rattle.plain_axes.specs.Axes.{grid-in-modes}
 use Rattle.boundary.specs.OwnRefusals.{query-own-refusal, even-query-own-refusal}
 use Rattle.boundary.specs.Slots.{QueryStored, EvenStored}
 use Rattle.boundary.proofs.Exported.{own-answer, no-value, no-count, no-labels, call-answer}
-use Rattle.boundary.proofs.Lengths.{query-own-fits}
+use Rattle.boundary.proofs.Lengths.{query-own-fits, even-query-own-fits}
 use Rattle.query.specs.Among.{QueryAmong}
 use Rattle.quick_query.specs.Among.{QuickQueryAmong}
+use Rattle.even_query.specs.Among.{EvenQueryAmong}
 use Rattle.query_exports.specs.QueryExports.{AnswerExport, QueryExport, QuickQueryExport, EvenQueryExport}
 use Rattle.query_exports.proofs.Given.{axes-given}
 
@@ -79,14 +79,17 @@ module _ (axes : ℕ) (points modes : List ℕ) (knots tensor-lent coordinates v
         in-place;
   }
 
-  pub even-query-called :
-      r ≡ 0 → (all : List Axis) → all ≡ axes-without-ends axes points → (moded : List Axis) → moded ≡ axes-in-modes axes all modes → (a : EvenAnswer) {v : List Float} {l u : List ℕ}
-      → EvenQueryPromise (record { axes = axes; entries = moded; flat-knots = knots }) tensor-lent coordinates a
-      → EvenStored value-lent labels-lent uneven-lent (a .value) (a .labels) (a .axis) (a .interval) v l u
-      → EvenQueryExport axes points modes knots tensor-lent coordinates value-lent labels-lent uneven-lent (a .refusal) v l u
-  even-query-called none all given moded modes-are a p in-place =
-      let is : a ≡ given-answer = (rw (modes-are, given) at p) .answer in
-      record {
-        answer = call-answer _ e none (ap (λ (b : EvenAnswer). b .refusal) is);
-        answer-stored = rw (sym e ∙ none, ← is) in-place;
-      }
+  module _ (none : r ≡ 0) where
+    even-few : axes ≤ 4
+    even-few = even-query-own-fits axes points modes knots tensor-lent coordinates value-lent labels-lent uneven-lent (sym e ∙ none) .0 .in-range .few-axes
+
+    pub even-query-called :
+        (a : EvenAnswer) {v : List Float} {l u : List ℕ} → EvenQueryAmong axes points modes knots tensor-lent coordinates a
+        → EvenStored value-lent labels-lent uneven-lent (a .value) (a .labels) (a .axis) (a .interval) v l u
+        → EvenQueryExport axes points modes knots tensor-lent coordinates value-lent labels-lent uneven-lent (a .refusal) v l u
+    even-query-called a among in-place =
+        let is : a ≡ given-answer = among _ (axes-given axes points modes even-few) .answer in
+        record {
+          answer = call-answer _ e none (ap (λ (b : EvenAnswer). b .refusal) is);
+          answer-stored = rw (sym e ∙ none, ← is) in-place;
+        }

@@ -105,9 +105,7 @@ pub fn even_query(
         slots::store_even_query(value, labels, uneven, 0.0, [0; 4], 0, 0);
         return refusal;
     }
-    let all = plain_axes::axes_without_ends(axes, points);
-    let moded = plain_axes::axes_in_modes(axes, all, modes);
-    let answer = even_query::even_query(axes, moded, knots, tensor, coordinates);
+    let answer = even_query::even_query_of_points(axes, points, modes, knots, tensor, coordinates);
     let found = answer.labels;
     slots::store_even_query(
         value,

@@ -28,9 +28,7 @@ module _ (axes : ℕ) (all : List Axis) (x tensor coordinates : List Float) (poi
 
   refusal-met : quick-query-refusal given tensor coordinates ≡ number
   unfolding quick-query-refusal
-  refusal-met =
-      sizes-refuse axes all x tensor coordinates (some-number-refused coordinates) (some-found-cell-refused given (quick-cell-of given (at coordinates)))
-      (answer-refused (quick-query-in-modes given tensor (at coordinates))) points-in same number is some
+  refusal-met = sizes-refuse axes all x tensor coordinates points-in same number is some _
 
   pub sizes-answer : (r : QueryAnswer) → r ≡ refused-with number → QuickQueryPromise given tensor coordinates r
   unfolding quick-query-answer

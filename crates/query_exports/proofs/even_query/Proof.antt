@@ -1,5 +1,6 @@
 use mathlib.Core.Path.{sym, _∙_}
 use Rattle.boundary.proofs.Lengths.{even-query-own-fits}
+use Rattle.query_exports.proofs.Given.{query-fits}
 use Rattle.query_exports.proofs.Exported.{even-query-refused, even-query-called}
 use borrow.Author.Needs.{needs}
 use Rattle.query_exports.proofs.even_query.Statement.{statement}
@@ -8,14 +9,11 @@ use Rattle.query_exports.proofs.even_query.Tie as tie
 returns : tie.Need-returns
 returns c = even-query-refused _ _ _ _ _ _ _ _ _ (c .before .before .before .before .before .before .before .before .before .before .before .even-query-own-refusal .ensures) (c .before .before .before .before .before .before .before .before .before .before .if1 .taken) (c .before .before .before .before .before .before .store-even-query .ensures)
 
-axes-without-ends-requires : tie.Need-axes-without-ends-requires
-axes-without-ends-requires c κs = even-query-own-fits _ _ _ _ _ _ (c .before .before .before .before .before .before .before .before .before .before .before .before .before .args .value .now) (c .before .before .before .before .before .before .before .before .before .before .before .before .before .args .labels .now) (c .before .before .before .before .before .before .before .before .before .before .before .before .before .args .uneven .now) (sym (c .before .even-query-own-refusal .ensures) ∙ c .if1 .left) .0 .four-points
-
-axes-in-modes-requires : tie.Need-axes-in-modes-requires
-axes-in-modes-requires c κs = even-query-own-fits _ _ _ _ _ _ (c .before .before .before .before .before .before .before .before .before .before .before .before .before .before .args .value .now) (c .before .before .before .before .before .before .before .before .before .before .before .before .before .before .args .labels .now) (c .before .before .before .before .before .before .before .before .before .before .before .before .before .before .args .uneven .now) (sym (c .before .before .even-query-own-refusal .ensures) ∙ c .before .if1 .left) .0 .four-modes
+even-query-of-points-requires : tie.Need-even-query-of-points-requires
+even-query-of-points-requires c κs = query-fits (even-query-own-fits _ _ _ _ _ _ (c .before .before .before .before .before .before .before .before .before .before .before .before .before .args .value .now) (c .before .before .before .before .before .before .before .before .before .before .before .before .before .args .labels .now) (c .before .before .before .before .before .before .before .before .before .before .before .before .before .args .uneven .now) (sym (c .before .even-query-own-refusal .ensures) ∙ c .if1 .left) .0)
 
 returns-2 : tie.Need-returns-2
-returns-2 c = even-query-called _ _ _ _ _ _ _ _ _ (c .before .before .before .before .before .before .before .before .before .before .before .before .before .before .before .even-query-own-refusal .ensures) (c .before .before .before .before .before .before .before .before .before .before .before .before .before .before .if1 .left) _ (c .before .before .before .before .before .before .before .before .before .before .before .before .before .axes-without-ends .ensures) _ (c .before .before .before .before .before .before .before .before .before .before .before .before .axes-in-modes .ensures) _ (c .before .before .before .before .before .before .before .before .before .before .before .even-query .ensures) (c .before .before .before .before .before .before .store-even-query2 .ensures)
+returns-2 c = even-query-called _ _ _ _ _ _ _ _ _ (c .before .before .before .before .before .before .before .before .before .before .before .before .before .even-query-own-refusal .ensures) (c .before .before .before .before .before .before .before .before .before .before .before .before .if1 .left) _ (c .before .before .before .before .before .before .before .before .before .before .before .even-query-of-points .ensures) (c .before .before .before .before .before .before .store-even-query2 .ensures)
 
 pub even-query-spec : {M : Type 1} → statement M
 even-query-spec =
@@ -27,9 +25,7 @@ even-query-spec =
     (λ c. search needs)
     (λ c. search needs)
     returns
-    axes-without-ends-requires
-    axes-in-modes-requires
-    (λ c κs. search needs)
+    even-query-of-points-requires
     (λ c κs. search needs)
     (λ c. search needs)
     (λ c. search needs)

@@ -1,37 +1,48 @@
-use borrow.Author.Needs.{needs}
 use native.Mathlib.Omega.{arith}
 use Prim.Native.Nat.{_-_}
-use Rattle.grid.specs.Given.{grid}
-use Rattle.even_query.proofs.FirstAxis.{Turn, turn-first, end-within, size-given, turn-found, turn-next, turn-last}
+use Rattle.even_query.proofs.FirstAxis.{Walk, walk-first, walk-within, walk-size, walk-found, walk-next, walk-last}
+use borrow.Author.Needs.{needs}
 use Rattle.even_query.proofs.uneven.first_uneven.Statement.{statement}
 use Rattle.even_query.proofs.uneven.first_uneven.Tie as tie
 
 abbrev Inv-loop : tie.InvT-loop
-Inv-loop axes knots all begin₀ i₀ begin i = Turn (grid axes all knots) begin i
+Inv-loop axes points knots begin₀ i₀ begin i = Walk axes points knots begin i
 
 abbrev μ-loop : tie.MeasureT-loop
-μ-loop axes knots all begin₀ i₀ begin i = axes - i
+μ-loop axes points knots begin₀ i₀ begin i = axes - i
 
 loop-holds : tie.Need-loop-holds Inv-loop μ-loop
-loop-holds c = turn-first _ (c .before .pre)
+loop-holds c = walk-first _ _ _ (c .before .before .pre)
 
-validate-uniform-grid-epsilon-requires : tie.Need-validate-uniform-grid-epsilon-requires Inv-loop μ-loop
-validate-uniform-grid-epsilon-requires c κs =
-    let turn = c .before in
-    size-given _ _ _ (turn .before .loop .inv) (turn .loop-test .taken)
+add-end : tie.Need-add-end Inv-loop μ-loop
+add-end c = omega (arith, walk-within _ _ _ _ _ (c .before .before .loop .inv) (c .before .loop-test .taken))
+
+mul-validate-uniform-grid-epsilon : tie.Need-mul-validate-uniform-grid-epsilon Inv-loop μ-loop
+mul-validate-uniform-grid-epsilon c = omega (arith, walk-within _ _ _ _ _ (c .before .before .loop .inv) (c .before .loop-test .taken))
+
+sub-validate-uniform-grid-epsilon : tie.Need-sub-validate-uniform-grid-epsilon Inv-loop μ-loop
+sub-validate-uniform-grid-epsilon c = omega (arith, walk-within _ _ _ _ _ (c .before .before .loop .inv) (c .before .loop-test .taken))
+
+part-validate-uniform-grid-epsilon-start :
+    tie.Need-part-validate-uniform-grid-epsilon-start Inv-loop μ-loop
+part-validate-uniform-grid-epsilon-start c = omega (arith, walk-within _ _ _ _ _ (c .before .before .loop .inv) (c .before .loop-test .taken))
+
+part-validate-uniform-grid-epsilon-end :
+    tie.Need-part-validate-uniform-grid-epsilon-end Inv-loop μ-loop
+part-validate-uniform-grid-epsilon-end c = omega (arith, walk-within _ _ _ _ _ (c .before .before .loop .inv) (c .before .loop-test .taken))
+
+validate-uniform-grid-epsilon-requires :
+    tie.Need-validate-uniform-grid-epsilon-requires Inv-loop μ-loop
+validate-uniform-grid-epsilon-requires c κs = walk-size _ _ _ _ _ (c .before .before .before .loop .inv) (c .before .before .loop-test .taken)
 
 returns : tie.Need-returns Inv-loop μ-loop
-returns c =
-    let turn = c .before .before .before in
-    turn-found _ _ _ (turn .before .loop .inv) (turn .loop-test .taken) _ (c .before .validate-uniform-grid-epsilon .ensures) (c .if1 .taken)
+returns c = walk-found _ _ _ _ _ (c .before .before .before .before .before .loop .inv) (c .before .before .before .before .loop-test .taken) _ (c .before .validate-uniform-grid-epsilon .ensures) (c .if1 .taken)
 
 loop-again : tie.Need-loop-again Inv-loop μ-loop
-loop-again c =
-    let turn = c .before .before .before in
-    turn-next _ _ _ (turn .before .loop .inv) (turn .loop-test .taken) _ (c .before .validate-uniform-grid-epsilon .ensures) (c .if1 .left)
+loop-again c = walk-next _ _ _ _ _ (c .before .before .before .before .before .loop .inv) (c .before .before .before .before .loop-test .taken) _ (c .before .validate-uniform-grid-epsilon .ensures) (c .if1 .left)
 
 returns-2 : tie.Need-returns-2 Inv-loop μ-loop
-returns-2 c = turn-last _ _ _ (c .before .loop .inv) (c .loop-test .left)
+returns-2 c = walk-last _ _ _ _ _ (c .before .loop .inv) (c .loop-test .left)
 
 pub first-uneven-spec : {M : Type 1} → statement M
 first-uneven-spec =
@@ -42,11 +53,11 @@ first-uneven-spec =
     loop-holds
     (λ c. search needs)
     (λ c. search needs)
-    (λ c. omega (arith, end-within _ _ _ (c .before .loop .inv) (c .loop-test .taken)))
-    (λ c. omega (arith, end-within _ _ _ (c .before .loop .inv) (c .loop-test .taken)))
-    (λ c. omega (arith, end-within _ _ _ (c .before .loop .inv) (c .loop-test .taken)))
-    (λ c. omega (arith, end-within _ _ _ (c .before .loop .inv) (c .loop-test .taken)))
-    (λ c. omega (arith, end-within _ _ _ (c .before .loop .inv) (c .loop-test .taken)))
+    add-end
+    mul-validate-uniform-grid-epsilon
+    sub-validate-uniform-grid-epsilon
+    part-validate-uniform-grid-epsilon-start
+    part-validate-uniform-grid-epsilon-end
     validate-uniform-grid-epsilon-requires
     returns
     (λ c. search needs)
