@@ -15,8 +15,8 @@ use Rattle.rules.specs.Sizes.{most-in-a-tensor, scratch-of-rows, Grid, points, 
 use Rattle.rules.specs.Refusals.{axes-refused, points-refused, some-points-refused, tensor-refused, scratch-refused, number-refused, some-number-refused, ends-refused, some-ends-refused, step-refused, knots-refused, some-knots-refused, fewness-refused, some-fewness-refused}
 use Rattle.rules.specs.declared.Condition.{Condition}
 use Rattle.base.proofs.Scan.{neither, any-at}
-use Rattle.checks.specs.Given.{AxisGiven, MomentsGiven, CurveGiven, SlopesGiven, GridGiven, SolveGiven, BuildGiven, ChangeGiven, QueryGiven}
-use Rattle.checks.specs.Check.{moments-rows, curve-rows, slopes-rows, build-rows, change-rows, query-rows, moments-check, curve-check, slopes-check, build-check, change-check, query-check}
+use Rattle.checks.specs.Given.{AxisGiven, MomentsGiven, CurveGiven, SlopesGiven, GridGiven, SolveGiven, BuildGiven, ChangeGiven}
+use Rattle.checks.specs.Check.{moments-rows, curve-rows, slopes-rows, build-rows, change-rows, moments-check, curve-check, slopes-check, build-check, change-check}
 use Rattle.checks.proofs.Rows.{none-applies, axes-few, in-range, exact-2, exact-3, exact-4}
 
 neither-3 : (a b c : Bool) → (a || b || c) ≡ false → (a ≡ false) × (b ≡ false) × (c ≡ false)
@@ -126,19 +126,6 @@ module _ (g : Grid) where
         on-the-grid = λ i l. leb-false (points g i) (changed i) (any-at (λ j. leb (points g j) (changed j)) (g .axes) (later .1 .1 .0) i l);
         sample-finite = numbers .2;
         tensor-finite = four .1;
-      }
-
-  pub query-given : (tensor-given : ℕ) (coordinates : List Float) → query-check g tensor-given coordinates ≡ 0 → QueryGiven g tensor-given coordinates
-  unfolding query-check
-  query-given tensor-given coordinates e =
-      let none = none-applies (query-rows g tensor-given coordinates) tt e in
-      let later = none .1 .1 .1 in
-      let lengths = exact-3 (length (g .flat-knots)) (knots-length g) tensor-given (tensor-length g) (length coordinates) (g .axes) (later .0) in
-      let numbers = neither (some-number-refused (g .flat-knots)) (some-number-refused coordinates) (later .1 .0) in
-      record {
-        grid-given = grid-known tensor-given (none .0) (none .1 .0) (none .1 .1 .0) (lengths .0) (lengths .1) (numbers .0) (later .1 .1 .0);
-        coordinates-exact = lengths .2;
-        coordinates-finite = numbers .1;
       }
 
 -- ---- what the knots of an axis then have

@@ -123,15 +123,3 @@ module _ (g : Grid) where
 
   unfoldable pub change-check : List Float → ℕ → Place → Float → ℕ
   change-check tensor scratch-given changed v = lowest (change-rows tensor scratch-given changed v) 0
-
-  abbrev pub query-rows : ℕ → List Float → List Refusal
-  query-rows tensor-given coordinates =
-      sizes-rows g ++ (
-      row 4 (length-refused (length (g .flat-knots)) (knots-length g) || length-refused tensor-given (tensor-length g) || length-refused (length coordinates) (g .axes))
-      ∷ row 7 (some-number-refused (g .flat-knots) || some-number-refused coordinates)
-      ∷ row 8 (some-knots-refused g)
-      ∷ []
-      )
-
-  unfoldable pub query-check : ℕ → List Float → ℕ
-  query-check tensor-given coordinates = lowest (query-rows tensor-given coordinates) 0

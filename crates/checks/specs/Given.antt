@@ -72,8 +72,3 @@ pub record ChangeGiven (g : Grid) (tensor : List Float) (scratch-given : ℕ) (c
   pub on-the-grid : (i : ℕ) → i < g .axes → changed i < points g i
   pub sample-finite : number-refused v ≡ false
   pub tensor-finite : some-number-refused tensor ≡ false
-
-pub record QueryGiven (g : Grid) (tensor-given : ℕ) (coordinates : List Float) : Type 0 where
-  pub grid-given : GridGiven g tensor-given
-  pub coordinates-exact : length coordinates ≡ g .axes
-  pub coordinates-finite : some-number-refused coordinates ≡ false

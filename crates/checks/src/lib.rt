@@ -3,7 +3,7 @@ ghost use mathlib.Core.Path.{_≡_};
 ghost use lib.ListN.{length};
 ghost use Rattle.rules.specs.Sizes.{place-of, sum-below};
 ghost use Rattle.grid.specs.Given.{grid, InRange};
-ghost use Rattle.checks.specs.Check.{moments-check, curve-check, slopes-check, build-check, change-check, query-sizes-check, knots-and-coordinates-check, query-check};
+ghost use Rattle.checks.specs.Check.{moments-check, curve-check, slopes-check, build-check, change-check, query-sizes-check, knots-and-coordinates-check};
 use rules::Axis;
 use rules::Condition;
 
@@ -218,22 +218,4 @@ pub fn knots_and_coordinates_refusal(
         return 8;
     }
     0
-}
-
-// What a query meets: 1, 2, 3, 4, 7, 8, or 0.
-pub fn query_refusal(
-    axes: usize,
-    all: [Axis; 4],
-    knots: &[f64],
-    tensor_length: usize,
-    coordinates: &[f64],
-) -> usize
-    ensures { λ r. ⌜ r ≡ query-check (grid axes all (now (knots .entry))) «tensor_length» (now (coordinates .entry)) ⌝ }
-{
-    let points = grid::points_of(all);
-    let refusal = query_sizes_refusal(axes, &points, knots.len(), tensor_length, coordinates.len());
-    if refusal != 0 {
-        return refusal;
-    }
-    knots_and_coordinates_refusal(axes, &points, knots, coordinates)
 }

@@ -2,16 +2,16 @@
 use native.Mathlib.Omega.{arith}
 use mathlib.Core.Path.{_≡_, refl, sym, ap, _∙_}
 use mathlib.Core.Logic.{_≢_}
-use mathlib.Core.Bool.{Bool, true, false, cond, _||_}
-use mathlib.Core.List.{List, [], _∷_}
-use Prim.Native.Nat.{ℕ, _-_, _<_, _≤_}
+use mathlib.Core.Bool.{Bool, true, false, cond}
+use mathlib.Core.List.{List}
+use Prim.Native.Nat.{ℕ, _-_, _<_}
 use lib.Dec.{ltb}
-use lib.ListN.{length, take, drop}
+use lib.ListN.{length}
 use lib.Ieee.{Float}
 use borrow.Author.Tests.{lt-ltb}
 use Rattle.rules.specs.Numbers.{at}
-use Rattle.rules.specs.Sizes.{Grid, points, knots, sum-below, place-of}
-use Rattle.rules.specs.Refusals.{some-number-refused, knots-refused, some-knots-refused, answer-refused}
+use Rattle.rules.specs.Sizes.{Grid, points, knots, place-of}
+use Rattle.rules.specs.Refusals.{some-number-refused, some-knots-refused, answer-refused}
 use Rattle.rules.specs.Outside.{some-outside-refused}
 use Rattle.rules.specs.Even.{some-uneven-refused}
 use Rattle.rules.specs.Query.{even-query}
@@ -26,7 +26,6 @@ use Rattle.rules.proofs.EvenIsQuery.{answers-as-query}
 use Rattle.base.proofs.Scan.{neither, any-never}
 use Rattle.grid.specs.Given.{grid, points-of}
 use Rattle.checks.specs.Check.{query-sizes-rows, query-sizes-check, knots-of-points-refused, knots-and-coordinates-rows, knots-and-coordinates-check}
-use Rattle.checks.specs.Tables.{row, lowest}
 use Rattle.checks.proofs.Rows.{rows-then, rows-below-10, none-applies}
 use Rattle.answer.specs.Given.{AxesOf, QueryFits}
 use Rattle.answer.specs.Answers.{refused-with, refusal-by, AnswerBy}
