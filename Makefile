@@ -46,9 +46,10 @@ streams-fail:
 	rt check sheet_tensor sheet_report
 	python3 tests/streams_fail.py
 
-# Holds docs/RULES.md against the definitions: each definition is named in its chapter.
+# Holds docs/RULES.md against the definitions: each definition is named in its chapter; and the table of forms in docs/DECISIONS.md against the code.
 rules-page:
 	python3 tests/rules_page.py
+	python3 tests/forms_page.py
 
 # The Rust side's own tests: the unchanged files, the worked examples, the generator, what is kept beside the programs.
 oracle-test:
@@ -59,9 +60,11 @@ archive:
 	rt staticlib host
 
 # Measures the exported calls beside the Rust's functions, and beside the limit where the folder of its C is at hand (LIMIT_SRC, by default
-# ../shared/limit), and the report on long streams; prints the tables of docs/BENCH.md; wants valgrind.
+# ../shared/limit), adds up their stack from the archive's code, and measures the report on long streams; prints the tables of docs/BENCH.md;
+# wants valgrind and objdump.
 bench: archive
 	cd oracle && cargo run --offline --release -p bench
+	python3 tests/stack_frames.py
 	rt check sheet_report
 	python3 tests/report_speed.py
 

@@ -1,4 +1,4 @@
-//! Hullashlar for Rust: the public calls of the archive over plain slices.
+//! Hullashlar for Rust: the calls of the archive over plain slices.
 //!
 //! include/hullashlar.h says what each slice holds, how long it must be and
 //! which numbers refuse.
@@ -29,7 +29,7 @@ pub const LONGEST_TENSOR: usize = 4096;
 /// The bytes of the longest sheet.
 pub const LONGEST_SHEET: usize = 10309;
 
-/// The axes as the calls take them; what stands past the axes in use is not read.
+/// The axes as the calls take them; what stands past the axes in use decides nothing.
 #[derive(Debug, Clone, Default)]
 pub struct Axes {
     /// How many axes are in use.
@@ -38,7 +38,7 @@ pub struct Axes {
     pub points: [usize; 4],
     /// The kinds of each axis's lower and upper end.
     pub kinds: [u8; 8],
-    /// The values that go with the kinds.
+    /// The values that go with the kinds; that of an end which takes none decides nothing.
     pub values: [f64; 8],
     /// What becomes of a coordinate outside the knots of each axis.
     pub modes: [u8; 4],

@@ -1,6 +1,6 @@
-/* Hullashlar for C: every public call over numbers and plain slices. docs/RULES.md says what each computes and when it
+/* Hullashlar for C: its nineteen calls over numbers and plain slices. docs/RULES.md says what each computes and when it
  * refuses, in its chapters Calls, EvenCalls, StepCalls, Read, SheetTensor, Write, SheetSurface, DeviceCell, DeviceCurve,
- * CurveExports, TensorExports, QueryExports, SheetExports, StepExports and DeviceExports.
+ * OwnRefusals, CurveExports, TensorExports, QueryExports, SheetExports, StepExports and DeviceExports.
  *
  * The machine. The archive, target/staticlib/libhost.a, is code for x86-64, with SSE2 and the System V calling
  * convention. Of its host it wants memcpy and memset, and nothing else. It computes under the caller's MXCSR, which
@@ -17,27 +17,28 @@
  *
  * Memory for the largest grid: tensor 32,768 bytes, scratch 49,152, the two buffers of a sheet 16,384, together 98,304.
  * hullashlar_surface is lent nothing but the sheet, and has its memory on the stack.
- * docs/BENCH.md has the stack of each call (below 6,800 bytes but for that one), the size of the code and what the
- * archive's proofs rest on.
+ * No other call needs more than 3,232 bytes of stack, on any input, beside what the host's memcpy and memset take.
+ * docs/BENCH.md has the stack of each, the size of the code and what the archive's proofs rest on.
  *
- * Axes. Points, kinds, values, modes, directions, places, labels and indices are lent for four axes. No call looks at
- * what stands past the axes in use, and labels and indices are 0 there. kinds[2 i] and values[2 i] are the lower end of
- * axis i, kinds[2 i + 1] and values[2 i + 1] the upper one. A value is read where its kind is a first or a second
- * derivative.
+ * Axes. Points, kinds, values, modes, directions, places, labels and indices are lent for four axes. What stands past
+ * the axes in use may be anything: no refusal, no answer and no number that is written depends on it. Labels and indices
+ * are 0 there. kinds[2 i] and values[2 i] are the lower end of axis i, kinds[2 i + 1] and values[2 i + 1] the upper one.
+ * A value counts where its kind is a first or a second derivative, and may else be anything too.
  *
  * Grids. The knots of an axis follow those of the axis before it. Of samples and tensors, neighbours along the last
  * axis stand side by side; a tensor has 2^axes numbers for each sample, one for each mask, and these stand side by side
  * too. Bit i of a mask says that the number is a derivative along axis i. docs/RULES.md draws it, in Sizes.
  *
- * Refusals. Every call but hullashlar_surface returns its refusal, and all calls look for one in the same order.
- *   - With axes: 1 by their number alone; 4 for points that are not four; 2; 3; 4 for every other slice and slot; 13
- *     for kinds of an axis in use that are none, or Periodic at one end only; 22 for a mode or a direction of an axis
- *     in use that is none; then the rest of the call's list, 5 and on, in the list's order. That is not always the
- *     order of the numbers: 21 and 18 stand before 10, and 12 and 23 before 15.
- *   - On one axis: 2; 4; 13 or 22; then the rest of the list.
- *   - Of a sheet: 4; then the faults of the sheet, the first that is met on the way through it; then, where its tensor
- *     is built, 5, 7, 8, 9, 10.
- *   - Of the device: 4 for its slots; then 19 and 20 of a cell, and 20, 19, 20 of a cursor.
+ * Refusals. Every call but hullashlar_surface returns its refusal, the first that it meets. In which order it looks is
+ * decided by what it takes.
+ *   - Axes: 1 by their number alone; 4 for points that are not four; 2; 3; 4 for every other slice and slot but scratch
+ *     and bytes; 13 for kinds of an axis in use that are none, or Periodic at one end only; 22 for a mode or a direction
+ *     of an axis in use that is none; then the rest of the call's list, 5 and on, in the list's order. That is not always
+ *     the order of the numbers: 21 and 18 stand before 10, and 12 and 23 before 15.
+ *   - One axis: 2; 4; 13 or 22; then the rest of the list.
+ *   - A sheet: 4; then the faults of the sheet, the first that is met on the way through it; then, where its tensor is
+ *     built, 5, 7, 8, 9, 10. hullashlar_surface has an order of its own.
+ *   - Whole numbers: 4 for the slots; then 19 and 20 of a cell, and 20, 19, 20 of a cursor.
  *
  * Outputs. After a refusal every output is as it was but the slots of the answer: value, labels, lanes, uneven, found,
  * location, fraction, index and indices, and of a sheet axes, points, kinds, values, modes, edition and length. These
@@ -69,7 +70,7 @@ enum hullashlar_refusal {
     HULLASHLAR_REFUSED_LENGTH = 4,   /* a slice of another length than it must have */
     HULLASHLAR_REFUSED_SCRATCH = 5,  /* too little scratch */
     HULLASHLAR_REFUSED_PLACE = 6,    /* no place of the grid; a lower index with no knot after it */
-    HULLASHLAR_REFUSED_NUMBER = 7,   /* a given number is infinite or NaN; a change looks at its tensor too */
+    HULLASHLAR_REFUSED_NUMBER = 7,   /* infinite or NaN: a knot, sample, end value or coordinate, or a change's tensor */
     HULLASHLAR_REFUSED_KNOTS = 8,    /* a knot is not above the one before it, or too far above for a double */
     HULLASHLAR_REFUSED_FEWNESS = 9,  /* fewer points than NotAKnot needs: 3, or 4 where both ends are so */
     HULLASHLAR_REFUSED_OUTCOME = 10, /* what came out is infinite or NaN */
@@ -217,11 +218,13 @@ size_t hullashlar_quick_query(size_t axes,
 
 /* The surface's value at the coordinates where every axis is even: no interval between neighbouring knots differs from
  * the first one of its axis by more than 1,024 units of the format in one, times that first interval. The cell is then
- * found by a division: at a knot between two cells it is the upper one, and so far above the knots that the distance is
- * 2^64 of the first interval or more it is cell 0. In hold it is the cell of the end knot. The value is that of the
- * cubic in that cell, the labels are its numbers, and where these are the cells that hullashlar_query labels, so is the
- * value. After 21 uneven has the lowest axis that is not even and the number of the lower knot of its first interval
- * that differs by more, both counted from 0; else it has 0 and 0.
+ * found by a division: at a knot between two cells it is the upper or the lower one, as the quotient is rounded, close
+ * to a knot it can be the one beyond it, and so far above the knots that the distance is 2^64 of the first interval or
+ * more it is cell 0. In hold it is the cell of the end knot. The value is that of the cubic in that cell, the labels are
+ * its numbers, and where these are the cells that hullashlar_query labels, so is the value. Where each coordinate equals
+ * a knot of its axis, and the last knot of each axis less the first is a finite double, the value equals the tensor's
+ * number at that place as in hullashlar_query. After 21 uneven has the lowest axis that is not even and the number of
+ * the lower knot of its first interval that differs by more, both counted from 0; else it has 0 and 0.
  * Lengths: as of hullashlar_query; uneven 2.
  * Written: value, labels, uneven. Refuses by 1, 2, 3, 4, 22, 7, 8, 21, 18, 10. */
 size_t hullashlar_even_query(size_t axes,
@@ -377,7 +380,8 @@ size_t hullashlar_cursor_next(const uint8_t *curve, size_t curve_length,
 /* One call for firmware that keeps a sheet and no tensor: reads the sheet, builds its tensor and asks it at a point.
  * The coordinates are the patterns of doubles, one for each axis of the sheet; those past its axes must be 0. What
  * becomes of a coordinate outside the knots of an axis is said by the sheet, and is extend in edition 1. Returns the
- * pattern of the value, which is that of hullashlar_sheet_tensor and then hullashlar_query, or a refusal.
+ * pattern of the value, which is that of hullashlar_sheet_tensor and then hullashlar_query, or a refusal. So where each
+ * coordinate equals a knot of its axis, the value equals the sheet's sample at that place.
  *
  *     static uint64_t pattern(double x) { uint64_t p; memcpy(&p, &x, sizeof p); return p; }
  *
@@ -390,7 +394,7 @@ size_t hullashlar_cursor_next(const uint8_t *curve, size_t curve_length,
  *         return true;
  *     }
  *
- * Stack: 32,040 bytes. 28,672 of them are buffers: scratch 20,480, tensor 4,096, knots 2,048, samples 2,048. The rest
+ * Stack: 31,816 bytes. 28,672 of them are buffers: scratch 20,480, tensor 4,096, knots 2,048, samples 2,048. The rest
  * are the frames of the functions that read, build and ask.
  * Written: nothing. Refuses by the first of 11, 12, 1, 2, 13, 22, 3, 14 that is met on the way through the sheet; then
  * by 16, 17; then as a build by 7, 8, 9, 10; then as a query by 7, 18, 10. */

@@ -8,6 +8,7 @@ sheet_cases          a list of sheets, each after its length in two bytes, the h
 sheet_report         the example sheet, a stream of one
 report_ends_inside   the example and all but the last byte of another
 report_of_refusals   refused sheets among accepted ones, the last of which stops the report, and a byte
+report_in_memory     the same
 
 The programs sheet_empty and report_empty are run on no bytes at all. What the programs must print is the oracle's to say (oracle/printed)."""
 
@@ -235,6 +236,7 @@ def main():
         "sheet_report": EXAMPLE,
         "report_ends_inside": EXAMPLE + EXAMPLE_IN_EDITION_2[:-1],
         "report_of_refusals": refusals(),
+        "report_in_memory": refusals(),
     }
     for crate, sheet in made.items():
         (ROOT / "crates" / crate / "stdin").write_bytes(sheet)

@@ -14,7 +14,7 @@ use Rattle.locate.specs.Answers.{Rising}
 use Rattle.locate.proofs.Accepted.{accepted-rise}
 
 module _ (g : Grid) (exact : length (g .flat-knots) ≡ knots-length g) (numbers : some-number-refused (g .flat-knots) ≡ false) (i : ℕ) (lt : i < g .axes) where
-  axis-numbers : some-number-refused (knots g i) ≡ false
+  pub axis-numbers : some-number-refused (knots g i) ≡ false
   axis-numbers =
       any-never (λ k. number-refused (at (knots g i) k)) (length (knots g i)) λ k h.
       let below : k < points g i = omega (arith, knots-of-axis g exact i lt) in

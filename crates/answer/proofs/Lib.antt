@@ -5,3 +5,4 @@ pub mod Accepted
 pub mod Answering
 mod Modes
 pub mod Promised
+pub mod Held

@@ -58,7 +58,11 @@ pub record RunBlended (count : ℕ) (numbers : List Float) (lower upper : ℕ) (
 abbrev pub ByFours : ℕ → Type 0
 ByFours size = size ≢ 1 → size % 4 ≡ 0
 
--- one axis removed in place by its weights: the first numbers are those of the smaller cell
+-- the first numbers of a list are those of a cell without its lowest axis, which is removed by these weights
+abbrev pub Smaller : Weights → ℕ → (ℕ → Float) → List Float → Type 0
+Smaller w size cell later = (e : ℕ) → e < size → at later e ≡ weighted-at w cell (2 * e) (2 * size + 2 * e)
+
+-- one axis removed in place
 pub record Blended (cell later : List Float) (size : ℕ) (w : Weights) : Type 0 where
   pub same-length : length later ≡ length cell
-  pub smaller : (e : ℕ) → e < size → at later e ≡ weighted-at w (at cell) (2 * e) (2 * size + 2 * e)
+  pub smaller : Smaller w size (at cell) later

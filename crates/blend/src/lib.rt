@@ -1,12 +1,9 @@
-// The Hermite blend of a cell, as in the Rust's cubic/utils.rs. `weights` are the weights of the axes one after the other, four to an axis,
-// `cell` the local cell of 4 to the power of the axes numbers.
+// The Hermite blend of two neighbours, as in the Rust's cubic/utils.rs, and one axis of a cell removed by it.
 ghost use mathlib.Core.Path.{_≡_};
-ghost use Prim.Native.Nat.{ℕ, _+_, _*_, _%_, _^_, _<_, _≤_};
+ghost use Prim.Native.Nat.{_+_, _*_, _%_, _<_, _≤_};
 ghost use lib.ListN.{length};
-ghost use lib.Ieee.{Float};
 ghost use Rattle.rules.specs.Numbers.{at};
-ghost use Rattle.rules.specs.Query as rule;
-ghost use Rattle.blend.specs.Blend.{weighted, weighted-at, four-weighted, with-four, WeightsOf, weights-in, WeightsOn, RunGiven, RunBlended, ByFours, Blended};
+ghost use Rattle.blend.specs.Blend.{weighted, weighted-at, four-weighted, with-four, WeightsOf, weights-in, RunGiven, RunBlended, ByFours, Blended};
 
 // The Hermite weights of one axis: h00 and h01 for the values at the lower and the upper knot, h10 and h11, times the width, for the slopes.
 pub struct Weights {
@@ -34,16 +31,16 @@ pub fn hermite_weights(width: f64, t: f64) -> Weights
     }
 }
 
-// The weights of the first axis of those whose weights stand one after the other. Not public: that they are there is required.
-pub fn weights_at(weights: &[f64]) -> Weights
-    requires { ⌜ 4 ≤ length (now weights) ⌝ }
-    ensures { λ r. ⌜ r ≡ weights-in (now (weights .entry)) 0 ⌝ }
+// The weights of an axis, where those of the axes stand one after the other, four to an axis. Not public: that they are there is required.
+pub fn weights_of(weights: &[f64], axis: usize) -> Weights
+    requires { ⌜ (axis < 4) × (length (now weights) ≡ 16) ⌝ }
+    ensures { λ r. ⌜ r ≡ weights-in (now (weights .entry)) axis ⌝ }
 {
     Weights {
-        h00: weights[0],
-        h10: weights[1],
-        h01: weights[2],
-        h11: weights[3],
+        h00: weights[4 * axis],
+        h10: weights[4 * axis + 1],
+        h01: weights[4 * axis + 2],
+        h11: weights[4 * axis + 3],
     }
 }
 
@@ -66,8 +63,8 @@ pub fn one_blended(numbers: &[f64], lower: usize, upper: usize, weights: Weights
     evaluate_hermite_1d(weights, p0, m0, p1, m1)
 }
 
-// Four such blends of neighbours, all read before any is stored: the compiler works out several at a time. Not public: that all of them are there is required.
-pub fn four_blended(numbers: &[f64], lower: usize, upper: usize, weights: Weights) -> [f64; 4]
+// Four such blends of neighbours, all read before any is stored: the compiler works out several at a time.
+fn four_blended(numbers: &[f64], lower: usize, upper: usize, weights: Weights) -> [f64; 4]
     requires { ⌜ (lower + 7 < length (now numbers)) × (upper + 7 < length (now numbers)) × (length (now numbers) ≤ 4096) ⌝ }
     ensures { λ r. ⌜ r ≡ four-weighted weights (at (now (numbers .entry))) lower upper ⌝ }
 {
@@ -117,8 +114,8 @@ fn remove_by_fours(cell: &mut [f64], size: usize, weights: Weights)
     }
 }
 
-// The same where size is 1 too: then one number is left.
-fn remove_lowest(cell: &mut [f64], size: usize, weights: Weights)
+// The same where size is 1 too: then one number is left. Not public: that the cell has as many numbers is required.
+pub fn remove_lowest(cell: &mut [f64], size: usize, weights: Weights)
     requires { ⌜ (4 * size ≤ length (now cell)) × (length (now cell) ≤ 256) × ByFours size ⌝ }
     ensures { λ _. ⌜ Blended (now (cell .entry)) (now (cell .exit)) size weights ⌝ }
 {
@@ -127,18 +124,4 @@ fn remove_lowest(cell: &mut [f64], size: usize, weights: Weights)
         return;
     }
     remove_by_fours(cell, size, weights);
-}
-
-// The blend of a cell in which `left` axes are left, by the weights of these: each call removes the lowest of them, and with none left the cell is one number.
-// Not public: the cell's length is required, few axes, and that their weights are there.
-pub fn blend(cell: &mut [f64], left: usize, weights: &[f64]) -> f64
-    requires { ⌜ (length (now cell) ≡ 4 ^ left) × (left ≤ 4) × (4 * left ≤ length (now weights)) ⌝ }
-    ensures { λ r. ⌜ ((lowest : ℕ) (widths ts : ℕ → Float) → WeightsOn left lowest widths ts (now (weights .entry)) → r ≡ rule.blend left lowest widths ts (at (now (cell .entry)))) ⌝ }
-{
-    if left == 0 {
-        return cell[0];
-    }
-    let size = cell.len() / 4;
-    remove_lowest(cell, size, weights_at(weights));
-    blend(&mut cell[0..size], left - 1, &weights[4..])
 }

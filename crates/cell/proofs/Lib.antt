@@ -2,3 +2,4 @@ mod Apart
 mod Spotting
 mod Runs
 pub mod Removing
+mod Fewer

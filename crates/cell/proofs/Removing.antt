@@ -1,4 +1,4 @@
--- The turns of `remove_first`, on plain lists: each blends a run. Together the runs are the cell without its first axis, and the blend of what is left is that of the cell.
+-- The turns of `remove_runs`, on plain lists: each blends a run. Together the runs are the cell without its first axis.
 use native.Mathlib.Omega.{arith}
 use mathlib.Core.Path.{_≡_, refl, sym, ap, ap₂, _∙_}
 use mathlib.Core.Logic.{_≢_, ⊎-elim}
@@ -10,20 +10,19 @@ use native.Mathlib.Numerals.{add-one}
 use lib.Arith.{digits-div, digits-mod}
 use lib.Pow.{pow-pos}
 use lib.Dec.{ltb}
-use lib.ListN.{length, take, drop, length-append, length-drop, List·getD-append}
-use lib.Seq.{length-take-le, getD-take, getD-append-add}
+use lib.ListN.{length, set, take, drop, length-append, length-drop, List·getD-append}
+use lib.Seq.{length-take-le, getD-take, getD-append-add, getD-set-same}
 use lib.Ieee.{Float, nan}
 use borrow.Author.Tests.{ltb-true, ltb-false}
 use Rattle.rules.specs.Numbers.{at}
 use Rattle.rules.specs.Sizes.{Place, flat, product-below}
-use Rattle.rules.specs.Query.{corner, blend}
+use Rattle.rules.specs.Query.{corner}
 use Rattle.rules.proofs.Places.{OnGrid, flat-below}
 use Rattle.grid.specs.Strides.{stride}
 use Rattle.grid.proofs.Corners.{side-by-side}
-use Rattle.blend.specs.Blend.{weighted-at, four-weighted, weights-in, WeightsOn, RunGiven, RunBlended}
+use Rattle.blend.specs.Blend.{weighted-at, RunGiven, RunBlended, ByFours, Smaller, Blended}
 use Rattle.blend.specs.declared.Weights.{Weights}
-use Rattle.blend.proofs.Blending.{weights-of-rest, blended-on}
-use Rattle.cell.specs.Points.{CellAt, numbers, blended, SpotsOf, run-start, run-above, RunsGiven, RunsRemoved, RunsBlended}
+use Rattle.cell.specs.Points.{CellAt, numbers, SpotsOf, run-start, run-above, RunsGiven, RunsRemoved, FirstRemoved, Removed}
 use Rattle.cell.specs.declared.Spots.{Spots}
 use Rattle.cell.proofs.Runs.{run-at, corner-above}
 
@@ -319,7 +318,7 @@ module _ (axes : ℕ) (n : ℕ → ℕ) (lower : Place) (tensor : List Float) (s
   runs-given = record { two-axes = two; few-axes = inside .few-axes; there = there; few = omega (arith, exact, inside .small) }
 
   -- without the first axis the cell is what the runs leave
-  pub left-of-cell : (w : Weights) (left : List Float) → RunsRemoved axes spots tensor w left → (e : ℕ) → e < size → at left e ≡ weighted-at w X (2 * e) (2 * size + 2 * e)
+  left-of-cell : (w : Weights) (left : List Float) → RunsRemoved axes spots tensor w left → Smaller w size X left
   left-of-cell w left removed e h =
       let some : 0 < masks = pow-pos axes in
       let split : e / masks * masks + e % masks ≡ e = div-add-mod' e masks in
@@ -330,54 +329,49 @@ module _ (axes : ℕ) (n : ℕ → ℕ) (lower : Place) (tensor : List Float) (s
       ∙ run-is (e / masks) run (e % masks) part w
       ∙ ap (λ (x : ℕ). weighted-at w X (2 * x) (2 * size + 2 * x)) split
 
--- ---- the blend of what is left
-
-pub value-by-runs :
-    (axes : ℕ) (n : ℕ → ℕ) (lower : Place) (tensor weights : List Float) (spots : Spots)
-    → CellAt axes n lower → 2 ≤ axes → length tensor ≡ product-below n axes * 2 ^ axes → SpotsOf axes n lower spots
-    → (r : Float) → RunsBlended axes spots tensor weights r → (widths ts : ℕ → Float) → WeightsOn axes 0 widths ts weights → r ≡ blended axes n lower widths ts tensor
-value-by-runs zero n lower tensor weights spots inside two exact spotted r runs widths ts on = absurd (omega arith)
-value-by-runs (suc d) n lower tensor weights spots inside two exact spotted r runs widths ts on =
-    let less : suc d - 1 ≡ d = omega arith in
-    let left = runs .left in
-    let rest = rw less at (runs .value) in
-    let smaller = rw less at (left-of-cell (suc d) n lower tensor spots inside two exact spotted (weights-in weights 0) left (runs .removed)) in
-    rest 1 widths ts (weights-of-rest d 0 widths ts weights on)
-    ∙ blended-on d 0 widths ts weights (numbers (suc d) n tensor lower) (at left) on smaller
+  -- so it is where they stand in the front of a longer list
+  pub first-removed :
+      (w : Weights) (cell left : List Float) → size ≤ length cell → RunsRemoved axes spots tensor w left
+      → Smaller w size X (take 0 cell ++ (left ++ drop size (drop 0 cell)))
+  first-removed w cell left room removed e h =
+      let from : 0 + e ≡ e = omega arith in
+      ap (at (take 0 cell ++ (left ++ drop size (drop 0 cell)))) (sym from)
+      ∙ replaced-within cell left 0 size (omega arith) (removed .exact) e h
+      ∙ left-of-cell w left removed e h
 
 -- two axes have one run, of four numbers
 module _ (spots : Spots) (tensor : List Float) where
-  pub four-there : RunsGiven 2 spots tensor → (spots .first + 7 < length tensor) × (spots .first + spots .above + 7 < length tensor) × (length tensor ≤ 4096)
-  four-there given = let there = given .there 0 (omega arith) in (omega arith, omega arith, given .few)
+  pub one-run-given : RunsGiven 2 spots tensor → RunGiven 4 tensor (spots .first) (spots .first + spots .above)
+  one-run-given given =
+      let there = given .there 0 (omega arith) in
+      record { fours = refl; lower-there = omega arith; upper-there = omega arith; few = given .few }
 
-  module _ (w : Weights) where
-    abbrev four : List Float
-    four = four-weighted w (at tensor) (spots .first) (spots .first + spots .above)
-
-    run-number-is : (run k : ℕ) → run < 1 → k < 4 → at four (run * 4 + k) ≡ weighted-at w (at tensor) (run-start spots run + 2 * k) (run-above spots run + 2 * k)
+  module _ (w : Weights) (left : List Float) (is : RunBlended 4 tensor (spots .first) (spots .first + spots .above) w left) where
+    run-number-is :
+        (run k : ℕ) → run < 1 → k < 4
+        → at left (run * 4 + k) ≡ weighted-at w (at tensor) (run-start spots run + 2 * k) (run-above spots run + 2 * k)
     run-number-is (suc run) k h l = absurd (omega arith)
-    run-number-is zero zero h l = ap₂ (weighted-at w (at tensor)) (omega arith) (omega arith)
-    run-number-is zero (suc zero) h l = ap₂ (weighted-at w (at tensor)) (omega arith) (omega arith)
-    run-number-is zero (suc (suc zero)) h l = ap₂ (weighted-at w (at tensor)) (omega arith) (omega arith)
-    run-number-is zero (suc (suc (suc zero))) h l = ap₂ (weighted-at w (at tensor)) (omega arith) (omega arith)
-    run-number-is zero (suc (suc (suc (suc k)))) h l = absurd (omega arith)
+    run-number-is zero k h l =
+        let from : 0 * 4 + k ≡ k = omega arith in
+        ap (at left) from ∙ is .number k l ∙ ap₂ (weighted-at w (at tensor)) (omega arith) (omega arith)
 
-    pub one-run : (left : List Float) → left ≡ four → RunsRemoved 2 spots tensor w left
-    one-run left is = rw is (record { exact = refl; number = run-number-is })
+    pub one-run : RunsRemoved 2 spots tensor w left
+    one-run = record { exact = is .same-length; number = run-number-is }
 
 -- one axis: its four numbers stand side by side
-pub one-axis :
-    (n : ℕ → ℕ) (tensor : List Float) (lower : Place) (weights : List Float)
-    → (r : Float) → r ≡ weighted-at (weights-in weights 0) (at tensor) (2 * lower 0) (2 * lower 0 + 2)
-    → (widths ts : ℕ → Float) → WeightsOn 1 0 widths ts weights → r ≡ blended 1 n lower widths ts tensor
-unfolding blend flat corner
-one-axis n tensor lower weights r is widths ts on =
+pub only-removed :
+    (n : ℕ → ℕ) (tensor : List Float) (lower : Place) (w : Weights) (cell : List Float) → 0 < length cell
+    → Smaller w 1 (numbers 1 n tensor lower) (set cell 0 (weighted-at w (at tensor) (2 * lower 0) (2 * lower 0 + 2)))
+unfolding flat corner
+only-removed n tensor lower w cell room e h =
     let X : ℕ → Float = numbers 1 n tensor lower in
     let p0 : at tensor (2 * lower 0) ≡ X 0 = ap (at tensor) (omega arith) in
     let m0 : at tensor (2 * lower 0 + 1) ≡ X 1 = ap (at tensor) (omega arith) in
     let p1 : at tensor (2 * lower 0 + 2) ≡ X 2 = ap (at tensor) (omega arith) in
     let m1 : at tensor (2 * lower 0 + 2 + 1) ≡ X 3 = ap (at tensor) (omega arith) in
-    blended-on 0 0 widths ts weights X (λ e. r) on (λ e h. let none : e ≡ 0 = omega arith in is ∙ rw (p0, m0, p1, m1, none) refl)
+    let none : e ≡ 0 = omega arith in
+    rw none
+    (getD-set-same cell 0 (weighted-at w (at tensor) (2 * lower 0) (2 * lower 0 + 2)) nan room ∙ rw (p0, m0, p1, m1) refl)
 
 pub one-within :
     (axes : ℕ) (n : ℕ → ℕ) (lower : Place) (tensor : List Float) → axes ≡ 1 → CellAt axes n lower → length tensor ≡ product-below n axes * 2 ^ axes
@@ -391,3 +385,29 @@ one-within axes n lower tensor one inside exact =
 -- neither one, nor two, nor three
 pub four-axes : (axes : ℕ) (n : ℕ → ℕ) (lower : Place) → CellAt axes n lower → axes ≢ 1 → axes ≢ 2 → axes ≢ 3 → axes ≡ 4
 four-axes axes n lower inside one two three = omega (arith, inside .some-axes, inside .few-axes)
+
+-- ---- the lowest of the axes that are left
+
+-- in the cell there is room for it
+pub in-place :
+    (axes left half : ℕ) → 1 ≤ left → left ≤ axes → axes ≤ 4 → left ≢ axes → half ≡ 2 ^ (left - 1)
+    → (4 * (half * half) ≤ 64) × ByFours (half * half)
+in-place axes zero half some few most other is = absurd (omega arith)
+in-place axes (suc zero) half some few most other is =
+    let one : half ≡ 1 = is in (rw one (omega arith), rw one (λ more. absurd (more refl)))
+in-place axes (suc (suc zero)) half some few most other is =
+    let two : half ≡ 2 = is in (rw two (omega arith), rw two (λ more. refl))
+in-place axes (suc (suc (suc zero))) half some few most other is =
+    let four : half ≡ 4 = is in (rw four (omega arith), rw four (λ more. refl))
+in-place axes (suc (suc (suc (suc left)))) half some few most other is = absurd (other (omega arith))
+
+module _ (axes left : ℕ) (points lower : List ℕ) (tensor : List Float) (w : Weights) (cell later : List Float) where
+  pub removed-first : left ≡ axes → FirstRemoved axes points lower tensor w later → Removed axes left points lower tensor w cell later
+  removed-first same removed = record { first = λ all. removed; further = λ other. absurd (other same) }
+
+  pub removed-further :
+      (half : ℕ) → left ≢ axes → half ≡ 2 ^ (left - 1) → Blended cell later (half * half) w
+      → Removed axes left points lower tensor w cell later
+  removed-further half other is removed =
+      let size : half * half ≡ 4 ^ (left - 1) = rw is (sym (four-power (left - 1))) in
+      record { first = λ all. absurd (other all); further = λ fewer. rw size at (removed .smaller) }

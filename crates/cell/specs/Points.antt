@@ -1,14 +1,15 @@
 -- A cell of axes that are given by their points alone, n i on axis i, where its numbers stand in a tensor, and their blend: as the rules say for a grid with these points.
 use mathlib.Core.Path.{_≡_}
+use mathlib.Core.Logic.{_≢_}
 use mathlib.Core.List.{List}
 use Prim.Native.Nat.{ℕ, _+_, _-_, _*_, _/_, _%_, _^_, _<_, _≤_}
-use lib.ListN.{length, drop}
+use lib.ListN.{length}
 use lib.Ieee.{Float}
 use Rattle.rules.specs.Numbers.{at}
-use Rattle.rules.specs.Sizes.{most-axes, most-in-a-tensor, product-below, flat, Place}
+use Rattle.rules.specs.Sizes.{most-axes, most-in-a-tensor, product-below, flat, Place, place-of}
 use Rattle.rules.specs.Query.{corner, blend}
 use Rattle.grid.specs.Strides.{stride}
-use Rattle.blend.specs.Blend.{weighted-at, weights-in, WeightsOn}
+use Rattle.blend.specs.Blend.{weighted-at, WeightsOn, Smaller}
 use Rattle.blend.specs.declared.Weights.{Weights}
 use Rattle.cell.specs.declared.Spots.{Spots}
 
@@ -58,8 +59,31 @@ module _ (axes : ℕ) (spots : Spots) where
     pub exact : length left ≡ 4 ^ (axes - 1)
     pub number : (run k : ℕ) → run < 2 ^ axes / 4 → k < 2 ^ axes → at left (run * 2 ^ axes + k) ≡ weighted-at w (at tensor) (run-start spots run + 2 * k) (run-above spots run + 2 * k)
 
-  -- and what they leave is blended by the weights of the axes after it, whatever widths and fractions these are of
-  pub record RunsBlended (tensor weights : List Float) (r : Float) : Type 0 where
-    pub left : List Float
-    pub removed : RunsRemoved tensor (weights-in weights 0) left
-    pub value : (lowest : ℕ) (widths ts : ℕ → Float) → WeightsOn (axes - 1) lowest widths ts (drop 4 weights) → r ≡ blend (axes - 1) lowest widths ts (at left)
+-- ---- one axis fewer, and the blend of what is left
+
+module _ (axes : ℕ) (points lower : List ℕ) (tensor : List Float) where
+  -- points and lower indices that are lent are those of a cell, and the tensor is one of their grid
+  abbrev pub CellGiven : Type 0
+  CellGiven =
+      CellAt axes (place-of points) (place-of lower)
+      × ((length points ≡ 4) × (length lower ≡ 4))
+      × (length tensor ≡ product-below (place-of points) axes * 2 ^ axes)
+
+  -- of all axes the first is removed by its weights
+  abbrev pub FirstRemoved : Weights → List Float → Type 0
+  FirstRemoved w later = Smaller w (4 ^ (axes - 1)) (numbers axes (place-of points) tensor (place-of lower)) later
+
+module _ (axes left : ℕ) (points lower : List ℕ) where
+  -- of the axes that are left the lowest: of all of them what stands in the tensor is removed, of fewer what stands in the cell
+  pub record Removed (tensor : List Float) (w : Weights) (cell later : List Float) : Type 0 where
+    pub first : left ≡ axes → FirstRemoved axes points lower tensor w later
+    pub further : left ≢ axes → Smaller w (4 ^ (left - 1)) (at cell) later
+
+  -- their blend, whatever the widths and fractions that the weights are of: of all axes that of the tensor's numbers, of fewer the cell's
+  pub record BlendedOn (weights tensor cell : List Float) (r : Float) : Type 0 where
+    pub all :
+        left ≡ axes → (widths ts : ℕ → Float) → WeightsOn axes 0 widths ts weights
+        → r ≡ blended axes (place-of points) (place-of lower) widths ts tensor
+    pub fewer :
+        left < axes → (widths ts : ℕ → Float) → WeightsOn axes 0 widths ts weights
+        → r ≡ blend left (axes - left) widths ts (at cell)

@@ -1,15 +1,19 @@
-// The surface's value in a cell of the tensor, straight from the tensor: the cell's first axis is removed where its numbers stand, so no more than a quarter of them is put anywhere.
-// `points` and `lower` are the points of each axis and the cell's lower index on it, `weights` the weights of the axes one after the other, four to an axis.
+// The surface's value in a cell of the tensor. The blend calls itself with one axis fewer until none is left. Its first call removes the
+// first axis where the numbers stand in the tensor, so no more than a quarter of them is put anywhere; each later one removes an axis in
+// the cell. `points` and `lower` are the points of each axis and the cell's lower index on it, `weights` the weights of the axes one after
+// the other, four to an axis.
 ghost use mathlib.Core.Path.{_≡_};
-ghost use Prim.Native.Nat.{ℕ, _-_, _*_, _^_};
-ghost use lib.ListN.{length};
+ghost use Prim.Native.Nat.{ℕ, _+_, _-_, _*_, _^_, _≤_};
+ghost use lib.ListN.{length, set};
 ghost use lib.Ieee.{Float};
+ghost use Rattle.rules.specs.Numbers.{at};
 ghost use Rattle.rules.specs.Sizes.{place-of, product-below};
-ghost use Rattle.blend.specs.Blend.{WeightsOn};
-ghost use Rattle.cell.specs.Points.{CellAt, RunsGiven, RunsRemoved, RunsBlended, blended};
+ghost use Rattle.blend.specs.Blend.{weighted-at, WeightsOn};
+ghost use Rattle.cell.specs.Points.{CellAt, CellGiven, RunsGiven, RunsRemoved, FirstRemoved, Removed, BlendedOn, blended};
 use blend::Weights;
 
-// Where the lowest of a cell's numbers stands in the tensor, and how far apart there two neighbours are along the first axis, along the second, and along the last but one.
+// Where the lowest of a cell's numbers stands in the tensor, and how far apart there two neighbours are along the first axis, along the
+// second, and along the last but one.
 struct Spots {
     first: usize,
     above: usize,
@@ -17,9 +21,9 @@ struct Spots {
     last: usize,
 }
 
-// The first axis of two or more removed by its weights. Two corners that differ on the last axis alone stand side by side in the tensor, so the blends of both are one run; the runs
-// differ on the axes between the first and the last, of which there are at most two.
-fn remove_first(cell: &mut [f64], axes: usize, spots: Spots, weights: Weights, tensor: &[f64])
+// The first axis of two or more removed by its weights. Two corners that differ on the last axis alone stand side by side in the tensor, so
+// the blends of both are one run; the runs differ on the axes between the first and the last, of which there are at most two.
+fn remove_runs(cell: &mut [f64], axes: usize, spots: Spots, weights: Weights, tensor: &[f64])
     requires { ⌜ RunsGiven axes spots (now tensor) × (length (now cell) ≡ 4 ^ (axes - 1)) ⌝ }
     ensures { λ _. ⌜ RunsRemoved axes spots (now (tensor .entry)) weights (now (cell .exit)) ⌝ }
 {
@@ -39,37 +43,46 @@ fn remove_first(cell: &mut [f64], axes: usize, spots: Spots, weights: Weights, t
     }
 }
 
-// The blend of a cell whose numbers stand at these spots, with a quarter as many numbers lent for it as it has.
-fn blend_in(cell: &mut [f64], axes: usize, spots: Spots, weights: &[f64], tensor: &[f64]) -> f64
-    requires { ⌜ RunsGiven axes spots (now tensor) × (length (now cell) ≡ 4 ^ (axes - 1)) × (length (now weights) ≡ 16) ⌝ }
-    ensures { λ r. ⌜ RunsBlended axes spots (now (tensor .entry)) (now (weights .entry)) r ⌝ }
+// The only axis: its four numbers stand side by side, and one is left.
+fn first_of_one(cell: &mut [f64], first: usize, weights: Weights, tensor: &[f64])
+    requires { ⌜ (length (now cell) ≡ 64) × (first + 4 ≤ length (now tensor)) × (length (now tensor) ≤ 4096) ⌝ }
+    ensures { λ _. ⌜ now (cell .exit) ≡ set (now (cell .entry)) 0 (weighted-at weights (at (now (tensor .entry))) first (first + 2)) ⌝ }
 {
-    remove_first(cell, axes, spots, blend::weights_at(weights), tensor);
-    blend::blend(cell, axes - 1, &weights[4..])
+    cell[0] = blend::one_blended(tensor, first, first + 2, weights);
 }
 
-// Two axes: what is left without the first is one run of four.
-fn value_of_two(points: &[usize], lower: &[usize], weights: &[f64], tensor: &[f64]) -> f64
-    requires { ⌜ CellAt 2 (place-of (now points)) (place-of (now lower)) × ((length (now points) ≡ 4) × (length (now lower) ≡ 4) × (length (now weights) ≡ 16)) × (length (now tensor) ≡ product-below (place-of (now points)) 2 * 2 ^ 2) ⌝ }
-    ensures { λ r. ⌜ ((widths ts : ℕ → Float) → WeightsOn 2 0 widths ts (now (weights .entry)) → r ≡ blended 2 (place-of (now (points .entry))) (place-of (now (lower .entry))) widths ts (now (tensor .entry))) ⌝ }
+// The first of two: what is left is one run of four.
+fn first_of_two(
+    cell: &mut [f64],
+    points: &[usize],
+    lower: &[usize],
+    weights: Weights,
+    tensor: &[f64],
+)
+    requires { ⌜ CellGiven 2 (now points) (now lower) (now tensor) × (length (now cell) ≡ 64) ⌝ }
+    ensures { λ _. ⌜ FirstRemoved 2 (now (points .entry)) (now (lower .entry)) (now (tensor .entry)) weights (now (cell .exit)) ⌝ }
 {
     let above = 4 * points[1];
     let first = lower[0] * above + 4 * lower[1];
-    let mut cell = blend::four_blended(tensor, first, first + above, blend::weights_at(weights));
-    blend::blend(&mut cell, 1, &weights[4..])
+    blend::blend_run(&mut cell[0..4], tensor, first, first + above, weights);
 }
 
-// Three axes: the second is the last but one, and the two runs differ on it.
-fn value_of_three(points: &[usize], lower: &[usize], weights: &[f64], tensor: &[f64]) -> f64
-    requires { ⌜ CellAt 3 (place-of (now points)) (place-of (now lower)) × ((length (now points) ≡ 4) × (length (now lower) ≡ 4) × (length (now weights) ≡ 16)) × (length (now tensor) ≡ product-below (place-of (now points)) 3 * 2 ^ 3) ⌝ }
-    ensures { λ r. ⌜ ((widths ts : ℕ → Float) → WeightsOn 3 0 widths ts (now (weights .entry)) → r ≡ blended 3 (place-of (now (points .entry))) (place-of (now (lower .entry))) widths ts (now (tensor .entry))) ⌝ }
+// The first of three: the second is the last but one, and the two runs differ on it.
+fn first_of_three(
+    cell: &mut [f64],
+    points: &[usize],
+    lower: &[usize],
+    weights: Weights,
+    tensor: &[f64],
+)
+    requires { ⌜ CellGiven 3 (now points) (now lower) (now tensor) × (length (now cell) ≡ 64) ⌝ }
+    ensures { λ _. ⌜ FirstRemoved 3 (now (points .entry)) (now (lower .entry)) (now (tensor .entry)) weights (now (cell .exit)) ⌝ }
 {
     let next = 8 * points[2];
     let above = next * points[1];
     let first = lower[0] * above + lower[1] * next + 8 * lower[2];
-    let mut cell = [0.0; 16];
-    blend_in(
-        &mut cell,
+    remove_runs(
+        &mut cell[0..16],
         3,
         Spots {
             first,
@@ -79,21 +92,26 @@ fn value_of_three(points: &[usize], lower: &[usize], weights: &[f64], tensor: &[
         },
         weights,
         tensor,
-    )
+    );
 }
 
-// Four axes: the runs differ on the second and on the third.
-fn value_of_four(points: &[usize], lower: &[usize], weights: &[f64], tensor: &[f64]) -> f64
-    requires { ⌜ CellAt 4 (place-of (now points)) (place-of (now lower)) × ((length (now points) ≡ 4) × (length (now lower) ≡ 4) × (length (now weights) ≡ 16)) × (length (now tensor) ≡ product-below (place-of (now points)) 4 * 2 ^ 4) ⌝ }
-    ensures { λ r. ⌜ ((widths ts : ℕ → Float) → WeightsOn 4 0 widths ts (now (weights .entry)) → r ≡ blended 4 (place-of (now (points .entry))) (place-of (now (lower .entry))) widths ts (now (tensor .entry))) ⌝ }
+// The first of four: the runs differ on the second and on the third, and fill the cell.
+fn first_of_four(
+    cell: &mut [f64],
+    points: &[usize],
+    lower: &[usize],
+    weights: Weights,
+    tensor: &[f64],
+)
+    requires { ⌜ CellGiven 4 (now points) (now lower) (now tensor) × (length (now cell) ≡ 64) ⌝ }
+    ensures { λ _. ⌜ FirstRemoved 4 (now (points .entry)) (now (lower .entry)) (now (tensor .entry)) weights (now (cell .exit)) ⌝ }
 {
     let last = 16 * points[3];
     let next = last * points[2];
     let above = next * points[1];
     let first = lower[0] * above + lower[1] * next + lower[2] * last + 16 * lower[3];
-    let mut cell = [0.0; 64];
-    blend_in(
-        &mut cell,
+    remove_runs(
+        &mut cell[0..64],
         4,
         Spots {
             first,
@@ -103,24 +121,82 @@ fn value_of_four(points: &[usize], lower: &[usize], weights: &[f64], tensor: &[f
         },
         weights,
         tensor,
-    )
+    );
 }
 
-// The surface's value in a cell: no more numbers are cleared than are put.
-// Not public: callers see to all that is refused before.
+// The first of all axes removed, where the numbers stand in the tensor.
+fn remove_first(
+    cell: &mut [f64],
+    axes: usize,
+    points: &[usize],
+    lower: &[usize],
+    weights: Weights,
+    tensor: &[f64],
+)
+    requires { ⌜ CellGiven axes (now points) (now lower) (now tensor) × (length (now cell) ≡ 64) ⌝ }
+    ensures { λ _. ⌜ FirstRemoved axes (now (points .entry)) (now (lower .entry)) (now (tensor .entry)) weights (now (cell .exit)) ⌝ }
+{
+    match axes {
+        1 => first_of_one(cell, 2 * lower[0], weights, tensor),
+        2 => first_of_two(cell, points, lower, weights, tensor),
+        3 => first_of_three(cell, points, lower, weights, tensor),
+        _ => first_of_four(cell, points, lower, weights, tensor),
+    }
+}
+
+// The lowest of the axes that are left removed: where all are left, from the tensor, and else in the cell.
+fn remove_lowest(
+    cell: &mut [f64],
+    axes: usize,
+    left: usize,
+    points: &[usize],
+    lower: &[usize],
+    weights: Weights,
+    tensor: &[f64],
+)
+    requires { ⌜ CellGiven axes (now points) (now lower) (now tensor) × (length (now cell) ≡ 64) × ((1 ≤ left) × (left ≤ axes)) ⌝ }
+    ensures { λ _. ⌜ Removed axes left (now (points .entry)) (now (lower .entry)) (now (tensor .entry)) weights
+        (now (cell .entry)) (now (cell .exit)) ⌝ }
+{
+    if left == axes {
+        remove_first(cell, axes, points, lower, weights, tensor);
+        return;
+    }
+    let half = grid::masks(left - 1);
+    blend::remove_lowest(cell, half * half, weights);
+}
+
+// The blend of a cell in which `left` of the axes are left: each call removes the lowest of them, and with none left the cell is one
+// number. The first call, with all axes left, reads the tensor, and any other the cell. What is lent goes on as a reference to the slice,
+// so that the compiler makes a loop of the calls.
+fn blend(
+    cell: &mut [f64; 64],
+    axes: usize,
+    left: usize,
+    points: &&[usize],
+    lower: &&[usize],
+    weights: &&[f64],
+    tensor: &&[f64],
+) -> f64
+    requires { ⌜ CellGiven axes (now (now points)) (now (now lower)) (now (now tensor))
+        × (length (now (now weights)) ≡ 16) × (left ≤ axes) ⌝ }
+    ensures { λ r. ⌜ BlendedOn axes left (now (now (points .entry))) (now (now (lower .entry)))
+        (now (now (weights .entry))) (now (now (tensor .entry))) (now (cell .entry)) r ⌝ }
+{
+    if left == 0 {
+        return cell[0];
+    }
+    let weights_there = blend::weights_of(*weights, axes - left);
+    remove_lowest(cell, axes, left, *points, *lower, weights_there, *tensor);
+    blend(cell, axes, left - 1, points, lower, weights, tensor)
+}
+
+// The surface's value in a cell, with room for what is left of the largest without its first axis. What stands there at first is never
+// read: ones the compiler stores itself, and for zeros it calls the host's memset. Not public: callers see to all that is refused before.
 pub fn value(axes: usize, points: &[usize], lower: &[usize], weights: &[f64], tensor: &[f64]) -> f64
     requires { ⌜ CellAt axes (place-of (now points)) (place-of (now lower)) × ((length (now points) ≡ 4) × (length (now lower) ≡ 4) × (length (now weights) ≡ 16)) × (length (now tensor) ≡ product-below (place-of (now points)) axes * 2 ^ axes) ⌝ }
     ensures { λ r. ⌜ ((widths ts : ℕ → Float) → WeightsOn axes 0 widths ts (now (weights .entry)) → r ≡ blended axes (place-of (now (points .entry))) (place-of (now (lower .entry))) widths ts (now (tensor .entry))) ⌝ }
 {
-    match axes {
-        1 => blend::one_blended(
-            tensor,
-            2 * lower[0],
-            2 * lower[0] + 2,
-            blend::weights_at(weights),
-        ),
-        2 => value_of_two(points, lower, weights, tensor),
-        3 => value_of_three(points, lower, weights, tensor),
-        _ => value_of_four(points, lower, weights, tensor),
-    }
+    let mut cell = [1.0; 64];
+    blend(&mut cell, axes, axes, &points, &lower, &weights, &tensor)
 }

@@ -55,7 +55,7 @@ module _ (first step : Float) (points : ℕ) (p : Float) where
   direct-below a = cc
 
   module _ (a : lt ((p ⊖ first) ⊘ step) plus-zero ≡ false) where
-    direct-is : direct-cell first step points p ≡ min (as-index ((p ⊖ first) ⊘ step)) (points - 2)
+    pub direct-is : direct-cell first step points p ≡ min (as-index ((p ⊖ first) ⊘ step)) (points - 2)
     unfolding direct-cell
     direct-is = ap (λ (b : Bool). cond b 0 (min (as-index ((p ⊖ first) ⊘ step)) (points - 2))) a
 

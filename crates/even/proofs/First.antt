@@ -4,6 +4,8 @@ use mathlib.Core.Bool.{Bool, true, false}
 use Prim.Native.Nat.{ℕ, zero, suc, _+_, _-_, _<_, _≤_}
 use native.Mathlib.Omega.{arith}
 use native.Mathlib.Numerals.{add-one}
+use lib.Dec.{ltb}
+use borrow.Author.Tests.{ltb-true, ltb-false}
 use Rattle.rules.specs.Even.{first-that}
 
 module _ (test : ℕ → Bool) where
@@ -43,3 +45,14 @@ module _ (test : ℕ → Bool) where
     pub turn-last : to ≤ i → 0 ≡ first-that test (to - from) from
     unfolding first-that
     turn-last l = sym (t .same ∙ ap (λ (d : ℕ). first-that test d i) (let z : to - i ≡ 0 = omega arith in z))
+
+  -- where none was found, the test holds of none
+  pub none-found : (d k : ℕ) → 0 < k → first-that test d k ≡ 0 → (i : ℕ) → k ≤ i → i < k + d → test i ≡ false
+  none-found zero k some none i least most = absurd (omega arith)
+  none-found (suc d) k some none i least most =
+      go (test k) refl (ltb k i) refl (λ z l. none-found d (suc k) (omega arith) z i l (omega arith))
+    where
+      go : (t : Bool) → test k ≡ t → (u : Bool) → ltb k i ≡ u → (first-that test d (suc k) ≡ 0 → k < i → test i ≡ false) → test i ≡ false
+      go true e u f later = absurd (omega (arith, that-holds (suc d) k (omega arith) e))
+      go false e true f later = later (sym (that-fails d k e) ∙ none) (ltb-true k i f)
+      go false e false f later = let same : i ≡ k = omega (arith, ltb-false k i f) in rw same e

@@ -1,3 +1,8 @@
-mod Spacing
 pub mod First
+mod Spacing
 mod Direct
+mod Counts
+pub mod Cells
+mod Steps
+pub mod DirectCells
+pub mod Tenths

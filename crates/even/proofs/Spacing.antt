@@ -7,15 +7,18 @@ use native.Mathlib.Nat.{mul-one, zero-mul, mul-pos, zero-lt-suc}
 use native.Mathlib.Omega.{arith}
 use lib.Dec.{T, eqb}
 use lib.IntN.{ℤ, pos}
-use borrow.Author.Tests.{ltb-true, eqb-true, lt-ltb}
+use borrow.Author.Tests.{ltb-true, ltb-false, eqb-true, lt-ltb}
 use lib.Ieee as Ieee
 use lib.Ieee.{Float, nan, inf, fin, up, down, binary64, fits, lt, eq, neg}
 use lib.Ieee.Fits.{up-pos}
 use lib.Ieee.Back.{whole-unique}
+use lib.Ieee.Positive.{positive}
+use Rattle.floats.proofs.InUnits.{power-below-one}
 use Rattle.rules.specs.Numbers.{_⊖_, _⊗_, plus-zero}
 use Rattle.rules.specs.Steps.{h}
 use Rattle.rules.proofs.Cases.{not-both}
-use Rattle.rules.specs.Even.{absolute, epsilon, doubled, tolerance, apart, fails, first-that, first-failing}
+use Rattle.rules.specs.Even.{absolute, epsilon, doubled, tolerance, apart, fails, first-that, first-failing, uneven-refused}
+use Rattle.even.proofs.First.{none-found}
 
 -- ten doublings of 2 to the -52 are 2 to the -42
 ten-doublings : Ieee.ofBits binary64 0x3D50_0000_0000_0000 ≡ doubled 10 epsilon
@@ -26,6 +29,18 @@ ten-doublings = refl
 pub tolerance-is : (step size : Float) → size ≡ absolute step → size ⊗ Ieee.ofBits binary64 0x3D50_0000_0000_0000 ≡ tolerance step
 unfolding tolerance
 tolerance-is step size e = ap (λ (v : Float). v ⊗ Ieee.ofBits binary64 0x3D50_0000_0000_0000) e ∙ ap (λ (v : Float). absolute step ⊗ v) ten-doublings
+
+absolute-positive : (v : Float) → T (positive v) → v ≡ absolute v
+unfolding absolute
+absolute-positive nan p = absurd p
+absolute-positive (inf s) p = absurd p
+absolute-positive (fin true m e) p = absurd p
+absolute-positive (fin false m e) p = refl
+
+-- of a step above zero it is that step with 2 to the -42
+pub tolerance-above-zero : (step : Float) → T (positive step) → tolerance step ≡ step ⊗ power-below-one 41
+unfolding Ieee.ofBits
+tolerance-above-zero step p = sym (tolerance-is step step (absolute-positive step p))
 
 pub apart-wider : (spacing step : Float) → lt step spacing ≡ true → spacing ⊖ step ≡ apart spacing step
 unfolding apart
@@ -44,6 +59,13 @@ fails-is x i spacing step limit a b c r e = cc
 pub failing-is : (x : List Float) (n : ℕ) → first-that (fails x) (n - 1 - 1) 1 ≡ first-failing x n
 unfolding first-failing
 failing-is x n = ap (λ (d : ℕ). first-that (fails x) d 1) (let z : n - 1 - 1 ≡ n - 2 = omega arith in z)
+
+-- of an axis that is not refused by 21 none fails
+pub no-failure : (x : List Float) (n : ℕ) → uneven-refused x n ≡ false → (i : ℕ) → 0 < i → i + 1 < n → fails x i ≡ false
+unfolding first-failing
+no-failure x n even i some inside =
+    let none : first-that (fails x) (n - 2) 1 ≡ 0 = omega (arith, ltb-false 0 (first-failing x n) even) in
+    none-found (fails x) (n - 2) 1 (omega arith) none i some (omega arith)
 
 -- ---- a number without its sign, by two tests
 

@@ -53,7 +53,8 @@ pub fn validate_uniform_grid_epsilon(knots: &[f64]) -> usize
     0
 }
 
-// The cell of a point by the first knot, the step and the points of its axis: on interior knot k cell k. It is 0 where the quotient is 2^64 or more, infinite or NaN.
+// The cell of a point by the first knot, the step and the points of its axis: on knot k it is k or k - 1, as the quotient is rounded.
+// It is 0 where the quotient is 2^64 or more, infinite or NaN.
 pub fn locate_lower_index_uniform(first: f64, step: f64, points: usize, point: f64) -> usize
     requires { ⌜ 2 ≤ points ⌝ }
     ensures { λ r. ⌜ r ≡ direct-cell first step points point ⌝ }

@@ -1,2 +1,3 @@
 mod FirstAxis
 mod Answers
+pub mod HoldIsExtend

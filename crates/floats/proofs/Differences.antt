@@ -77,7 +77,7 @@ finite-above (fin true m e) p h = p
 finite-above (fin false m e) p h = p
 
 module _ (f : Format) (x y : Float) (p : T (fits f x)) (q : T (fits f y)) (a : finite x ≡ true) (b : finite y ≡ true) (h : lt y x ≡ true) where
-  places-rise : place-in f y < place-in f x
+  pub places-rise : place-in f y < place-in f x
   places-rise = ltb-true (place-in f y) (place-in f x) (sym (lt-places f y x q p (no-nan y b) (no-nan x a)) ∙ h)
 
   -- a difference that does not overflow is above zero

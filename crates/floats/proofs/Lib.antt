@@ -5,3 +5,6 @@ pub mod Rounding
 pub mod Equals
 pub mod Operations
 pub mod Differences
+pub mod Parts
+pub mod Near
+pub mod InUnits

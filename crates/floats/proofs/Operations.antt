@@ -119,7 +119,8 @@ sub-equal f (fin s m e) y h (inr zeros) =
 
 -- ---- a quotient by a number above zero
 
-div-is : (f : Format) (s : Bool) (m : ℕ) (e : ℤ) (n : ℕ) (d : ℤ)
+-- before it is rounded
+pub div-is : (f : Format) (s : Bool) (m : ℕ) (e : ℤ) (n : ℕ) (d : ℤ)
     → div f (fin s m e) (fin false (suc n) d) ≡ round f (unlike s false) (m * up e * down d) (suc n * up d * down e)
 unfolding div
 div-is f s m e n d = rw (ne-eqb (suc n) 0 (λ z. omega arith)) refl

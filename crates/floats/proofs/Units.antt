@@ -71,7 +71,7 @@ module _ (f : Format) (s : Bool) where
   magnitude-under zero e t = subst (λ (x : ℕ). x < overflow f) (sym (zero-mul (weight f e))) (pow-pos (low f + suc (emax f)))
   magnitude-under (suc m) e t = under-overflow f (suc m) e (fitting f s m e t)
 
-  magnitude-is : (m : ℕ) (e : ℤ) → T (fits f (fin s m e)) → m * up e * 2 ^ low f ≡ magnitude f m e * down e
+  pub magnitude-is : (m : ℕ) (e : ℤ) → T (fits f (fin s m e)) → m * up e * 2 ^ low f ≡ magnitude f m e * down e
   magnitude-is zero e t =
       ap (λ (x : ℕ). x * 2 ^ low f) (zero-mul (up e)) ∙ zero-mul (2 ^ low f)
       ∙ sym (ap (λ (x : ℕ). x * down e) (zero-mul (weight f e)) ∙ zero-mul (down e))

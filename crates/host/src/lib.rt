@@ -1,4 +1,5 @@
-// Every public call exported for C, over numbers and plain slices. Each but the firmware's returns its refusal's number, 0 for none, in the one order that boundary::own says.
+// The nineteen calls for C, over numbers and plain slices. Each but the firmware's returns its refusal's number, 0 for none: the host's own
+// first, as boundary::own and the crates of exports have them, and then the call's.
 ghost use mathlib.Core.List.{[], _∷_};
 ghost use Rattle.rules.specs.Calls.{SlopesPromise};
 ghost use Rattle.surface.specs.SheetSurface.{SurfacePromise};

@@ -1,12 +1,12 @@
 -- The chapter Classes of docs/RULES.md: what the number of a refusal tells of a sheet that was to be read and built, or written.
-use mathlib.Core.Bool.{Bool, cond, _||_}
+use mathlib.Core.Bool.{Bool, true, false, cond, _||_}
 use Prim.Native.Nat.{ℕ}
 use lib.Dec.{eqb}
 use Rattle.kinds.specs.Ranges.{among}
 use Rattle.kinds.specs.declared.classes.Class.{Class}
 use Rattle.kinds.specs.declared.classes.Class.the-variants.{None, Reading, Building, Writing, Unknown}
 
--- the sheet was not read: nothing of it shows, and its length is not known
+-- the sheet was not read: nothing of it shows
 abbrev pub of-reading : ℕ → Bool
 of-reading refusal = among 1 4 refusal || among 11 14 refusal || eqb refusal 22
 
@@ -23,3 +23,23 @@ unfoldable pub class : ℕ → Class
 class refusal =
     cond (eqb refusal 0) None
     (cond (of-reading refusal) Reading (cond (of-building refusal) Building (cond (of-writing refusal) Writing Unknown)))
+
+-- the class of a sheet that was read and built
+abbrev pub built : Class → Bool
+built None = true
+built Reading = false
+built Building = false
+built Writing = false
+built Unknown = false
+
+-- the class of a sheet that was not read
+abbrev pub unread : Class → Bool
+unread None = false
+unread Reading = true
+unread Building = false
+unread Writing = false
+unread Unknown = false
+
+-- whether a sheet of this refusal has no fault before its tail: then its length is known
+abbrev pub length-known : ℕ → Bool
+length-known refusal = eqb refusal 0 || eqb refusal 14

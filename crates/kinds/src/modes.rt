@@ -1,6 +1,8 @@
 // The modes of the axes, by their numbers.
 ghost use mathlib.Core.Path.{_≡_};
+ghost use lib.Dec.{eqb};
 ghost use Rattle.rules.specs.Outside.{mode-number};
+ghost use Rattle.rules.specs.declared.Mode.the-variants.{Hold, Refuse};
 ghost use Rattle.kinds.specs.Modes.{unknown-mode, mode-of-number};
 use rules::Mode;
 
@@ -22,6 +24,26 @@ pub fn mode_of_number(number: u64) -> Mode
         1 => Mode::Hold,
         2 => Mode::Refuse,
         _ => Mode::Extend,
+    }
+}
+
+// Whether a number is that of Hold: it refuses nothing. A query asks this and the next in place of the mode, which would cost it more.
+pub fn is_hold(number: u8) -> bool
+    ensures { λ r. ⌜ r ≡ eqb number (mode-number Hold) ⌝ }
+{
+    match number {
+        1 => true,
+        _ => false,
+    }
+}
+
+// Whether a number is that of Refuse: it refuses nothing.
+pub fn is_refuse(number: u8) -> bool
+    ensures { λ r. ⌜ r ≡ eqb number (mode-number Refuse) ⌝ }
+{
+    match number {
+        2 => true,
+        _ => false,
     }
 }
 

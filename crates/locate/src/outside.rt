@@ -5,6 +5,8 @@ ghost use lib.ListN.{length};
 ghost use Rattle.rules.specs.Outside.{side, nearest, outside};
 ghost use Rattle.kinds.specs.Modes.{mode-of-number};
 ghost use Rattle.locate.specs.Answers.{Placed};
+use kinds::modes::is_hold;
+use kinds::modes::is_refuse;
 use rules::Side;
 
 // The coordinate at which a query works its value out on an axis, and whether the mode refuses it.
@@ -50,23 +52,25 @@ fn is_outside(side: Side) -> bool
     }
 }
 
-// What the mode of a number makes of a point, as the numbers are read where modes are: 1 is hold, 2 is refuse, any other extends and looks at no knot.
+// What the mode of a number makes of a point: extend looks at no knot.
 pub fn place_on_axis(mode: u8, knots: &[f64], point: f64) -> PlacedPoint
     requires { ⌜ 1 ≤ length (now knots) ⌝ }
     ensures { λ r. ⌜ Placed (mode-of-number mode) (now (knots .entry)) point r ⌝ }
 {
-    match mode {
-        1 => PlacedPoint {
+    if is_hold(mode) {
+        return PlacedPoint {
             coordinate: nearest(side_of(knots, point), knots, point),
             refused: false,
-        },
-        2 => PlacedPoint {
+        };
+    }
+    if is_refuse(mode) {
+        return PlacedPoint {
             coordinate: point,
             refused: is_outside(side_of(knots, point)),
-        },
-        _ => PlacedPoint {
-            coordinate: point,
-            refused: false,
-        },
+        };
+    }
+    PlacedPoint {
+        coordinate: point,
+        refused: false,
     }
 }

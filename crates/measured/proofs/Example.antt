@@ -22,15 +22,15 @@ use Rattle.measured.specs.Measured.{Surface, AtPlace, Reads}
 use Rattle.measured.proofs.Measured.{measured-is-read}
 
 -- the floats of bit patterns
-abbrev patterns : List ℕ → List Float
+abbrev pub patterns : List ℕ → List Float
 patterns bits = map (λ (b : ℕ). ofBits binary64 b) bits
 
-patterns-fit : (bits : List ℕ) → AllFit (patterns bits)
+pub patterns-fit : (bits : List ℕ) → AllFit (patterns bits)
 patterns-fit [] k = nan-fits binary64
 patterns-fit (b ∷ bits) zero = ofBits-fits binary64 b
 patterns-fit (b ∷ bits) (suc k) = patterns-fit bits k
 
-abbrev axis : ℕ → Mode → Axis
+abbrev pub axis : ℕ → Mode → Axis
 axis points mode = record { points = points; condition = natural; mode = mode }
 
 abbrev knot-bits : List ℕ

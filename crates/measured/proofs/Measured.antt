@@ -38,13 +38,13 @@ module _ (g : Grid) (tensor coordinates : List Float) (place : Place) (S : Surfa
   coordinate-finite i l =
       eq-finite (at coordinates i) (at (knots g i) (place i)) (A .equal i l) (axis-knots g tensor S i l .rising .finite (place i) (A .on-grid i l))
 
-  coordinate-real : (i : ℕ) → i < g .axes → Real (at coordinates i)
+  pub coordinate-real : (i : ℕ) → i < g .axes → Real (at coordinates i)
   coordinate-real i l = record { fits = A .fit i; finite = coordinate-finite i l }
 
-  coordinates-finite : some-number-refused coordinates ≡ false
+  pub coordinates-finite : some-number-refused coordinates ≡ false
   coordinates-finite = any-never (λ k. number-refused (at coordinates k)) (length coordinates) (λ k l. ap not (coordinate-finite k (omega (arith, A .exact))))
 
-  inside : (i : ℕ) → i < g .axes → side (knots g i) (at coordinates i) ≡ Inside
+  pub inside : (i : ℕ) → i < g .axes → side (knots g i) (at coordinates i) ≡ Inside
   inside i l = inside-at-knot (knots g i) (points g i) (axis-knots g tensor S i l) (at coordinates i) (coordinate-real i l) (place i) (A .on-grid i l) (A .equal i l)
 
   cell-below : (i : ℕ) → i < g .axes → cell-of g (at coordinates) i ≡ place i - 1

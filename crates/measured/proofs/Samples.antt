@@ -9,11 +9,11 @@ use Rattle.rules.specs.Numbers.{at}
 use Rattle.rules.specs.Sizes.{Grid, points, Place, flat, spot}
 use Rattle.rules.specs.Refusals.{outcome-refused}
 use Rattle.rules.specs.Tensor.{sample, entry}
-use Rattle.rules.specs.Calls.{QueryPromise, QuickQueryPromise}
+use Rattle.rules.specs.Calls.{BuildPromise, QueryPromise, QuickQueryPromise}
 use Rattle.rules.proofs.ChangeIsBuild.{built-entry}
 use Rattle.floats.specs.Place.{AllFit}
 use Rattle.grid.specs.Given.{On}
-use Rattle.tensor.specs.Changes.{tensor-after, samples-after}
+use Rattle.tensor.specs.Changes.{Step, Kept, tensor-after, samples-after}
 use Rattle.tensor.proofs.Demand3.{tensor-long, Stands, built-stands, steps-stand}
 use Rattle.sheet_build.specs.SheetTensor.{SheetPromise}
 use Rattle.sheet_build.specs.declared.SheetAnswer.{SheetAnswer}
@@ -44,13 +44,25 @@ module _ (g : Grid) (samples t : List Float) (stands : Stands g samples t) where
   unfolding entry sample
   sample-at place on = ap (λ (l : List Float). at l (spot g place 0)) (stands .is) ∙ built-entry g samples 0 0 place zero-le (zero-lt-suc 0) on
 
+-- what holds of every surface with the tensor's number at a place holds, from an accepted build on, with the sample now standing there
+pub sample-standing :
+    (g : Grid) (samples out scratch t cleared : List Float) → BuildPromise g samples out scratch 0 t cleared
+    → (steps : List Step) → Kept g t steps → AllFit (g .flat-knots) → AllFit (tensor-after t steps)
+    → (place : Place) → On g place → (Holds : Float → Type 0)
+    → (Surface g (tensor-after t steps) → Holds (at (tensor-after t steps) (spot g place 0)))
+    → Holds (at (samples-after g samples steps) (flat (points g) (g .axes) place))
+sample-standing g samples out scratch t cleared built steps kept knots-fit tensor-fit place on Holds holds =
+    let stands = steps-stand g samples t (built-stands g samples out scratch t cleared built) steps kept in
+    subst Holds
+    (sample-at g (samples-after g samples steps) (tensor-after t steps) stands place on)
+    (holds (surface g (samples-after g samples steps) (tensor-after t steps) stands knots-fit tensor-fit))
+
 -- whatever query reads what was measured, reads the samples
 reads-standing : (Promised : Promise) → MeasuredIsRead Promised → ReadsItsSamples Promised
 reads-standing Promised is-read g samples out scratch t cleared built steps kept knots-fit tensor-fit coordinates place given at-place promise =
-    let stands = steps-stand g samples t (built-stands g samples out scratch t cleared built) steps kept in
-    subst (λ (number : Float). Reads g place number given)
-    (sample-at g (samples-after g samples steps) (tensor-after t steps) stands place (at-place .on-grid))
-    (is-read g (tensor-after t steps) coordinates place given (surface g (samples-after g samples steps) (tensor-after t steps) stands knots-fit tensor-fit) at-place promise)
+    sample-standing g samples out scratch t cleared built steps kept knots-fit tensor-fit place (at-place .on-grid)
+    (λ (number : Float). Reads g place number given)
+    (λ S. is-read g (tensor-after t steps) coordinates place given S at-place promise)
 
 -- ---- the theorem
 

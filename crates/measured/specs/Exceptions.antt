@@ -1,4 +1,5 @@
--- What is not promised, by an input for each: that the curve reads its samples, or the query of even axes; that slopes which count for nothing may be infinite; that the sign of a zero is read.
+-- What is not promised, by an input for each: that the curve reads its samples, or the query of even axes where the last knot of an axis
+-- less the first overflows; that slopes which count for nothing may be infinite; that the sign of a zero is read.
 use mathlib.Core.Path.{_≡_}
 use mathlib.Core.Bool.{false}
 use mathlib.Core.List.{List, [], _∷_}
@@ -32,7 +33,7 @@ one-axis points knots = grid 1 (record { points = points; condition = natural; m
 abbrev axis-01 : Grid
 axis-01 = one-axis 2 knots-01
 
--- of the knots −1e308 0 1e308
+-- of the knots −1e308 0 1e308, an even axis whose last knot less the first overflows
 abbrev wide-axis : Grid
 wide-axis = one-axis 3 (ofBits binary64 0xFFE1_CCF3_85EB_C8A0 ∷ plus-zero ∷ ofBits binary64 0x7FE1_CCF3_85EB_C8A0 ∷ [])
 
@@ -41,7 +42,8 @@ pub record Exceptions : Type 0 where
   pub curve :
       (given : CurveAnswer) → CurvePromise 2 knots-01 samples-10 (moments knots-01 1 (clamped plus-zero one) samples-10) (at knots-01 0) given
       → (given .refusal ≡ 0) × (eq (given .value) (at samples-10 0) ≡ false)
-  -- a tensor of zeros: at the last knot of the wide axis the query of even axes is refused by 10
+  -- a tensor of zeros: at the last knot of the wide axis the query of even axes is refused by 10; on an even axis whose last knot less the
+  -- first is finite it reads its samples (EvenMeasured)
   pub even-axis : (given : EvenAnswer) → EvenQueryPromise wide-axis (zeros 6) (at (wide-axis .flat-knots) 2 ∷ []) given → given .refusal ≡ 10
   -- a slope beside the sample is infinite: the query at its knot is refused by 10
   pub infinite-slope : (given : QueryAnswer) → QueryPromise axis-01 (plus-zero ∷ inf false ∷ plus-zero ∷ plus-zero ∷ []) (plus-zero ∷ []) given → given .refusal ≡ 10

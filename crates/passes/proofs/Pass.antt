@@ -303,7 +303,7 @@ module _ (g : Grid) (whole : Bool) (place : Place) (i mask : ℕ) (w₀ : List F
     -- the walk solved is the pass done
     module _
         (w′ x : List Float) (x-is : x ≡ knots g i) (x-long : length x ≡ points g i)
-        (solved : WalkSolved w₀ w′ x (condition-at mask (condition g i)) walk (2 ^ i) step (walk .lanes))
+        (count : ℕ) (done : WalkSolved w₀ w′ x (condition-at mask (condition g i)) walk (2 ^ i) step count)
       where
         here : (p : Place) → On g p → solves g whole place target p ≡ true → working g w′ p target ≡ slope-along g i mask (λ q. working g w₀ q mask) p
         unfolding slope-along
@@ -311,7 +311,7 @@ module _ (g : Grid) (whole : Bool) (place : Place) (i mask : ℕ) (w₀ : List F
             let less : number-of p < walk .lanes = rw (walks .lanes-are) (number-below n vary d p on) in
             let f : flat n d (moved p i 0) ≡ begin (number-of p) = begins-at p on e in
             ap (at w′) (own-stands p (begin (number-of p)) target f ∙ slope-stands (number-of p) (p i) less)
-            ∙ solved .slopes (number-of p) less (p i) (omega (arith, on i in-use, x-long))
+            ∙ done .solved .slopes (number-of p) (omega arith) (omega (arith, done .all)) (p i) (omega (arith, on i in-use, x-long))
             ∙ rw (x-long, x-is)
             (ap (λ (y : List Float). lane-slope (knots g i) (points g i - 1) (condition-at mask (condition g i)) y (p i))
             (table-ext (points g i) _ _ (λ k h.
@@ -319,10 +319,11 @@ module _ (g : Grid) (whole : Bool) (place : Place) (i mask : ℕ) (w₀ : List F
 
         pub passed : Passed g w₀ w′ whole place i mask
         passed = record {
-          same-length = solved .same-length;
+          same-length = done .solved .same-length;
           slopes = here;
           kept = λ p m on small left.
-              solved .kept (2048 + spot g p m) (omega arith) (λ t less k below e.
+              done .solved .kept (2048 + spot g p m) (omega arith) (λ t ge counted k below e.
+              let less : t < walk .lanes = omega (arith, done .all) in
               let found = of-lane p m t k on small (omega (arith, all-lanes)) (omega (arith, x-long)) (e ∙ sym (slope-stands t k less)) in
               not-both (solves g whole place target p) (found .1) (left (found .0)));
         }
@@ -343,7 +344,9 @@ module _ (g : Grid) (whole : Bool) (place : Place) (i mask : ℕ) (w₀ : List F
       solve-given = rw (ends-are, bit-is, steps-are) (walk-given walk walks-target x x-long)
 
       pub solve-done :
-          (w′ : List Float) → WalkSolved w₀ w′ x ends walk bit steps (walk .lanes)
-          → Passed g w₀ w′ whole place i mask × (walk .lanes ≡ lanes-solved n d whole i mask)
-      solve-done w′ solved =
-          (passed walk walks-target w′ x x-is x-long (rw (ends-are, bit-is, steps-are) at solved), all-lanes walk walks-target)
+          (w′ : List Float) (count : ℕ) → WalkSolved w₀ w′ x ends walk bit steps count
+          → Passed g w₀ w′ whole place i mask × (count ≡ lanes-solved n d whole i mask)
+      solve-done w′ count done = (
+        passed walk walks-target w′ x x-is x-long count (rw (ends-are, bit-is, steps-are) at done),
+        done .all ∙ all-lanes walk walks-target,
+      )

@@ -58,8 +58,7 @@ fn solve_lanes(
     let bit = masks(axis);
     let step = stride(axes, all, axis) * masks(axes);
     let walk = walk_over(axes, all, place, whole, mask + bit, axis, mask);
-    solve_walk(w, x, condition, plan, walk, bit, step);
-    walk.lanes
+    solve_walk(w, x, condition, plan, walk, bit, step)
 }
 
 // The passes along an axis, of each mask of the axes below it. It answers how many lanes they solved.

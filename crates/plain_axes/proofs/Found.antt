@@ -12,8 +12,9 @@ use Rattle.rules.specs.Outside.{with-axes, ButForModes, mode-number}
 use Rattle.rules.specs.declared.Mode.the-variants.{Extend}
 use Rattle.rules.specs.declared.Condition.{Condition}
 use Rattle.rules.specs.declared.Axis.{Axis}
-use Rattle.kinds.proofs.Told.{told, condition-again}
-use Rattle.plain_axes.specs.Axes.{eight-ends, condition-given, axis-given, axes-given, points-found, kinds-found, values-found, modes-found, AxisStored, AxesStored}
+use Rattle.kinds.specs.Modes.{mode-of-number}
+use Rattle.kinds.proofs.Told.{told, condition-again, mode-again}
+use Rattle.plain_axes.specs.Axes.{eight-ends, condition-given, axis-given, axes-given, axis-in-mode, axes-in-modes, points-found, kinds-found, values-found, modes-found, AxisStored, AxesStored}
 use Rattle.plain_axes.proofs.Slots.{four-stored, eight-stored, four-read}
 
 -- slices for four axes
@@ -85,31 +86,47 @@ ends-again :
 ends-again true axis n = sym (condition-again (axis .condition))
 ends-again false axis n = refl
 
--- the calls that take the numbers take them for the same axes, but for their modes
-module _ (axis : ℕ → Axis) (n : ℕ) (x : List Float) where
+-- with the number of its mode it is told whole
+mode-too :
+    (in-use : Bool) (axis : Axis)
+    → let found : Axis = cond in-use axis unused-axis in
+    let given : Axis = cond in-use (record { points = found .points; condition = told (found .condition); mode = Extend }) unused-axis in
+    cond in-use (record { points = given .points; condition = given .condition; mode = mode-of-number (mode-number (found .mode)) }) given ≡ found
+mode-too true axis = rw (condition-again (axis .condition), mode-again (axis .mode))
+mode-too false axis = refl
+
+-- the calls that take the numbers take them for the same axes
+module _ (axis : ℕ → Axis) (n : ℕ) where
   abbrev found : List Axis
   found = table most-axes (λ i. cond (ltb i n) (axis i) unused-axis)
-
-  abbrev g : Grid
-  g = record { axes = n; entries = found; flat-knots = x }
 
   abbrev again : List Axis
   again = axes-given n (points-found found) (kinds-found found) (values-found found)
 
-  pub axes-again : ButForModes g again
-  unfolding axes-given axis-given condition-given
-  axes-again = record { same-points = sizes; same-condition = ends }
-    where
-      sizes : (i : ℕ) → points g i ≡ points (with-axes g again) i
-      sizes zero = points-again (ltb 0 n) (axis 0) _
-      sizes (suc zero) = points-again (ltb 1 n) (axis 1) _
-      sizes (suc (suc zero)) = points-again (ltb 2 n) (axis 2) _
-      sizes (suc (suc (suc zero))) = points-again (ltb 3 n) (axis 3) _
-      sizes (suc (suc (suc (suc i)))) = refl
+  pub axes-in-modes-again : axes-in-modes n again (modes-found found) ≡ found
+  unfolding axes-given axis-given condition-given axes-in-modes axis-in-mode
+  axes-in-modes-again =
+      cc (mode-too (ltb 0 n) (axis 0), mode-too (ltb 1 n) (axis 1), mode-too (ltb 2 n) (axis 2), mode-too (ltb 3 n) (axis 3))
 
-      ends : (i : ℕ) → condition g i ≡ condition (with-axes g again) i
-      ends zero = ends-again (ltb 0 n) (axis 0) _
-      ends (suc zero) = ends-again (ltb 1 n) (axis 1) _
-      ends (suc (suc zero)) = ends-again (ltb 2 n) (axis 2) _
-      ends (suc (suc (suc zero))) = ends-again (ltb 3 n) (axis 3) _
-      ends (suc (suc (suc (suc i)))) = refl
+  -- but for their modes, where no modes are taken
+  module _ (x : List Float) where
+    abbrev g : Grid
+    g = record { axes = n; entries = found; flat-knots = x }
+
+    pub axes-again : ButForModes g again
+    unfolding axes-given axis-given condition-given
+    axes-again = record { same-points = sizes; same-condition = ends }
+      where
+        sizes : (i : ℕ) → points g i ≡ points (with-axes g again) i
+        sizes zero = points-again (ltb 0 n) (axis 0) _
+        sizes (suc zero) = points-again (ltb 1 n) (axis 1) _
+        sizes (suc (suc zero)) = points-again (ltb 2 n) (axis 2) _
+        sizes (suc (suc (suc zero))) = points-again (ltb 3 n) (axis 3) _
+        sizes (suc (suc (suc (suc i)))) = refl
+
+        ends : (i : ℕ) → condition g i ≡ condition (with-axes g again) i
+        ends zero = ends-again (ltb 0 n) (axis 0) _
+        ends (suc zero) = ends-again (ltb 1 n) (axis 1) _
+        ends (suc (suc zero)) = ends-again (ltb 2 n) (axis 2) _
+        ends (suc (suc (suc zero))) = ends-again (ltb 3 n) (axis 3) _
+        ends (suc (suc (suc (suc i)))) = refl

@@ -1,16 +1,16 @@
 -- On knots that the query does not refuse the quick query gives its whole answer: refusal, value and labels. The numbers are those that an f64 holds, as every slice's are.
 use native.Mathlib.Omega.{arith}
-use mathlib.Core.Path.{_≡_, refl, sym, ap, subst, _∙_}
+use mathlib.Core.Path.{_≡_, refl, ap, _∙_}
 use mathlib.Core.Bool.{Bool, true, false, not, cond, _||_}
 use mathlib.Core.List.{List, [], _∷_, _++_}
 use Prim.Native.Nat.{ℕ, zero, suc, _+_, _-_, _<_}
-use lib.Dec.{T, ltb}
-use lib.ListN.{length, drop, length-take, List·getD-eq-default}
-use lib.Seq.{getD-take, getD-drop}
-use lib.Ieee.{Float, nan, binary64, fits}
+use lib.Dec.{T}
+use lib.ListN.{length}
+use lib.Ieee.{Float, binary64, fits}
+use lib.Ieee.Fits.{nan-fits}
 use lib.Ieee.Scale.{finite}
-use borrow.Author.Tests.{ltb-true, ltb-false, not-false}
-use Rattle.rules.specs.Numbers.{at}
+use borrow.Author.Tests.{not-false}
+use Rattle.rules.specs.Numbers.{at, table, table-from}
 use Rattle.rules.specs.Sizes.{Grid, points, knots, sum-below, knots-length, tensor-length}
 use Rattle.rules.specs.Refusals.{length-refused, number-refused, some-number-refused, step-refused, knots-refused, some-knots-refused, found-cell-refused, some-found-cell-refused, answer-refused}
 use Rattle.rules.specs.Outside.{placed-on, some-outside-refused}
@@ -20,6 +20,7 @@ use Rattle.rules.proofs.Cells.{value-in-ext, labels-ext}
 use Rattle.rules.proofs.Halving.{quick-cell-inside}
 use Rattle.base.proofs.Scan.{neither, any-at, any-never}
 use Rattle.floats.specs.Place.{AllFit}
+use Rattle.floats.proofs.Parts.{part-fits}
 use Rattle.grid.specs.Given.{InRange}
 use Rattle.checks.specs.Check.{sizes-rows}
 use Rattle.checks.specs.Tables.{Refusal, row, lowest}
@@ -30,35 +31,34 @@ use Rattle.answer.proofs.Accepted.{rising-on-axis}
 
 -- the knots of each axis fit
 pub axis-fits : (g : Grid) → AllFit (g .flat-knots) → (i : ℕ) → AllFit (knots g i)
-unfolding fits
-axis-fits g knots-fit i k = go (ltb k (points g i)) refl
+axis-fits g knots-fit i = part-fits (g .flat-knots) (sum-below (points g) i) (points g i) knots-fit
+
+-- a table fits whose every number does
+pub table-fits : (n : ℕ) (f : ℕ → Float) → ((k : ℕ) → T (fits binary64 (f k))) → AllFit (table n f)
+table-fits n f each = from n 0
   where
-    go : (b : Bool) → ltb k (points g i) ≡ b → T (fits binary64 (at (knots g i) k))
-    go true e =
-        subst (λ (v : Float). T (fits binary64 v))
-        (sym (getD-take (points g i) (drop (sum-below (points g) i) (g .flat-knots)) k nan (ltb-true k (points g i) e) ∙ getD-drop (sum-below (points g) i) (g .flat-knots) k nan))
-        (knots-fit (sum-below (points g) i + k))
-    go false e =
-        subst (λ (v : Float). T (fits binary64 v))
-        (sym (List·getD-eq-default (knots g i) nan {n = k} (omega (arith, ltb-false k (points g i) e, length-take (points g i) (drop (sum-below (points g) i) (g .flat-knots)))))) tt
+    from : (n a : ℕ) → AllFit (table-from n a f)
+    from zero a k = nan-fits binary64
+    from (suc n) a zero = each a
+    from (suc n) a (suc k) = from n (suc a) k
 
 -- a refusal leaves nothing of the value and the labels
-pub refused-alike : {r r′ n : ℕ} (v v′ : Float) (l l′ : List ℕ) → r ≡ suc n → r′ ≡ suc n → answer-of r v l ≡ answer-of r′ v′ l′
+refused-alike : {r r′ n : ℕ} (v v′ : Float) (l l′ : List ℕ) → r ≡ suc n → r′ ≡ suc n → answer-of r v l ≡ answer-of r′ v′ l′
 refused-alike v v′ l l′ e f = rw (e, f) refl
 
 module _ (g : Grid) (tensor coordinates : List Float) (knots-fit : AllFit (g .flat-knots)) (coordinates-fit : AllFit coordinates) where
   -- the rows that both have first
-  abbrev pub first-rows : List Refusal
+  abbrev first-rows : List Refusal
   first-rows =
       sizes-rows g ++ (
       row 4 (length-refused (length (g .flat-knots)) (knots-length g) || length-refused (length tensor) (tensor-length g) || length-refused (length coordinates) (g .axes))
       ∷ []
       )
 
-  abbrev pub early : ℕ
+  abbrev early : ℕ
   early = lowest first-rows 0
 
-  abbrev pub full-later : ℕ
+  abbrev full-later : ℕ
   full-later =
       cond (some-number-refused (g .flat-knots) || some-number-refused coordinates) 7
       (cond (some-knots-refused g) 8
@@ -70,7 +70,7 @@ module _ (g : Grid) (tensor coordinates : List Float) (knots-fit : AllFit (g .fl
       (cond (some-found-cell-refused g (quick-cell-of g (at coordinates))) 8
       (cond (some-outside-refused g (at coordinates)) 18 (cond (answer-refused (quick-query-in-modes g tensor (at coordinates))) 10 0)))
 
-  pub full-is : query-refusal g tensor coordinates ≡ or-else early full-later
+  full-is : query-refusal g tensor coordinates ≡ or-else early full-later
   unfolding query-refusal
   full-is = rows-then first-rows full-later tt
 
@@ -87,13 +87,13 @@ module _ (g : Grid) (tensor coordinates : List Float) (knots-fit : AllFit (g .fl
   -- ---- they do not
 
   module _ (none : early ≡ 0) (numbers : some-number-refused (g .flat-knots) ≡ false) (rise : some-knots-refused g ≡ false) where
-    pub range : InRange (g .axes) (points g)
+    range : InRange (g .axes) (points g)
     range =
         let rows = none-applies first-rows tt none in
         let count = axes-few {axes = g .axes} (rows .0) in
         in-range (count .0) (count .1) (rows .1 .0)
 
-    pub lengths : (length (g .flat-knots) ≡ knots-length g) × (length tensor ≡ tensor-length g) × (length coordinates ≡ g .axes)
+    lengths : (length (g .flat-knots) ≡ knots-length g) × (length tensor ≡ tensor-length g) × (length coordinates ≡ g .axes)
     lengths = exact-3 (length (g .flat-knots)) (knots-length g) (length tensor) (tensor-length g) (length coordinates) (g .axes) (none-applies first-rows tt none .1 .1 .1 .0)
 
     both-7 : some-number-refused coordinates ≡ true → quick-query-answer g tensor coordinates ≡ query-answer g tensor coordinates
@@ -102,10 +102,10 @@ module _ (g : Grid) (tensor coordinates : List Float) (knots-fit : AllFit (g .fl
 
     module _ (finite-point : some-number-refused coordinates ≡ false) where
       module _ (i : ℕ) (lt : i < g .axes) where
-        pub rising : Rising (knots g i) (points g i)
+        rising : Rising (knots g i) (points g i)
         rising = rising-on-axis g (lengths .0) numbers i lt (any-at (λ j. knots-refused (knots g j) (points g j)) (g .axes) rise i lt)
 
-        pub point-finite : finite (at coordinates i) ≡ true
+        point-finite : finite (at coordinates i) ≡ true
         point-finite = not-false _ (any-at (λ j. number-refused (at coordinates j)) (length coordinates) finite-point i (omega (arith, lengths .2)))
 
         cell-same : quick-cell-of g (at coordinates) i ≡ cell-of g (at coordinates) i

@@ -21,11 +21,16 @@ no-bytes : report-of [] ≡ record { totals = totals-of []; stopped = false }
 unfolding stream-of report-of
 no-bytes = refl
 
-ends-inside : stream-of most-sheets (0x12 ∷ []) ≡ record { sheets = record { refusal = 11; size = 0; tensor = [] } ∷ []; stopped = true }
+ends-inside : stream-of most-sheets (0x12 ∷ []) ≡ record { sheets = record { refusal = 11; tensor = [] } ∷ []; stopped = true }
 unfolding any product-below bit field values-of-kind end-of-kind condition-of-kind periodic-at-one-end mode-of-number unknown-edition mode-width class points-at values-at axis-at knots-begin knots-at axis-end axis-begin entries knots-below sheet-grid axis-fault axes-fault tail-refused samples-fault sheet-refusal own-refusal sheet-bytes front-size sheet-at front-sheet stops stream-of
 ends-inside = refl
 
 last-bit-set : stream-of most-sheets (first-bytes ++ (0x01 ∷ 0xFF ∷ 0xFF ∷ []))
-    ≡ record { sheets = record { refusal = 14; size = 51; tensor = [] } ∷ []; stopped = true }
+    ≡ record { sheets = record { refusal = 14; tensor = [] } ∷ []; stopped = true }
 unfolding any product-below bit field values-of-kind end-of-kind condition-of-kind periodic-at-one-end mode-of-number unknown-edition mode-width class points-at values-at axis-at knots-begin knots-at axis-end axis-begin entries knots-below sheet-grid axis-fault axes-fault tail-refused samples-fault sheet-refusal own-refusal sheet-bytes front-size sheet-at front-sheet stops stream-of
 last-bit-set = refl
+
+-- its own bytes end where its fields do
+cut-to-the-byte : front-size (first-bytes ++ (0x01 ∷ 0xFF ∷ 0xFF ∷ [])) ≡ 51
+unfolding any product-below bit field values-of-kind end-of-kind condition-of-kind periodic-at-one-end mode-of-number unknown-edition mode-width points-at values-at axis-at knots-begin knots-at axis-end axis-begin entries knots-below sheet-grid axis-fault axes-fault tail-refused samples-fault sheet-refusal sheet-bytes front-size
+cut-to-the-byte = refl

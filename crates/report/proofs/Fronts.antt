@@ -13,16 +13,16 @@ use borrow.Author.Tests.{ltb-true, ltb-false}
 use Rattle.rules.specs.Tensor.{tensor}
 use Rattle.rules.proofs.Refused.{or-else-met}
 use Rattle.rules.proofs.Tables.{length-table}
-use Rattle.kinds.specs.Classes.{class}
 use Rattle.sheet.specs.Fields.{axes, sheet-grid, sheet-samples}
 use Rattle.sheet.specs.Faults.{sheet-refusal}
+use Rattle.sheet.proofs.Numbers.{sheet-of-reading}
 use Rattle.sheet_build.specs.SheetTensor.{own-refusal, SheetPromise}
 use Rattle.sheet_build.specs.declared.SheetAnswer.{SheetAnswer}
 use Rattle.sheet_build.proofs.Builds.{length-tensor}
 use Rattle.sheet_build.proofs.Few.{own-few}
 use Rattle.sheet_build.proofs.Alone.{read-alone, few-numbers, answered-alone, axes-alone, tensor-alone, nothing-alone, axes-most}
 use Rattle.sheet_front.specs.Front.{front-size, front-bytes, rest-bytes, enough-bytes}
-use Rattle.sheet_front.proofs.Tails.{true-not-false, before-tail, either-case, refusal-early, unknown-of, before-tail-number}
+use Rattle.sheet_front.proofs.Tails.{true-not-false, before-tail, either-case, refusal-early}
 use Rattle.sheet_front.proofs.Cuts as cuts
 use Rattle.totals.specs.Totals.{Entry, tensor-entries}
 use Rattle.report.specs.Report.{accepted-alone, sheet-at, front-sheet, stops}
@@ -32,13 +32,11 @@ use Rattle.report.specs.Within.{Shown, Buffers}
 
 -- stops the report
 early-stops : (bytes : List ℕ) → (before-tail bytes ≡ 0 → ⊥) → stops (before-tail bytes) ≡ true
-unfolding stops class
-early-stops bytes =
-    before-tail-number (λ (k : ℕ). ((k ≡ 0 → ⊥) → stops k ≡ true)) (λ met. absurd (met refl)) (λ met. refl) (λ met. refl) (λ met. refl) (λ met. refl)
-    (λ met. refl) (λ met. refl) (λ met. refl) bytes
+unfolding stops
+early-stops bytes met = let is = refusal-early bytes met in rw (← is, sheet-of-reading bytes (λ z. met (sym is ∙ z)))
 
 module _ (bytes : List ℕ) (met : before-tail bytes ≡ 0 → ⊥) where
-  -- its number is that of the sheet, which has no known length and no tensor
+  -- its number is that of the sheet, which has no tensor
   early-refusal : own-refusal bytes ≡ before-tail bytes
   unfolding own-refusal
   early-refusal =
@@ -49,13 +47,13 @@ module _ (bytes : List ℕ) (met : before-tail bytes ≡ 0 → ⊥) where
   nothing-accepted zero entries other = absurd (other refl)
   nothing-accepted (suc refusal) entries other = refl
 
-  early-sheet : sheet-at bytes ≡ record { refusal = before-tail bytes; size = 0; tensor = [] }
+  early-sheet : sheet-at bytes ≡ record { refusal = before-tail bytes; tensor = [] }
   unfolding sheet-at
   early-sheet =
       let entries = tensor-entries (axes bytes) (tensor (sheet-grid bytes) (sheet-samples bytes)) in
-      rw (early-refusal, unknown-of bytes met, nothing-accepted (before-tail bytes) entries met)
+      rw (early-refusal, nothing-accepted (before-tail bytes) entries met)
 
-  early-front : front-sheet bytes ≡ record { refusal = before-tail bytes; size = 0; tensor = [] }
+  early-front : front-sheet bytes ≡ record { refusal = before-tail bytes; tensor = [] }
   unfolding front-sheet
   early-front = rw (cuts.all-shown bytes met) early-sheet
 

@@ -1,4 +1,3 @@
-mod Classes
 mod Fronts
 mod Streams
 pub mod Steps

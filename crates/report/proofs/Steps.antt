@@ -90,7 +90,7 @@ module _ (totals : Totals) (bytes : List ℕ) (some : 1 ≤ length bytes) where
 
       next-off : stops (front .refusal) ≡ true → _≡_ {A = Report} (record { totals = later; stopped = true }) (report-of input)
       next-off e =
-          reported later input (seen ++ (front ∷ [])) true (adds .adds seen (front .size) (s .running .said))
+          reported later input (seen ++ (front ∷ [])) true (adds .adds seen (s .running .said))
           (s .same ∙ rw (count, next-stops left bytes more some shown e) (after-after seen front stops-here ∙ after-stop (seen ++ (front ∷ []))))
 
     pub step-sheet : (run : Running totals) (size : ℕ) (stopped : Bool) → size ≡ front-size bytes → size ≤ length bytes → stopped ≡ stops (front .refusal)

@@ -1,17 +1,13 @@
 -- The chapter Report of docs/RULES.md: the sheets of a stream, how it ends, its report, and the public call `report_of_bytes`, which answers it.
 use mathlib.Core.Path.{_≡_}
-use mathlib.Core.Bool.{Bool, true, false, cond}
+use mathlib.Core.Bool.{Bool, true, false}
 use mathlib.Core.List.{List, [], _∷_, _++_}
 use Prim.Native.Nat.{ℕ, zero, suc}
-use lib.ListN.{length}
 use Rattle.rules.specs.Tensor.{tensor}
-use Rattle.kinds.specs.Classes.{class}
-use Rattle.kinds.specs.declared.classes.Class.{Class}
-use Rattle.kinds.specs.declared.classes.Class.the-variants.{None, Reading, Building, Writing, Unknown}
+use Rattle.kinds.specs.Classes.{class, unread}
 use Rattle.sheet.specs.Fields.{axes, sheet-grid, sheet-samples}
-use Rattle.sheet.specs.Faults.{sheet-refusal}
 use Rattle.sheet_build.specs.SheetTensor.{own-refusal}
-use Rattle.sheet_front.specs.Front.{length-known, front-bytes, rest-bytes}
+use Rattle.sheet_front.specs.Front.{front-bytes, rest-bytes}
 use Rattle.totals.specs.Totals.{Entry, Sheet, most-sheets, tensor-entries, totals-of}
 use Rattle.totals.specs.declared.Report.{Report}
 
@@ -26,7 +22,6 @@ accepted-alone (suc refusal) entries = []
 unfoldable pub sheet-at : List ℕ → Sheet
 sheet-at bytes = record {
   refusal = own-refusal bytes;
-  size = cond (length-known (sheet-refusal bytes)) (length bytes) 0;
   tensor = accepted-alone (own-refusal bytes) (tensor-entries (axes bytes) (tensor (sheet-grid bytes) (sheet-samples bytes)));
 }
 
@@ -34,15 +29,7 @@ sheet-at bytes = record {
 unfoldable pub front-sheet : List ℕ → Sheet
 front-sheet bytes = sheet-at (front-bytes bytes)
 
--- the class of a sheet that was not read
-abbrev pub unread : Class → Bool
-unread None = false
-unread Reading = true
-unread Building = false
-unread Writing = false
-unread Unknown = false
-
--- whether a report stops in a sheet of this refusal
+-- whether a report stops in a sheet of this refusal: where it was not read
 unfoldable pub stops : ℕ → Bool
 stops refusal = unread (class refusal)
 

@@ -1,12 +1,10 @@
 // The report over a stream of sheets: each sheet read and built, and what it holds counted.
-ghost use mathlib.Core.Path.{_≡_};
 ghost use Prim.Native.Nat.{_≤_};
 ghost use lib.ListN.{length};
 ghost use Rattle.totals.specs.Within.{Running};
-ghost use Rattle.report.specs.Report.{stops, ReportPromise};
+ghost use Rattle.report.specs.Report.{ReportPromise};
 ghost use Rattle.report.specs.Within.{Buffers, Stepped, Fed};
-use kinds::classes::Class;
-use kinds::classes::class_of;
+use kinds::classes::is_unread;
 use sheet_build::tensor_of_sheet;
 use sheet_front::size_of_front;
 use totals::Report;
@@ -21,17 +19,8 @@ pub struct Step {
     pub stopped: bool,
 }
 
-// Whether a report stops in a sheet of this refusal: where the sheet was not read.
-fn is_last(refusal: usize) -> bool
-    ensures { λ r. ⌜ r ≡ stops refusal ⌝ }
-{
-    match class_of(refusal) {
-        Class::Reading => true,
-        Class::None | Class::Building | Class::Writing | Class::Unknown => false,
-    }
-}
-
-// One step: the front sheet is read, built and counted. Not public: it requires totals of some stream, a byte at least, and the four buffers.
+// One step: the front sheet is read, built and counted, and the report stops in it where it was not read. Not public: it requires totals of
+// some stream, a byte at least, and the four buffers.
 fn take_sheet(
     totals: Totals,
     bytes: &[u8],
@@ -58,7 +47,7 @@ fn take_sheet(
     Step {
         totals: counted,
         taken: size,
-        stopped: is_last(refusal),
+        stopped: is_unread(refusal),
     }
 }
 

@@ -1,2 +1,3 @@
+mod Brought
 mod Keeps
 mod Turns

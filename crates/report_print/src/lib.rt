@@ -3,8 +3,7 @@ ghost use mathlib.Core.Path.{_≡_};
 ghost use mathlib.Core.Bool.{true};
 ghost use Prim.Native.Nat.{_-_, _≤_};
 ghost use lib.ListN.{length, take, drop};
-ghost use Rattle.sheet_front.specs.Front.{enough-bytes};
-ghost use Rattle.report_print.specs.Within.{said, Refilled, Told};
+ghost use Rattle.report_print.specs.Within.{said, Lent, Refilled, Told};
 use report::Step;
 use report::feed;
 use streams::Input;
@@ -12,22 +11,21 @@ use streams::read_input;
 use totals::Report;
 use totals::none;
 
-// Whether a read failed, and else the report of all that was read.
+// Whether a read failed, and else the report of all that was read; how many bytes all reads brought, and how many of them stand in the
+// buffer's front in the end.
 pub struct Outcome {
     pub failed: bool,
     pub report: Report,
+    pub brought: usize,
+    pub filled: usize,
 }
 
-// Reads behind the bytes that were kept, until the buffer is full or the input ends, and answers how many bytes then stand in it.
+// Reads behind the bytes that were kept, until the buffer is full or the input ends, and answers how many bytes came.
 fn refill(buffer: &mut [u8], kept: usize) -> Input
     requires { ⌜ kept ≤ length (now buffer) ⌝ }
     ensures { λ r. ⌜ Refilled (now (buffer .entry)) kept (now (buffer .exit)) r ⌝ }
 {
-    let input = read_input(&mut buffer[kept..]);
-    Input {
-        failed: input.failed,
-        length: kept + input.length,
-    }
+    read_input(&mut buffer[kept..])
 }
 
 // Drops the first `from` bytes: those behind them come to stand at the front.
@@ -53,12 +51,14 @@ fn unread() -> Outcome
             totals,
             stopped: false,
         },
+        brought: 0,
+        filled: 0,
     }
 }
 
-// What the last step of a report says.
-fn told(last: Step) -> Outcome
-    ensures { λ r. ⌜ r ≡ said last ⌝ }
+// What the last step of a report says, after so many bytes.
+fn told(last: Step, brought: usize, filled: usize) -> Outcome
+    ensures { λ r. ⌜ r ≡ said last brought filled ⌝ }
 {
     let totals = last.totals;
     Outcome {
@@ -67,41 +67,46 @@ fn told(last: Step) -> Outcome
             totals,
             stopped: last.stopped,
         },
+        brought,
+        filled,
     }
 }
 
-// The report of standard input, piece by piece: the buffer is filled, fed, and rid of what was taken, until the input or the report ends.
-fn report_through(buffer: &mut [u8]) -> Outcome
-    requires { ⌜ enough-bytes ≤ length (now buffer) ⌝ }
-    ensures { λ r. ⌜ Told r ⌝ }
+// The report of standard input, piece by piece, the first of which the first read has brought to the buffer's front: each is fed, the
+// buffer rid of what was taken and filled again, until the input or the report ends.
+fn report_through(buffer: &mut [u8], first: Input) -> Outcome
+    requires { ⌜ Lent (now buffer) (first .length) ⌝ }
+    ensures { λ r. ⌜ Told (now (buffer .entry)) (first .length) (now (buffer .exit)) r ⌝ }
 {
     let mut sum = none();
-    let mut kept = 0;
+    let mut filled = first.length;
+    let mut brought = first.length;
     loop {
-        let input = refill(buffer, kept);
-        let filled = input.length;
-        let failed = input.failed;
-        if failed {
-            return unread();
-        }
         if filled < buffer.len() {
-            return told(feed(sum, &buffer[0..filled], 1));
+            return told(feed(sum, &buffer[0..filled], 1), brought, filled);
         }
         let next = feed(sum, buffer, 65536);
         let so_far = next.totals;
         let stopped = next.stopped;
         let taken = next.taken;
         if stopped {
-            return told(next);
+            return told(next, brought, filled);
+        }
+        keep(buffer, taken);
+        let kept = buffer.len() - taken;
+        let input = refill(buffer, kept);
+        let failed = input.failed;
+        if failed {
+            return unread();
         }
         sum = so_far;
-        keep(buffer, taken);
-        kept = buffer.len() - taken;
+        filled = kept + input.length;
+        brought += input.length;
     }
 }
 
 // Prints the text of a report.
-fn print_text(report: Report) {
+pub fn print_text(report: Report) {
     let mut text = [0u8; 1137];
     let answer = report_text::report_text(report, &mut text);
     let length = answer.length;
@@ -111,7 +116,11 @@ fn print_text(report: Report) {
 // Prints the report of the stream of sheets on standard input, of any length. Where the input cannot be read, nothing is printed.
 pub fn run() {
     let mut buffer = [0u8; 524288];
-    let outcome = report_through(&mut buffer);
+    let first = read_input(&mut buffer);
+    if first.failed {
+        return;
+    }
+    let outcome = report_through(&mut buffer, first);
     if outcome.failed {
         return;
     }

@@ -95,7 +95,8 @@ report-text report = sheets-lines (report .totals) ++ (order-lines (report .tota
 
 -- ---- the call
 
--- how long a text must be at least: as long as the text of the largest numbers that the totals can hold
+-- how long a text must be at least: enough for the largest numbers that the totals can hold. The longest text has 9 bytes fewer, since a
+-- refusal's number is counted with two digits throughout
 abbrev pub report-length : ℕ
 report-length = 1137
 

@@ -6,7 +6,7 @@ use Prim.Native.Nat.{ℕ, _-_, min, _≤_}
 use native.Mathlib.Omega.{arith}
 use lib.Ieee as Ieee
 use lib.Ieee.{Float, nan, inf, binary64, lt}
-use Rattle.rules.specs.Numbers.{_⊖_, _⊗_, _⊘_, plus-zero, zeros, any}
+use Rattle.rules.specs.Numbers.{_⊖_, _⊗_, _⊘_, plus-zero, at, zeros, any}
 use Rattle.rules.specs.Ends.{natural}
 use Rattle.rules.specs.Sizes.{Grid, sum-below, product-below, unused-axis}
 use Rattle.rules.specs.Steps.{h}
@@ -77,6 +77,10 @@ knots-3 = 0′ ∷ 1′ ∷ 2′ ∷ []
 abbrev knots-huge : List Float
 knots-huge = -huge ∷ 0′ ∷ huge ∷ []
 
+-- 1e-17 is too small to show beside 1
+abbrev knots-close : List Float
+knots-close = pattern 0xBFF0_0000_0000_0000 ∷ pattern 0x3C67_0EF5_4646_D497 ∷ 1′ ∷ []
+
 -- the direct cell of a point on the knots 0 1 2
 abbrev cell-at : Float → ℕ
 cell-at p = direct-cell 0′ 1′ 3 p
@@ -117,6 +121,10 @@ pub record EvenExamples : Type 0 where
   pub direct-at-last-knot : cell-at 2′ ≡ 1
   pub direct-below : cell-at (pattern 0xBFF0_0000_0000_0000) ≡ 0
   pub direct-before-knot : cell-at (pattern 0x3FEF_FFFF_FFFF_FFFF) ≡ 0
+  -- on the knots -1 1e-17 1, an even axis, 0 lies in the first cell, and the direct cell is the next
+  pub close-is-even : first-failing knots-close 3 ≡ 0
+  pub direct-before-close-knot : direct-cell (at knots-close 0) (h knots-close 0) 3 0′ ≡ 1
+  pub searched-before-close-knot : locate knots-close 2 0′ ≡ 0
   -- the last float below 2 to the 64, and 2 to the 64
   pub direct-before-too-large : cell-at (pattern 0x43EF_FFFF_FFFF_FFFF) ≡ 1
   pub direct-too-large : cell-at (pattern 0x43F0_0000_0000_0000) ≡ 0
@@ -167,6 +175,9 @@ even-examples = record {
   direct-at-last-knot = refl;
   direct-below = refl;
   direct-before-knot = refl;
+  close-is-even = refl;
+  direct-before-close-knot = refl;
+  searched-before-close-knot = refl;
   direct-before-too-large = refl;
   direct-too-large = refl;
   searched-too-large = refl;

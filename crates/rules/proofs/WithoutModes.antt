@@ -13,9 +13,18 @@ use Rattle.rules.specs.Tensor.{slope-along, entry, sample, place-at, mas
 use Rattle.rules.specs.Change.{can-differ, with-sample, changed-entry, changed-tensor, Lane, starts, lanes-from, lanes-along, lanes-below, change-lanes}
 use Rattle.rules.specs.Steps.{h}
 use Rattle.rules.specs.Outside.{with-axes, ButForModes}
+use Rattle.rules.specs.Even.{first-that, uneven-refused, some-uneven-refused, uneven-axis, uneven-interval, direct-cell-of}
 use Rattle.rules.specs.Query.{corner, cell, fraction, value-in, cell-of, query, quick-cell-of, quick-query}
 use Rattle.rules.specs.Calls.{labels-of, labels, quick-labels, build-refusal, BuildPromise, change-refusal, change-answer, ChangePromise}
-use Rattle.rules.specs.Extended.{extended-query-refusal, extended-query-answer, extended-quick-refusal, extended-quick-answer}
+use Rattle.rules.specs.Extended.{
+  extended-query-refusal,
+  extended-query-answer,
+  extended-quick-refusal,
+  extended-quick-answer,
+  extended-even-value,
+  extended-even-refusal,
+  extended-even-answer,
+}
 use Rattle.rules.specs.declared.Axis.{Axis}
 use Rattle.rules.specs.declared.ChangeAnswer.{ChangeAnswer}
 use Rattle.rules.specs.declared.Condition.{Condition}
@@ -53,6 +62,20 @@ module _ (g : Grid) (all : List Axis) (same : ButForModes g all) where
 
   ends-refused-same : some-ends-refused g ≡ some-ends-refused other
   ends-refused-same = ap (λ (c : ℕ → Condition). any (λ i. ends-refused (c i)) (g .axes)) condition-same
+
+  pub uneven-refused-same : some-uneven-refused g ≡ some-uneven-refused other
+  uneven-refused-same =
+      ap (λ (n : ℕ → ℕ). any (λ i. uneven-refused (take (n i) (drop (sum-below n i) (g .flat-knots))) (n i)) (g .axes)) points-same
+
+  pub uneven-axis-same : uneven-axis g ≡ uneven-axis other
+  unfolding uneven-axis
+  uneven-axis-same =
+      ap (λ (n : ℕ → ℕ). first-that (λ i. uneven-refused (take (n i) (drop (sum-below n i) (g .flat-knots))) (n i)) (g .axes) 0)
+      points-same
+
+  pub uneven-interval-same : uneven-interval g ≡ uneven-interval other
+  unfolding uneven-interval
+  uneven-interval-same = cc (uneven-axis-same, knots-same (uneven-axis g), same .same-points (uneven-axis g))
 
   pub knots-refused-same : some-knots-refused g ≡ some-knots-refused other
   knots-refused-same = ap (λ (n : ℕ → ℕ). any (λ i. knots-refused (take (n i) (drop (sum-below n i) (g .flat-knots))) (n i)) (g .axes)) points-same
@@ -205,6 +228,10 @@ module _ (g : Grid) (all : List Axis) (same : ButForModes g all) where
   unfolding quick-cell-of
   quick-cell-without-modes point = fun-ext (λ i. cc (knots-same i))
 
+  pub direct-cell-without-modes : (point : ℕ → Float) → direct-cell-of g point ≡ direct-cell-of other point
+  unfolding direct-cell-of
+  direct-cell-without-modes point = fun-ext (λ i. cc (knots-same i, same .same-points i))
+
   numbers-same : (numbers : List Float) (cells : Place) (e : ℕ) → cell g numbers cells e ≡ cell other numbers cells e
   unfolding cell
   numbers-same numbers cells e =
@@ -257,3 +284,36 @@ module _ (g : Grid) (all : List Axis) (same : ButForModes g all) where
   unfolding extended-quick-answer
   extended-quick-without-modes numbers coordinates =
       cc (extended-quick-refusal-same numbers coordinates, quick-query-same numbers (at coordinates), quick-labels-same coordinates)
+
+  extended-even-value-same :
+      (numbers coordinates : List Float) → extended-even-value g numbers coordinates ≡ extended-even-value other numbers coordinates
+  unfolding extended-even-value
+  extended-even-value-same numbers coordinates =
+      value-without-modes numbers (direct-cell-of g (at coordinates)) (at coordinates)
+      ∙ ap (λ (cells : Place). value-in other numbers cells (at coordinates)) (direct-cell-without-modes (at coordinates))
+
+  extended-even-refusal-same :
+      (numbers coordinates : List Float) → extended-even-refusal g numbers coordinates ≡ extended-even-refusal other numbers coordinates
+  unfolding extended-even-refusal
+  extended-even-refusal-same numbers coordinates =
+      rw (
+        extended-even-value-same numbers coordinates,
+        points-refused-same,
+        tensor-length-same,
+        knots-length-same,
+        knots-refused-same,
+        uneven-refused-same,
+      )
+      refl
+
+  pub extended-even-without-modes :
+      (numbers coordinates : List Float) → extended-even-answer g numbers coordinates ≡ extended-even-answer other numbers coordinates
+  unfolding extended-even-answer
+  extended-even-without-modes numbers coordinates =
+      cc (
+        extended-even-refusal-same numbers coordinates,
+        extended-even-value-same numbers coordinates,
+        ap (labels-of g) (direct-cell-without-modes (at coordinates)),
+        uneven-axis-same,
+        uneven-interval-same,
+      )

@@ -85,7 +85,7 @@ unfoldable pub as-index : Float → ℕ
 unfolding whole-part
 as-index t = cond (lt t first-too-large) (whole-part t) 0
 
--- the cell of a point by the first knot, the step and the points of its axis: on knot k the one that begins there, if one does
+-- the cell of a point by the first knot, the step and the points of its axis: on knot k it is k or k - 1, as the quotient is rounded
 unfoldable pub direct-cell : Float → Float → ℕ → Float → ℕ
 unfolding as-index
 direct-cell first step points p =

@@ -1,3 +1,4 @@
+pub mod Numbers
 pub mod Extents
 pub mod AxisFaults
 pub mod Walks

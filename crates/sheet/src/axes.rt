@@ -13,6 +13,7 @@ use bits::field_at;
 use bits::fill;
 use bits::is_short;
 use bits::number_at;
+use kinds::classes::is_unread;
 use kinds::ends::condition_of_kind;
 use kinds::ends::end_of_kind;
 use kinds::ends::is_periodic_at_one_end;
@@ -130,7 +131,7 @@ pub fn walk_axes(bytes: &[u8], width: usize, axes: usize) -> Walk
     let mut i = 0;
     while i < axes {
         let refusal = fault(bytes, width, at);
-        if refusal != 0 {
+        if is_unread(refusal) {
             return Walk { refusal, all, at };
         }
         all[i] = axis(bytes, width, at);

@@ -6,6 +6,7 @@ use crate::look::refused;
 use crate::store::store_parts;
 use bits::field_at;
 use bits::is_short;
+use kinds::classes::is_unread;
 use rules::Axis;
 
 pub mod axes; // axes.rt: the axes of a sheet, one after the other
@@ -43,7 +44,7 @@ pub fn read(bytes: &[u8], knots: &mut [f64], samples: &mut [f64]) -> ReadAnswer
     }
     let answer = look(bytes);
     let refusal = answer.refusal;
-    if refusal != 0 {
+    if is_unread(refusal) {
         return answer;
     }
     let all = answer.all;

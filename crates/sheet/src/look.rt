@@ -13,6 +13,7 @@ use bits::field_at;
 use bits::is_short;
 use grid::samples_length;
 use grid::tensor_length;
+use kinds::classes::is_unread;
 use kinds::editions::is_unknown_edition;
 use kinds::editions::mode_width;
 use rules::Axis;
@@ -65,13 +66,13 @@ fn look_at_axes(bytes: &[u8], edition: usize, n: usize) -> ReadAnswer
 {
     let walk = walk_axes(bytes, mode_width(edition), n);
     let refusal = walk.refusal;
-    if refusal != 0 {
+    if is_unread(refusal) {
         return refused(refusal);
     }
     let all = walk.all;
     let at = walk.at;
     let fault = fault_of_samples(bytes, at, n, all);
-    if fault != 0 {
+    if is_unread(fault) {
         return refused(fault);
     }
     ReadAnswer {

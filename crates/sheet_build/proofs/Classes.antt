@@ -15,12 +15,14 @@ use Rattle.rules.proofs.Refused.{unchanged}
 use Rattle.kinds.specs.Classes.{class}
 use Rattle.kinds.specs.declared.classes.Class.the-variants.{Reading, Building}
 use Rattle.kinds.proofs.Apart.{none-not-reading, reading-not-building, none-not-building}
+use Rattle.kinds.proofs.Tested.{tested}
+use Rattle.kinds.proofs.Classed.{Of, no-fault}
 use Rattle.sheet.specs.Fields.{edition, sheet-grid, sheet-samples}
 use Rattle.sheet.specs.Read.{over}
 use Rattle.sheet.proofs.Parts.{parts}
 use Rattle.sheet_build.specs.SheetTensor.{unread-answer, read-answer, parts-refusal, reading-refusal, sheet-tensor-refusal, SheetPromise}
 use Rattle.sheet_build.specs.declared.SheetAnswer.{SheetAnswer}
-use Rattle.sheet_build.proofs.Faults.{Of, no-fault, tested, reading-of-reading}
+use Rattle.sheet_build.proofs.Faults.{reading-of-reading}
 use Rattle.sheet_build.proofs.Builds.{unread-is, answered-refusal}
 use Rattle.sheet_build.proofs.Promises.{refusal-met, refusal-passed, read-passed}
 
@@ -50,11 +52,11 @@ module _ (bytes : List ℕ) (knots samples lent scratch : List Float) where
       let small = ltb-false 4096 (tensor-length g) (known .tensor) in
       let part : length (take (tensor-length g) lent) ≡ tensor-length g = rw length-take (omega arith) in
       rw (known .axes, known .points, known .tensor, eq-eqb _ _ (known .knots), eq-eqb _ _ (known .samples), eq-eqb _ _ part)
-      (tested (scratch-refused (length scratch) (scratch-length g)) (λ met. refl)
-      (tested (some-number-refused (g .flat-knots) || some-ends-refused g || some-number-refused y) (λ met. refl)
-      (tested (some-knots-refused g) (λ met. refl)
-      (tested (some-fewness-refused g) (λ met. refl)
-      (tested (outcome-refused (tensor g y)) (λ met. refl) no-fault)))))
+      (tested (Of Building) (scratch-refused (length scratch) (scratch-length g)) (λ met. refl)
+      (tested (Of Building) (some-number-refused (g .flat-knots) || some-ends-refused g || some-number-refused y) (λ met. refl)
+      (tested (Of Building) (some-knots-refused g) (λ met. refl)
+      (tested (Of Building) (some-fewness-refused g) (λ met. refl)
+      (tested (Of Building) (outcome-refused (tensor g y)) (λ met. refl) no-fault)))))
 
   building-class : reading ≡ 0 → (refusal ≡ 0 → ⊥) → class refusal ≡ Building
   building-class none met =

@@ -16,9 +16,10 @@ use Rattle.kinds.specs.Classes.{of-writing, class}
 use Rattle.kinds.specs.declared.classes.Class.the-variants.{Reading, Writing, Unknown}
 use Rattle.kinds.proofs.Among.{above}
 use Rattle.kinds.proofs.Apart.{place}
+use Rattle.kinds.proofs.Classed.{Of}
 use Rattle.sheet.specs.Faults.{sheet-refusal}
+use Rattle.sheet.proofs.Numbers.{sheet-of-reading}
 use Rattle.sheet_build.specs.SheetTensor.{building-refusal, own-refusal}
-use Rattle.sheet_build.proofs.Faults.{Of, sheet-of-reading}
 
 -- a number of the class Reading is at most 22
 reading-most : (refusal : ℕ) (more : Bool) → ltb 22 refusal ≡ more → class refusal ≡ Reading → refusal ≤ 22

@@ -1,5 +1,6 @@
 -- The promise of the whole call, for each way that it ends, and what an accepted sheet gives the build.
 use mathlib.Core.Path.{_≡_, refl, sym, ap, _∙_}
+use mathlib.Core.Bool.{false}
 use mathlib.Core.List.{List}
 use Prim.Native.Nat.{ℕ, zero, suc, _≤_}
 use native.Mathlib.Omega.{arith}
@@ -11,6 +12,8 @@ use Rattle.rules.specs.Refusals.{length-refused}
 use Rattle.rules.specs.Calls.{stored, scratch-after}
 use Rattle.rules.proofs.Refused.{or-else-met, unchanged}
 use Rattle.checks.proofs.Rows.{axes-few, in-range, exact}
+use Rattle.kinds.specs.Classes.{class, unread}
+use Rattle.kinds.proofs.Classed.{read-none}
 use Rattle.sheet.specs.Fields.{edition, axes, sheet-grid, sheet-samples}
 use Rattle.sheet.specs.Faults.{sheet-refusal}
 use Rattle.sheet.specs.Read.{over, read-refusal, ReadPromise}
@@ -102,6 +105,10 @@ module _ (bytes : List ℕ) (knots samples lent scratch : List Float) where
         → SheetPromise bytes knots samples lent scratch given k s lent scratch
     sheet-refused given met e =
         reading-refused given k s (λ z. met (answered ∙ z)) (rw answered at e) knots-are samples-are
+
+    -- a sheet that was read
+    pub reader-passed : unread (class (a .refusal)) ≡ false → a .refusal ≡ 0
+    reader-passed told = read-none (a .refusal) answered (reading-of-reading bytes knots samples lent scratch) told
 
     -- an accepted sheet: its parts stand in the buffers
     module _ (none : a .refusal ≡ 0) where

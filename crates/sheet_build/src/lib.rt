@@ -1,6 +1,8 @@
 // From the bytes of a packed sheet to its tensor: the reader, then the build.
 ghost use mathlib.Core.Path.{_≡_};
 ghost use Rattle.sheet_build.specs.SheetTensor.{unread-answer, grid-in, samples-in, PartsGiven, PartsPromise, SheetPromise};
+use kinds::classes::is_built;
+use kinds::classes::is_unread;
 use rules::Axis;
 
 // A refusal's number, 0 for none, the sheet's edition, how many axes there are, the four axes, and how many numbers the tensor has.
@@ -49,13 +51,13 @@ fn build_parts(
         &mut tensor[0..length],
         scratch,
     );
-    if refusal != 0 {
+    if is_built(refusal) {
         return SheetAnswer {
             refusal,
             edition,
             axes,
             all,
-            length: 0,
+            length,
         };
     }
     SheetAnswer {
@@ -63,7 +65,7 @@ fn build_parts(
         edition,
         axes,
         all,
-        length,
+        length: 0,
     }
 }
 
@@ -87,7 +89,7 @@ pub fn tensor_of_sheet(
     }
     let sheet = sheet::read(bytes, knots, samples);
     let fault = sheet.refusal;
-    if fault != 0 {
+    if is_unread(fault) {
         return not_read(fault);
     }
     let axes = sheet.axes;

@@ -1,21 +1,25 @@
--- What a read leaves in points, kinds and values are the sheet's axes, but for their modes, to the calls that take them, and the host itself accepts them.
+-- What a read leaves in points, kinds, values and modes are the sheet's axes to the calls that take them, and the host itself accepts them.
+-- Where a call takes no modes they are so but for their modes.
 use mathlib.Core.Path.{_≡_, refl}
 use mathlib.Core.Bool.{false}
 use mathlib.Core.List.{List}
 use Prim.Native.Nat.{ℕ, zero, suc, _<_, _≤_}
 use native.Mathlib.Omega.{arith}
-use lib.ListN.{getD}
+use lib.ListN.{length, getD}
 use lib.Ieee.{Float}
 use Rattle.rules.specs.Sizes.{unused-axis}
 use Rattle.rules.specs.Outside.{ButForModes}
 use Rattle.rules.specs.declared.End.the-variants.{NotAKnot, FirstDerivative, SecondDerivative}
+use Rattle.rules.specs.declared.Axis.{Axis}
 use Rattle.rules.specs.declared.Condition.{Condition}
 use Rattle.rules.specs.declared.Condition.the-variants.{Endpoints, Periodic}
 use Rattle.base.proofs.Scan.{any-never}
 use Rattle.kinds.specs.Kinds.{periodic-at-one-end, kinds-refused, lower-kind-of, upper-kind-of}
+use Rattle.kinds.specs.Modes.{unknown-mode}
+use Rattle.kinds.proofs.Told.{mode-known}
 use Rattle.sheet.specs.Fields.{axis-at, axis-begin, entries}
-use Rattle.plain_axes.specs.Axes.{lower-kind, upper-kind, some-kinds-refused, axes-given, points-found, kinds-found, values-found}
-use Rattle.plain_axes.proofs.Found.{axes-again}
+use Rattle.plain_axes.specs.Axes.{lower-kind, upper-kind, some-kinds-refused, some-modes-refused, axes-given, axes-in-modes, points-found, kinds-found, values-found, modes-found}
+use Rattle.plain_axes.proofs.Found.{axes-in-modes-again, axes-again}
 use Rattle.tensor_exports.proofs.Accepted.{Fine}
 
 pub sheet-axes-again :
@@ -23,6 +27,13 @@ pub sheet-axes-again :
     → ButForModes (record { axes = n; entries = entries bytes n; flat-knots = x }) (axes-given n (points-found (entries bytes n)) (kinds-found (entries bytes n)) (values-found (entries bytes n)))
 unfolding entries
 sheet-axes-again bytes n x = axes-again (λ i. axis-at bytes (axis-begin bytes i)) n x
+
+pub sheet-axes-in-modes-again :
+    (bytes : List ℕ) (n : ℕ)
+    → let found : List Axis = entries bytes n in
+    axes-in-modes n (axes-given n (points-found found) (kinds-found found) (values-found found)) (modes-found found) ≡ found
+unfolding entries
+sheet-axes-in-modes-again bytes n = axes-in-modes-again (λ i. axis-at bytes (axis-begin bytes i)) n
 
 -- the kinds of a condition are never refused
 told-stands : (c : Condition) → kinds-refused (lower-kind-of c) (upper-kind-of c) ≡ false
@@ -54,4 +65,18 @@ sheet-axes-fine bytes n few = record {
     each (suc zero) l = told-stands (getD (entries bytes n) 1 unused-axis .condition)
     each (suc (suc zero)) l = told-stands (getD (entries bytes n) 2 unused-axis .condition)
     each (suc (suc (suc zero))) l = told-stands (getD (entries bytes n) 3 unused-axis .condition)
+    each (suc (suc (suc (suc i)))) l = absurd (omega arith)
+
+-- nor are their modes
+pub sheet-modes-fine :
+    (bytes : List ℕ) (n : ℕ) → n ≤ 4
+    → (length (modes-found (entries bytes n)) ≡ 4) × (some-modes-refused n (modes-found (entries bytes n)) ≡ false)
+unfolding entries some-modes-refused
+sheet-modes-fine bytes n few = (refl, any-never (λ i. unknown-mode (getD (modes-found (entries bytes n)) i 0)) n each)
+  where
+    each : (i : ℕ) → i < n → unknown-mode (getD (modes-found (entries bytes n)) i 0) ≡ false
+    each zero l = mode-known (getD (entries bytes n) 0 unused-axis .mode)
+    each (suc zero) l = mode-known (getD (entries bytes n) 1 unused-axis .mode)
+    each (suc (suc zero)) l = mode-known (getD (entries bytes n) 2 unused-axis .mode)
+    each (suc (suc (suc zero))) l = mode-known (getD (entries bytes n) 3 unused-axis .mode)
     each (suc (suc (suc (suc i)))) l = absurd (omega arith)

@@ -1,1 +1,2 @@
 pub mod SheetExports
+pub mod RoundTrip

@@ -17,12 +17,13 @@ use Rattle.base.proofs.Scan.{neither}
 use Rattle.bits.specs.Bits.{field, short, numbers-short}
 use Rattle.bits.proofs.Runs.{short-together}
 use Rattle.kinds.specs.Editions.{unknown-edition}
+use Rattle.kinds.specs.Classes.{length-known}
 use Rattle.sheet.specs.Fields.{edition, axes, axis-begin, sheet-grid, samples-begin, samples-end}
 use Rattle.sheet.specs.Faults.{axis-fault, axes-fault, tail-refused, sheet-refusal}
 use Rattle.sheet.proofs.Extents.{begin-most}
 use Rattle.sheet.proofs.Walks.{passed, faultless-axis}
 use Rattle.sheet.proofs.Samples.{few-left}
-use Rattle.sheet_front.specs.Front.{sheet-bytes, length-known, front-size, front-bytes, rest-bytes, enough-bytes}
+use Rattle.sheet_front.specs.Front.{sheet-bytes, front-size, front-bytes, rest-bytes, enough-bytes}
 use Rattle.sheet_front.proofs.Agree.{Agree, agree-append, agree-take, begin-least, field-same, short-same, numbers-short-same, begin-same, axes-fault-same, axes-same, grid-same}
 use Rattle.sheet_front.proofs.Tails.{before-tail, refusal-early, refusal-late, known-of, unknown-of, either-case}
 

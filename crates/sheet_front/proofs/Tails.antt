@@ -1,23 +1,22 @@
 -- The refusal of a sheet in two parts: what is met before its tail, and then the tail, which alone gives 14.
 use mathlib.Core.Path.{_≡_, refl, sym, _∙_}
 use mathlib.Core.Bool.{Bool, true, false, cond}
-use mathlib.Core.Logic.{_⊎_, inl, inr}
 use mathlib.Core.List.{List}
-use Prim.Native.Nat.{ℕ, zero, suc, _+_, _≤_}
+use Prim.Native.Nat.{ℕ, zero, suc}
 use native.Mathlib.Omega.{arith}
 use borrow.Author.Tests.{ne-eqb}
 use lib.Dec.{eqb}
 use Rattle.rules.specs.Sizes.{samples-length}
-use Rattle.rules.specs.Refusals.{axes-refused, points-refused, tensor-refused}
+use Rattle.rules.specs.Refusals.{axes-refused, tensor-refused}
 use Rattle.rules.specs.Calls.{or-else}
 use Rattle.rules.proofs.Refused.{or-else-met}
 use Rattle.bits.specs.Bits.{short, numbers-short}
-use Rattle.kinds.specs.Kinds.{periodic-at-one-end}
-use Rattle.kinds.specs.Modes.{unknown-mode}
 use Rattle.kinds.specs.Editions.{unknown-edition}
-use Rattle.sheet.specs.Fields.{edition, axes, mode-bits, points-at, lower-kind, upper-kind, mode-said, values-at, values-begin, axis-begin, sheet-grid, samples-begin, samples-end}
-use Rattle.sheet.specs.Faults.{axis-fault, axes-fault, tail-refused, samples-fault, sheet-refusal}
-use Rattle.sheet_front.specs.Front.{length-known}
+use Rattle.kinds.specs.Classes.{length-known}
+use Rattle.kinds.proofs.Tested.{tested, one-or-other}
+use Rattle.sheet.specs.Fields.{edition, axes, sheet-grid, samples-begin, samples-end}
+use Rattle.sheet.specs.Faults.{axes-fault, tail-refused, samples-fault, sheet-refusal}
+use Rattle.sheet.proofs.Numbers.{Holds, axes-number}
 
 -- the refusal of a sheet, but for 14
 unfoldable pub before-tail : List ℕ → ℕ
@@ -52,47 +51,31 @@ refusal-parts bytes =
 
 -- ---- what holds of each number that is met before the tail
 
-module _ (P : ℕ → Type 0) (none : P 0) (one : P 1) (two : P 2) (three : P 3) (eleven : P 11) (twelve : P 12) (thirteen : P 13) (twenty-two : P 22) where
-  tested : (test : Bool) {fault later : ℕ} → P fault → P later → P (cond test fault later)
-  tested true f l = f
-  tested false f l = l
-
-  one-or-other : (fault : ℕ) {later : ℕ} → P fault → P later → P (or-else fault later)
-  one-or-other zero f l = l
-  one-or-other (suc fault) f l = f
-
-  axis-number : (bytes : List ℕ) (at : ℕ) → P (axis-fault bytes at)
-  unfolding axis-fault
-  axis-number bytes at =
-      tested (short bytes at 8) eleven
-      (tested (points-refused (points-at bytes at)) two
-      (tested (short bytes (at + 8) 2) eleven
-      (tested (short bytes (at + 10) 2) eleven
-      (tested (periodic-at-one-end (lower-kind bytes at) (upper-kind bytes at)) thirteen
-      (tested (short bytes (at + 12) (mode-bits bytes)) eleven
-      (tested (unknown-mode (mode-said bytes at)) twenty-two
-      (tested (numbers-short bytes (values-begin bytes at) (values-at bytes at + points-at bytes at)) eleven none)))))))
-
-  axes-number : (bytes : List ℕ) (i : ℕ) → P (axes-fault bytes i)
-  unfolding axes-fault
-  axes-number bytes zero = none
-  axes-number bytes (suc i) = one-or-other (axes-fault bytes i) (axes-number bytes i) (axis-number bytes (axis-begin bytes i))
-
-  pub before-tail-number : (bytes : List ℕ) → P (before-tail bytes)
+module _ (P : ℕ → Type 0) (h : Holds P) where
+  before-tail-number : (bytes : List ℕ) → P (before-tail bytes)
   unfolding before-tail
   before-tail-number bytes =
-      tested (short bytes 0 4) eleven
-      (tested (unknown-edition (edition bytes)) twelve
-      (tested (short bytes 4 3) eleven
-      (tested (axes-refused (sheet-grid bytes)) one
-      (one-or-other (axes-fault bytes (axes bytes)) (axes-number bytes (axes bytes))
-      (tested (tensor-refused (sheet-grid bytes)) three
-      (tested (numbers-short bytes (samples-begin bytes) (samples-length (sheet-grid bytes))) eleven none))))))
+      tested P (short bytes 0 4) (h .eleven)
+      (tested P (unknown-edition (edition bytes)) (h .twelve)
+      (tested P (short bytes 4 3) (h .eleven)
+      (tested P (axes-refused (sheet-grid bytes)) (h .one)
+      (one-or-other P (axes-fault bytes (axes bytes)) (axes-number P h bytes (axes bytes))
+      (tested P (tensor-refused (sheet-grid bytes)) (h .three)
+      (tested P (numbers-short bytes (samples-begin bytes) (samples-length (sheet-grid bytes))) (h .eleven) (h .none)))))))
 
 not-14 : (bytes : List ℕ) → before-tail bytes ≡ 14 → ⊥
-not-14 bytes =
-    before-tail-number (λ (k : ℕ). (k ≡ 14 → ⊥)) (λ z. omega arith) (λ z. omega arith) (λ z. omega arith) (λ z. omega arith) (λ z. omega arith)
-    (λ z. omega arith) (λ z. omega arith) (λ z. omega arith) bytes
+not-14 =
+    before-tail-number (λ (k : ℕ). (k ≡ 14 → ⊥))
+    (record {
+      none = λ z. omega arith;
+      one = λ z. omega arith;
+      two = λ z. omega arith;
+      three = λ z. omega arith;
+      eleven = λ z. omega arith;
+      twelve = λ z. omega arith;
+      thirteen = λ z. omega arith;
+      twenty-two = λ z. omega arith;
+    })
 
 -- ---- whether the length is known
 
@@ -130,11 +113,3 @@ module _ (bytes : List ℕ) where
 
   pub met-before : length-known (sheet-refusal bytes) ≡ false → before-tail bytes ≡ 0 → ⊥
   met-before unknown none = true-not-false (sym (known-of none) ∙ unknown)
-
-  -- the same, told by the refusal's number
-  pub known-number : (refusal : ℕ) → refusal ≡ sheet-refusal bytes → (refusal ≡ 0) ⊎ (refusal ≡ 14) → length-known (sheet-refusal bytes) ≡ true
-  known-number refusal e (inl z) = rw (sym e ∙ z)
-  known-number refusal e (inr z) = rw (sym e ∙ z)
-
-  pub unknown-number : (refusal : ℕ) → refusal ≡ sheet-refusal bytes → ((refusal ≡ 0) ⊎ (refusal ≡ 14) → ⊥) → length-known (sheet-refusal bytes) ≡ false
-  unknown-number refusal e neither = rw (← e, ne-eqb refusal 0 (λ z. neither (inl z)), ne-eqb refusal 14 (λ z. neither (inr z)))

@@ -1,20 +1,16 @@
 -- The chapter Front of docs/RULES.md: the sheet at the front of a stream of sheets, each of which ends on a byte.
-use mathlib.Core.Bool.{Bool, cond, _||_}
+use mathlib.Core.Bool.{cond}
 use mathlib.Core.List.{List}
 use Prim.Native.Nat.{ℕ}
-use lib.Dec.{eqb}
 use lib.ListN.{length, take, drop}
 use Rattle.bits.specs.Written.{bytes-for}
+use Rattle.kinds.specs.Classes.{length-known}
 use Rattle.sheet.specs.Fields.{samples-end}
 use Rattle.sheet.specs.Faults.{sheet-refusal}
 
 -- how many bytes the fields of a sheet take
 unfoldable pub sheet-bytes : List ℕ → ℕ
 sheet-bytes bytes = bytes-for (samples-end bytes)
-
--- whether a sheet of this refusal has no fault before its tail: then its length is known
-abbrev pub length-known : ℕ → Bool
-length-known refusal = eqb refusal 0 || eqb refusal 14
 
 -- how many bytes of a stream the sheet at its front has: all of them where its length is not known
 unfoldable pub front-size : List ℕ → ℕ

@@ -3,10 +3,12 @@ ghost use mathlib.Core.Path.{_≡_};
 ghost use mathlib.Core.Bool.{true};
 ghost use Prim.Native.Nat.{_≤_};
 ghost use lib.ListN.{length};
+ghost use Rattle.kinds.specs.Classes.{length-known};
 ghost use Rattle.sheet.specs.Faults.{sheet-refusal};
-ghost use Rattle.sheet_front.specs.Front.{sheet-bytes, length-known, front-size};
+ghost use Rattle.sheet_front.specs.Front.{sheet-bytes, front-size};
 use bits::field_at;
 use grid::samples_length;
+use kinds::classes::is_length_known;
 use kinds::editions::mode_width;
 use sheet::axes::walk_axes;
 use sheet::look::look;
@@ -30,8 +32,8 @@ pub fn size_of_front(bytes: &[u8]) -> usize
 {
     let answer = look(bytes);
     let refusal = answer.refusal;
-    match refusal {
-        0 | 14 => known_size(bytes),
-        _ => bytes.len(),
+    if is_length_known(refusal) {
+        return known_size(bytes);
     }
+    bytes.len()
 }

@@ -4,8 +4,7 @@ ghost use Prim.Native.Nat.{_≤_};
 ghost use lib.ListN.{length};
 ghost use Rattle.text.specs.Answers.{Put};
 ghost use Rattle.sheet_text.specs.SheetText.{text-length, text-of, lent-refusal, TextPromise};
-use kinds::classes::Class;
-use kinds::classes::class_of;
+use kinds::classes::is_built;
 
 // A refusal's number, 0 for none, and how many bytes of the text are the sheet's.
 pub struct TextAnswer {
@@ -18,12 +17,10 @@ fn put_text(refusal: usize, numbers: &[f64], text: &mut [u8]) -> usize
     requires { ⌜ (length (now numbers) ≤ 4096) × (text-length ≤ length (now text)) ⌝ }
     ensures { λ r. ⌜ Put (text-of refusal (now (numbers .entry))) (now (text .entry)) 0 (now (text .exit)) r ⌝ }
 {
-    match class_of(refusal) {
-        Class::None => tensor_text::put_tensor(numbers, text, 0),
-        Class::Reading | Class::Building | Class::Writing | Class::Unknown => {
-            text::put_refused_line(refusal as u64, text, 0)
-        }
+    if is_built(refusal) {
+        return tensor_text::put_tensor(numbers, text, 0);
     }
+    text::put_refused_line(refusal as u64, text, 0)
 }
 
 // The refusal of what is lent, by the lengths.

@@ -8,17 +8,16 @@ use native.Mathlib.Nat.{le-of-suc-le-suc, eq-or-lt-of-le, le-refl}
 use native.Mathlib.Omega.{arith}
 use borrow.Author.Tests.{ltb-true}
 use lib.Dec.{ltb}
-use lib.ListN.{length, getD, take, drop}
+use lib.ListN.{length, take, drop}
 use lib.Seq.{take-add, take-at, drop-at}
 use lib.Ieee.{Float}
-use Rattle.rules.specs.Numbers.{table}
-use Rattle.rules.specs.Sizes.{most-axes, unused-axis, Grid, points, condition, sum-below, knots}
+use Rattle.rules.specs.Sizes.{most-axes, unused-axis, Grid, points, sum-below, knots}
 use Rattle.rules.specs.declared.Axis.{Axis}
 use Rattle.rules.proofs.Tables.{table-ext}
 use Rattle.grid.proofs.Knots.{knots-of-axis}
 use Rattle.bits.specs.Written.{bits-in}
 use Rattle.bits.proofs.Rows.{Stand, stand-first, stand-second, stand-append}
-use Rattle.bits.proofs.Numbers.{Held, NoNan, each-take, each-drop}
+use Rattle.bits.proofs.Numbers.{NoNan, each-take, each-drop}
 use Rattle.kinds.specs.Kinds.{periodic-at-one-end}
 use Rattle.kinds.specs.Modes.{unknown-mode}
 use Rattle.sheet.specs.Fields.{axes, mode-bits, points-at, lower-kind, upper-kind, mode-said, axis-at, knots-at, axis-end, axis-begin, entries, knots-below, sheet-grid}
@@ -28,24 +27,11 @@ use Rattle.sheet.proofs.Stores.{knots-below-next, length-knots-at}
 use Rattle.sheet.proofs.Sheets.{Accepted, entry-at}
 use Rattle.sheet.proofs.Parts.{knots-sum}
 use Rattle.sheet_write.specs.SheetOf.{axis-fields, axes-fields}
-use Rattle.sheet_write.proofs.Ends.{EndsHeld, EndsNoNan}
+use Rattle.sheet_write.specs.RoundTrip.{PartsHeld, entry, in-use}
+use Rattle.sheet_write.proofs.Ends.{EndsNoNan}
 use Rattle.sheet_write.proofs.Lengths.{axes-next, axes-none}
 use Rattle.sheet_write.proofs.Reading.{AxisRead, axis-found, found-faultless, end-back, axis-stands}
 use Rattle.sheet_write.proofs.Parts.{Known, WithoutNan}
-
--- an entry of the four
-abbrev pub entry : Grid → ℕ → Axis
-entry g i = getD (g .entries) i unused-axis
-
--- binary64 holds each number of the parts, as it does all that a call is given
-pub record PartsHeld (g : Grid) (samples : List Float) : Type 0 where
-  pub knots-held : Held (g .flat-knots)
-  pub samples-held : Held samples
-  pub ends-held : (i : ℕ) → i < g .axes → EndsHeld (condition g i)
-
--- the four axes as a reader answers them: those in use, and the others as not in use
-abbrev pub in-use : Grid → List Axis
-in-use g = table most-axes (λ i. cond (ltb i (g .axes)) (entry g i) unused-axis)
 
 -- ---- the fields of the first axes
 

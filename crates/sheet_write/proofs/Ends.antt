@@ -9,7 +9,7 @@ use native.Mathlib.Decide.{decLt}
 use native.Mathlib.Omega.{arith}
 use borrow.Author.Tests.{eq-eqb, ne-eqb, eqb-true, not-false}
 use lib.Dec.{T, eqb, lit<}
-use lib.Ieee.{Float, binary64, fits, isNan, ofBits, toBits}
+use lib.Ieee.{Float, binary64, isNan, ofBits, toBits}
 use lib.Ieee.Bits.{ofBits-toBits, toBits-lt}
 use Rattle.rules.specs.declared.End.{End}
 use Rattle.rules.specs.declared.End.the-variants.{NotAKnot, FirstDerivative, SecondDerivative}
@@ -22,6 +22,7 @@ use Rattle.bits.specs.Written.{bits-in}
 use Rattle.bits.proofs.Rows.{Stand, Sized, stand-first, stand-second, stand-append, bits-in-append, sized-append}
 use Rattle.bits.proofs.Numbers.{number-stands}
 use Rattle.sheet_write.specs.SheetOf.{end-fields, ends-fields}
+use Rattle.sheet_write.specs.RoundTrip.{EndHeld, EndsHeld}
 
 -- ---- how many bits
 
@@ -30,17 +31,6 @@ unfolding bits-in values-of-kind
 end-bits NotAKnot = refl
 end-bits (FirstDerivative value) = refl
 end-bits (SecondDerivative value) = refl
-
--- ---- ends whose numbers binary64 holds, as every number of a slice is
-
-abbrev pub EndHeld : End → Type 0
-EndHeld NotAKnot = Unit {0}
-EndHeld (FirstDerivative value) = T (fits binary64 value)
-EndHeld (SecondDerivative value) = T (fits binary64 value)
-
-abbrev pub EndsHeld : Condition → Type 0
-EndsHeld (Endpoints lower upper) = EndHeld lower × EndHeld upper
-EndsHeld Periodic = Unit {0}
 
 -- ---- where they stand they are read
 
@@ -131,7 +121,7 @@ abbrev pub EndsNoNan : Condition → Type 0
 EndsNoNan (Endpoints lower upper) = EndNoNan lower × EndNoNan upper
 EndsNoNan Periodic = Unit {0}
 
-kind-back : (kind : ℕ) (value : Float) → kind < 3 → kind-of-end (end-of-kind kind value) ≡ kind
+pub kind-back : (kind : ℕ) (value : Float) → kind < 3 → kind-of-end (end-of-kind kind value) ≡ kind
 unfolding end-of-kind
 kind-back zero value h = refl
 kind-back (suc zero) value h = refl
@@ -146,7 +136,7 @@ end-stands bytes at (suc (suc zero)) h fine = (number-stands bytes at fine, tt)
 end-stands bytes at (suc (suc (suc kind))) h fine = absurd (omega (arith, h))
 
 -- two kinds of a sheet that is not refused by 13: both below 3, or both 3
-both-or-none : (lower upper : ℕ) → lower < 4 → upper < 4 → periodic-at-one-end lower upper ≡ false → ((lower < 3) × (upper < 3)) ⊎ ((lower ≡ 3) × (upper ≡ 3))
+pub both-or-none : (lower upper : ℕ) → lower < 4 → upper < 4 → periodic-at-one-end lower upper ≡ false → ((lower < 3) × (upper < 3)) ⊎ ((lower ≡ 3) × (upper ≡ 3))
 unfolding periodic-at-one-end
 both-or-none lower upper l u e =
     elim (decLt lower 3) [
@@ -164,7 +154,7 @@ pub record KindsBack (bytes : List ℕ) (at lower upper : ℕ) : Type 0 where
   pub upper-same : upper-kind-of (found bytes at lower upper) ≡ upper
   pub stands : EndsNoNan (found bytes at lower upper) → Stand bytes at (ends-fields (found bytes at lower upper))
 
-below-3 : (lower : ℕ) (a b : End) → lower < 3 → condition-of-kind lower a b ≡ Endpoints a b
+pub below-3 : (lower : ℕ) (a b : End) → lower < 3 → condition-of-kind lower a b ≡ Endpoints a b
 unfolding condition-of-kind
 below-3 lower a b h = rw (ne-eqb lower 3 (λ q. omega (arith, q, h)))
 

@@ -1,8 +1,9 @@
--- The example sheet written from its parts in both editions, one refusal of each kind, and a sheet with a nan in it, which the reader takes and the writer does not: the rows of one theorem about the definitions.
-use mathlib.Core.Path.{_≡_, refl}
+-- The example sheet written from its parts in both editions, one refusal of each kind, and a sheet with a nan in it, which the reader takes and the writer does not: the rows of one theorem about the definitions; and the example sheet written back.
+use mathlib.Core.Path.{_≡_, refl, subst}
 use mathlib.Core.Bool.{true}
 use mathlib.Core.List.{List, [], _∷_, _++_}
-use Prim.Native.Nat.{ℕ}
+use Prim.Native.Nat.{ℕ, _≤_}
+use lib.ListN.{length}
 use lib.Ieee.{Float, nan, inf, ofBits, toBits, lt, sub, add, neg}
 use Rattle.rules.specs.Numbers.{plus-zero, one, any}
 use Rattle.rules.specs.Ends.{natural, not-a-knot}
@@ -14,15 +15,22 @@ use Rattle.rules.specs.declared.Condition.{Condition}
 use Rattle.rules.specs.declared.Mode.{Mode}
 use Rattle.rules.specs.declared.Mode.the-variants.{Extend, Hold, Refuse}
 use Rattle.bits.specs.Bits.{bit, field}
+use Rattle.bits.proofs.Writes.{Bytes}
 use Rattle.bits.specs.Written.{patch, with-bit, with-field, bits-in, with-fields, packed}
 use Rattle.kinds.specs.Kinds.{values-of-kind, end-of-kind, condition-of-kind, periodic-at-one-end}
 use Rattle.kinds.specs.Modes.{mode-of-number}
 use Rattle.kinds.specs.Editions.{unknown-edition, mode-width, mode-refused}
 use Rattle.sheet.specs.Fields.{points-at, values-at, axis-at, knots-begin, knots-at, axis-end, axis-begin, entries, knots-below, sheet-grid, sheet-samples}
 use Rattle.sheet.specs.Faults.{axis-fault, axes-fault, tail-refused, samples-fault, sheet-refusal}
+use Rattle.sheet.specs.Read.{buffer-length, over, ReadPromise}
+use Rattle.sheet.specs.declared.ReadAnswer.{ReadAnswer}
+use Rattle.sheet.proofs.Unique.{read-refuses-no-sheet}
 use Rattle.sheet.proofs.Examples.{zero-bytes, example, second-edition}
 use Rattle.sheet_write.specs.SheetOf.{axis-fields, axes-fields, part-fields, sheet-fields, sheet-of}
-use Rattle.sheet_write.specs.Write.{no-sheet-refusal, edition-refusal, write-refusal}
+use Rattle.sheet_write.specs.Write.{no-sheet-refusal, edition-refusal, write-refusal, WritePromise}
+use Rattle.sheet_write.specs.RoundTrip.{grid-read, samples-read}
+use Rattle.sheet_write.specs.declared.WriteAnswer.{WriteAnswer}
+use Rattle.sheet_write.proofs.RoundTrip.{of-bytes, read, written-back}
 
 -- one axis of two points; the three that are not in use have a mode that nothing reads
 abbrev line : Condition → Mode → List Float → Grid
@@ -54,6 +62,9 @@ pub record Examples : Type 0 where
   pub edition-three : write-refusal 3 (line natural Hold ends) ends [] ≡ 12
   pub lost : write-refusal 1 (line natural Hold ends) ends [] ≡ 23
   pub lost-too : write-refusal 1 (line natural Refuse ends) ends [] ≡ 23
+  -- the example sheet is read, and its parts pass the checks
+  pub example-read : sheet-refusal example ≡ 0
+  pub example-passed : no-sheet-refusal (sheet-grid example) (sheet-samples example) ≡ 0
   -- a sheet with a nan is read, and its parts have no sheet
   pub nan-read : sheet-refusal with-nan ≡ 0
   pub nan-found : sheet-samples with-nan ≡ plus-zero ∷ nan ∷ []
@@ -76,7 +87,25 @@ examples = record {
   edition-three = refl;
   lost = refl;
   lost-too = refl;
+  example-read = refl;
+  example-passed = refl;
   nan-read = refl;
   nan-found = refl;
   nan-refused = refl;
 }
+
+-- so the premises of `written-back` hold of it: read and written into a buffer of its 51 bytes or more, it stands there again
+example-bytes : Bytes example
+example-bytes = subst Bytes (examples .written) (of-bytes 1 (line natural Extend ends) ends)
+
+pub example-written-back :
+    (knots-lent samples-lent : List Float) → length knots-lent ≡ buffer-length → length samples-lent ≡ buffer-length
+    → (r : ReadAnswer) (k s : List Float) → ReadPromise example knots-lent samples-lent r k s
+    → (buffer : List ℕ) → 51 ≤ length buffer
+    → (a : WriteAnswer) (b : List ℕ) → WritePromise (r .edition) (grid-read r k) (samples-read r s) buffer a b
+    → (a .refusal ≡ 0) × (a .length ≡ 51) × (b ≡ over example buffer)
+example-written-back knots-lent samples-lent kl sl r k s q buffer room a b p =
+    let taken = read-refuses-no-sheet example knots-lent samples-lent r k s q kl sl (examples .example-read) in
+    let given = read example knots-lent samples-lent r k s q taken in
+    let passed : no-sheet-refusal (grid-read r k) (samples-read r s) ≡ 0 = cc (given .grid-is, given .samples-are, examples .example-passed) in
+    written-back example example-bytes knots-lent samples-lent r k s q taken passed buffer room a b p

@@ -19,7 +19,7 @@ use Rattle.sheet_write.specs.Write.{no-sheet-refusal}
 use Rattle.sheet_write.specs.Within.{values, values-below, parts-bits}
 use Rattle.sheet_write.proofs.Lengths.{axis-bits, axes-next, axes-none, part-bits, sheet-length}
 use Rattle.sheet_write.proofs.Parts.{Known, known}
-use Rattle.sheet_write.proofs.Axes.{entry}
+use Rattle.sheet_write.specs.RoundTrip.{entry}
 
 -- ---- counted from the sizes
 

@@ -10,4 +10,5 @@ pub mod Promises
 pub mod Unique
 pub mod Examples
 pub mod Sheets
+pub mod RoundTrip
 pub mod Refusals

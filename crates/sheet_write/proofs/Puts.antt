@@ -23,9 +23,10 @@ use Rattle.bits.proofs.Rows.{bits-in-append, with-fields-append, fields-length}
 use Rattle.sheet.proofs.Extents.{width-most}
 use Rattle.sheet_write.specs.SheetOf.{ends-fields, axis-fields, axes-fields, part-fields, sheet-fields}
 use Rattle.sheet_write.specs.Within.{HeadGiven, with-head, AxisGiven, AxesGiven, SheetGiven}
+use Rattle.sheet_write.specs.RoundTrip.{entry}
 use Rattle.sheet_write.proofs.Ends.{ends-bits}
 use Rattle.sheet_write.proofs.Lengths.{axis-bits, axes-next, part-bits}
-use Rattle.sheet_write.proofs.Axes.{entry, axes-append, first-bits}
+use Rattle.sheet_write.proofs.Axes.{axes-append, first-bits}
 
 -- ---- room
 

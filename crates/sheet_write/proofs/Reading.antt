@@ -23,7 +23,8 @@ use Rattle.sheet.specs.Faults.{axis-fault}
 use Rattle.sheet.proofs.Stores.{length-knots-at}
 use Rattle.sheet_write.specs.SheetOf.{ends-fields, axis-fields}
 use Rattle.sheet_write.specs.Within.{values}
-use Rattle.sheet_write.proofs.Ends.{EndsHeld, ends-bits, condition-read, kinds-agree, EndsNoNan, KindsBack, kinds-back}
+use Rattle.sheet_write.specs.RoundTrip.{EndsHeld}
+use Rattle.sheet_write.proofs.Ends.{ends-bits, condition-read, kinds-agree, EndsNoNan, KindsBack, kinds-back}
 use Rattle.sheet_write.proofs.Lengths.{axis-bits}
 
 -- ---- from fields to the axis

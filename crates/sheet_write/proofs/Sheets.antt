@@ -31,11 +31,12 @@ use Rattle.sheet.proofs.Samples.{bits-set, product-least}
 use Rattle.sheet.proofs.Sheets.{Accepted, accepted, axes-allowed, some-axes, samples-room}
 use Rattle.sheet_write.specs.SheetOf.{ends-fields, axis-fields, axes-fields, part-fields, sheet-fields, sheet-of}
 use Rattle.sheet_write.specs.Write.{no-sheet-refusal, edition-refusal}
+use Rattle.sheet_write.specs.RoundTrip.{PartsHeld, entry, in-use, SheetRead}
 use Rattle.sheet_write.proofs.Ends.{ends-sized, lower-kind-most, upper-kind-most}
 use Rattle.sheet_write.proofs.Editions.{edition-fits, mode-fits, Taken, taken}
 use Rattle.sheet_write.proofs.Lengths.{part-bits, sheet-bits, sheet-length}
 use Rattle.sheet_write.proofs.Parts.{Known, known, WithoutNan, without-nan}
-use Rattle.sheet_write.proofs.Axes.{entry, PartsHeld, in-use, begin-is, no-fault, entries-found, knots-found, end-is, axes-stand}
+use Rattle.sheet_write.proofs.Axes.{begin-is, no-fault, entries-found, knots-found, end-is, axes-stand}
 
 -- ---- each number fits its field
 
@@ -110,14 +111,6 @@ part-stand bytes edition g samples s =
 -- no bit of a run is set where its number is 0
 none-set : (bytes : List ℕ) (at n : ℕ) → field bytes at n ≡ 0 → any (λ k. not (eqb (bit bytes (at + k)) 0)) n ≡ false
 none-set bytes at n e = bits-set bytes at n ∙ rw e
-
-pub record SheetRead (bytes : List ℕ) (edition : ℕ) (g : Grid) (samples : List Float) : Type 0 where
-  pub taken : sheet-refusal bytes ≡ 0
-  pub edition-same : edition-said bytes ≡ edition
-  pub axes-same : axes bytes ≡ g .axes
-  pub entries-same : entries bytes (axes bytes) ≡ in-use g
-  pub knots-same : knots-below bytes (axes bytes) ≡ g .flat-knots
-  pub samples-same : sheet-samples bytes ≡ samples
 
 module _ (edition : ℕ) (g : Grid) (samples : List Float) (k : Known g samples) (held : PartsHeld g samples) (t : Taken edition g) (bytes : List ℕ) (f : PartFields bytes edition g samples)
     (room : bits-in (part-fields edition g samples) ≤ 8 * length bytes) where
@@ -281,18 +274,23 @@ tail-back bytes b room e =
     let unset : not (eqb (field bytes b (8 * length bytes - b)) 0) ≡ false = sym (bits-set bytes b (8 * length bytes - b)) ∙ both .1 in
     (omega arith, (rw left at (eqb-true (field bytes b (8 * length bytes - b)) 0 (not-false _ unset)), tt))
 
--- an accepted sheet whose parts have a sheet is that sheet in its own edition
-pub sheet-of-read : (bytes : List ℕ) → Bytes bytes → sheet-refusal bytes ≡ 0 → no-sheet-refusal (sheet-grid bytes) (sheet-samples bytes) ≡ 0 → sheet-of (edition-said bytes) (sheet-grid bytes) (sheet-samples bytes) ≡ bytes
+-- an accepted sheet without a nan is the sheet of its parts in its own edition
+pub sheet-without-nan :
+    (bytes : List ℕ) → Bytes bytes → sheet-refusal bytes ≡ 0 → WithoutNan (sheet-grid bytes) (sheet-samples bytes)
+    → sheet-of (edition-said bytes) (sheet-grid bytes) (sheet-samples bytes) ≡ bytes
 unfolding sheet-of sheet-fields
-sheet-of-read bytes all e none =
-    let g = sheet-grid bytes in
-    let samples = sheet-samples bytes in
+sheet-without-nan bytes all e fine =
     let ok = accepted bytes e in
-    let fine = without-nan g samples none in
-    let parts = part-fields (edition-said bytes) g samples in
+    let parts = part-fields (edition-said bytes) (sheet-grid bytes) (sheet-samples bytes) in
     let last = filler (bits-in parts) ∷ [] in
     let zero-plus : 0 + bits-in parts ≡ bits-in parts = omega arith in
     let end = end-back bytes ok fine in
     let tail = tail-back bytes (bits-in parts) (rw end (samples-room bytes ok)) (rw end (ok .no-more)) in
     packed-of (parts ++ last) (length bytes) (bits-in-append parts last ∙ tail .0) bytes all refl
     (stand-append bytes 0 parts last (parts-back bytes ok fine) (subst (λ (p : ℕ). Stand bytes p last) (sym zero-plus) (tail .1)))
+
+-- so is one whose parts have a sheet
+pub sheet-of-read :
+    (bytes : List ℕ) → Bytes bytes → sheet-refusal bytes ≡ 0 → no-sheet-refusal (sheet-grid bytes) (sheet-samples bytes) ≡ 0
+    → sheet-of (edition-said bytes) (sheet-grid bytes) (sheet-samples bytes) ≡ bytes
+sheet-of-read bytes all e none = sheet-without-nan bytes all e (without-nan (sheet-grid bytes) (sheet-samples bytes) none)

@@ -1,3 +1,4 @@
 pub mod Lengths
 pub mod Exported
 pub mod Unique
+pub mod Meaning

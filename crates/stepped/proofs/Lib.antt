@@ -1,3 +1,4 @@
 mod Stepping
 mod Answers
 pub mod OneSample
+pub mod SteppedMeaning

@@ -55,7 +55,7 @@ module _ (x : List Float) (p : Float) where
       go true h = omega arith
       go false h = omega arith
 
-place-on-grid : (g : Grid) (directions : ℕ → StepDirection) (point : ℕ → Float) → InRange (g .axes) (points g) → On g (stepped-place g directions point)
+pub place-on-grid : (g : Grid) (directions : ℕ → StepDirection) (point : ℕ → Float) → InRange (g .axes) (points g) → On g (stepped-place g directions point)
 unfolding stepped-place
 place-on-grid g directions point range i l =
     let some = range .some-points i l in

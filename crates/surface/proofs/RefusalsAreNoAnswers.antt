@@ -39,7 +39,7 @@ module _ (bytes patterns : List ℕ) where
         let zero-patterns = passed (unused-refused (sheet-grid bytes .axes) patterns) 16 _ (short .1) in
         let in-turn = or-else-passed (building-refusal bytes) _ (zero-patterns .1) in (read .0, in-turn .1)
 
-    held : T (fits binary64 (asked bytes patterns .value))
+    pub held : T (fits binary64 (asked bytes patterns .value))
     unfolding asked query-answer
     held =
         let some = axes-few {axes = sheet-grid bytes .axes} (parts bytes (nothing-refused .0) .axes) .0 in

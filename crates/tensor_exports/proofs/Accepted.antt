@@ -21,14 +21,14 @@ use Rattle.boundary.specs.OwnRefusals.{sizes-given, axes-rows, eight-ends-refus
 use Rattle.boundary.proofs.Lengths.{build-lengths}
 
 -- no row applies, so the table gives no number
-none-given : (rows : List Refusal) → NoneApplies rows → lowest rows 0 ≡ 0
+pub none-given : (rows : List Refusal) → NoneApplies rows → lowest rows 0 ≡ 0
 none-given [] none = refl
 none-given (refusal ∷ rows) none = rw (none .0) (none-given rows (none .1))
 
-none-of : {a b : Bool} → a ≡ false → b ≡ false → (a || b) ≡ false
+pub none-of : {a b : Bool} → a ≡ false → b ≡ false → (a || b) ≡ false
 none-of e f = rw (e, f)
 
-fits : (given size : ℕ) → given ≡ size → length-refused given size ≡ false
+pub fits : (given size : ℕ) → given ≡ size → length-refused given size ≡ false
 fits given size e = rw (eq-eqb given size e)
 
 -- ---- ends play no part in the sizes of a grid
@@ -42,7 +42,7 @@ module _ (axes : ℕ) (points-in kinds : List ℕ) (values knots : List Float) w
   abbrev g : Grid
   g = grid-given axes points-in kinds values knots
 
-  same-points : (i : ℕ) → points g i ≡ points (sizes-given axes points-in) i
+  pub same-points : (i : ℕ) → points g i ≡ points (sizes-given axes points-in) i
   unfolding axes-given axis-given axes-without-ends axis-without-ends
   same-points zero = any-ends (ltb 0 axes) (getD points-in 0 0) (condition-given kinds values 0) not-a-knot
   same-points (suc zero) = any-ends (ltb 1 axes) (getD points-in 1 0) (condition-given kinds values 1) not-a-knot

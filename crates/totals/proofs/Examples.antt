@@ -22,7 +22,7 @@ minus-two = ofBits binary64 0xC000_0000_0000_0000
 
 -- the example's sheet: one axis, two points
 abbrev example : Sheet
-example = record { refusal = 0; size = 51; tensor = tensor-entries 1 (zero ∷ one ∷ one ∷ one ∷ []) }
+example = record { refusal = 0; tensor = tensor-entries 1 (zero ∷ one ∷ one ∷ one ∷ []) }
 
 example-orders : totals-of (example ∷ []) .orders
     ≡ record { entries = 2; nonzero = 1; largest = 0x3FF0_0000_0000_0000 } ∷ record { entries = 2; nonzero = 2; largest = 0x3FF0_0000_0000_0000 }
@@ -32,10 +32,10 @@ example-orders = refl
 
 -- two axes: -0.0 is an entry and no non-zero one, and -2 has the largest magnitude
 abbrev signed : Sheet
-signed = record { refusal = 0; size = 100; tensor = tensor-entries 2 (minus-zero ∷ one ∷ minus-two ∷ minus-zero ∷ []) }
+signed = record { refusal = 0; tensor = tensor-entries 2 (minus-zero ∷ one ∷ minus-two ∷ minus-zero ∷ []) }
 
 abbrev refused : Sheet
-refused = record { refusal = 8; size = 51; tensor = [] }
+refused = record { refusal = 8; tensor = [] }
 
 signed-orders : totals-of (signed ∷ refused ∷ []) .orders
     ≡ record { entries = 1; nonzero = 0; largest = 0 } ∷ record { entries = 2; nonzero = 2; largest = 0x4000_0000_0000_0000 }

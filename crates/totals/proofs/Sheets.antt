@@ -97,7 +97,7 @@ abbrev pub running-next : (totals later : Totals) (sheet : Sheet) (run : Running
     → length (run .seen) < most-sheets → length (sheet .tensor) ≤ 4096 → Running later
 running-next totals later sheet run adds room h = record {
   seen = run .seen ++ (sheet ∷ []);
-  said = adds .adds (run .seen) (sheet .size) (run .said);
+  said = adds .adds (run .seen) (run .said);
   few = let long = length-append (run .seen) (sheet ∷ []) in omega arith;
   small =
       let long = length-append (run .seen) (sheet ∷ []) in

@@ -26,11 +26,9 @@ pub record Entry : Type 0 where
   pub order : ℕ
   pub number : Float
 
--- what is seen of a sheet: by which number it is refused, 0 where it is accepted; how many bytes it has, 0 where nobody knows; and its
--- tensor's entries, which only an accepted sheet has
+-- what is seen of a sheet: by which number it is refused, 0 where it is accepted, and its tensor's entries, of which a refused one has none
 pub record Sheet : Type 0 where
   pub refusal : ℕ
-  pub size : ℕ
   pub tensor : List Entry
 
 -- the entries of a tensor over so many axes: the masks of a place lie side by side, and the ones of a mask are counted for the order

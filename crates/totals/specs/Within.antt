@@ -49,5 +49,5 @@ pub record Running (totals : Totals) : Type 0 where
 -- a sheet with this refusal and these entries was added: of any sheets that the totals were of, and of the new one behind them, they are now
 pub record Adds (totals : Totals) (refusal : ℕ) (tensor : List Entry) (later : Totals) : Type 0 where
   pub counted : later .sheets ≡ totals .sheets + 1
-  pub adds : (seen : List Sheet) (size : ℕ) → totals ≡ totals-of seen
-      → later ≡ totals-of (seen ++ (record { refusal = refusal; size = size; tensor = tensor } ∷ []))
+  pub adds : (seen : List Sheet) → totals ≡ totals-of seen
+      → later ≡ totals-of (seen ++ (record { refusal = refusal; tensor = tensor } ∷ []))

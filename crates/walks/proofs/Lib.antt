@@ -1,2 +1,3 @@
+pub mod Solved
 pub mod WalkTurns
 pub mod FourTurns

@@ -1,20 +1,17 @@
--- The lanes of a walk by four: the plan of their axis stands, and is still there behind them.
+-- The lanes of a walk by four: the plan of their axis stands and is still there behind them, and each lane is counted once it is passed.
 use mathlib.Core.Path.{_≡_}
-use mathlib.Core.Logic.{_≢_}
 use mathlib.Core.List.{List}
-use Prim.Native.Nat.{ℕ, _+_, _-_, _<_, _≤_}
-use lib.ListN.{length}
+use Prim.Native.Nat.{ℕ, _+_, _<_, _≤_}
 use lib.Ieee.{Float}
-use Rattle.rules.specs.Numbers.{at, table}
-use Rattle.rules.specs.Curve.{lane-slope}
+use Rattle.rules.specs.Numbers.{at}
 use Rattle.rules.specs.declared.Condition.{Condition}
-use Rattle.scratch.specs.Layout.{plan-end, tensor-begin}
+use Rattle.scratch.specs.Layout.{plan-end}
 use Rattle.axis_plan.specs.Plans.{PlanGiven, PlanStands}
 use Rattle.axis_plan.specs.declared.AxisPlan.{AxisPlan}
-use Rattle.lane_starts.specs.Walks.{Stands}
+use Rattle.lane_starts.specs.Walks.{lane-start, Stands}
 use Rattle.lane_starts.specs.declared.Walk.{Walk}
 use Rattle.lane_starts.specs.declared.Cursor.{Cursor}
-use Rattle.walks.specs.Walked.{number-place, slope-place}
+use Rattle.walks.specs.Walked.{SomeSolved}
 
 -- an axis with its plan
 pub record AxisStands (w x : List Float) (condition : Condition) (plan : AxisPlan) : Type 0 where
@@ -25,25 +22,26 @@ pub record AxisStands (w x : List Float) (condition : Condition) (plan : AxisPla
 abbrev pub PlanKept : List Float → List Float → Type 0
 PlanKept w w′ = (j : ℕ) → j < plan-end → at w′ j ≡ at w j
 
--- c moved on to r: one lane further if there is one
+-- a cursor that counts the lanes it has passed: it stands at the next or, behind the last, still at the place of that one
+pub record Walking (c : Cursor) (walk : Walk) : Type 0 where
+  pub number : ℕ
+  pub below : number < walk .lanes
+  pub at-is : c .at ≡ lane-start walk number
+  pub most : c .lane ≤ walk .lanes
+  pub not-far : c .lane ≤ number + 1
+  pub standing : c .lane < walk .lanes → Stands c walk × (number ≡ c .lane)
+
+-- c moved on to r: behind one lane more, if one was left
 pub record Onward (c r : Cursor) (walk : Walk) : Type 0 where
-  pub stands : Stands r walk
-  pub below : r .lane < walk .lanes
+  pub walking : Walking r walk
   pub not-before : c .lane ≤ r .lane
   pub not-far : r .lane ≤ c .lane + 1
-  pub next : c .lane + 1 < walk .lanes → r .lane ≡ c .lane + 1
+  pub counted : c .lane < walk .lanes → r .lane ≡ c .lane + 1
 
--- of a walk's lanes those numbered from `from` to stop - 1 are solved
-pub record SomeSolved (w w′ x : List Float) (condition : Condition) (walk : Walk) (to step from stop : ℕ) : Type 0 where
-  pub same-length : length w′ ≡ length w
-  pub slopes : (t : ℕ) → t < walk .lanes → from ≤ t → t < stop → (k : ℕ) → k < length x
-      → at w′ (slope-place walk to step t k) ≡ lane-slope x (length x - 1) condition (table (length x) (λ j. at w (number-place walk step t j))) k
-  pub kept : (j : ℕ) → tensor-begin ≤ j
-      → ((t : ℕ) → t < walk .lanes → from ≤ t → t < stop → (k : ℕ) → k < length x → j ≢ slope-place walk to step t k) → at w′ j ≡ at w j
-  pub plan : PlanKept w w′
-
--- four lanes from c on, and the walk behind them if a lane is left
+-- the lanes from c's up to r's solved, one at least, and r behind them
 pub record FourSolved (w w′ x : List Float) (condition : Condition) (walk : Walk) (to step : ℕ) (c r : Cursor) : Type 0 where
-  pub solved : SomeSolved w w′ x condition walk to step (c .lane) (c .lane + 4)
-  pub stands : Stands r walk
-  pub lane-is : c .lane + 4 < walk .lanes → r .lane ≡ c .lane + 4
+  pub solved : SomeSolved w w′ x condition walk to step (c .lane) (r .lane)
+  pub plan : PlanKept w w′
+  pub some : c .lane < r .lane
+  pub most : r .lane ≤ walk .lanes
+  pub stands : r .lane < walk .lanes → Stands r walk

@@ -34,9 +34,15 @@ pub record WalkGiven (w x : List Float) (condition : Condition) (walk : Walk) (t
   pub apart : (t u k i : ℕ) → t < walk .lanes → u < walk .lanes → k < length x → i < length x
       → number-place walk step t k ≢ slope-place walk to step u i
 
--- the lanes below a limit solved
-pub record WalkSolved (w w′ x : List Float) (condition : Condition) (walk : Walk) (to step limit : ℕ) : Type 0 where
+-- the lanes numbered from `from` to stop - 1 solved
+pub record SomeSolved (w w′ x : List Float) (condition : Condition) (walk : Walk) (to step from stop : ℕ) : Type 0 where
   pub same-length : length w′ ≡ length w
-  pub slopes : (t : ℕ) → t < limit → (k : ℕ) → k < length x
+  pub slopes : (t : ℕ) → from ≤ t → t < stop → (k : ℕ) → k < length x
       → at w′ (slope-place walk to step t k) ≡ lane-slope x (length x - 1) condition (table (length x) (λ j. at w (number-place walk step t j))) k
-  pub kept : (j : ℕ) → tensor-begin ≤ j → ((t : ℕ) → t < limit → (k : ℕ) → k < length x → j ≢ slope-place walk to step t k) → at w′ j ≡ at w j
+  pub kept : (j : ℕ) → tensor-begin ≤ j → ((t : ℕ) → from ≤ t → t < stop → (k : ℕ) → k < length x → j ≢ slope-place walk to step t k)
+      → at w′ j ≡ at w j
+
+-- all lanes of a walk solved, and the count is of the lanes solved
+pub record WalkSolved (w w′ x : List Float) (condition : Condition) (walk : Walk) (to step count : ℕ) : Type 0 where
+  pub solved : SomeSolved w w′ x condition walk to step 0 count
+  pub all : count ≡ walk .lanes

@@ -2,7 +2,7 @@
 ghost use Prim.Native.Nat.{_<_, _≤_};
 ghost use Rattle.lane_starts.specs.Walks.{Small, Stands};
 ghost use Rattle.walks.specs.Walked.{WalkGiven, WalkSolved};
-ghost use Rattle.walks.specs.ByFour.{AxisStands, PlanKept, Onward, FourSolved};
+ghost use Rattle.walks.specs.ByFour.{AxisStands, PlanKept, Walking, Onward, FourSolved};
 use axis_plan::AxisPlan;
 use four_lanes::solve_four;
 use lane_starts::Cursor;
@@ -12,14 +12,20 @@ use lane_starts::walking::next;
 use rules::Condition;
 use scratch::TENSOR;
 
-// The walk one lane further, or where it stands if that is the last.
-fn onward(cursor: Cursor, walk: Walk) -> Cursor
-    requires { ⌜ Stands cursor walk × Small walk × (walk .lanes ≤ 4096) × (cursor .lane < walk .lanes) × (cursor .at ≤ 4096) ⌝ }
+// The walk with one lane more counted: at the next lane or, from the last, behind it, where its place stays that of the last. From there
+// it goes no further, so a lane that stands in for a missing one is not counted.
+fn onward(mut cursor: Cursor, walk: Walk) -> Cursor
+    requires { ⌜ Walking cursor walk × Small walk × (walk .lanes ≤ 4096) × (cursor .at ≤ 4096) ⌝ }
     ensures { λ r. ⌜ Onward cursor r walk ⌝ }
 {
-    if cursor.lane + 1 < walk.lanes {
+    let lane = cursor.lane + 1;
+    if lane < walk.lanes {
         return next(cursor, walk);
     }
+    if walk.lanes < lane {
+        return cursor;
+    }
+    cursor.lane = lane;
     cursor
 }
 
@@ -50,7 +56,7 @@ fn solve_next_four(
     onward(fourth, walk)
 }
 
-// All lanes of a walk.
+// All lanes of a walk. It answers how many it solved.
 pub fn solve_by_four(
     w: &mut [f64],
     x: &[f64],
@@ -59,15 +65,14 @@ pub fn solve_by_four(
     walk: Walk,
     to: usize,
     step: usize,
-)
+) -> usize
     requires { ⌜ WalkGiven (now w) (now x) condition walk to step × AxisStands (now w) (now x) condition plan ⌝ }
-    ensures { λ _. ⌜ WalkSolved (now (w .entry)) (now (w .exit)) (now (x .entry)) condition walk to step (walk .lanes) × PlanKept (now (w .entry)) (now (w .exit)) ⌝ }
+    ensures { λ r. ⌜ WalkSolved (now (w .entry)) (now (w .exit)) (now (x .entry)) condition walk to step r × PlanKept (now (w .entry)) (now (w .exit)) ⌝ }
 {
     let mut cursor = first(walk);
-    let mut done = 0;
-    while done < walk.lanes {
+    while cursor.lane < walk.lanes {
         let after = solve_next_four(w, x, condition, plan, walk, to, step, cursor);
         cursor = after;
-        done += 4;
     }
+    cursor.lane
 }

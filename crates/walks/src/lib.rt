@@ -15,10 +15,18 @@ use scratch::TENSOR;
 
 mod by_four; // by_four.rt: four lanes at a time
 
-// All lanes of a walk, one after the other: the numbers of each stand where it starts, its slopes go `to` further on.
-fn solve_singly(w: &mut [f64], x: &[f64], condition: Condition, walk: Walk, to: usize, step: usize)
+// All lanes of a walk, one after the other: the numbers of each stand where it starts, its slopes go `to` further on. It answers how many
+// it solved: behind each the walk goes on by one.
+fn solve_singly(
+    w: &mut [f64],
+    x: &[f64],
+    condition: Condition,
+    walk: Walk,
+    to: usize,
+    step: usize,
+) -> usize
     requires { ⌜ WalkGiven (now w) (now x) condition walk to step ⌝ }
-    ensures { λ _. ⌜ WalkSolved (now (w .entry)) (now (w .exit)) (now (x .entry)) condition walk to step (walk .lanes) ⌝ }
+    ensures { λ r. ⌜ WalkSolved (now (w .entry)) (now (w .exit)) (now (x .entry)) condition walk to step r ⌝ }
 {
     let mut cursor = first(walk);
     while cursor.lane < walk.lanes {
@@ -27,9 +35,11 @@ fn solve_singly(w: &mut [f64], x: &[f64], condition: Condition, walk: Walk, to: 
         let after = next(cursor, walk);
         cursor = after;
     }
+    cursor.lane
 }
 
-// All lanes of a walk. By four the plan is still there for the next walk along the axis; one after the other they would overwrite it.
+// All lanes of a walk, and how many were solved. By four the plan is still there for the next walk along the axis; one after the other
+// they would overwrite it.
 pub fn solve_walk(
     w: &mut [f64],
     x: &[f64],
@@ -38,9 +48,9 @@ pub fn solve_walk(
     walk: Walk,
     to: usize,
     step: usize,
-)
+) -> usize
     requires { ⌜ WalkGiven (now w) (now x) condition walk to step × (plan .made ≡ true → AxisStands (now w) (now x) condition plan) ⌝ }
-    ensures { λ _. ⌜ WalkSolved (now (w .entry)) (now (w .exit)) (now (x .entry)) condition walk to step (walk .lanes) × (plan .made ≡ true → PlanKept (now (w .entry)) (now (w .exit))) ⌝ }
+    ensures { λ r. ⌜ WalkSolved (now (w .entry)) (now (w .exit)) (now (x .entry)) condition walk to step r × (plan .made ≡ true → PlanKept (now (w .entry)) (now (w .exit))) ⌝ }
 {
     if plan.made {
         return solve_by_four(w, x, condition, plan, walk, to, step);

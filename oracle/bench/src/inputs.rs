@@ -163,11 +163,13 @@ impl Surface {
     }
 }
 
-fn knot(index: usize) -> f64 {
+/// Knot number so many of an axis.
+pub fn knot(index: usize) -> f64 {
     index as f64 + 0.125 * (index % 3) as f64
 }
 
-fn sample(number: usize) -> f64 {
+/// Sample number so many.
+pub fn sample(number: usize) -> f64 {
     (7 * number % 11) as f64 / 2.0
 }
 
@@ -183,10 +185,7 @@ pub struct Inputs {
     pub small_four_axes: Surface,
     pub two_axes_changed: Surface,
     pub four_axes_changed: Surface,
-    pub periodic_line: Surface,
     pub two_axes_periodic: Surface,
-    pub four_axes_not_a_knot: Surface,
-    pub four_axes_periodic: Surface,
     pub even_line_of_16: Surface,
     pub even_line_of_256: Surface,
     pub even_two_axes: Surface,
@@ -207,10 +206,7 @@ impl Inputs {
             small_four_axes: Surface::new(&[2, 2, 2, 4], Ends::Natural),
             two_axes_changed: two_axes.changed(),
             four_axes_changed: four_axes.changed(),
-            periodic_line: Surface::new(&[256], Ends::Periodic),
             two_axes_periodic: Surface::new(&[16, 16], Ends::Periodic),
-            four_axes_not_a_knot: Surface::new(&[4, 4, 4, 4], Ends::NotAKnot),
-            four_axes_periodic: Surface::new(&[4, 4, 4, 4], Ends::Periodic),
             even_line_of_16: line_of_16.even(),
             even_line_of_256: line_of_256.even(),
             even_two_axes: two_axes.even(),
@@ -232,31 +228,6 @@ impl Inputs {
             &self.even_two_axes,
             &self.even_three_axes,
             &self.even_four_axes,
-        ]
-    }
-
-    /// Surfaces whose tensors have at most 512 numbers, three of them just so many.
-    pub fn small_surfaces(&self) -> [&Surface; 5] {
-        [
-            &self.line_of_16,
-            &self.line_of_256,
-            &self.periodic_line,
-            &self.small_two_axes,
-            &self.small_four_axes,
-        ]
-    }
-
-    /// Surfaces of one to four axes, and of four axes with all the ends.
-    pub fn surfaces(&self) -> [&Surface; 8] {
-        [
-            &self.line_of_2,
-            &self.line_of_16,
-            &self.line_of_256,
-            &self.two_axes,
-            &self.three_axes,
-            &self.four_axes,
-            &self.four_axes_not_a_knot,
-            &self.four_axes_periodic,
         ]
     }
 }

@@ -10,6 +10,7 @@ mod instructions;
 mod limit;
 mod lines;
 mod nanoseconds;
+mod shapes;
 mod sheet;
 mod stack;
 mod table;
@@ -37,7 +38,7 @@ fn main() {
     let rows = table::rows(&lines, &instructions, &nanoseconds);
     table::print_lines(&rows[..first_of_the_limit]);
     table::print_limit(&rows[first_of_the_limit..]);
-    table::print_stacks(&stack::stacks(&inputs));
+    table::print_stacks(&stack::stacks());
 }
 
 /// Where the limit is not at hand, it has no lines.

@@ -2,203 +2,251 @@
 //! painted before, and the lowest number that lost its paint says how deep it went.
 
 use crate::hullashlar::{self, BUFFER, LONGEST_TENSOR, SCRATCH};
-use crate::inputs::{Inputs, Surface, CHANGED};
+use crate::shapes::{lines, shapes, Shape};
 use std::arch::asm;
 use std::hint::black_box;
 
-/// The deepest that a call went over the inputs.
+/// The deepest that a call went over the shapes.
 pub struct Stack {
     pub call: &'static str,
     pub bytes: usize,
 }
 
 /// The stack of every exported call.
-pub fn stacks(inputs: &Inputs) -> [Stack; 19] {
-    let surfaces = inputs.surfaces();
-    let even_surfaces = inputs.even_surfaces();
-    let small_surfaces = inputs.small_surfaces();
-    let lines = [&inputs.line_of_256, &inputs.periodic_line];
+pub fn stacks() -> [Stack; 19] {
+    let shapes = shapes();
+    let all: Vec<&Shape> = shapes.iter().collect();
+    let lines = lines(&shapes);
     [
-        deepest("hullashlar_build", &surfaces.map(build)),
-        deepest("hullashlar_change", &surfaces.map(change)),
-        deepest("hullashlar_query", &surfaces.map(query)),
-        deepest("hullashlar_quick_query", &surfaces.map(quick_query)),
-        deepest("hullashlar_even_query", &even_surfaces.map(even_query)),
-        deepest("hullashlar_read", &surfaces.map(read)),
-        deepest("hullashlar_read_edition_1", &surfaces.map(read_edition_1)),
-        deepest("hullashlar_sheet_tensor", &surfaces.map(sheet_tensor)),
-        deepest("hullashlar_write", &surfaces.map(write)),
-        deepest("hullashlar_moments", &lines.map(moments)),
-        deepest("hullashlar_slopes", &lines.map(slopes)),
-        deepest("hullashlar_curve", &lines.map(curve)),
-        deepest("hullashlar_exact_index", &lines.map(exact_index)),
-        deepest("hullashlar_locate_axis", &lines.map(locate_axis)),
-        deepest("hullashlar_locate_step_index", &lines.map(step)),
-        deepest("hullashlar_stepped", &surfaces.map(stepped)),
-        deepest("hullashlar_cell_value", &[cell_value()]),
-        deepest("hullashlar_cursor_next", &[cursor_next()]),
-        deepest("hullashlar_surface", &small_surfaces.map(surface)),
+        deepest("hullashlar_build", &all, build),
+        deepest("hullashlar_change", &all, change),
+        deepest("hullashlar_query", &all, query),
+        deepest("hullashlar_quick_query", &all, quick_query),
+        deepest("hullashlar_even_query", &all, even_query),
+        deepest("hullashlar_read", &all, read),
+        deepest("hullashlar_read_edition_1", &all, read_edition_1),
+        deepest("hullashlar_sheet_tensor", &all, sheet_tensor),
+        deepest("hullashlar_write", &all, write),
+        deepest("hullashlar_moments", &lines, moments),
+        deepest("hullashlar_slopes", &lines, slopes),
+        deepest("hullashlar_curve", &lines, curve),
+        deepest("hullashlar_exact_index", &lines, exact_index),
+        deepest("hullashlar_locate_axis", &lines, locate_axis),
+        deepest("hullashlar_locate_step_index", &lines, step),
+        deepest("hullashlar_stepped", &all, stepped),
+        deepest("hullashlar_cell_value", &[[5, 7, 300, -400]], cell_value),
+        deepest("hullashlar_cursor_next", &[1, 255], cursor_next),
+        deepest("hullashlar_surface", &all, surface),
     ]
 }
 
-fn deepest(call: &'static str, depths: &[usize]) -> Stack {
-    let deepest = depths.iter().max();
-    let bytes = *deepest.expect("every call has inputs");
+/// The modes that refuse no point.
+const MODES: [u8; 2] = [0, 1];
+
+fn deepest<T: Copy>(call: &'static str, inputs: &[T], bytes: fn(T) -> usize) -> Stack {
+    let deepest = inputs.iter().map(|input| bytes(*input)).max();
+    let bytes = deepest.expect("every call has inputs");
     Stack { call, bytes }
 }
 
-fn build(surface: &Surface) -> usize {
-    let mut tensor = vec![0.0; surface.axes.tensor_length()];
-    let mut scratch = surface.scratch();
-    let Surface {
+fn most(bytes: impl Iterator<Item = usize>) -> usize {
+    bytes.max().expect("every shape has variants")
+}
+
+fn build(shape: &Shape) -> usize {
+    let mut tensor = vec![0.0; shape.axes.tensor_length()];
+    let mut scratch = shape.scratch();
+    let Shape {
         axes,
         knots,
         samples,
-        ..
-    } = surface;
+    } = shape;
     bytes_of(|| hullashlar::build(axes, knots, samples, &mut tensor, &mut scratch).is_ok())
 }
 
-fn change(surface: &Surface) -> usize {
-    let mut tensor: Vec<f64> = surface.tensor().iter().copied().collect();
-    let mut scratch = surface.scratch();
-    let Surface { axes, knots, .. } = surface;
-    let place = surface.middle_place();
-    bytes_of(|| hullashlar::change(axes, knots, &mut tensor, &mut scratch, place, CHANGED).is_ok())
+fn change(shape: &Shape) -> usize {
+    let mut tensor = shape.tensor();
+    let mut scratch = shape.scratch();
+    let Shape { axes, knots, .. } = shape;
+    let places = shape.places().into_iter();
+    most(places.map(|place| {
+        bytes_of(|| hullashlar::change(axes, knots, &mut tensor, &mut scratch, place, 9.25).is_ok())
+    }))
 }
 
-fn query(surface: &Surface) -> usize {
-    let tensor: Vec<f64> = surface.tensor().iter().copied().collect();
-    let point = surface.middle_point();
-    bytes_of(|| hullashlar::query(&surface.axes, &surface.knots, &tensor, &point).is_ok())
+/// A query of every point in every mode.
+fn asked(shape: &Shape, ask: impl Fn(&Shape, &[f64], &[f64]) -> bool) -> usize {
+    let tensor = shape.tensor();
+    most(MODES.into_iter().flat_map(|mode| {
+        let shape = shape.in_mode(mode);
+        let points = shape.coordinates();
+        points.map(|point| bytes_of(|| ask(&shape, &tensor, &point)))
+    }))
 }
 
-fn quick_query(surface: &Surface) -> usize {
-    let tensor: Vec<f64> = surface.tensor().iter().copied().collect();
-    let point = surface.middle_point();
-    bytes_of(|| hullashlar::quick_query(&surface.axes, &surface.knots, &tensor, &point).is_ok())
+fn query(shape: &Shape) -> usize {
+    asked(shape, |shape, tensor, point| {
+        hullashlar::query(&shape.axes, &shape.knots, tensor, point).is_ok()
+    })
 }
 
-fn even_query(surface: &Surface) -> usize {
-    let tensor: Vec<f64> = surface.tensor().iter().copied().collect();
-    let point = surface.middle_point();
-    bytes_of(|| hullashlar::even_query(&surface.axes, &surface.knots, &tensor, &point).is_ok())
+fn quick_query(shape: &Shape) -> usize {
+    asked(shape, |shape, tensor, point| {
+        hullashlar::quick_query(&shape.axes, &shape.knots, tensor, point).is_ok()
+    })
 }
 
-fn read(surface: &Surface) -> usize {
-    let sheet = surface.sheet();
+fn even_query(shape: &Shape) -> usize {
+    asked(&shape.even(), |shape, tensor, point| {
+        hullashlar::even_query(&shape.axes, &shape.knots, tensor, point).is_ok()
+    })
+}
+
+/// The sheet in both editions, and in the second in both modes.
+fn sheets(shape: &Shape) -> [Vec<u8>; 3] {
+    let [extend, hold] = MODES.map(|mode| shape.in_mode(mode));
+    [extend.sheet(1), extend.sheet(2), hold.sheet(2)]
+}
+
+fn read(shape: &Shape) -> usize {
     let (mut knots, mut samples) = ([0.0; BUFFER], [0.0; BUFFER]);
-    bytes_of(|| hullashlar::read(&sheet, &mut knots, &mut samples).is_ok())
+    most(
+        sheets(shape)
+            .iter()
+            .map(|sheet| bytes_of(|| hullashlar::read(sheet, &mut knots, &mut samples).is_ok())),
+    )
 }
 
-fn read_edition_1(surface: &Surface) -> usize {
-    let sheet = surface.sheet();
+fn read_edition_1(shape: &Shape) -> usize {
+    let sheet = shape.sheet(1);
     let (mut knots, mut samples) = ([0.0; BUFFER], [0.0; BUFFER]);
     bytes_of(|| hullashlar::read_edition_1(&sheet, &mut knots, &mut samples).is_ok())
 }
 
-fn sheet_tensor(surface: &Surface) -> usize {
-    let sheet = surface.sheet();
+fn sheet_tensor(shape: &Shape) -> usize {
     let (mut knots, mut samples) = ([0.0; BUFFER], [0.0; BUFFER]);
     let mut tensor = vec![0.0; LONGEST_TENSOR];
     let mut scratch = vec![0.0; LONGEST_TENSOR + SCRATCH];
-    bytes_of(|| {
-        hullashlar::sheet_tensor(&sheet, &mut knots, &mut samples, &mut tensor, &mut scratch)
-            .is_ok()
-    })
+    most(sheets(shape).iter().map(|sheet| {
+        bytes_of(|| {
+            hullashlar::sheet_tensor(sheet, &mut knots, &mut samples, &mut tensor, &mut scratch)
+                .is_ok()
+        })
+    }))
 }
 
-fn write(surface: &Surface) -> usize {
-    let mut bytes = vec![0; surface.sheet().len()];
-    let Surface {
+fn write(shape: &Shape) -> usize {
+    let Shape {
         axes,
         knots,
         samples,
-        ..
-    } = surface;
-    bytes_of(|| hullashlar::write(1, axes, knots, samples, &mut bytes).is_ok())
+    } = shape;
+    most([1, 2].into_iter().map(|edition| {
+        let mut bytes = shape.sheet(edition);
+        bytes_of(|| hullashlar::write(edition, axes, knots, samples, &mut bytes).is_ok())
+    }))
 }
 
-fn moments(line: &Surface) -> usize {
-    let Surface {
-        axes,
-        knots,
-        samples,
-        ..
-    } = line;
-    let kinds = [axes.kinds[0], axes.kinds[1]];
+fn moments(line: &Shape) -> usize {
+    let Shape { knots, samples, .. } = line;
+    let (kinds, values) = line.ends();
     let mut moments = vec![0.0; knots.len()];
     let mut scratch = vec![0.0; SCRATCH];
     bytes_of(|| {
-        hullashlar::moments(
-            knots,
-            samples,
-            kinds,
-            [0.0, 0.0],
-            &mut moments,
-            &mut scratch,
-        )
-        .is_ok()
+        hullashlar::moments(knots, samples, kinds, values, &mut moments, &mut scratch).is_ok()
     })
 }
 
-fn slopes(line: &Surface) -> usize {
+fn slopes(line: &Shape) -> usize {
     let moments = line.moments();
     let mut slopes = vec![0.0; moments.len()];
     bytes_of(|| hullashlar::slopes(&line.knots, &line.samples, &moments, &mut slopes).is_ok())
 }
 
-fn curve(line: &Surface) -> usize {
+/// A call at every point of a line.
+fn at_points(line: &Shape, call: impl Fn(f64) -> bool) -> usize {
+    let points = line.coordinates().into_iter();
+    most(points.map(|point| bytes_of(|| call(point[0]))))
+}
+
+fn curve(line: &Shape) -> usize {
     let moments = line.moments();
-    let point = line.middle_point()[0];
-    bytes_of(|| hullashlar::curve(&line.knots, &line.samples, &moments, point).is_ok())
+    at_points(line, |point| {
+        hullashlar::curve(&line.knots, &line.samples, &moments, point).is_ok()
+    })
 }
 
-fn exact_index(line: &Surface) -> usize {
-    bytes_of(|| hullashlar::exact_index(&line.knots, 1, line.knots[2]).is_ok())
+fn exact_index(line: &Shape) -> usize {
+    let lower = line.knots.len() - 2;
+    at_points(line, |point| {
+        hullashlar::exact_index(&line.knots, lower, point).is_ok()
+    })
 }
 
-fn locate_axis(line: &Surface) -> usize {
-    let point = line.middle_point()[0];
-    bytes_of(|| hullashlar::locate_axis(&line.knots, point).is_ok())
+fn locate_axis(line: &Shape) -> usize {
+    at_points(line, |point| {
+        hullashlar::locate_axis(&line.knots, point).is_ok()
+    })
 }
 
-fn step(line: &Surface) -> usize {
-    let point = line.middle_point()[0];
-    bytes_of(|| hullashlar::locate_step_index(&line.knots, 1, point).is_ok())
+fn step(line: &Shape) -> usize {
+    let downward = |point| hullashlar::locate_step_index(&line.knots, 0, point).is_ok();
+    let upward = |point| hullashlar::locate_step_index(&line.knots, 1, point).is_ok();
+    at_points(line, downward).max(at_points(line, upward))
 }
 
-fn stepped(surface: &Surface) -> usize {
-    let Surface {
+fn stepped(shape: &Shape) -> usize {
+    let Shape {
         axes,
         knots,
         samples,
-        ..
-    } = surface;
-    let point = surface.middle_point();
-    bytes_of(|| hullashlar::stepped(axes, [0, 1, 0, 1], knots, samples, &point).is_ok())
+    } = shape;
+    let points = shape.coordinates().into_iter();
+    most(points.map(|point| {
+        bytes_of(|| hullashlar::stepped(axes, [0, 1, 0, 1], knots, samples, &point).is_ok())
+    }))
 }
 
-fn cell_value() -> usize {
-    bytes_of(|| hullashlar::cell_value([-5, 7, 300, -400], 100).is_ok())
+fn cell_value(cell: [i32; 4]) -> usize {
+    let positions = [0, 100, 256].into_iter();
+    most(positions.map(|position| bytes_of(|| hullashlar::cell_value(cell, position).is_ok())))
 }
 
-fn cursor_next() -> usize {
-    let curve = [0; 16 * 255];
-    bytes_of(|| hullashlar::cursor_next(&curve, &mut 1_000).is_ok())
+fn cursor_next(cells: usize) -> usize {
+    let curve = vec![0; 16 * cells];
+    let cursors = [0, 100, 256 * cells as u32].into_iter();
+    most(cursors.map(|cursor| {
+        let mut moved = cursor;
+        bytes_of(|| hullashlar::cursor_next(&curve, &mut moved).is_ok())
+    }))
 }
 
-fn surface(surface: &Surface) -> usize {
-    let sheet = surface.sheet();
-    let patterns = surface.middle_patterns();
-    bytes_of(|| hullashlar::surface(&sheet, patterns).is_ok())
+/// The one call that refuses a long tensor: of such a shape it is not measured.
+fn surface(shape: &Shape) -> usize {
+    if 512 < shape.axes.tensor_length() {
+        return 0;
+    }
+    let points = shape.coordinates().map(patterns);
+    let sheets = sheets(shape);
+    most(sheets.iter().flat_map(|sheet| {
+        points.map(|point| bytes_of(|| hullashlar::surface(sheet, point).is_ok()))
+    }))
+}
+
+/// The patterns of a point, and 0 past its axes.
+fn patterns(point: Vec<f64>) -> [u64; 4] {
+    let mut patterns = [0; 4];
+    for (pattern, coordinate) in patterns.iter_mut().zip(point) {
+        *pattern = coordinate.to_bits();
+    }
+    patterns
 }
 
 /// What the stack is painted with.
 const PAINT: u64 = 0x5AA5_C33C_0FF0_9669;
 
 /// The numbers of the painted stack, far more than any call needs.
-const PAINTED: usize = 1 << 17;
+const PAINTED: usize = 1 << 14;
 
 /// The stack bytes of an accepted call, without those that an empty one needs here.
 fn bytes_of(mut call: impl FnMut() -> bool) -> usize {

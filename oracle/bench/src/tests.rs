@@ -1,7 +1,7 @@
 //! The stand-in that is made for speed gives the bits of the simple one, which
 //! the reading of the rules stands on.
 
-use crate::inputs::{Inputs, Surface};
+use crate::inputs::{Ends, Inputs, Surface};
 use ninterp_quick::evaluate_spline_corner_cached;
 
 fn bits(numbers: impl IntoIterator<Item = f64>) -> Vec<u64> {
@@ -51,11 +51,26 @@ fn simple_value(surface: &Surface, tensor: &[f64]) -> f64 {
     value[0]
 }
 
+/// Surfaces of one to four axes, and of four axes with all the ends.
+fn surfaces() -> [Surface; 8] {
+    let four_axes = [4, 4, 4, 4];
+    [
+        Surface::new(&[2], Ends::Natural),
+        Surface::new(&[16], Ends::Natural),
+        Surface::new(&[256], Ends::Natural),
+        Surface::new(&[16, 16], Ends::Natural),
+        Surface::new(&[6, 6, 6], Ends::NotAKnot),
+        Surface::new(&four_axes, Ends::Natural),
+        Surface::new(&four_axes, Ends::NotAKnot),
+        Surface::new(&four_axes, Ends::Periodic),
+    ]
+}
+
 #[test]
 fn both_stand_ins_give_the_same_bits() {
     let inputs = Inputs::new();
     let even = inputs.even_surfaces().into_iter();
-    for surface in even.chain(inputs.surfaces()) {
+    for surface in even.chain(&surfaces()) {
         let simple = simple_tensor(surface);
         let quick = surface.tensor();
         assert_eq!(bits(quick.iter().copied()), bits(simple.iter().copied()));

@@ -96,14 +96,18 @@ impl Grid {
     }
 
     /// The refusal of a query in the modes of the axes, its value and its labels.
-    pub fn query(
-        &self,
-        modes: [u8; 4],
-        tensor: &[f64],
-        coordinates: &[f64],
-    ) -> (usize, f64, [usize; 4]) {
+    pub fn query(&self, modes: [u8; 4], tensor: &[f64], coordinates: &[f64]) -> Answer {
+        self.ask(reading::query, modes, tensor, coordinates)
+    }
+
+    /// The same of the quick query.
+    pub fn quick_query(&self, modes: [u8; 4], tensor: &[f64], coordinates: &[f64]) -> Answer {
+        self.ask(reading::quick_query, modes, tensor, coordinates)
+    }
+
+    fn ask(&self, query: Query, modes: [u8; 4], tensor: &[f64], coordinates: &[f64]) -> Answer {
         let (mut value, mut labels) = ([0.0], [0; 4]);
-        let refusal = reading::query(
+        let refusal = query(
             self.axes,
             &self.points,
             &modes,
@@ -115,4 +119,32 @@ impl Grid {
         );
         (refusal, value[0], labels)
     }
+
+    /// The same of the query of even axes, and the axis and the interval that it tells.
+    pub fn even_query(
+        &self,
+        modes: [u8; 4],
+        tensor: &[f64],
+        coordinates: &[f64],
+    ) -> (Answer, [usize; 2]) {
+        let (mut value, mut labels, mut uneven) = ([0.0], [0; 4], [0; 2]);
+        let refusal = reading::even_query(
+            self.axes,
+            &self.points,
+            &modes,
+            &self.knots,
+            tensor,
+            coordinates,
+            &mut value,
+            &mut labels,
+            &mut uneven,
+        );
+        ((refusal, value[0], labels), uneven)
+    }
 }
+
+/// The refusal of a query, its value and its labels.
+pub type Answer = (usize, f64, [usize; 4]);
+
+/// A query, full or quick, as the reading has it.
+type Query = fn(usize, &[usize], &[u8], &[f64], &[f64], &[f64], &mut [f64], &mut [usize]) -> usize;

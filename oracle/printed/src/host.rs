@@ -1,7 +1,7 @@
-//! What the example hosts print of the sheet of a gain surface.
+//! What the example hosts and the example firmware print of the sheet of a gain surface.
 
 use crate::grid::Grid;
-use reading::{BUFFER, CURVE_SCRATCH};
+use reading::{surface, BUFFER, CURVE_SCRATCH, REFUSED};
 
 /// The gain at a frequency and a level, the changed sample, and the gain after it.
 pub fn host(sheet: &[u8]) -> String {
@@ -33,6 +33,25 @@ pub fn host(sheet: &[u8]) -> String {
          {after}\
          gain at a level that is no number: refused {refusal}\n",
         grid.axes
+    )
+}
+
+/// What the example firmware prints of the same sheet: a gain, and three refusals.
+pub fn firmware(sheet: &[u8]) -> String {
+    let [frequency, level] = [1.5_f64, 60.0].map(f64::to_bits);
+    let answered = |bytes, level, third| match surface(bytes, [frequency, level, third, 0]) {
+        answer if answer & REFUSED == REFUSED => format!("refused {}", answer - REFUSED),
+        answer => format!("{:.6} dB", f64::from_bits(answer)),
+    };
+    format!(
+        "gain at 1.5 kHz and 60.0 dB: {}\n\
+         at a level that is no number: {}\n\
+         with a third coordinate of -0: {}\n\
+         of half the sheet: {}\n",
+        answered(sheet, level, 0),
+        answered(sheet, f64::NAN.to_bits(), 0),
+        answered(sheet, level, (-0.0_f64).to_bits()),
+        answered(&sheet[..sheet.len() / 2], level, 0)
     )
 }
 

@@ -2,16 +2,18 @@
 //! reading of the rules, over the unchanged files; no code of ours is asked.
 
 mod changes;
+mod cursor;
 mod either_order;
 mod grid;
 mod host;
 mod line;
 mod one_axis;
+mod queries;
 mod refusals;
 mod sheets;
 mod surface;
 
-pub use host::host;
+pub use host::{firmware, host};
 
 /// What a program prints for what stands on its standard input, or none where there
 /// is no such program.
@@ -24,12 +26,13 @@ pub fn printed(program: &str, input: &[u8]) -> Option<String> {
         "one_axis_examples" => one_axis::examples(),
         "one_axis_refusals" => refusals::refusals(),
         "surface_examples" => surface::examples(),
+        "query_examples" => queries::examples(),
         "change_examples" => changes::changes(),
         "either_order_examples" => either_order::either_order(),
         "device_curve" => reading::device_text(input),
-        "sheet_report" | "report_empty" | "report_ends_inside" | "report_of_refusals" => {
-            reading::Report::of(input).to_string()
-        }
+        "cursor_walk" => cursor::walks(),
+        "sheet_report" | "report_empty" | "report_ends_inside" | "report_of_refusals"
+        | "report_in_memory" => reading::Report::of(input).to_string(),
         "replay" => replay(input),
         _ => return None,
     };

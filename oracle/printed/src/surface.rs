@@ -34,7 +34,13 @@ pub fn query(name: &str, grid: &Grid, tensor: &[f64], coordinates: &[f64]) -> St
 }
 
 /// The line of a query with one mode for every axis.
-fn query_in_mode(name: &str, grid: &Grid, mode: u8, tensor: &[f64], coordinates: &[f64]) -> String {
+pub fn query_in_mode(
+    name: &str,
+    grid: &Grid,
+    mode: u8,
+    tensor: &[f64],
+    coordinates: &[f64],
+) -> String {
     let (refusal, value, labels) = grid.query([mode; 4], tensor, coordinates);
     let (value, labels) = (patterns(&[value]), counts(&labels));
     format!("{name}: query {refusal}{value} labels{labels}\n")

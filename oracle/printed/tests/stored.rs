@@ -1,6 +1,6 @@
 //! What is kept beside the programs is what the reading says they print.
 
-use printed::{host, printed};
+use printed::{firmware, host, printed};
 use std::fs;
 use std::path::{Path, PathBuf};
 
@@ -30,9 +30,11 @@ fn every_kept_output_is_the_readings() {
 }
 
 #[test]
-fn the_hosts_output_is_the_readings() {
+fn what_the_examples_print_is_the_readings() {
     let examples = repository().join("examples");
     let sheet = fs::read(examples.join("gain.sheet")).unwrap();
     let kept = fs::read_to_string(examples.join("expected.txt")).unwrap();
     assert_eq!(host(&sheet), kept);
+    let kept = fs::read_to_string(examples.join("firmware_expected.txt")).unwrap();
+    assert_eq!(firmware(&sheet), kept);
 }

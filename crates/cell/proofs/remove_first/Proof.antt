@@ -1,53 +1,64 @@
+-- The first axis is removed by the function for as many axes.
 use borrow.Author.Needs.{needs}
 use native.Mathlib.Omega.{arith}
-use Prim.Native.Nat.{_-_, _/_}
-use Rattle.cell.proofs.Removing.{Turn, turn-first, room, run-given, turn-next, turn-last}
+use Rattle.cell.proofs.Removing.{only-removed, one-within, four-axes}
 use Rattle.cell.proofs.remove_first.Statement.{statement}
 use Rattle.cell.proofs.remove_first.Tie as tie
 
-abbrev Inv-loop : tie.InvT-loop
-Inv-loop cell₀ axes spots weights tensor masks run₀ cell run = Turn cell₀ axes spots tensor weights masks cell run
+first-of-one-requires : tie.Need-first-of-one-requires
+first-of-one-requires c κs =
+    let s = c .before .before .before .before .before .before .before in
+    let w = one-within _ _ _ (s .args .tensor .now) (c .before .before .match .keys1) (s .pre .0 .0) (s .pre .0 .2) in
+    (s .pre .1, omega arith, omega arith)
 
-abbrev μ-loop : tie.MeasureT-loop
-μ-loop cell₀ axes spots weights tensor masks run₀ cell run = masks / 4 - run
+first-of-two-requires : tie.Need-first-of-two-requires
+first-of-two-requires c κs = rw (c .before .match .keys2) at (c .before .before .before .before .before .before .pre)
 
-masks-requires : tie.Need-masks-requires Inv-loop μ-loop
-masks-requires c κs = c .before .before .pre .0 .few-axes
+first-of-three-requires : tie.Need-first-of-three-requires
+first-of-three-requires c κs = rw (c .before .match .keys3) at (c .before .before .before .before .before .before .pre)
 
-loop-holds : tie.Need-loop-holds Inv-loop μ-loop
-loop-holds c = turn-first _ _ _ _ _ _ (c .before .before .before .pre) (c .masks .ensures .0)
+first-of-four-requires : tie.Need-first-of-four-requires
+first-of-four-requires c κs =
+    let s = c .before .before .before .before .before .before in
+    let rest = c .before .match .rest in
+    rw (four-axes _ _ _ (s .pre .0 .0) (rest .0 .0 .1) (rest .0 .1) (rest .1)) at (s .pre)
 
-blend-run-requires : tie.Need-blend-run-requires Inv-loop μ-loop
-blend-run-requires c κs = run-given _ _ _ _ _ _ _ _ (c .before .before .before .before .before .before .loop .inv) (c .before .before .before .before .before .loop-test .taken)
+returns : tie.Need-returns
+returns c =
+    let s = c .before .before .before .before .before .before .before .before .before .before in
+    rw (c .before .before .before .before .before .match .keys1, c .before .before .first-of-one .ensures)
+    (only-removed _ (s .args .tensor .now) _ _ (s .args .cell .now) (omega (arith, s .pre .1)))
 
-loop-again : tie.Need-loop-again Inv-loop μ-loop
-loop-again c = turn-next _ _ _ _ _ _ _ _ (c .before .before .before .before .before .before .before .before .before .loop .inv) (c .before .before .before .before .before .before .before .before .loop-test .taken) _ (c .before .before .blend-run .ensures)
+returns-2 : tie.Need-returns-2
+returns-2 c = rw (c .before .before .before .before .match .keys2) (c .before .before .first-of-two .ensures)
 
-returns : tie.Need-returns Inv-loop μ-loop
-returns c = turn-last _ _ _ _ _ _ _ _ (c .before .loop .inv) (c .loop-test .left)
+returns-3 : tie.Need-returns-3
+returns-3 c = rw (c .before .before .before .before .match .keys3) (c .before .before .first-of-three .ensures)
+
+returns-4 : tie.Need-returns-4
+returns-4 c =
+    let s = c .before .before .before .before .before .before .before .before .before in
+    let rest = c .before .before .before .before .match .rest in
+    rw (four-axes _ _ _ (s .pre .0 .0) (rest .0 .0 .1) (rest .0 .1) (rest .1)) (c .before .before .first-of-four .ensures)
 
 pub remove-first-spec : {M : Type 1} → statement M
 remove-first-spec =
     tie.close
     (tie.spec
-    Inv-loop
-    μ-loop
-    masks-requires
-    loop-holds
-    (λ c. let r = room _ _ _ _ _ _ _ _ (c .before .before .loop .inv) (c .before .loop-test .taken) in omega arith)
-    (λ c. let r = room _ _ _ _ _ _ _ _ (c .before .before .before .loop .inv) (c .before .before .loop-test .taken) in omega arith)
-    (λ c. let r = room _ _ _ _ _ _ _ _ (c .before .before .before .before .loop .inv) (c .before .before .before .loop-test .taken) in omega arith)
-    (λ c. let r = room _ _ _ _ _ _ _ _ (c .before .before .before .before .loop .inv) (c .before .before .before .loop-test .taken) in omega arith)
-    (λ c. let r = room _ _ _ _ _ _ _ _ (c .before .before .before .before .loop .inv) (c .before .before .before .loop-test .taken) in omega arith)
-    (λ c. let r = room _ _ _ _ _ _ _ _ (c .before .before .before .before .loop .inv) (c .before .before .before .loop-test .taken) in omega arith)
-    (λ c. let r = room _ _ _ _ _ _ _ _ (c .before .before .before .before .loop .inv) (c .before .before .before .loop-test .taken) in omega arith)
-    (λ c. let r = room _ _ _ _ _ _ _ _ (c .before .before .before .before .loop .inv) (c .before .before .before .loop-test .taken) in omega arith)
-    (λ c. let r = room _ _ _ _ _ _ _ _ (c .before .before .before .before .loop .inv) (c .before .before .before .loop-test .taken) in omega arith)
-    (λ c. let r = room _ _ _ _ _ _ _ _ (c .before .before .before .before .loop .inv) (c .before .before .before .loop-test .taken) in omega arith)
-    (λ c. let r = room _ _ _ _ _ _ _ _ (c .before .before .before .before .before .before .loop .inv) (c .before .before .before .before .before .loop-test .taken) in omega arith)
-    blend-run-requires
     (λ c. search needs)
+    (λ c.
+    let s = c .before .before .before .before .before .before .before in
+    let w = one-within _ _ _ (s .args .tensor .now) (c .before .before .match .keys1) (s .pre .0 .0) (s .pre .0 .2) in
+    omega arith)
+    first-of-one-requires
+    first-of-two-requires
+    first-of-three-requires
+    first-of-four-requires
     (λ c. search needs)
-    loop-again
+    returns
     (λ c. search needs)
-    returns)
+    returns-2
+    (λ c. search needs)
+    returns-3
+    (λ c. search needs)
+    returns-4)

@@ -1,3 +1,4 @@
+-- A pass: its walk holds the lanes of the axis at the mask, what `solve_walk` asks stands for them, and what it answers is their count.
 use native.Mathlib.Omega.{arith}
 use mathlib.Core.Path.{refl}
 use Rattle.passes.proofs.Pass.{sizes-given, knots-are, target-fits, step-fits, lanes-given, solve-given, solve-done}
@@ -81,7 +82,7 @@ returns c =
     let at-knots-before = at-condition-at .before .before in
     let start = at-knots-before .before .before .before .before in
     let found = knots-are (start .args .axis) _ _ (start .pre .0 .given) (start .pre .0 .in-use) (at-knots-before .knots-before .ensures .0) refl in
-    let done = solve-done _ _ _ _ _ _ (start .pre .0) _ _ _ _ _ (found .1) (found .2) (at-condition-at .condition-at .ensures) (at-masks .masks .ensures .0) (rw (at-stride .stride .ensures, at-masks2 .masks2 .ensures .0)) (at-walk-over .walk-over .ensures) _ (at-solve-walk .solve-walk .ensures .0) in
+    let done = solve-done _ _ _ _ _ _ (start .pre .0) _ _ _ _ _ (found .1) (found .2) (at-condition-at .condition-at .ensures) (at-masks .masks .ensures .0) (rw (at-stride .stride .ensures, at-masks2 .masks2 .ensures .0)) (at-walk-over .walk-over .ensures) _ _ (at-solve-walk .solve-walk .ensures .0) in
     (done .0, done .1, at-solve-walk .solve-walk .ensures .1)
 
 pub solve-lanes-spec : {M : Type 1} → statement M

@@ -1,7 +1,9 @@
+-- One step of a report: the front sheet is read and built by its own bytes, counted, and the report stops where it was not read.
 use native.Mathlib.Nat.{sub-zero}
 use native.Mathlib.Omega.{arith}
 use lib.ListN.{length-take}
 use Rattle.sheet_build.proofs.Promises.{length-most}
+use Rattle.report.specs.Report.{stops}
 use Rattle.report.proofs.Fronts.{front-few, front-axes}
 use Rattle.report.proofs.Steps.{step-full, took}
 use borrow.Author.Needs.{needs}
@@ -32,12 +34,13 @@ with-sheet-requires c κs =
     )
 
 returns-2 : tie.Need-returns-2
+unfolding stops
 returns-2 c =
     let b = c .before .before .before .before .before .before .before .before .before .before .before .before in
     let size = b .before .before .before .before .before .before .size-of-front .ensures in
     took _ _ _ _ _ _ _ (start b .pre .2) _ _ _ _ _ _ _ (start b .pre .1) (start b .pre .0) (b .before .before .before .before .before .before .before .if1 .left) (size .0) (size .1) (b .tensor-of-sheet .ensures)
     (c .before .with-sheet .ensures)
-    (c .is-last .ensures)
+    (c .is-unread .ensures)
 
 pub take-sheet-spec : {M : Type 1} → statement M
 take-sheet-spec =

@@ -1,4 +1,7 @@
+-- The build of a sheet that was read: its refusal is the build's, and the tensor is there only where nothing is refused.
+use mathlib.Core.Path.{sym, _∙_}
 use borrow.Author.Needs.{needs}
+use Rattle.kinds.proofs.Classed.{built-none, unbuilt-met}
 use Rattle.sheet_build.proofs.Builds.{parts-refused, parts-built}
 use Rattle.sheet_build.proofs.build_parts.Statement.{statement}
 use Rattle.sheet_build.proofs.build_parts.Tie as tie
@@ -8,19 +11,21 @@ start b = b .before .before .before .before .before .before .before .before .bef
 
 returns : tie.Need-returns
 returns c =
-    let b = c .before .before .before .before .before in
-    let args = start b .args in
-    parts-refused _ _ _ (args .knots .now) (args .samples .now) _ _ _ _ _
-    (b .before .before .before .before .before .before .before .knots-length .ensures .0) (b .before .before .before .before .before .before .samples-length .ensures .0) (b .before .before .before .before .before .tensor-length .ensures .0)
-    _ _ _ (b .build .ensures) (c .if1 .taken)
-
-returns-2 : tie.Need-returns-2
-returns-2 c =
-    let b = c .before .before .before .before .before in
+    let test = c .before in
+    let b = test .before .before .before .before .before in
     let args = start b .args in
     parts-built _ _ _ (args .knots .now) (args .samples .now) _ _ _ _ _
     (b .before .before .before .before .before .before .before .knots-length .ensures .0) (b .before .before .before .before .before .before .samples-length .ensures .0) (b .before .before .before .before .before .tensor-length .ensures .0)
-    _ _ _ (b .build .ensures) (c .if1 .left)
+    _ _ _ (b .build .ensures) (built-none _ (sym (test .is-built .ensures) ∙ c .if1 .taken))
+
+returns-2 : tie.Need-returns-2
+returns-2 c =
+    let test = c .before in
+    let b = test .before .before .before .before .before in
+    let args = start b .args in
+    parts-refused _ _ _ (args .knots .now) (args .samples .now) _ _ _ _ _
+    (b .before .before .before .before .before .before .before .knots-length .ensures .0) (b .before .before .before .before .before .before .samples-length .ensures .0) (b .before .before .before .before .before .tensor-length .ensures .0)
+    _ _ _ (b .build .ensures) (unbuilt-met _ (sym (test .is-built .ensures) ∙ c .if1 .left))
 
 pub build-parts-spec : {M : Type 1} → statement M
 build-parts-spec =
@@ -38,6 +43,7 @@ build-parts-spec =
     (λ c. search needs)
     (λ c. search needs)
     (λ c. search needs)
+    (λ c κs. search needs)
     (λ c κs. search needs)
     (λ c. search needs)
     (λ c. search needs)

@@ -1,30 +1,30 @@
+-- The look's refusal is the sheet's, so what is known of the one is known of the other.
 use native.Mathlib.Omega.{arith}
 use mathlib.Core.Path.{_≡_, ap, sym, _∙_}
+use Rattle.kinds.specs.Classes.{length-known}
 use Rattle.sheet.specs.Faults.{sheet-refusal}
-use Rattle.sheet.specs.declared.ReadAnswer.{ReadAnswer}
-use Rattle.sheet.proofs.Promises.{answer-refusal}
-use Rattle.sheet_front.proofs.Tails.{known-number, unknown-number, none-before, met-before}
+use Rattle.sheet.proofs.Promises.{given-refusal}
+use Rattle.sheet_front.proofs.Tails.{met-before}
 use Rattle.sheet_front.proofs.Cuts.{size-of-known, size-unknown, size-inside}
 use borrow.Author.Needs.{needs}
 use Rattle.sheet_front.proofs.size_of_front.Statement.{statement}
 use Rattle.sheet_front.proofs.size_of_front.Tie as tie
 
-refusal-is : (c : tie.After-look) → c .look .result .refusal ≡ sheet-refusal (c .before .before .args .bytes .now)
-refusal-is c = ap (λ (a : ReadAnswer). a .refusal) (c .look .ensures) ∙ answer-refusal _ _ _ _
+told : (c : tie.After-is-length-known)
+    → length-known (sheet-refusal (c .before .before .before .args .bytes .now)) ≡ c .is-length-known .result
+told c = sym (c .is-length-known .ensures ∙ ap length-known (given-refusal _ _ (c .before .look .ensures)))
 
 known-size-requires : tie.Need-known-size-requires
-known-size-requires c κs = known-number _ _ (refusal-is (c .before)) (c .match .keys1)
+known-size-requires c κs = told (c .before) ∙ c .if1 .taken
 
 returns : tie.Need-returns
 returns c =
-    let known = known-number _ _ (refusal-is (c .before .before)) (c .before .match .keys1) in
-    let same = c .known-size .ensures ∙ sym (size-of-known _ known) in
+    let passed = c .before in
+    let same = c .known-size .ensures ∙ sym (size-of-known _ (told (passed .before) ∙ passed .if1 .taken)) in
     (same, rw same (size-inside _))
 
 returns-2 : tie.Need-returns-2
-returns-2 c =
-    let unknown = unknown-number _ _ (refusal-is (c .before)) (c .match .rest .1) in
-    (sym (size-unknown _ (met-before _ unknown)), omega arith)
+returns-2 c = (sym (size-unknown _ (met-before _ (told (c .before) ∙ c .if1 .left))), omega arith)
 
 pub size-of-front-spec : {M : Type 1} → statement M
-size-of-front-spec = tie.close (tie.spec (λ c κs. search needs) known-size-requires returns returns-2)
+size-of-front-spec = tie.close (tie.spec (λ c κs. search needs) (λ c κs. search needs) known-size-requires returns returns-2)

@@ -1,3 +1,4 @@
+-- Totals with one sheet more: they are those of the same list and this sheet.
 use mathlib.Core.Path.{refl}
 use native.Mathlib.Omega.{arith}
 use Rattle.totals.proofs.Sheets.{totals-next, running-room, refused-most, sheets-most}
@@ -19,7 +20,7 @@ returns c =
     let start = c .before .before .before .before .before in
     record {
       counted = refl;
-      adds = λ seen size said. totals-next seen (record { refusal = start .args .refusal; size = size; tensor = _ }) (start .pre .0) (start .args .totals) _ said (c .before .tally .ensures);
+      adds = λ seen said. totals-next seen (record { refusal = start .args .refusal; tensor = _ }) (start .pre .0) (start .args .totals) _ said (c .before .tally .ensures);
     }
 
 pub with-sheet-spec : {M : Type 1} → statement M

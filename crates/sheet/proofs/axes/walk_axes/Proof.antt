@@ -1,5 +1,9 @@
-use mathlib.Core.Path.{sym, _∙_}
+-- The walk over a sheet's axes: those below `i` are read and none of them has a fault. The measure is the axes left.
+use mathlib.Core.Path.{_≡_, sym, _∙_}
 use Prim.Native.Nat.{_-_}
+use Rattle.kinds.proofs.Classed.{unread-met, read-none}
+use Rattle.sheet.specs.Faults.{axis-fault}
+use Rattle.sheet.proofs.Numbers.{axis-of-reading}
 use Rattle.sheet.proofs.Walks.{Turn, turn-first, turn-fault, turn-whole, turn-next, turn-last}
 use borrow.Author.Needs.{needs}
 use Rattle.sheet.proofs.axes.walk_axes.Statement.{statement}
@@ -16,22 +20,32 @@ loop-holds c = rw (c .unused .ensures) (turn-first _ _ (c .before .before .pre .
 
 returns : tie.Need-returns Inv-loop μ-loop
 returns c =
-    let turn = c .before .before in
-    turn-fault _ _ _ _ _ (turn .before .loop .inv) (turn .loop-test .taken) _ (c .before .fault .ensures) (c .if1 .taken)
+    let test = c .before in
+    let turn = test .before .before in
+    turn-fault _ _ _ _ _ (turn .before .loop .inv) (turn .loop-test .taken) _ (test .before .fault .ensures)
+    (unread-met _ (sym (test .is-unread .ensures) ∙ c .if1 .taken))
+
+-- the axis at hand has no fault
+faultless : (c : tie.Else1 Inv-loop μ-loop)
+    → let turn = c .before .before .before .before in axis-fault (turn .before .before .before .args .bytes .now) (turn .loop .at) ≡ 0
+faultless c =
+    let test = c .before in
+    let is = test .before .fault .ensures in
+    sym is ∙ read-none _ is (axis-of-reading _ _) (sym (test .is-unread .ensures) ∙ c .if1 .left)
 
 axis-requires : tie.Need-axis-requires Inv-loop μ-loop
 axis-requires c κs =
-    let turn = c .before .before in
-    (turn .before .before .before .before .pre .0, turn-whole _ _ _ _ _ (turn .before .loop .inv) (turn .loop-test .taken) (sym (c .before .fault .ensures) ∙ c .if1 .left))
+    let turn = c .before .before .before in
+    (turn .before .before .before .before .pre .0, turn-whole _ _ _ _ _ (turn .before .loop .inv) (turn .loop-test .taken) (faultless c))
 
 after-requires : tie.Need-after-requires Inv-loop μ-loop
 after-requires c κs = axis-requires (c .before) κs
 
 loop-again : tie.Need-loop-again Inv-loop μ-loop
 loop-again c =
-    let faultless = c .before .before in
-    let turn = faultless .before .before in
-    turn-next _ _ _ _ _ (turn .before .loop .inv) (turn .loop-test .taken) _ _ (sym (faultless .before .fault .ensures) ∙ faultless .if1 .left)
+    let passed = c .before .before in
+    let turn = passed .before .before .before in
+    turn-next _ _ _ _ _ (turn .before .loop .inv) (turn .loop-test .taken) _ _ (faultless passed)
     (c .before .axis .ensures)
     (c .after .ensures)
 
@@ -46,6 +60,7 @@ walk-axes-spec =
     μ-loop
     (λ c κs. search needs)
     loop-holds
+    (λ c κs. search needs)
     (λ c κs. search needs)
     returns
     axis-requires

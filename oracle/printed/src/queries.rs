@@ -1,0 +1,168 @@
+//! The quick query and the query of even axes as lines, and the worked examples of them.
+
+use crate::grid::{Ends, Grid};
+use crate::line::{counts, patterns};
+use crate::surface::{query_in_mode, sawtooth};
+use reading::{EXTEND, HOLD, REFUSE};
+
+const MODES: [(&str, u8); 3] = [("extend", EXTEND), ("hold", HOLD), ("refuse", REFUSE)];
+
+/// 2 to the 64 steps: more than a whole number of 64 bits counts.
+const TOO_FAR: f64 = 18_446_744_073_709_551_616.0;
+
+/// A tensor on axes of which nothing but the knots counts.
+struct Surface {
+    grid: Grid,
+    mode: u8,
+    tensor: Vec<f64>,
+}
+
+impl Surface {
+    fn new(axes: &[&[f64]], mode: u8, tensor: Vec<f64>) -> Self {
+        let axes: Vec<(Ends, &[f64])> = axes.iter().map(|knots| (Ends::NATURAL, *knots)).collect();
+        let grid = Grid::new(&axes);
+        Self { grid, mode, tensor }
+    }
+
+    /// On one axis in extend, with numbers of the sawtooth.
+    fn line(knots: &[f64]) -> Self {
+        Self::new(&[knots], EXTEND, sawtooth(2 * knots.len()))
+    }
+
+    fn full(&self, name: &str, point: &[f64]) -> String {
+        query_in_mode(name, &self.grid, self.mode, &self.tensor, point)
+    }
+
+    fn quick(&self, name: &str, point: &[f64]) -> String {
+        let (refusal, value, labels) = self.grid.quick_query([self.mode; 4], &self.tensor, point);
+        let (value, labels) = (patterns(&[value]), counts(&labels));
+        format!("{name}: quick query {refusal}{value} labels{labels}\n")
+    }
+
+    fn even(&self, name: &str, point: &[f64]) -> String {
+        let (answer, uneven) = self.grid.even_query([self.mode; 4], &self.tensor, point);
+        let (refusal, value, labels) = answer;
+        let (value, labels, uneven) = (patterns(&[value]), counts(&labels), counts(&uneven));
+        format!("{name}: even query {refusal}{value} labels{labels} uneven{uneven}\n")
+    }
+
+    fn full_and_quick(&self, name: &str, point: &[f64]) -> String {
+        self.full(name, point) + &self.quick(name, point)
+    }
+
+    fn full_and_even(&self, name: &str, point: &[f64]) -> String {
+        self.full(name, point) + &self.even(name, point)
+    }
+}
+
+/// On rising knots both queries answer alike, in every mode.
+fn quick_modes() -> String {
+    let tensor = vec![0.0, 1.0, 2.0, -1.0, 1.0, 0.5, -3.0, 2.0];
+    let mut lines = String::new();
+    for (word, mode) in MODES {
+        let surface = Surface::new(&[&[0.0, 1.0, 2.0, 4.0]], mode, tensor.clone());
+        for point in [1.0, 3.25, 9.0] {
+            lines += &surface.full_and_quick(&format!("{word} at {point}"), &[point]);
+        }
+    }
+    let two: [&[f64]; 2] = [&[0.0, 1.0, 3.0], &[-2.0, 0.5, 1.0]];
+    let two = Surface::new(&two, EXTEND, sawtooth(36));
+    lines + &two.full_and_quick("two axes", &[2.25, 0.75])
+}
+
+/// On other knots the quick query goes by halves, and looks at no knot off its path.
+fn other_knots() -> String {
+    let off_the_path = |name, second| {
+        Surface::line(&[0.0, second, 2.0, 3.0, 4.0, 5.0]).full_and_quick(name, &[2.5])
+    };
+    let falling =
+        |name, last| Surface::line(&[0.0, 5.0, 1.0, 2.0, last]).full_and_quick(name, &[3.0]);
+    [
+        off_the_path("second knot NaN", f64::NAN),
+        off_the_path("second knot -7", -7.0),
+        falling("knots 0 5 1 2 10 at 3", 10.0),
+        falling("knots 0 5 1 2 3 at 3", 3.0),
+    ]
+    .concat()
+}
+
+/// The refusals of a cell of two knots.
+fn two_knots() -> String {
+    let at = |name, knots: [f64; 2], point| {
+        Surface::new(&[&knots], EXTEND, vec![0.0, 1.0, 1.0, 1.0]).quick(name, &[point])
+    };
+    [
+        at("knots 1 0 at 0.5", [1.0, 0.0], 0.5),
+        at("knots 1 1 at 1", [1.0, 1.0], 1.0),
+        at("knots -1e308 1e308 at 0", [-1e308, 1e308], 0.0),
+        at("knots 0 NaN at 0.5", [0.0, f64::NAN], 0.5),
+        at("knots 0 NaN at NaN", [0.0, f64::NAN], f64::NAN),
+    ]
+    .concat()
+}
+
+/// On the knots 0 1 2 the cell is not always that of the search, and hold replaces before it is found.
+fn even_modes() -> String {
+    let tensor = vec![0.0, 1.5, 1.0, 0.0, 0.5, 1.0];
+    let points = [("1.5", 1.5), ("1", 1.0), ("2", 2.0), ("2^64", TOO_FAR)];
+    let mut lines = String::new();
+    for (word, mode) in MODES {
+        let surface = Surface::new(&[&[0.0, 1.0, 2.0]], mode, tensor.clone());
+        for (at, point) in points {
+            lines += &surface.full_and_even(&format!("even, {word} at {at}"), &[point]);
+        }
+    }
+    lines
+}
+
+/// What 21 tells, and what comes before it and after it.
+fn uneven() -> String {
+    let two_axes = |name, last: [f64; 2], point: [f64; 2]| {
+        let knots: [&[f64]; 2] = [&[0.0, 1.0, last[0]], &[0.0, 1.0, last[1]]];
+        Surface::new(&knots, REFUSE, sawtooth(36)).even(name, &point)
+    };
+    let outside = [5.0, 1.0];
+    [
+        two_axes("steps 1 1 and 1 1", [2.0, 2.0], [0.25, 1.75]),
+        two_axes("steps 1 1 and 1 1 at 5 1", [2.0, 2.0], outside),
+        two_axes("steps 1 1 and 1 2 at 5 1", [2.0, 3.0], outside),
+        two_axes("steps 1 2 and 1 3 at 5 1", [3.0, 4.0], outside),
+        two_axes("steps 1 2 and 1 0 at 5 1", [3.0, 1.0], outside),
+    ]
+    .concat()
+}
+
+/// The first interval that fails, and the tolerance, which is 2 to the -42 for a step of 1.
+fn intervals() -> String {
+    let five_knots =
+        |name, fourth, fifth| Surface::line(&[0.0, 1.0, 2.0, fourth, fifth]).even(name, &[0.5]);
+    let last_even = 3.0 + 2f64.powi(-42);
+    [
+        five_knots("steps 1 1 2 4", 4.0, 8.0),
+        five_knots("steps 1 1 1 2", 3.0, 5.0),
+        five_knots("fourth knot at the tolerance", last_even, 4.0),
+        five_knots("fourth knot above it", last_even.next_up(), 4.0),
+    ]
+    .concat()
+}
+
+/// The last knot, so far above the first that the quotient overflows.
+fn out_of_reach() -> String {
+    let tensor = vec![0.0, 0.0, 1.0, 0.0, 2.0, 0.0];
+    let surface = Surface::new(&[&[-1e308, 0.0, 1e308]], EXTEND, tensor);
+    surface.full_and_even("knots -1e308 0 1e308 at 1e308", &[1e308])
+}
+
+/// What the program query_examples prints.
+pub fn examples() -> String {
+    [
+        quick_modes(),
+        other_knots(),
+        two_knots(),
+        even_modes(),
+        uneven(),
+        intervals(),
+        out_of_reach(),
+    ]
+    .concat()
+}
