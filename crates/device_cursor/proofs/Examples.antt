@@ -1,11 +1,24 @@
--- Curves by hand: numbers that begin with their lowest byte, a length that is refused before its numbers are, a number out of range, the last cursor, and the one past it.
+-- Curves by hand: numbers that begin with their lowest byte, a length that is refused before its numbers are, a number out of range, the
+-- last cursor, and the one past it.
 use mathlib.Core.Path.{_≡_, refl}
 use mathlib.Core.List.{List, [], _∷_}
 use Prim.Native.Nat.{ℕ}
 use lib.IntN.{ℤ, pos, negsuc}
 use lib.ListN.{length}
-use Rattle.device.specs.DeviceCell.{exact, nearest, cell-in-range}
-use Rattle.device_cursor.specs.DeviceCurve.{four-bytes, signed, whole-cells, all-in-range, curve-refusal, numbers-below, numbers-of-cells, curve-numbers, cursor-number, next-refusal, next-answer}
+use Rattle.device_cell.specs.DeviceCell.{exact, nearest, cell-in-range}
+use Rattle.device_cursor.specs.DeviceCurve.{
+  four-bytes,
+  signed,
+  whole-cells,
+  all-in-range,
+  curve-refusal,
+  numbers-below,
+  numbers-of-cells,
+  curve-numbers,
+  cursor-number,
+  next-refusal,
+  next-answer,
+}
 use Rattle.device_cursor.specs.declared.NextAnswer.{NextAnswer}
 
 -- p0 1, p1 −2, d0 256, d1 −131,072
@@ -34,7 +47,8 @@ pub record Shown : Type 0 where
   pub range-before-end : next-answer out-of-range (record { n = 257 }) ≡ answer 19 (pos 0) 257
 
 pub shown : Shown
-unfolding exact nearest cell-in-range four-bytes signed whole-cells all-in-range curve-refusal numbers-below numbers-of-cells curve-numbers cursor-number next-refusal next-answer
+unfolding exact nearest cell-in-range four-bytes signed whole-cells all-in-range curve-refusal numbers-below numbers-of-cells curve-numbers
+    cursor-number next-refusal next-answer
 shown = record {
   first = refl;
   middle = refl;

@@ -11,8 +11,8 @@ use lib.Dec.{eqb, leb}
 use lib.IntN.{pos, _-ℤ_}
 use lib.ListN.{length}
 use borrow.Author.Tests.{lt-ltb, le-ltb, leb-true, eqb-true}
-use Rattle.integers.proofs.Tests.{both}
-use Rattle.device.specs.DeviceCell.{cell-in-range}
+use Rattle.base_integers.proofs.Tests.{both}
+use Rattle.device_cell.specs.DeviceCell.{cell-in-range}
 use Rattle.device_cursor.specs.DeviceCurve.{signed, cell-at, cells, whole-cells, all-in-range, curve-refusal}
 
 -- ---- 32 bits with a sign

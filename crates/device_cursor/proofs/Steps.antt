@@ -7,8 +7,18 @@ use native.Mathlib.Omega.{arith}
 use lib.Dec.{ltb}
 use lib.IntN.{ℤ, pos}
 use borrow.Author.Tests.{lt-ltb, le-ltb, ltb-false}
-use Rattle.device.specs.DeviceCell.{cell-number, valued}
-use Rattle.device_cursor.specs.DeviceCurve.{cell-at, curve-refusal, last-number, last-cursor, cursor-number, refused-first, next-refusal, moved, next-answer}
+use Rattle.device_cell.specs.DeviceCell.{cell-number, valued}
+use Rattle.device_cursor.specs.DeviceCurve.{
+  cell-at,
+  curve-refusal,
+  last-number,
+  last-cursor,
+  cursor-number,
+  refused-first,
+  next-refusal,
+  moved,
+  next-answer,
+}
 use Rattle.device_cursor.specs.declared.Cursor.{Cursor}
 
 module _ (curve : List ℕ) (n : ℕ) where
@@ -45,7 +55,8 @@ module _ (curve : List ℕ) (n : ℕ) where
   unfolding next-refusal
   passed e = outcome (curve-refusal curve) (ltb (last-cursor curve) n) refl e
     where
-      outcome : (r : ℕ) (past : Bool) → ltb (last-cursor curve) n ≡ past → refused-first r (cond past 20 0) ≡ 0 → (r ≡ 0) × (n ≤ last-cursor curve)
+      outcome : (r : ℕ) (past : Bool) → ltb (last-cursor curve) n ≡ past → refused-first r (cond past 20 0) ≡ 0
+          → (r ≡ 0) × (n ≤ last-cursor curve)
       outcome zero true t e = let y : ⊥ = omega arith in absurd y
       outcome zero false t e = (refl, ltb-false (last-cursor curve) n t)
       outcome (suc r) past t e = let y : ⊥ = omega arith in absurd y
@@ -61,7 +72,8 @@ not-moved zero n some = absurd (some refl)
 not-moved (suc r) n some = refl
 
 module _ (curve : List ℕ) (cursor : Cursor) where
-  pub step-refused : (r : ℕ) → r ≡ next-refusal curve (cursor .n) → (r ≡ 0 → ⊥) → record { refusal = r; value = pos 0; cursor = cursor } ≡ next-answer curve cursor
+  pub step-refused : (r : ℕ) → r ≡ next-refusal curve (cursor .n) → (r ≡ 0 → ⊥)
+      → record { refusal = r; value = pos 0; cursor = cursor } ≡ next-answer curve cursor
   unfolding next-answer
   step-refused r e some =
       rw (← e, ← no-value r (cursor-number curve (cursor .n)) some, ← not-moved r (cursor .n) some)

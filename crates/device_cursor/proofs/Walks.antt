@@ -9,15 +9,35 @@ use native.Mathlib.Omega.{arith}
 use lib.IntN.{ℤ, pos}
 use lib.ListN.{length, getD, length-append, List·getD-append}
 use lib.Seq.{getD-append-add, ext-getD}
-use Rattle.integers.specs.Sized.{Sized}
-use Rattle.device.specs.DeviceCell.{cell-number}
-use Rattle.device.specs.declared.Cell.{Cell}
-use Rattle.device.proofs.Reach.{number-sized}
-use Rattle.device_cursor.specs.DeviceCurve.{cell-at, cells, curve-refusal, numbers-below, numbers-of-cells, last-number, curve-numbers, last-cursor, cursor-number, start-cursor, next-answer}
+use Rattle.base_integers.specs.Sized.{Sized}
+use Rattle.device_cell.specs.DeviceCell.{cell-number}
+use Rattle.device_cell.specs.declared.Cell.{Cell}
+use Rattle.device_cell.proofs.Reach.{number-sized}
+use Rattle.device_cursor.specs.DeviceCurve.{
+  cell-at,
+  cells,
+  curve-refusal,
+  numbers-below,
+  numbers-of-cells,
+  last-number,
+  curve-numbers,
+  last-cursor,
+  cursor-number,
+  start-cursor,
+  next-answer,
+}
 use Rattle.device_cursor.specs.declared.Cursor.{Cursor}
 use Rattle.device_cursor.specs.declared.NextAnswer.{NextAnswer}
 use Rattle.device_cursor.proofs.Judged.{Whole, length-known, cell-known}
-use Rattle.device_cursor.proofs.Steps.{number-before, number-last, curve-refused, past-the-end, not-refused, step-refused, step-given}
+use Rattle.device_cursor.proofs.Steps.{
+  number-before,
+  number-last,
+  curve-refused,
+  past-the-end,
+  not-refused,
+  step-refused,
+  step-given,
+}
 
 -- ---- a number of a list that stands before another, and one of the list behind
 
@@ -82,7 +102,9 @@ module _ (curve : List ℕ) where
   number-of-place j h =
       let l = length-of-cells (cells curve) in
       ⊎-elim
-      (λ b. in-first (numbers-of-cells curve (cells curve)) (last-number curve ∷ []) j (omega (arith, l, b)) ∙ of-cells-at (cells curve) j b ∙ number-before curve j b)
+      (λ b.
+      in-first (numbers-of-cells curve (cells curve)) (last-number curve ∷ []) j (omega (arith, l, b)) ∙ of-cells-at (cells curve) j b
+      ∙ number-before curve j b)
       (λ m. let e : j - length (numbers-of-cells curve (cells curve)) ≡ 0 = omega (arith, l, m) in
       in-second (numbers-of-cells curve (cells curve)) (last-number curve ∷ []) j (omega (arith, l, m)) ∙ rw e (number-last curve j m))
       (below-or-not j (last-cursor curve))
@@ -105,10 +127,12 @@ module _ (curve : List ℕ) where
 
   module _ (accepted : curve-refusal curve ≡ 0) where
     -- one step on, and one past the end
-    on : (n : ℕ) → n ≤ last-cursor curve → next-answer curve (record { n = n }) ≡ record { refusal = 0; value = cursor-number curve n; cursor = record { n = n + 1 } }
+    on : (n : ℕ) → n ≤ last-cursor curve
+        → next-answer curve (record { n = n }) ≡ record { refusal = 0; value = cursor-number curve n; cursor = record { n = n + 1 } }
     on n h = sym (step-given curve (record { n = n }) (cursor-number curve n) (sym (not-refused curve n accepted h)) refl)
 
-    past : (n : ℕ) → last-cursor curve < n → next-answer curve (record { n = n }) ≡ record { refusal = 20; value = pos 0; cursor = record { n = n } }
+    past : (n : ℕ) → last-cursor curve < n
+        → next-answer curve (record { n = n }) ≡ record { refusal = 20; value = pos 0; cursor = record { n = n } }
     past n h = sym (step-refused curve (record { n = n }) 20 (past-the-end curve n accepted h) (λ e. omega (arith, e)))
 
     after-on : (j n : ℕ) → n + j ≤ last-cursor curve + 1 → after j (record { n = n }) ≡ record { n = n + j }
@@ -117,14 +141,16 @@ module _ (curve : List ℕ) where
         let e : n + 1 + j ≡ n + suc j = omega arith in
         rw (on n (omega arith)) (after-on j (n + 1) (omega arith) ∙ ap (λ (m : ℕ). record { n = m }) e)
 
-    values-on : (j n i : ℕ) → n + j ≤ last-cursor curve + 1 → i < j → getD (values j (record { n = n })) i (pos 0) ≡ cursor-number curve (n + i)
+    values-on : (j n i : ℕ) → n + j ≤ last-cursor curve + 1 → i < j
+        → getD (values j (record { n = n })) i (pos 0) ≡ cursor-number curve (n + i)
     values-on zero n i h l = let z : ⊥ = omega arith in absurd z
     values-on (suc j) n zero h l = rw (on n (omega arith), add-zero n)
     values-on (suc j) n (suc i) h l =
         let e : n + 1 + i ≡ n + suc i = omega arith in
         rw (on n (omega arith)) (values-on j (n + 1) i (omega arith) (omega arith) ∙ ap (cursor-number curve) e)
 
-    after-end : (j n : ℕ) → n ≤ last-cursor curve + 1 → last-cursor curve + 1 ≤ n + j → after j (record { n = n }) ≡ record { n = last-cursor curve + 1 }
+    after-end : (j n : ℕ) → n ≤ last-cursor curve + 1 → last-cursor curve + 1 ≤ n + j
+        → after j (record { n = n }) ≡ record { n = last-cursor curve + 1 }
     after-end zero n low high = let e : n ≡ last-cursor curve + 1 = omega arith in rw e
     after-end (suc j) n low high =
         ⊎-elim
@@ -146,10 +172,12 @@ cursor-walks curve accepted = record {
       (length-values curve (last-cursor curve + 1) start-cursor ∙ sym (how-many curve))
       (λ i h.
       let n = length-values curve (last-cursor curve + 1) start-cursor in
-      values-on curve accepted (last-cursor curve + 1) 0 i (omega arith) (omega (arith, n, h)) ∙ ap (cursor-number curve) (zero-add i) ∙ sym (number-of-place curve i (omega (arith, n, h))));
+      values-on curve accepted (last-cursor curve + 1) 0 i (omega arith) (omega (arith, n, h)) ∙ ap (cursor-number curve) (zero-add i)
+      ∙ sym (number-of-place curve i (omega (arith, n, h))));
   none-refused =
       λ j h. rw (after-on curve accepted j 0 (omega (arith, h)), zero-add j) (ap (λ (a : NextAnswer). a .refusal) (on curve accepted j h));
-  then-20 = λ j h. rw (after-end curve accepted j 0 (omega arith) (omega (arith, h))) (past curve accepted (last-cursor curve + 1) (omega arith));
+  then-20 =
+      λ j h. rw (after-end curve accepted j 0 (omega arith) (omega (arith, h))) (past curve accepted (last-cursor curve + 1) (omega arith));
 }
 
 -- a curve that is refused gives its number at every cursor, which stays
@@ -165,6 +193,10 @@ pub cursor-sized : (curve : List ℕ) → curve-refusal curve ≡ 0 → (n : ℕ
 cursor-sized curve accepted n h =
     let w : Whole (length curve) = length-known curve accepted in
     ⊎-elim
-    (λ b. rw (← number-before curve n b) (number-sized (cell-at curve (n / 256)) (n % 256) (cell-known curve accepted (n / 256) (omega (arith, b))) (omega arith)))
-    (λ m. rw (← number-last curve n m) (number-sized (cell-at curve (cells curve - 1)) 256 (cell-known curve accepted (cells curve - 1) (omega arith)) (omega arith)))
+    (λ b.
+    rw (← number-before curve n b)
+    (number-sized (cell-at curve (n / 256)) (n % 256) (cell-known curve accepted (n / 256) (omega (arith, b))) (omega arith)))
+    (λ m.
+    rw (← number-last curve n m)
+    (number-sized (cell-at curve (cells curve - 1)) 256 (cell-known curve accepted (cells curve - 1) (omega arith)) (omega arith)))
     (below-or-not n (last-cursor curve))

@@ -1,4 +1,5 @@
--- The chapter DeviceCurve of docs/RULES.md: a curve of cells as bytes, its numbers in the program's order, and the public cursor that walks them.
+-- The chapter DeviceCurve of docs/RULES.md: a curve of cells as bytes, its numbers in the program's order, and the public cursor that walks
+-- them.
 use mathlib.Core.Path.{_≡_}
 use mathlib.Core.Bool.{Bool, true, _&&_, cond}
 use mathlib.Core.List.{List, [], _∷_, _++_}
@@ -6,8 +7,8 @@ use Prim.Native.Nat.{ℕ, zero, suc, _+_, _-_, _*_, _/_, _%_}
 use lib.Dec.{eqb, leb, ltb}
 use lib.IntN.{ℤ, pos, _-ℤ_}
 use lib.ListN.{length, getD}
-use Rattle.device.specs.DeviceCell.{cell-number, cell-in-range, valued}
-use Rattle.device.specs.declared.Cell.{Cell}
+use Rattle.device_cell.specs.DeviceCell.{cell-number, cell-in-range, valued}
+use Rattle.device_cell.specs.declared.Cell.{Cell}
 use Rattle.device_cursor.specs.declared.Cursor.{Cursor}
 use Rattle.device_cursor.specs.declared.NextAnswer.{NextAnswer}
 

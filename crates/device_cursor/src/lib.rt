@@ -3,9 +3,20 @@ ghost use mathlib.Core.Path.{_≡_};
 ghost use mathlib.Core.Bool.{true};
 ghost use Prim.Native.Nat.{_+_, _*_, _<_, _≤_};
 ghost use lib.ListN.{length};
-ghost use Rattle.device.specs.DeviceCell.{cell-number, cell-in-range};
-ghost use Rattle.device_cursor.specs.DeviceCurve.{four-bytes, number-at, cell-at, whole-cells, curve-refusal, last-cursor, cursor-number, next-refusal, StartPromise, NextPromise};
-use device::Cell;
+ghost use Rattle.device_cell.specs.DeviceCell.{cell-number, cell-in-range};
+ghost use Rattle.device_cursor.specs.DeviceCurve.{
+  four-bytes,
+  number-at,
+  cell-at,
+  whole-cells,
+  curve-refusal,
+  last-cursor,
+  cursor-number,
+  next-refusal,
+  StartPromise,
+  NextPromise,
+};
+use device_cell::Cell;
 
 // Where a walk stands: how many numbers lie before it. Any n has a meaning.
 pub struct Cursor {
@@ -79,7 +90,7 @@ fn in_range_at(curve: &[u8], i: usize) -> bool
     requires { ⌜ 16 * i + 16 ≤ length (now curve) ⌝ }
     ensures { λ r. ⌜ r ≡ cell-in-range (cell-at (now (curve .entry)) i) ⌝ }
 {
-    device::cell_in_range(cell_at(curve, i))
+    device_cell::cell_in_range(cell_at(curve, i))
 }
 
 // The refusal of a curve, which is judged whole: 20 for its length, then 19 for its numbers.
@@ -107,7 +118,7 @@ fn number_of(curve: &[u8], i: usize, k: u64) -> i32
     requires { ⌜ (16 * i + 16 ≤ length (now curve)) × (cell-in-range (cell-at (now curve) i) ≡ true) × (k ≤ 256) ⌝ }
     ensures { λ r. ⌜ r ≡ cell-number (cell-at (now (curve .entry)) i) k ⌝ }
 {
-    device::cell_number(cell_at(curve, i), k)
+    device_cell::cell_number(cell_at(curve, i), k)
 }
 
 // The number at a cursor of a curve that has been judged.

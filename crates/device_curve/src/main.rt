@@ -1,4 +1,4 @@
 // The device's program: the numbers of a curve, printed.
 fn main() {
-    device_print::run();
+    program_device_print::run();
 }

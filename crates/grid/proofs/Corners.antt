@@ -30,7 +30,8 @@ module _ (lower : Place) (bits : ℕ) (even : bits % 2 ≡ 0) where
   one-further d = let e : suc d - 1 - d ≡ 0 = omega arith in rw e (omega arith)
 
   -- the two corners of an even number and the next
-  pub side-by-side : (n : ℕ → ℕ) (axes : ℕ) → 1 ≤ axes → flat n axes (corner axes lower (bits + 1)) ≡ suc (flat n axes (corner axes lower bits))
+  pub side-by-side : (n : ℕ → ℕ) (axes : ℕ) → 1 ≤ axes
+      → flat n axes (corner axes lower (bits + 1)) ≡ suc (flat n axes (corner axes lower bits))
   unfolding flat
   side-by-side n zero h = absurd (omega arith)
   side-by-side n (suc d) h =
@@ -38,6 +39,7 @@ module _ (lower : Place) (bits : ℕ) (even : bits % 2 ≡ 0) where
 
 -- ---- all of them
 
-pub corner-on-grid : (axes : ℕ) (all : List Axis) (lower : Place) (bits : ℕ) → CellInside axes all lower → OnGrid (points-of all) axes (corner axes lower bits)
+pub corner-on-grid : (axes : ℕ) (all : List Axis) (lower : Place) (bits : ℕ) → CellInside axes all lower
+    → OnGrid (points-of all) axes (corner axes lower bits)
 unfolding corner
 corner-on-grid axes all lower bits given i h = omega (arith, given .upper i h)

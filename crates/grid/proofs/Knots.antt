@@ -1,4 +1,5 @@
--- The knots of an axis among the flat knots: there is one for each point, and each stands so many places after where they begin; and the part that a loop over the axes lends is all of them.
+-- The knots of an axis among the flat knots: there is one for each point, and each stands so many places after where they begin; and the
+-- part that a loop over the axes lends is all of them.
 use mathlib.Core.Path.{_≡_, refl, _∙_}
 use mathlib.Core.List.{List}
 use Prim.Native.Nat.{ℕ, _+_, _-_, _<_, _≤_}

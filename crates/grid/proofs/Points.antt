@@ -8,7 +8,8 @@ use Rattle.rules.specs.Sizes.{place-of}
 use Rattle.rules.specs.declared.Axis.{Axis}
 use Rattle.grid.specs.Given.{points-of}
 
-pub points-taken : (all : List Axis) → length all ≡ 4 → place-of (points-of all 0 ∷ points-of all 1 ∷ points-of all 2 ∷ points-of all 3 ∷ []) ≡ points-of all
+pub points-taken : (all : List Axis) → length all ≡ 4
+    → place-of (points-of all 0 ∷ points-of all 1 ∷ points-of all 2 ∷ points-of all 3 ∷ []) ≡ points-of all
 points-taken [] e = absurd (omega arith)
 points-taken (a ∷ []) e = absurd (omega arith)
 points-taken (a ∷ b ∷ []) e = absurd (omega arith)

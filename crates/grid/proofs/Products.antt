@@ -2,7 +2,19 @@
 use mathlib.Core.Path.{_≡_, refl}
 use mathlib.Core.Logic.{⊎-elim}
 use Prim.Native.Nat.{ℕ, zero, suc, _+_, _*_, _^_, _<_, _≤_}
-use native.Mathlib.Nat.{mul-le-mul, pow-succ', mul-comm, le-trans, le-refl, le-mul-of-pos-right, pow-le-pow-right, not-suc-le-zero, le-of-suc-le-suc, eq-or-lt-of-le, lt-of-le-of-lt}
+use native.Mathlib.Nat.{
+  mul-le-mul,
+  pow-succ',
+  mul-comm,
+  le-trans,
+  le-refl,
+  le-mul-of-pos-right,
+  pow-le-pow-right,
+  not-suc-le-zero,
+  le-of-suc-le-suc,
+  eq-or-lt-of-le,
+  lt-of-le-of-lt,
+}
 use native.Mathlib.Numerals.{add-one}
 use native.Mathlib.Omega.{arith}
 use lib.Dec.{lit<}

@@ -1,9 +1,21 @@
--- The chapter Given of docs/RULES.md: the grid that a call was given, and what is known of its sizes and places once the refusals have looked at them.
+-- The chapter Given of docs/RULES.md: the grid that a call was given, and what is known of its sizes and places once the refusals have
+-- looked at them.
 use Prim.Native.Nat.{ℕ, _+_, _<_, _≤_}
 use mathlib.Core.List.{List, []}
 use lib.ListN.{getD}
 use lib.Ieee.{Float}
-use Rattle.rules.specs.Sizes.{most-axes, fewest-on-an-axis, most-on-an-axis, most-in-a-tensor, unused-axis, Grid, points, product-below, tensor-length, Place}
+use Rattle.rules.specs.Sizes.{
+  most-axes,
+  fewest-on-an-axis,
+  most-on-an-axis,
+  most-in-a-tensor,
+  unused-axis,
+  Grid,
+  points,
+  product-below,
+  tensor-length,
+  Place,
+}
 use Rattle.rules.specs.declared.Axis.{Axis}
 use Rattle.rules.specs.declared.Condition.{Condition}
 

@@ -1,5 +1,5 @@
-// The grid as numbers: how long its slices are, where the knots of an axis begin, where a place stands, how far apart neighbours are, and masks.
-// None of these is public: each requires what refusals 1 to 3 leave, or a part of it.
+// The grid as numbers: how long its slices are, where the knots of an axis begin, where a place stands, how far apart neighbours are, and
+// masks. None of these is public: each requires what refusals 1 to 3 leave, or a part of it.
 ghost use mathlib.Core.Path.{_≡_};
 ghost use Prim.Native.Nat.{ℕ, _^_, _<_, _≤_};
 ghost use lib.ListN.{length};

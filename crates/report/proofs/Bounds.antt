@@ -6,12 +6,12 @@ use Prim.Native.Nat.{ℕ, zero, suc, _*_, _<_, _≤_}
 use native.Mathlib.Omega.{arith}
 use lib.ListN.{length, getD, length-append}
 use Rattle.rules.specs.Sizes.{most-in-a-tensor}
-use Rattle.sheet_front.specs.Front.{rest-bytes}
-use Rattle.totals.specs.Totals.{all-entries, most-sheets}
-use Rattle.totals.specs.Within.{Running}
-use Rattle.totals.proofs.Orders.{no-entries}
-use Rattle.totals.proofs.Sheets.{sheets-most, refused-most}
-use Rattle.totals.proofs.Each.{entries-most}
+use Rattle.report_front.specs.Front.{rest-bytes}
+use Rattle.report_totals.specs.Totals.{all-entries, most-sheets}
+use Rattle.report_totals.specs.Within.{Running}
+use Rattle.report_totals.proofs.Orders.{no-entries}
+use Rattle.report_totals.proofs.Sheets.{sheets-most, refused-most}
+use Rattle.report_totals.proofs.Each.{entries-most}
 use Rattle.report.specs.Report.{front-sheet, stops, stream-of, report-of}
 use Rattle.report.proofs.Fronts.{front-small}
 
@@ -29,7 +29,8 @@ stream-few (suc n) (byte ∷ bytes) = go (stops (front-sheet (byte ∷ bytes) .r
     go false e rest = rw e (omega arith)
 
 -- and no more entries than its sheets can have
-stream-small : (n : ℕ) (bytes : List ℕ) → length (all-entries (stream-of n bytes .sheets)) ≤ most-in-a-tensor * length (stream-of n bytes .sheets)
+stream-small : (n : ℕ) (bytes : List ℕ)
+    → length (all-entries (stream-of n bytes .sheets)) ≤ most-in-a-tensor * length (stream-of n bytes .sheets)
 unfolding stream-of all-entries
 stream-small zero [] = omega arith
 stream-small zero (byte ∷ bytes) = omega arith
@@ -37,8 +38,10 @@ stream-small (suc n) [] = omega arith
 stream-small (suc n) (byte ∷ bytes) = go (stops (front-sheet (byte ∷ bytes) .refusal)) refl (stream-small n (rest-bytes (byte ∷ bytes)))
   where
     go : (b : Bool) → stops (front-sheet (byte ∷ bytes) .refusal) ≡ b
-        → length (all-entries (stream-of n (rest-bytes (byte ∷ bytes)) .sheets)) ≤ most-in-a-tensor * length (stream-of n (rest-bytes (byte ∷ bytes)) .sheets)
-        → length (all-entries (stream-of (suc n) (byte ∷ bytes) .sheets)) ≤ most-in-a-tensor * length (stream-of (suc n) (byte ∷ bytes) .sheets)
+        → length (all-entries (stream-of n (rest-bytes (byte ∷ bytes)) .sheets))
+        ≤ most-in-a-tensor * length (stream-of n (rest-bytes (byte ∷ bytes)) .sheets)
+        → length (all-entries (stream-of (suc n) (byte ∷ bytes) .sheets))
+        ≤ most-in-a-tensor * length (stream-of (suc n) (byte ∷ bytes) .sheets)
     go true e rest = rw (e, length-append) (let front = front-small (byte ∷ bytes) in omega arith)
     go false e rest = rw (e, length-append) (let front = front-small (byte ∷ bytes) in omega arith)
 
@@ -59,5 +62,6 @@ module _ (bytes : List ℕ) where
   refused-bound number h = refused-most (report-of bytes .totals) number counted h
 
   pub entries-bound : (k : ℕ) → k < 5
-      → (getD (report-of bytes .totals .orders) k no-entries .entries ≤ most-in-a-tensor * most-sheets) × (getD (report-of bytes .totals .orders) k no-entries .nonzero ≤ most-in-a-tensor * most-sheets)
+      → (getD (report-of bytes .totals .orders) k no-entries .entries ≤ most-in-a-tensor * most-sheets)
+      × (getD (report-of bytes .totals .orders) k no-entries .nonzero ≤ most-in-a-tensor * most-sheets)
   entries-bound k h = entries-most (report-of bytes .totals) k counted h

@@ -1,4 +1,5 @@
--- The sheet at the front of a stream: what it is where its length is not known, that it does not depend on what follows enough bytes, and that it is what the call on its own bytes answers.
+-- The sheet at the front of a stream: what it is where its length is not known, that it does not depend on what follows enough bytes, and
+-- that it is what the call on its own bytes answers.
 use mathlib.Core.Path.{_≡_, refl, sym, ap, _∙_}
 use mathlib.Core.Bool.{Bool, true, false}
 use mathlib.Core.List.{List, [], _++_, append-nil}
@@ -13,18 +14,18 @@ use borrow.Author.Tests.{ltb-true, ltb-false}
 use Rattle.rules.specs.Tensor.{tensor}
 use Rattle.rules.proofs.Refused.{or-else-met}
 use Rattle.rules.proofs.Tables.{length-table}
-use Rattle.sheet.specs.Fields.{axes, sheet-grid, sheet-samples}
-use Rattle.sheet.specs.Faults.{sheet-refusal}
-use Rattle.sheet.proofs.Numbers.{sheet-of-reading}
+use Rattle.sheet_read.specs.Fields.{axes, sheet-grid, sheet-samples}
+use Rattle.sheet_read.specs.Faults.{sheet-refusal}
+use Rattle.sheet_read.proofs.Numbers.{sheet-of-reading}
 use Rattle.sheet_build.specs.SheetTensor.{own-refusal, SheetPromise}
 use Rattle.sheet_build.specs.declared.SheetAnswer.{SheetAnswer}
 use Rattle.sheet_build.proofs.Builds.{length-tensor}
 use Rattle.sheet_build.proofs.Few.{own-few}
 use Rattle.sheet_build.proofs.Alone.{read-alone, few-numbers, answered-alone, axes-alone, tensor-alone, nothing-alone, axes-most}
-use Rattle.sheet_front.specs.Front.{front-size, front-bytes, rest-bytes, enough-bytes}
-use Rattle.sheet_front.proofs.Tails.{true-not-false, before-tail, either-case, refusal-early}
-use Rattle.sheet_front.proofs.Cuts as cuts
-use Rattle.totals.specs.Totals.{Entry, tensor-entries}
+use Rattle.report_front.specs.Front.{front-size, front-bytes, rest-bytes, enough-bytes}
+use Rattle.report_front.proofs.Tails.{true-not-false, before-tail, either-case, refusal-early}
+use Rattle.report_front.proofs.Cuts as cuts
+use Rattle.report_totals.specs.Totals.{Entry, tensor-entries}
 use Rattle.report.specs.Report.{accepted-alone, sheet-at, front-sheet, stops}
 use Rattle.report.specs.Within.{Shown, Buffers}
 
@@ -83,7 +84,8 @@ module _ (bytes more : List ℕ) where
       go true q = rw (shown (ltb-true (length bytes) enough-bytes q), append-nil)
       go false q = front-of-enough (ltb-false (length bytes) enough-bytes q)
 
-  pub rest-local : Shown (length bytes) more → stops (front-sheet bytes .refusal) ≡ false → rest-bytes (bytes ++ more) ≡ rest-bytes bytes ++ more
+  pub rest-local : Shown (length bytes) more → stops (front-sheet bytes .refusal) ≡ false
+      → rest-bytes (bytes ++ more) ≡ rest-bytes bytes ++ more
   rest-local shown on = go (ltb (length bytes) enough-bytes) refl
     where
       go : (b : Bool) → ltb (length bytes) enough-bytes ≡ b → rest-bytes (bytes ++ more) ≡ rest-bytes bytes ++ more
@@ -106,7 +108,8 @@ sheet-small bytes = go (own-refusal bytes) refl
 
     go : (refusal : ℕ) → own-refusal bytes ≡ refusal → length (accepted-alone refusal (tensor-entries (axes bytes) numbers)) ≤ 4096
     go zero e =
-        let long = length-table {A = Entry} (length numbers) (λ k. record { order = ones (k % 2 ^ axes bytes); number = getD numbers k nan }) in
+        let long =
+        length-table {A = Entry} (length numbers) (λ k. record { order = ones (k % 2 ^ axes bytes); number = getD numbers k nan }) in
         let numbers-long = length-tensor (sheet-grid bytes) (sheet-samples bytes) in
         let few = few-numbers bytes (read-alone bytes e) in omega arith
     go (suc refusal) e = omega arith
@@ -115,15 +118,22 @@ pub front-small : (bytes : List ℕ) → length (front-sheet bytes .tensor) ≤ 
 unfolding front-sheet
 front-small bytes = sheet-small (front-bytes bytes)
 
-module _ (bytes : List ℕ) (knots samples lent scratch : List Float) (long : Buffers knots samples lent scratch) (given : SheetAnswer) (k s t w : List Float) where
+module _ (bytes : List ℕ) (knots samples lent scratch : List Float) (long : Buffers knots samples lent scratch) (given : SheetAnswer)
+    (k s t w : List Float) where
   module _ (own : List ℕ) (p : SheetPromise own knots samples lent scratch given k s t w) where
     entries-are : tensor-entries (given .axes) (take (given .length) t) ≡ sheet-at own .tensor
     unfolding sheet-at
     entries-are = go (own-refusal own) refl
       where
         go : (refusal : ℕ) → own-refusal own ≡ refusal
-            → tensor-entries (given .axes) (take (given .length) t) ≡ accepted-alone (own-refusal own) (tensor-entries (axes own) (tensor (sheet-grid own) (sheet-samples own)))
-        go zero e = rw (axes-alone own knots samples lent scratch long given k s t w p e, tensor-alone own knots samples lent scratch long given k s t w p e, e)
+            → tensor-entries (given .axes) (take (given .length) t)
+            ≡ accepted-alone (own-refusal own) (tensor-entries (axes own) (tensor (sheet-grid own) (sheet-samples own)))
+        go zero e =
+            rw (
+              axes-alone own knots samples lent scratch long given k s t w p e,
+              tensor-alone own knots samples lent scratch long given k s t w p e,
+              e,
+            )
         go (suc refusal) e = rw (nothing-alone own knots samples lent scratch long given k s t w p (λ z. omega (arith, e, z)), e)
 
     refusal-is : given .refusal ≡ sheet-at own .refusal
@@ -131,7 +141,8 @@ module _ (bytes : List ℕ) (knots samples lent scratch : List Float) (long : Bu
     refusal-is = answered-alone own knots samples lent scratch long given k s t w p
 
   -- of the bytes that the front sheet's size cuts off
-  module _ (size : ℕ) (e : size ≡ front-size bytes) (p : SheetPromise (take (size - 0) bytes) knots samples lent scratch given k s t w) where
+  module _ (size : ℕ) (e : size ≡ front-size bytes)
+      (p : SheetPromise (take (size - 0) bytes) knots samples lent scratch given k s t w) where
     of-front : SheetPromise (front-bytes bytes) knots samples lent scratch given k s t w
     of-front = let here : size - 0 ≡ front-size bytes = omega arith in rw here at p
 
@@ -144,7 +155,10 @@ module _ (bytes : List ℕ) (knots samples lent scratch : List Float) (long : Bu
     front-entries = rw (sub-zero (given .length)) (entries-are (front-bytes bytes) of-front)
 
     pub front-few : given .refusal < 24
-    front-few = let few = own-few (front-bytes bytes) in let is = answered-alone (front-bytes bytes) knots samples lent scratch long given k s t w of-front in omega arith
+    front-few =
+        let few = own-few (front-bytes bytes) in
+        let is = answered-alone (front-bytes bytes) knots samples lent scratch long given k s t w of-front in
+        omega arith
 
     pub front-axes : given .axes ≤ 4
     front-axes = axes-most (front-bytes bytes) knots samples lent scratch long given k s t w of-front

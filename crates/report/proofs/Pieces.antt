@@ -5,10 +5,10 @@ use mathlib.Core.List.{List, [], _∷_, _++_, append-nil, append-assoc}
 use Prim.Native.Nat.{ℕ}
 use native.Mathlib.Omega.{arith}
 use lib.ListN.{drop}
-use Rattle.sheet_front.specs.Front.{enough-bytes}
-use Rattle.totals.specs.Totals.{totals-of}
-use Rattle.totals.specs.declared.Totals.{Totals}
-use Rattle.totals.specs.declared.Report.{Report}
+use Rattle.report_front.specs.Front.{enough-bytes}
+use Rattle.report_totals.specs.Totals.{totals-of}
+use Rattle.report_totals.specs.declared.Totals.{Totals}
+use Rattle.report_totals.specs.declared.Report.{Report}
 use Rattle.report.specs.Report.{report-of}
 use Rattle.report.specs.Within.{Stands, Fed}
 use Rattle.report.specs.declared.Step.{Step}
@@ -33,7 +33,8 @@ pub data Through : List (List ℕ) → Totals → List ℕ → Type 0 where
       → Through (pieces ++ (piece ∷ [])) (step .totals) (drop (step .taken) (held ++ piece))
 
 -- one piece more
-stands-piece : (totals : Totals) (held piece before : List ℕ) (step : Step) → ((more : List ℕ) → Stands totals (held ++ more) (before ++ more))
+stands-piece : (totals : Totals) (held piece before : List ℕ) (step : Step)
+    → ((more : List ℕ) → Stands totals (held ++ more) (before ++ more))
     → Fed totals (held ++ piece) enough-bytes step → step .stopped ≡ false
     → (more : List ℕ) → Stands (step .totals) (drop (step .taken) (held ++ piece) ++ more) ((before ++ piece) ++ more)
 stands-piece totals held piece before step stands fed on more =
@@ -49,7 +50,8 @@ unfolding joined
 stood-start totals said more = stands-none totals more said
 
 stood-next : (pieces : List (List ℕ)) (totals : Totals) (held piece : List ℕ) (step : Step) → Stood pieces totals held
-    → Fed totals (held ++ piece) enough-bytes step → step .stopped ≡ false → Stood (pieces ++ (piece ∷ [])) (step .totals) (drop (step .taken) (held ++ piece))
+    → Fed totals (held ++ piece) enough-bytes step → step .stopped ≡ false
+    → Stood (pieces ++ (piece ∷ [])) (step .totals) (drop (step .taken) (held ++ piece))
 stood-next pieces totals held piece step stood fed on more =
     rw (joined-snoc pieces piece) (stands-piece totals held piece (joined pieces) step stood fed on more)
 
@@ -58,14 +60,17 @@ through (start {totals} said) = stood-start totals said
 through (next {pieces} {totals} {held} piece step before fed on) = stood-next pieces totals held piece step (through before) fed on
 
 -- at the end of the last piece: the report of all pieces together
-pub in-pieces : {pieces : List (List ℕ)} {totals : Totals} {held : List ℕ} → Through pieces totals held → (step : Step) → Fed totals held 1 step
+pub in-pieces : {pieces : List (List ℕ)} {totals : Totals} {held : List ℕ} → Through pieces totals held → (step : Step)
+    → Fed totals held 1 step
     → _≡_ {A = Report} (record { totals = step .totals; stopped = step .stopped }) (report-of (joined pieces))
 in-pieces {pieces} {totals} {held} before step fed =
     fed-last totals held (joined pieces) step fed (rw (append-nil, append-nil) at (through before []))
 
 -- in a piece before: the report of these pieces with any others behind them
-pub in-pieces-stopped : {pieces : List (List ℕ)} {totals : Totals} {held : List ℕ} → Through pieces totals held → (piece : List ℕ) (step : Step)
+pub in-pieces-stopped : {pieces : List (List ℕ)} {totals : Totals} {held : List ℕ} → Through pieces totals held
+    → (piece : List ℕ) (step : Step)
     → Fed totals (held ++ piece) enough-bytes step → step .stopped ≡ true
     → (more : List ℕ) → _≡_ {A = Report} (record { totals = step .totals; stopped = true }) (report-of (joined pieces ++ (piece ++ more)))
 in-pieces-stopped {pieces} {totals} {held} before piece step fed off more =
-    fed .takes .stops off (joined pieces ++ (piece ++ more)) more (λ l. absurd (omega arith)) (rw append-assoc (through before (piece ++ more)))
+    fed .takes .stops off (joined pieces ++ (piece ++ more)) more (λ l. absurd (omega arith))
+    (rw append-assoc (through before (piece ++ more)))

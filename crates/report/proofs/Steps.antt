@@ -11,13 +11,13 @@ use lib.ListN.{length, take, drop, length-append, length-drop, drop-of-length-le
 use lib.Seq.{drop-drop, take-all}
 use Rattle.sheet_build.specs.SheetTensor.{SheetPromise}
 use Rattle.sheet_build.specs.declared.SheetAnswer.{SheetAnswer}
-use Rattle.sheet_front.specs.Front.{front-size, rest-bytes}
-use Rattle.sheet_front.proofs.Tails.{true-not-false}
-use Rattle.totals.specs.Totals.{Sheet, tensor-entries, totals-of, most-sheets}
-use Rattle.totals.specs.Within.{Running, Adds}
-use Rattle.totals.specs.declared.Totals.{Totals}
-use Rattle.totals.specs.declared.Report.{Report}
-use Rattle.totals.proofs.Sheets.{running-none, running-next, sheets-are}
+use Rattle.report_front.specs.Front.{front-size, rest-bytes}
+use Rattle.report_front.proofs.Tails.{true-not-false}
+use Rattle.report_totals.specs.Totals.{Sheet, tensor-entries, totals-of, most-sheets}
+use Rattle.report_totals.specs.Within.{Running, Adds}
+use Rattle.report_totals.specs.declared.Totals.{Totals}
+use Rattle.report_totals.specs.declared.Report.{Report}
+use Rattle.report_totals.proofs.Sheets.{running-none, running-next, sheets-are}
 use Rattle.report.specs.Report.{front-sheet, stops, after, stops-here, stream-of, report-of}
 use Rattle.report.specs.Within.{Stands, Shown, Buffers, Stepped, Fed}
 use Rattle.report.specs.declared.Step.{Step}
@@ -26,7 +26,8 @@ use Rattle.report.proofs.Streams.{stream-end, stream-full, next-stops, 
 
 -- who has the totals of all its sheets has the report
 reported : (totals : Totals) (input : List ℕ) (sheets : List Sheet) (stopped : Bool) → totals ≡ totals-of sheets
-    → stream-of most-sheets input ≡ record { sheets = sheets; stopped = stopped } → _≡_ {A = Report} (record { totals = totals; stopped = stopped }) (report-of input)
+    → stream-of most-sheets input ≡ record { sheets = sheets; stopped = stopped }
+    → _≡_ {A = Report} (record { totals = totals; stopped = stopped }) (report-of input)
 unfolding report-of
 reported totals input sheets stopped said same = rw (same, said)
 
@@ -35,7 +36,8 @@ reported totals input sheets stopped said same = rw (same, said)
 pub stands-none : (totals : Totals) (input : List ℕ) → totals ≡ totals-of [] → Stands totals input input
 stands-none totals input said = record { running = running-none totals said; same = refl }
 
-stands-end : (totals : Totals) (input : List ℕ) → Stands totals [] input → _≡_ {A = Report} (record { totals = totals; stopped = false }) (report-of input)
+stands-end : (totals : Totals) (input : List ℕ) → Stands totals [] input
+    → _≡_ {A = Report} (record { totals = totals; stopped = false }) (report-of input)
 stands-end totals input s =
     let seen = s .running .seen in
     reported totals input seen false (s .running .said)
@@ -62,7 +64,8 @@ module _ (totals : Totals) (bytes : List ℕ) (some : 1 ≤ length bytes) where
   }
 
   -- one sheet more
-  module _ (later : Totals) (adds : Adds totals (front-sheet bytes .refusal) (front-sheet bytes .tensor) later) (room : totals .sheets ≡ most-sheets → ⊥) where
+  module _ (later : Totals) (adds : Adds totals (front-sheet bytes .refusal) (front-sheet bytes .tensor) later)
+      (room : totals .sheets ≡ most-sheets → ⊥) where
     abbrev front : Sheet
     front = front-sheet bytes
 
@@ -85,15 +88,19 @@ module _ (totals : Totals) (bytes : List ℕ) (some : 1 ≤ length bytes) where
       next-on e = record {
         running = running-next totals later front (s .running) adds (fewer (s .running)) (front-small bytes);
         same =
-            s .same ∙ rw (count, next-goes-on left bytes more some shown e) (after-after seen front (stream-of left (rest-bytes bytes ++ more)));
+            s .same
+            ∙ rw (count, next-goes-on left bytes more some shown e)
+            (after-after seen front (stream-of left (rest-bytes bytes ++ more)));
       }
 
       next-off : stops (front .refusal) ≡ true → _≡_ {A = Report} (record { totals = later; stopped = true }) (report-of input)
       next-off e =
           reported later input (seen ++ (front ∷ [])) true (adds .adds seen (s .running .said))
-          (s .same ∙ rw (count, next-stops left bytes more some shown e) (after-after seen front stops-here ∙ after-stop (seen ++ (front ∷ []))))
+          (s .same
+          ∙ rw (count, next-stops left bytes more some shown e) (after-after seen front stops-here ∙ after-stop (seen ++ (front ∷ []))))
 
-    pub step-sheet : (run : Running totals) (size : ℕ) (stopped : Bool) → size ≡ front-size bytes → size ≤ length bytes → stopped ≡ stops (front .refusal)
+    pub step-sheet : (run : Running totals) (size : ℕ) (stopped : Bool) → size ≡ front-size bytes → size ≤ length bytes
+        → stopped ≡ stops (front .refusal)
         → Stepped totals bytes (record { totals = later; taken = size; stopped = stopped })
     step-sheet run size stopped e inside q = record {
       takes = record {
@@ -108,8 +115,10 @@ module _ (totals : Totals) (bytes : List ℕ) (some : 1 ≤ length bytes) where
 
 -- a step by the answers of its calls: of `tensor_of_sheet` on the front sheet's bytes, and of `with_sheet`
 pub took :
-    (totals later : Totals) (bytes : List ℕ) (knots samples lent scratch : List Float) (long : Buffers knots samples lent scratch) (given : SheetAnswer) (k s t w : List Float)
-    (size : ℕ) (stopped : Bool) → 1 ≤ length bytes → Running totals → (totals .sheets ≡ most-sheets → ⊥) → (e : size ≡ front-size bytes) → size ≤ length bytes
+    (totals later : Totals) (bytes : List ℕ) (knots samples lent scratch : List Float) (long : Buffers knots samples lent scratch)
+    (given : SheetAnswer) (k s t w : List Float)
+    (size : ℕ) (stopped : Bool) → 1 ≤ length bytes → Running totals → (totals .sheets ≡ most-sheets → ⊥) → (e : size ≡ front-size bytes)
+    → size ≤ length bytes
     → (p : SheetPromise (take (size - 0) bytes) knots samples lent scratch given k s t w)
     → Adds totals (given .refusal) (tensor-entries (given .axes) (take (given .length - 0) t)) later → stopped ≡ stops (given .refusal)
     → Stepped totals bytes (record { totals = later; taken = size; stopped = stopped })
@@ -183,7 +192,8 @@ module _ (first : Totals) (bytes : List ℕ) (least : ℕ) where
         counts = λ e. absurd (true-not-false e);
       }
 
-  pub turn-last : (totals : Totals) (at : ℕ) → Turn totals at → length bytes - at < least → Fed first bytes least (record { totals = totals; taken = at; stopped = false })
+  pub turn-last : (totals : Totals) (at : ℕ) → Turn totals at → length bytes - at < least
+      → Fed first bytes least (record { totals = totals; taken = at; stopped = false })
   turn-last totals at turn l = record {
     takes = record {
       inside = turn .most;
@@ -197,7 +207,8 @@ module _ (first : Totals) (bytes : List ℕ) (least : ℕ) where
 
 -- ---- the feeding at the end of the input
 
-fed-ends : (totals : Totals) (bytes input : List ℕ) (step : Step) → Fed totals bytes 1 step → Stands totals bytes input → (b : Bool) → step .stopped ≡ b
+fed-ends : (totals : Totals) (bytes input : List ℕ) (step : Step) → Fed totals bytes 1 step → Stands totals bytes input → (b : Bool)
+    → step .stopped ≡ b
     → _≡_ {A = Report} (record { totals = step .totals; stopped = b }) (report-of input)
 fed-ends totals bytes input step fed s true e = fed .takes .stops e input [] (λ l. refl) (rw append-nil s)
 fed-ends totals bytes input step fed s false e =

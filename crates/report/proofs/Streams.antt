@@ -5,8 +5,8 @@ use mathlib.Core.List.{List, [], _∷_, _++_, append-nil, append-assoc}
 use Prim.Native.Nat.{ℕ, zero, suc, _≤_}
 use native.Mathlib.Omega.{arith}
 use lib.ListN.{length, length-append}
-use Rattle.sheet_front.specs.Front.{rest-bytes}
-use Rattle.totals.specs.Totals.{Sheet}
+use Rattle.report_front.specs.Front.{rest-bytes}
+use Rattle.report_totals.specs.Totals.{Sheet}
 use Rattle.report.specs.Report.{front-sheet, stops, Stream, ends-here, stops-here, after, stream-of}
 use Rattle.report.specs.Within.{Shown}
 use Rattle.report.proofs.Fronts.{front-local, rest-local}
@@ -51,7 +51,8 @@ module _ (n : ℕ) (bytes more : List ℕ) (h : 1 ≤ length bytes) (shown : Sho
       let rest = rest-local bytes more shown e in
       rw (front, rest) at (stream-goes-on n (bytes ++ more) some (rw front e))
 
-pub after-after : (seen : List Sheet) (sheet : Sheet) (stream : Stream) → after seen (after (sheet ∷ []) stream) ≡ after (seen ++ (sheet ∷ [])) stream
+pub after-after : (seen : List Sheet) (sheet : Sheet) (stream : Stream)
+    → after seen (after (sheet ∷ []) stream) ≡ after (seen ++ (sheet ∷ [])) stream
 after-after seen sheet stream = rw append-assoc
 
 pub after-end : (seen : List Sheet) → after seen ends-here ≡ record { sheets = seen; stopped = false }

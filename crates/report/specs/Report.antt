@@ -1,15 +1,16 @@
--- The chapter Report of docs/RULES.md: the sheets of a stream, how it ends, its report, and the public call `report_of_bytes`, which answers it.
+-- The chapter Report of docs/RULES.md: the sheets of a stream, how it ends, its report, and the public call `report_of_bytes`, which
+-- answers it.
 use mathlib.Core.Path.{_≡_}
 use mathlib.Core.Bool.{Bool, true, false}
 use mathlib.Core.List.{List, [], _∷_, _++_}
 use Prim.Native.Nat.{ℕ, zero, suc}
 use Rattle.rules.specs.Tensor.{tensor}
-use Rattle.kinds.specs.Classes.{class, unread}
-use Rattle.sheet.specs.Fields.{axes, sheet-grid, sheet-samples}
+use Rattle.grid_codes.specs.Classes.{class, unread}
+use Rattle.sheet_read.specs.Fields.{axes, sheet-grid, sheet-samples}
 use Rattle.sheet_build.specs.SheetTensor.{own-refusal}
-use Rattle.sheet_front.specs.Front.{front-bytes, rest-bytes}
-use Rattle.totals.specs.Totals.{Entry, Sheet, most-sheets, tensor-entries, totals-of}
-use Rattle.totals.specs.declared.Report.{Report}
+use Rattle.report_front.specs.Front.{front-bytes, rest-bytes}
+use Rattle.report_totals.specs.Totals.{Entry, Sheet, most-sheets, tensor-entries, totals-of}
+use Rattle.report_totals.specs.declared.Report.{Report}
 
 -- ---- one sheet
 

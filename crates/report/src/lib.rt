@@ -1,16 +1,16 @@
 // The report over a stream of sheets: each sheet read and built, and what it holds counted.
 ghost use Prim.Native.Nat.{_≤_};
 ghost use lib.ListN.{length};
-ghost use Rattle.totals.specs.Within.{Running};
+ghost use Rattle.report_totals.specs.Within.{Running};
 ghost use Rattle.report.specs.Report.{ReportPromise};
 ghost use Rattle.report.specs.Within.{Buffers, Stepped, Fed};
-use kinds::classes::is_unread;
+use grid_codes::classes::is_unread;
+use report_front::size_of_front;
+use report_totals::Report;
+use report_totals::Totals;
+use report_totals::none;
+use report_totals::with_sheet;
 use sheet_build::tensor_of_sheet;
-use sheet_front::size_of_front;
-use totals::Report;
-use totals::Totals;
-use totals::none;
-use totals::with_sheet;
 
 // Where a report has come to: its totals, the number of bytes that it took, and whether it ends before the input does.
 pub struct Step {

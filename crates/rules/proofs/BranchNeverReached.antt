@@ -1,4 +1,6 @@
--- The Rust's `cyclic_thomas` has a branch for one unknown, and no answer of a public call depends on it: whatever the branch would answer, the moments, the tensor and the changed tensor are those of the rules. A periodic axis of one interval takes the zero moments first, so the cyclic solve has two unknowns or more.
+-- The Rust's `cyclic_thomas` has a branch for one unknown, and no answer of a public call depends on it: whatever the branch would answer,
+-- the moments, the tensor and the changed tensor are those of the rules. A periodic axis of one interval takes the zero moments first, so
+-- the cyclic solve has two unknowns or more.
 use mathlib.Core.Path.{_≡_, refl, ap, _∙_, fun-ext}
 use mathlib.Core.Bool.{Bool, true, false, cond}
 use mathlib.Core.List.{List}
@@ -22,7 +24,8 @@ use Rattle.rules.proofs.Cases.{arms-ext}
 
 -- ---- the moments, where the branch answers b
 
--- what the branch answers: any number, got in any way from the right side and the diagonal of its one row and from the corner; in the Rust right ⊘ (diagonal ⊕ corner ⊕ corner)
+-- what the branch answers: any number, got in any way from the right side and the diagonal of its one row and from the corner; in the Rust
+-- right ⊘ (diagonal ⊕ corner ⊕ corner)
 abbrev pub Branch : Type 0
 Branch = (right diagonal corner : Float) → Float
 
@@ -180,7 +183,8 @@ changed-tensor-over-moments = fun-ext (λ g. fun-ext (λ changed. fun-ext (λ v.
 
 -- ---- the theorem
 
--- Whatever the branch answers, these are the rules' own, as functions: for every condition, number of points, knots, samples, changed place and tensor. No public call solves for moments but through them.
+-- Whatever the branch answers, these are the rules' own, as functions: for every condition, number of points, knots, samples, changed place
+-- and tensor. No public call solves for moments but through them.
 pub branch-never-reached :
     (b : Branch)
     → (moments-with-branch b ≡ moments)

@@ -1,4 +1,5 @@
--- What a value in a cell sees: the two knots of the cell on each axis in use, the point there, and the numbers of the cell. And what labels see: the cell on the axes in use.
+-- What a value in a cell sees: the two knots of the cell on each axis in use, the point there, and the numbers of the cell. And what labels
+-- see: the cell on the axes in use.
 use native.Mathlib.Omega.{arith}
 use mathlib.Core.Path.{_≡_, refl, ap}
 use mathlib.Core.Bool.{Bool, true, false, cond}

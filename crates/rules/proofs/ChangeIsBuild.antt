@@ -1,4 +1,5 @@
--- A change of a built tensor is the build of the changed samples, for every place of the grid; and a change keeps each number that no lane of it holds.
+-- A change of a built tensor is the build of the changed samples, for every place of the grid; and a change keeps each number that no lane
+-- of it holds.
 use mathlib.Core.Path.{_≡_, refl, sym, ap, ap₂, _∙_, subst}
 use mathlib.Core.List.{List}
 use mathlib.Core.Bool.{Bool, true, false, cond, _&&_, _||_}
@@ -18,7 +19,17 @@ use Rattle.rules.specs.Tensor.{entry, sample, tensor, place-at, mask-at}
 use Rattle.rules.specs.Change.{agree, can-differ, with-sample, changed-entry, changed-tensor}
 use Rattle.rules.proofs.Cases.{arms-ext, arms-one, not-both}
 use Rattle.rules.proofs.Tables.{at-table, table-ext}
-use Rattle.rules.proofs.Places.{OnGrid, One, below-or-last, moved-on-grid, flat-below, flat-ext, unflat-flat, unflat-on-grid, flat-one}
+use Rattle.rules.proofs.Places.{
+  OnGrid,
+  One,
+  below-or-last,
+  moved-on-grid,
+  flat-below,
+  flat-ext,
+  unflat-flat,
+  unflat-on-grid,
+  flat-one,
+}
 use Rattle.rules.proofs.Locality.{rest-below, rest-and-top, slope-along-ext, entry-low, entry-high, locality}
 
 -- ---- two places that agree
@@ -129,7 +140,8 @@ changed-entry-is-entry g samples c v samples′ is old built (suc i) mask p le l
 -- ---- on the lists
 
 -- a mask below 2^i: the axes from i on add nothing
-entry-of-more : (g : Grid) (samples : Place → Float) (more i mask : ℕ) (p : Place) → mask < 2 ^ i → entry g samples (i + more) mask p ≡ entry g samples i mask p
+entry-of-more : (g : Grid) (samples : Place → Float) (more i mask : ℕ) (p : Place) → mask < 2 ^ i
+    → entry g samples (i + more) mask p ≡ entry g samples i mask p
 entry-of-more g samples zero i mask p lt = ap (λ (k : ℕ). entry g samples k mask p) (let e : i + 0 ≡ i = omega arith in e)
 entry-of-more g samples (suc more) i mask p lt =
     ap (λ (k : ℕ). entry g samples k mask p) (let e : i + suc more ≡ suc (i + more) = omega arith in e)

@@ -1,4 +1,5 @@
--- The direct cell is one of the axis, an axis of two points is even, and examples of even axes: where the direct cell and the searched one part, what the tolerance is, and what is refused and placed first.
+-- The direct cell is one of the axis, an axis of two points is even, and examples of even axes: where the direct cell and the searched one
+-- part, what the tolerance is, and what is refused and placed first.
 use mathlib.Core.Path.{_≡_, refl}
 use mathlib.Core.Bool.{Bool, true, false, cond}
 use mathlib.Core.List.{List, [], _∷_}
@@ -13,7 +14,21 @@ use Rattle.rules.specs.Steps.{h}
 use Rattle.rules.specs.Refusals.{step-refused}
 use Rattle.rules.specs.Locate.{locate}
 use Rattle.rules.specs.Outside.{side}
-use Rattle.rules.specs.Even.{absolute, epsilon, doubled, tolerance, first-that, first-failing, uneven-refused, some-uneven-refused, uneven-axis, uneven-interval, first-too-large, as-index, direct-cell}
+use Rattle.rules.specs.Even.{
+  absolute,
+  epsilon,
+  doubled,
+  tolerance,
+  first-that,
+  first-failing,
+  uneven-refused,
+  some-uneven-refused,
+  uneven-axis,
+  uneven-interval,
+  first-too-large,
+  as-index,
+  direct-cell,
+}
 use Rattle.rules.specs.Query.{hermite, fraction, even-cell-of}
 use Rattle.rules.specs.Calls.{query-answer}
 use Rattle.rules.specs.EvenCalls.{even-query-refusal, even-query-answer}
@@ -93,7 +108,9 @@ tiny-failing last = first-failing (0′ ∷ tiny ∷ pattern last ∷ []) 3
 abbrev two-axes : List Float → Grid
 two-axes knots = record {
   axes = 2;
-  entries = record { points = 3; condition = natural; mode = Refuse } ∷ record { points = 3; condition = natural; mode = Refuse } ∷ unused-axis ∷ unused-axis ∷ [];
+  entries =
+      record { points = 3; condition = natural; mode = Refuse } ∷ record { points = 3; condition = natural; mode = Refuse } ∷ unused-axis
+      ∷ unused-axis ∷ [];
   flat-knots = knots;
 }
 
@@ -131,13 +148,15 @@ pub record EvenExamples : Type 0 where
   pub searched-too-large : locate knots-3 2 (pattern 0x43F0_0000_0000_0000) ≡ 1
   -- a quotient that is a NaN: 0 / 0
   pub direct-of-nan : direct-cell 0′ 0′ 3 0′ ≡ 0
-  -- at the last of the knots -1e308 0 1e308, an even axis, the quotient is infinite: the cell is 0, the fraction there infinite, and a blend of samples 0 with slopes 0 is no number
+  -- at the last of the knots -1e308 0 1e308, an even axis, the quotient is infinite: the cell is 0, the fraction there infinite, and a
+  -- blend of samples 0 with slopes 0 is no number
   pub huge-is-even : first-failing knots-huge 3 ≡ 0
   pub direct-at-huge : direct-cell -huge (h knots-huge 0) 3 huge ≡ 0
   pub searched-at-huge : locate knots-huge 2 huge ≡ 1
   pub fraction-at-huge : fraction knots-huge 0 huge ≡ inf false
   pub blend-at-huge : hermite 0′ 0′ 0′ 0′ (h knots-huge 0) (inf false) ≡ nan
-  -- the tolerance of step 1 is 2 to the -42, and of step -1 too; that of 2 to the -1030 is 4 units, and would be 0 if the product came before the doublings
+  -- the tolerance of step 1 is 2 to the -42, and of step -1 too; that of 2 to the -1030 is 4 units, and would be 0 if the product came
+  -- before the doublings
   pub tolerance-of-1 : tolerance 1′ ≡ pattern 0x3D50_0000_0000_0000
   pub tolerance-below-0 : tolerance (pattern 0xBFF0_0000_0000_0000) ≡ pattern 0x3D50_0000_0000_0000
   pub tolerance-of-tiny : tolerance tiny ≡ pattern 4
@@ -158,17 +177,22 @@ pub record EvenExamples : Type 0 where
   pub second-interval : uneven-interval second-axis-uneven ≡ 1
   pub lowest-of-both : uneven-axis (two-axes (0′ ∷ 1′ ∷ 3′ ∷ 0′ ∷ 1′ ∷ 4′ ∷ [])) ≡ 0
   -- on interior knot 1 the two queries answer the same value of two cells
-  pub even-at-interior-knot : even-query-answer (one-axis Extend) line (1′ ∷ []) ≡ record { refusal = 0; value = 1′; labels = 1 ∷ 0 ∷ 0 ∷ 0 ∷ []; axis = 0; interval = 0 }
-  pub query-at-interior-knot : query-answer (one-axis Extend) line (1′ ∷ []) ≡ record { refusal = 0; value = 1′; labels = 0 ∷ 0 ∷ 0 ∷ 0 ∷ [] }
+  pub even-at-interior-knot : even-query-answer (one-axis Extend) line (1′ ∷ [])
+      ≡ record { refusal = 0; value = 1′; labels = 1 ∷ 0 ∷ 0 ∷ 0 ∷ []; axis = 0; interval = 0 }
+  pub query-at-interior-knot : query-answer (one-axis Extend) line (1′ ∷ [])
+      ≡ record { refusal = 0; value = 1′; labels = 0 ∷ 0 ∷ 0 ∷ 0 ∷ [] }
   -- 2 to the 64 lies in cell 0 where the axis extends; hold first takes knot 2, which lies in cell 1
   pub extended-too-large : even-cell-of (one-axis Extend) (λ i. first-too-large) 0 ≡ 0
   pub held-too-large : even-cell-of (one-axis Hold) (λ i. first-too-large) 0 ≡ 1
   -- a coordinate outside on axis 0, in refuse, is refused by 18, but where axis 1 is not even by 21
   pub outside-alone : even-query-refusal both-axes-even (zeros 36) (5′ ∷ 1′ ∷ []) ≡ 18
-  pub uneven-before-outside : even-query-answer second-axis-uneven (zeros 36) (5′ ∷ 1′ ∷ []) ≡ record { refusal = 21; value = 0′; labels = 0 ∷ 0 ∷ 0 ∷ 0 ∷ []; axis = 1; interval = 1 }
+  pub uneven-before-outside : even-query-answer second-axis-uneven (zeros 36) (5′ ∷ 1′ ∷ [])
+      ≡ record { refusal = 21; value = 0′; labels = 0 ∷ 0 ∷ 0 ∷ 0 ∷ []; axis = 1; interval = 1 }
 
 pub even-examples : EvenExamples
-unfolding any sum-below product-below step-refused locate side h absolute doubled tolerance first-failing first-that uneven-axis uneven-interval direct-cell hermite fraction even-cell-of query-answer even-query-refusal even-query-answer Ieee.add Ieee.sub Ieee.mul Ieee.div Ieee.neg Ieee.lt Ieee.le Ieee.ofBits
+unfolding any sum-below product-below step-refused locate side h absolute doubled tolerance first-failing first-that uneven-axis
+    uneven-interval direct-cell hermite fraction even-cell-of query-answer even-query-refusal even-query-answer Ieee.add Ieee.sub Ieee.mul
+    Ieee.div Ieee.neg Ieee.lt Ieee.le Ieee.ofBits
 even-examples = record {
   direct-at-interior-knot = refl;
   searched-at-interior-knot = refl;

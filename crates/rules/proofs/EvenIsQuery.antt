@@ -1,4 +1,5 @@
--- Where every axis is even and the direct cells are those that the query evaluates, the query of even axes answers as the query does, with axis and interval 0.
+-- Where every axis is even and the direct cells are those that the query evaluates, the query of even axes answers as the query does, with
+-- axis and interval 0.
 use mathlib.Core.Path.{_≡_, refl, _∙_}
 use mathlib.Core.Bool.{Bool, true, false, cond}
 use mathlib.Core.List.{List}
@@ -35,7 +36,8 @@ not-told refusal number other = go (eqb refusal 21) refl
     go false e = refl
 
 -- so the rest is a query's answer
-pub answers-as-query : (refusal : ℕ) (value : Float) (labels : List ℕ) (axis interval : ℕ) → (refusal ≡ 21 → ⊥) → even-answer-of refusal value labels axis interval ≡ nothing-told (answer-of refusal value labels)
+pub answers-as-query : (refusal : ℕ) (value : Float) (labels : List ℕ) (axis interval : ℕ) → (refusal ≡ 21 → ⊥)
+    → even-answer-of refusal value labels axis interval ≡ nothing-told (answer-of refusal value labels)
 answers-as-query refusal value labels axis interval other = rw (not-told refusal axis other, not-told refusal interval other) refl
 
 module _ (g : Grid) (tensor coordinates : List Float) where
@@ -47,7 +49,8 @@ module _ (g : Grid) (tensor coordinates : List Float) where
   query-never-21 : query-refusal g tensor coordinates ≡ 21 → ⊥
   query-never-21 z = omega (arith, ltb-true (query-refusal g tensor coordinates) 21 below-21, z)
 
-  module _ (even : some-uneven-refused g ≡ false) (agree : One (g .axes) (even-cell-of g (at coordinates)) (cell-of g (at coordinates))) where
+  module _ (even : some-uneven-refused g ≡ false)
+      (agree : One (g .axes) (even-cell-of g (at coordinates)) (cell-of g (at coordinates))) where
     same-value : even-query g tensor (at coordinates) ≡ query-in-modes g tensor (at coordinates)
     unfolding even-query query-in-modes
     same-value = value-in-ext g tensor (even-cell-of g (at coordinates)) (cell-of g (at coordinates)) (placed-on g (at coordinates)) agree

@@ -1,4 +1,5 @@
--- The worked examples, and examples that an error which looks right would not pass: the rows of one theorem about the definitions. Every float is a bit pattern.
+-- The worked examples, and examples that an error which looks right would not pass: the rows of one theorem about the definitions. Every
+-- float is a bit pattern.
 use mathlib.Core.Path.{_≡_, refl}
 use mathlib.Core.List.{List, [], _∷_}
 use Prim.Native.Nat.{ℕ, _*_}
@@ -78,7 +79,9 @@ slopes x n c y = knot-slopes x n y (moments x n c y)
 abbrev square : Condition → Grid
 square c = record {
   axes = 2;
-  entries = record { points = 2; condition = c; mode = Extend } ∷ record { points = 2; condition = c; mode = Extend } ∷ unused-axis ∷ unused-axis ∷ [];
+  entries =
+      record { points = 2; condition = c; mode = Extend } ∷ record { points = 2; condition = c; mode = Extend } ∷ unused-axis ∷ unused-axis
+      ∷ [];
   flat-knots = 0′ ∷ 1′ ∷ 0′ ∷ 1′ ∷ [];
 }
 
@@ -86,7 +89,11 @@ square c = record {
 abbrev labels-at : Float → List ℕ
 labels-at point =
     labels
-    (record { axes = 1; entries = record { points = 3; condition = natural; mode = Extend } ∷ unused-axis ∷ unused-axis ∷ unused-axis ∷ []; flat-knots = knots-3 })
+    (record {
+      axes = 1;
+      entries = record { points = 3; condition = natural; mode = Extend } ∷ unused-axis ∷ unused-axis ∷ unused-axis ∷ [];
+      flat-knots = knots-3;
+    })
     (point ∷ [])
 
 -- the samples of the square, 0 0 0 1
@@ -123,7 +130,11 @@ refusal-of n x c = moments-refusal n x (zeros n) c (zeros n) (zeros 2048)
 abbrev refusal-at-3 : List Float → List Float → ℕ
 refusal-at-3 x t =
     query-refusal
-    (record { axes = 1; entries = record { points = 2; condition = natural; mode = Refuse } ∷ unused-axis ∷ unused-axis ∷ unused-axis ∷ []; flat-knots = x })
+    (record {
+      axes = 1;
+      entries = record { points = 2; condition = natural; mode = Refuse } ∷ unused-axis ∷ unused-axis ∷ unused-axis ∷ [];
+      flat-knots = x;
+    })
     t (3′ ∷ [])
 
 -- the refusal of the query on two axes of the knots 0 1, of which axis 0 extends and axis 1 refuses
@@ -131,7 +142,9 @@ abbrev refusal-in-two-modes : List Float → ℕ
 refusal-in-two-modes =
     query-refusal (record {
       axes = 2;
-      entries = record { points = 2; condition = natural; mode = Extend } ∷ record { points = 2; condition = natural; mode = Refuse } ∷ unused-axis ∷ unused-axis ∷ [];
+      entries =
+          record { points = 2; condition = natural; mode = Extend } ∷ record { points = 2; condition = natural; mode = Refuse }
+          ∷ unused-axis ∷ unused-axis ∷ [];
       flat-knots = 0′ ∷ 1′ ∷ 0′ ∷ 1′ ∷ [];
     })
     (zeros 16)
@@ -139,14 +152,18 @@ refusal-in-two-modes =
 pub record Examples : Type 0 where
   -- natural, three knots, up by 1 and down again: in the middle the moment is −3; the slopes are 1.5, 0 and −1.5; at 0.5 stands 0.6875
   pub natural-moments : moments knots-3 2 natural (0′ ∷ 1′ ∷ 0′ ∷ []) ≡ 0′ ∷ pattern 0xC008_0000_0000_0000 ∷ 0′ ∷ []
-  pub natural-slopes : slopes knots-3 2 natural (0′ ∷ 1′ ∷ 0′ ∷ []) ≡ pattern 0x3FF8_0000_0000_0000 ∷ 0′ ∷ pattern 0xBFF8_0000_0000_0000 ∷ []
+  pub natural-slopes : slopes knots-3 2 natural (0′ ∷ 1′ ∷ 0′ ∷ []) ≡ pattern 0x3FF8_0000_0000_0000 ∷ 0′ ∷ pattern 0xBFF8_0000_0000_0000
+      ∷ []
   pub natural-curve : spline knots-3 2 natural (0′ ∷ 1′ ∷ 0′ ∷ []) ½ ≡ pattern 0x3FE6_0000_0000_0000
   -- clamped level at both ends, from 0 up to 1: moments 6 and −6, and halfway 0.5
-  pub clamped-moments : moments knots-2 1 (clamped 0′ 0′) (0′ ∷ 1′ ∷ []) ≡ pattern 0x4018_0000_0000_0000 ∷ pattern 0xC018_0000_0000_0000 ∷ []
+  pub clamped-moments : moments knots-2 1 (clamped 0′ 0′) (0′ ∷ 1′ ∷ []) ≡ pattern 0x4018_0000_0000_0000 ∷ pattern 0xC018_0000_0000_0000
+      ∷ []
   pub clamped-curve : spline knots-2 1 (clamped 0′ 0′) (0′ ∷ 1′ ∷ []) ½ ≡ ½
   -- four points of a straight line, NotAKnot: it is met between the knots, at 1.5, and beyond them, at 4
-  pub not-a-knot-inside : spline knots-4 3 not-a-knot (1′ ∷ 3′ ∷ 5′ ∷ 7′ ∷ []) (pattern 0x3FF8_0000_0000_0000) ≡ pattern 0x4010_0000_0000_0000
-  pub not-a-knot-beyond : spline knots-4 3 not-a-knot (1′ ∷ 3′ ∷ 5′ ∷ 7′ ∷ []) (pattern 0x4010_0000_0000_0000) ≡ pattern 0x4022_0000_0000_0000
+  pub not-a-knot-inside : spline knots-4 3 not-a-knot (1′ ∷ 3′ ∷ 5′ ∷ 7′ ∷ []) (pattern 0x3FF8_0000_0000_0000)
+      ≡ pattern 0x4010_0000_0000_0000
+  pub not-a-knot-beyond : spline knots-4 3 not-a-knot (1′ ∷ 3′ ∷ 5′ ∷ 7′ ∷ []) (pattern 0x4010_0000_0000_0000)
+      ≡ pattern 0x4022_0000_0000_0000
   -- periodic with one interval: moments of zero, and at both knots the slope of the straight line, 5
   pub periodic-moments : moments knots-2 1 periodic (0′ ∷ 5′ ∷ []) ≡ 0′ ∷ 0′ ∷ []
   pub periodic-slopes : slopes knots-2 1 periodic (0′ ∷ 5′ ∷ []) ≡ 5′ ∷ 5′ ∷ []
@@ -154,7 +171,8 @@ pub record Examples : Type 0 where
   pub built : tensor (square natural) corner-up ≡ tensor-before
   pub queried : query (square natural) tensor-before (at (½ ∷ ½ ∷ [])) ≡ pattern 0x3FD0_0000_0000_0000
   -- away from the middle the two axes differ: samples 0 2 0 1 at (0.25, 0.5) is 0.875
-  pub queried-off-the-middle : query (square natural) tensor-after (at (pattern 0x3FD0_0000_0000_0000 ∷ ½ ∷ [])) ≡ pattern 0x3FEC_0000_0000_0000
+  pub queried-off-the-middle : query (square natural) tensor-after (at (pattern 0x3FD0_0000_0000_0000 ∷ ½ ∷ []))
+      ≡ pattern 0x3FEC_0000_0000_0000
   -- the square's sample at (0, 1) becomes 2: the tensor then, which a fresh build has too; 4 lanes of the build's 6
   pub changed : changed-tensor (square natural) place-01 2′ tensor-before ≡ tensor-after
   pub changed-as-built : tensor (square natural) (0′ ∷ 2′ ∷ 0′ ∷ 1′ ∷ []) ≡ tensor-after
@@ -168,7 +186,8 @@ pub record Examples : Type 0 where
   pub label-at-last-knot : labels-at 2′ ≡ 1 ∷ 0 ∷ 0 ∷ 0 ∷ []
   pub cell-below : locate knots-3 2 -1′ ≡ 0
   pub label-below : labels-at -1′ ≡ 0 ∷ 0 ∷ 0 ∷ 0 ∷ []
-  -- on knots that do not rise the scan stops at the first knot above 3; the search finds the last cell, and looks at knots 0, 2, 3 and 4 for it
+  -- on knots that do not rise the scan stops at the first knot above 3; the search finds the last cell, and looks at knots 0, 2, 3 and 4
+  -- for it
   pub scan-of-falling-knots : locate falling-knots 4 3′ ≡ 0
   pub search-of-falling-knots : lower-index falling-knots 3′ ≡ 3
   pub looked-at-in-falling-knots : visited falling-knots 3′ ≡ 0 ∷ 4 ∷ 3 ∷ 4 ∷ 2 ∷ 3 ∷ []
@@ -184,7 +203,8 @@ pub record Examples : Type 0 where
   pub held-at-last-knot : placed Hold knots-3 2′ ≡ 2′
   pub held-above : placed Hold knots-3 3′ ≡ 2′
   pub extended-above : placed Extend knots-3 3′ ≡ 3′
-  -- a quick query of those knots is accepted, since the cell that is found rises; a falling cell is refused by 8, and by 7 where the point is a NaN; a NaN knot is refused with its cell
+  -- a quick query of those knots is accepted, since the cell that is found rises; a falling cell is refused by 8, and by 7 where the point
+  -- is a NaN; a NaN knot is refused with its cell
   pub falling-off-the-path : quick-refusal-of falling-knots 3′ ≡ 0
   pub falling-cell : quick-refusal-of (1′ ∷ 0′ ∷ []) ½ ≡ 8
   pub point-before-the-cell : quick-refusal-of (1′ ∷ 0′ ∷ []) Ieee.nan ≡ 7
@@ -236,7 +256,9 @@ pub record Examples : Type 0 where
       locate-axis (-1′ ∷ pattern 0x3C77_0EF5_4646_D497 ∷ []) 1 (pattern 0x3C67_0EF5_4646_D497) ≡ Between 0 1′
 
 pub examples : Examples
-unfolding any sum-below product-below locate lower-index visited side locate-axis lower-step upper-step labels moments curve knot-slopes tensor changed-tensor change-lanes lane-sum query step-refused moments-refusal Ieee.add Ieee.sub Ieee.mul Ieee.div Ieee.neg Ieee.lt Ieee.le Ieee.eq Ieee.ofBits found-cell-refused quick-query-refusal query-refusal
+unfolding any sum-below product-below locate lower-index visited side locate-axis lower-step upper-step labels moments curve knot-slopes
+    tensor changed-tensor change-lanes lane-sum query step-refused moments-refusal Ieee.add Ieee.sub Ieee.mul Ieee.div Ieee.neg Ieee.lt
+    Ieee.le Ieee.eq Ieee.ofBits found-cell-refused quick-query-refusal query-refusal
 examples = record {
   natural-moments = refl;
   natural-slopes = refl;

@@ -5,7 +5,21 @@ use mathlib.Core.Bool.{Bool, true, false, cond, _&&_, _||_, and-false}
 use mathlib.Core.List.{List, [], _∷_, _++_}
 use Prim.Native.Nat.{ℕ, zero, suc, _+_, _-_, _*_, _/_, _%_, _^_, _<_, _≤_}
 use native.Mathlib.Omega.{arith}
-use native.Mathlib.Nat.{zero-add, add-zero, add-suc, suc-add, add-assoc, add-sub-of-le, zero-mul, one-mul, mul-one, mul-comm, two-pow-succ, le-of-suc-le-suc, eq-or-lt-of-le}
+use native.Mathlib.Nat.{
+  zero-add,
+  add-zero,
+  add-suc,
+  suc-add,
+  add-assoc,
+  add-sub-of-le,
+  zero-mul,
+  one-mul,
+  mul-one,
+  mul-comm,
+  two-pow-succ,
+  le-of-suc-le-suc,
+  eq-or-lt-of-le,
+}
 use native.Mathlib.Numerals.{one-add}
 use lib.Dec.{eqb}
 use lib.ListN.{length}
@@ -147,7 +161,8 @@ module _ (test : Lane → Bool) (may-start : ℕ → Bool) (i mask : ℕ) where
   passing-next true f fs = passing-cons test (lane-at i mask f) (lanes-from i mask fs)
   passing-next false f fs = rw zero-add
 
-  passing-after : (n a : ℕ) → lanes-passing a + passing test (lanes-from i mask (filter may-start (table-from n a (λ f. f)))) ≡ lanes-passing (a + n)
+  passing-after : (n a : ℕ)
+      → lanes-passing a + passing test (lanes-from i mask (filter may-start (table-from n a (λ f. f)))) ≡ lanes-passing (a + n)
   unfolding filter lanes-from sum-below
   passing-after zero a = simp add-zero
   passing-after (suc n) a =

@@ -1,4 +1,5 @@
--- Locality: a tensor number over the axes of a mask is a matter of the samples alone that agree with its place on every axis outside the mask.
+-- Locality: a tensor number over the axes of a mask is a matter of the samples alone that agree with its place on every axis outside the
+-- mask.
 use mathlib.Core.Path.{_≡_, refl, sym, ap₂, _∙_, subst}
 use mathlib.Core.Logic.{_≢_}
 use mathlib.Core.List.{List}
@@ -73,7 +74,8 @@ pub entry-high :
 unfolding entry
 entry-high g samples i mask p e = arms-one (ltb mask (2 ^ i)) (λ f. not-both (ltb mask (2 ^ i)) f e) (λ f. refl)
 
--- Two samplings that agree wherever a place agrees with p outside the mask have one number at p and the mask; p′ is p, and q′ is q, perhaps written otherwise.
+-- Two samplings that agree wherever a place agrees with p outside the mask have one number at p and the mask; p′ is p, and q′ is q, perhaps
+-- written otherwise.
 pub locality :
     (g : Grid) (samples samples′ : Place → Float) (i mask : ℕ) (p p′ : Place)
     → i ≤ g .axes → mask < 2 ^ i → OnGrid (points g) (g .axes) p → One (g .axes) p p′

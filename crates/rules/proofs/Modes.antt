@@ -10,8 +10,26 @@ use lib.Ieee.{Float}
 use Rattle.rules.specs.Numbers.{at}
 use Rattle.rules.specs.Sizes.{Grid, points, knots}
 use Rattle.rules.specs.Steps.{h}
-use Rattle.rules.specs.Refusals.{axes-refused, some-points-refused, tensor-refused, some-number-refused, some-knots-refused, some-found-cell-refused, answer-refused}
-use Rattle.rules.specs.Outside.{mode-at, side, nearest, placed, placed-on, outside-refused, some-outside-refused, with-axes, ButForModes}
+use Rattle.rules.specs.Refusals.{
+  axes-refused,
+  some-points-refused,
+  tensor-refused,
+  some-number-refused,
+  some-knots-refused,
+  some-found-cell-refused,
+  answer-refused,
+}
+use Rattle.rules.specs.Outside.{
+  mode-at,
+  side,
+  nearest,
+  placed,
+  placed-on,
+  outside-refused,
+  some-outside-refused,
+  with-axes,
+  ButForModes,
+}
 use Rattle.rules.specs.Even.{some-uneven-refused, direct-cell, direct-cell-of}
 use Rattle.rules.specs.Query.{query, quick-cell-of, quick-query, query-in-modes, quick-query-in-modes, even-cell-of, even-query}
 use Rattle.rules.specs.Calls.{labels-of, query-lengths-refused, query-refusal, query-answer, quick-query-refusal, quick-query-answer}
@@ -124,7 +142,8 @@ module _ (g : Grid) (tensor coordinates : List Float) where
       passes = λ i l. rw (inside i l) (pass (mode-at g i));
     }
       where
-        stay : (i : ℕ) (mode : Mode) → side (knots g i) (at coordinates i) ≡ Inside → placed mode (knots g i) (at coordinates i) ≡ at coordinates i
+        stay : (i : ℕ) (mode : Mode) → side (knots g i) (at coordinates i) ≡ Inside
+            → placed mode (knots g i) (at coordinates i) ≡ at coordinates i
         stay i Extend e = refl
         stay i Hold e = ap (λ (s : Side). nearest s (knots g i) (at coordinates i)) e
         stay i Refuse e = refl
@@ -135,7 +154,8 @@ module _ (g : Grid) (tensor coordinates : List Float) where
         pass Refuse = refl
 
 -- all modes give the same whole answer
-module _ (g : Grid) (all : List Axis) (same : ButForModes g all) (tensor coordinates : List Float) (inside : (i : ℕ) → i < g .axes → side (knots g i) (at coordinates i) ≡ Inside) where
+module _ (g : Grid) (all : List Axis) (same : ButForModes g all) (tensor coordinates : List Float)
+    (inside : (i : ℕ) → i < g .axes → side (knots g i) (at coordinates i) ≡ Inside) where
   inside-there : (i : ℕ) → i < g .axes → side (knots (with-axes g all) i) (at coordinates i) ≡ Inside
   inside-there i l = rw (← knots-same g all same i) (inside i l)
 
@@ -160,7 +180,8 @@ module _ (g : Grid) (all : List Axis) (same : ButForModes g all) (tensor coordin
 -- ---- 18
 
 -- a test that gives another number than the answer has not been met
-passed : (test : Bool) (number : ℕ) {later answer : ℕ} → (number ≡ answer → ⊥) → cond test number later ≡ answer → (test ≡ false) × (later ≡ answer)
+passed : (test : Bool) (number : ℕ) {later answer : ℕ} → (number ≡ answer → ⊥) → cond test number later ≡ answer
+    → (test ≡ false) × (later ≡ answer)
 passed true number other e = absurd (other e)
 passed false number other e = (refl, e)
 
@@ -238,7 +259,8 @@ module _ (g : Grid) (tensor coordinates : List Float) where
   abbrev pub OutsideOfQuery : Type 0
   OutsideOfQuery = OnlyOutside g tensor coordinates some-number (some-knots-refused g) false
 
-  pub refused-by-18 : (query-refusal g tensor coordinates ≡ 18 → OutsideOfQuery) × (OutsideOfQuery → query-refusal g tensor coordinates ≡ 18)
+  pub refused-by-18 : (query-refusal g tensor coordinates ≡ 18 → OutsideOfQuery)
+      × (OutsideOfQuery → query-refusal g tensor coordinates ≡ 18)
   unfolding query-refusal
   refused-by-18 =
       let beyond = answer-refused (query-in-modes g tensor (at coordinates)) in
@@ -250,7 +272,8 @@ module _ (g : Grid) (tensor coordinates : List Float) where
       OnlyOutside g tensor coordinates (some-number-refused coordinates)
       (some-found-cell-refused g (quick-cell-of g (at coordinates))) false
 
-  pub quick-refused-by-18 : (quick-query-refusal g tensor coordinates ≡ 18 → OutsideOfQuickQuery) × (OutsideOfQuickQuery → quick-query-refusal g tensor coordinates ≡ 18)
+  pub quick-refused-by-18 : (quick-query-refusal g tensor coordinates ≡ 18 → OutsideOfQuickQuery)
+      × (OutsideOfQuickQuery → quick-query-refusal g tensor coordinates ≡ 18)
   unfolding quick-query-refusal
   quick-refused-by-18 =
       let beyond = answer-refused (quick-query-in-modes g tensor (at coordinates)) in

@@ -1,4 +1,5 @@
--- What a quick query reads. Knots that agree where the search looks, and tensors that agree at the cell that is found, have one whole answer; and no more than 12 knots of an axis are looked at.
+-- What a quick query reads. Knots that agree where the search looks, and tensors that agree at the cell that is found, have one whole
+-- answer; and no more than 12 knots of an axis are looked at.
 use native.Mathlib.Omega.{arith}
 use mathlib.Core.Path.{_≡_, refl, sym, ap, _∙_, subst}
 use mathlib.Core.Bool.{Bool, true, false, cond, _&&_}
@@ -40,14 +41,22 @@ module _ (x y : List Float) (point : Float) where
   unfolding halving middles
   halving-reads zero low high agree = refl
   halving-reads (suc d) low high agree =
-      go (ltb low high) (le point (at x (middle low high))) refl agree (halving-reads d low (middle low high)) (halving-reads d (middle low high + 1) high)
+      go (ltb low high) (le point (at x (middle low high))) refl agree (halving-reads d low (middle low high))
+      (halving-reads d (middle low high + 1) high)
     where
       go : (t u : Bool) → le point (at x (middle low high)) ≡ u
-          → AgreeAt x y (cond t (middle low high ∷ cond u (middles x point d low (middle low high)) (middles x point d (middle low high + 1) high)) [])
-          → (AgreeAt x y (middles x point d low (middle low high)) → halving x point d low (middle low high) ≡ halving y point d low (middle low high))
-          → (AgreeAt x y (middles x point d (middle low high + 1) high) → halving x point d (middle low high + 1) high ≡ halving y point d (middle low high + 1) high)
+          → AgreeAt x y
+          (cond t (middle low high ∷ cond u (middles x point d low (middle low high)) (middles x point d (middle low high + 1) high))
+          [])
+          → (AgreeAt x y (middles x point d low (middle low high))
+          → halving x point d low (middle low high) ≡ halving y point d low (middle low high))
+          → (AgreeAt x y (middles x point d (middle low high + 1) high)
+          → halving x point d (middle low high + 1) high ≡ halving y point d (middle low high + 1) high)
           → cond t (cond u (halving x point d low (middle low high)) (halving x point d (middle low high + 1) high)) low
-          ≡ cond t (cond (le point (at y (middle low high))) (halving y point d low (middle low high)) (halving y point d (middle low high + 1) high)) low
+          ≡ cond t
+          (cond (le point (at y (middle low high))) (halving y point d low (middle low high))
+          (halving y point d (middle low high + 1) high))
+          low
       go false u e both down up = refl
       go true true e both down up = rw (← both .0, e) (down (both .1))
       go true false e both down up = rw (← both .0, e) (up (both .1))
@@ -61,8 +70,10 @@ module _ (x y : List Float) (point : Float) where
       near l true e a c = let z = ltb-true l low e in inr (omega arith)
       near l false e a c = let z = ltb-false l low e in inl (omega arith)
 
-      go : (t : Bool) → ltb 0 low ≡ t → (u : Bool) → (low ≡ min (cond (t && u) (low - 1) low) (n - 2)) ⊎ (low ≡ min (cond (t && u) (low - 1) low) (n - 2) + 1)
-      go true e true = let z = ltb-true 0 low e in near (min (low - 1) (n - 2)) (ltb (min (low - 1) (n - 2)) low) refl (omega arith) (omega arith)
+      go : (t : Bool) → ltb 0 low ≡ t → (u : Bool)
+          → (low ≡ min (cond (t && u) (low - 1) low) (n - 2)) ⊎ (low ≡ min (cond (t && u) (low - 1) low) (n - 2) + 1)
+      go true e true =
+          let z = ltb-true 0 low e in near (min (low - 1) (n - 2)) (ltb (min (low - 1) (n - 2)) low) refl (omega arith) (omega arith)
       go true e false = near (min low (n - 2)) (ltb (min low (n - 2)) low) refl (omega arith) (omega arith)
       go false e u = near (min low (n - 2)) (ltb (min low (n - 2)) low) refl (omega arith) (omega arith)
 
@@ -83,24 +94,28 @@ module _ (x y : List Float) (point : Float) where
       → one-back x point low ≡ one-back y point low′
   ended-alike n low low′ most same lower upper =
       one-back-reads low
-      (⊎-elim (λ z. subst (λ (k : ℕ). at x k ≡ at y k) (sym z) lower) (λ z. subst (λ (k : ℕ). at x k ≡ at y k) (sym z) upper) (ended-in-cell n low most))
+      (⊎-elim (λ z. subst (λ (k : ℕ). at x k ≡ at y k) (sym z) lower) (λ z. subst (λ (k : ℕ). at x k ≡ at y k) (sym z) upper)
+      (ended-in-cell n low most))
       ∙ ap (one-back y point) same
 
   pub lower-index-reads : length x ≡ length y → AgreeAt x y (visited x point) → lower-index x point ≡ lower-index y point
   unfolding visited lower-index rust-index
   lower-index-reads count agree =
-      chosen (lt point (at x 0)) (lt point (at y 0)) (le (at x (length x - 1)) point) (le (at y (length y - 1)) point) (length x) (length y) _ _
+      chosen (lt point (at x 0)) (lt point (at y 0)) (le (at x (length x - 1)) point) (le (at y (length y - 1)) point) (length x) (length y)
+      _ _
       (ap (lt point) (agree .0))
       (ap (λ (v : Float). le v point) (agree .1 .0) ∙ ap (λ (n : ℕ). le (at y (n - 1)) point) count)
       count
       (λ e f lower upper. ended-alike (length x) _ _
       (halving-under x point most-halvings 0 (length x - 1) (omega arith))
-      (halving-reads most-halvings 0 (length x - 1) (middles-of _ _ _ e f (agree .1 .1 .1 .1)) ∙ ap (λ (n : ℕ). halving y point most-halvings 0 (n - 1)) count)
+      (halving-reads most-halvings 0 (length x - 1) (middles-of _ _ _ e f (agree .1 .1 .1 .1))
+      ∙ ap (λ (n : ℕ). halving y point most-halvings 0 (n - 1)) count)
       lower upper)
       (agree .1 .1 .0) (agree .1 .1 .1 .0)
     where
       chosen : (t t′ u u′ : Bool) (n n′ a a′ : ℕ) → t ≡ t′ → u ≡ u′ → n ≡ n′
-          → (t ≡ false → u ≡ false → at x (min a (n - 2)) ≡ at y (min a (n - 2)) → at x (min a (n - 2) + 1) ≡ at y (min a (n - 2) + 1) → a ≡ a′)
+          → (t ≡ false → u ≡ false → at x (min a (n - 2)) ≡ at y (min a (n - 2)) → at x (min a (n - 2) + 1) ≡ at y (min a (n - 2) + 1)
+          → a ≡ a′)
           → at x (min (cond t 0 (cond u (n - 2) a)) (n - 2)) ≡ at y (min (cond t 0 (cond u (n - 2) a)) (n - 2))
           → at x (min (cond t 0 (cond u (n - 2) a)) (n - 2) + 1) ≡ at y (min (cond t 0 (cond u (n - 2) a)) (n - 2) + 1)
           → min (cond t 0 (cond u (n - 2) a)) (n - 2) ≡ min (cond t′ 0 (cond u′ (n′ - 2) a′)) (n′ - 2)
@@ -112,10 +127,14 @@ module _ (x y : List Float) (point : Float) where
   pub few-middles : (d low high : ℕ) → length (middles x point d low high) ≤ d
   unfolding middles
   few-middles zero low high = omega arith
-  few-middles (suc d) low high = go (ltb low high) (le point (at x (middle low high))) (few-middles d low (middle low high)) (few-middles d (middle low high + 1) high)
+  few-middles (suc d) low high =
+      go (ltb low high) (le point (at x (middle low high))) (few-middles d low (middle low high)) (few-middles d (middle low high + 1) high)
     where
       go : (t u : Bool) → length (middles x point d low (middle low high)) ≤ d → length (middles x point d (middle low high + 1) high) ≤ d
-          → length (cond t (middle low high ∷ cond u (middles x point d low (middle low high)) (middles x point d (middle low high + 1) high)) []) ≤ suc d
+          → length
+          (cond t (middle low high ∷ cond u (middles x point d low (middle low high)) (middles x point d (middle low high + 1) high))
+          [])
+          ≤ suc d
       go true true down up = omega arith
       go true false down up = omega arith
       go false u down up = omega arith
@@ -139,12 +158,14 @@ module _ (axes : ℕ) (all : List Axis) (x x′ tensor tensor′ coordinates : L
   abbrev g′ : Grid
   g′ = record { axes = axes; entries = all; flat-knots = x′ }
 
-  -- the same lengths, and the same numbers where the query looks: on each axis in use at the knots that are visited, and in the tensor at the cell that is found
+  -- the same lengths, and the same numbers where the query looks: on each axis in use at the knots that are visited, and in the tensor at
+  -- the cell that is found
   pub record ReadAlike : Type 0 where
     pub knots-count : length x ≡ length x′
     pub tensor-count : length tensor ≡ length tensor′
     pub knots-agree : (i : ℕ) → i < axes → AgreeAt (knots g i) (knots g′ i) (visited (knots g i) (at coordinates i))
-    pub tensor-agrees : (e : ℕ) → e < 4 ^ axes → cell g tensor (quick-cell-of g (at coordinates)) e ≡ cell g tensor′ (quick-cell-of g (at coordinates)) e
+    pub tensor-agrees : (e : ℕ) → e < 4 ^ axes
+        → cell g tensor (quick-cell-of g (at coordinates)) e ≡ cell g tensor′ (quick-cell-of g (at coordinates)) e
 
   module _ (alike : ReadAlike) where
     abbrev cells : ℕ → ℕ
@@ -153,7 +174,9 @@ module _ (axes : ℕ) (all : List Axis) (x x′ tensor tensor′ coordinates : L
     axis-count : (i : ℕ) → length (knots g i) ≡ length (knots g′ i)
     axis-count i =
         length-take (points g i) (drop (sum-below (points g) i) x)
-        ∙ ap (min (points g i)) (length-drop (sum-below (points g) i) x ∙ ap (λ (n : ℕ). n - sum-below (points g) i) (alike .knots-count) ∙ sym (length-drop (sum-below (points g) i) x′))
+        ∙ ap (min (points g i))
+        (length-drop (sum-below (points g) i) x ∙ ap (λ (n : ℕ). n - sum-below (points g) i) (alike .knots-count)
+        ∙ sym (length-drop (sum-below (points g) i) x′))
         ∙ sym (length-take (points g i) (drop (sum-below (points g) i) x′))
 
     cells-same : (i : ℕ) → i < axes → cells i ≡ quick-cell-of g′ (at coordinates) i
@@ -168,7 +191,8 @@ module _ (axes : ℕ) (all : List Axis) (x x′ tensor tensor′ coordinates : L
     unfolding quick-cell-of visited
     upper-same i l = alike .knots-agree i l .1 .1 .1 .0
 
-    refused-same : (i : ℕ) → i < axes → found-cell-refused (knots g i) (cells i) ≡ found-cell-refused (knots g′ i) (quick-cell-of g′ (at coordinates) i)
+    refused-same : (i : ℕ) → i < axes
+        → found-cell-refused (knots g i) (cells i) ≡ found-cell-refused (knots g′ i) (quick-cell-of g′ (at coordinates) i)
     unfolding found-cell-refused step-refused h
     refused-same i l = rw (← cells-same i l, ← lower-same i l, ← upper-same i l) refl
 
@@ -216,8 +240,11 @@ module _ (axes : ℕ) (all : List Axis) (x x′ tensor tensor′ coordinates : L
           alike .knots-count,
           alike .tensor-count,
           value-same,
-          any-ext (λ i. found-cell-refused (knots g i) (cells i)) (λ i. found-cell-refused (knots g′ i) (quick-cell-of g′ (at coordinates) i)) axes refused-same,
-          any-ext (λ i. outside-refused (mode-at g i) (side (knots g i) (at coordinates i))) (λ i. outside-refused (mode-at g i) (side (knots g′ i) (at coordinates i))) axes (λ i l. ap (outside-refused (mode-at g i)) (side-same i l)),
+          any-ext (λ i. found-cell-refused (knots g i) (cells i))
+              (λ i. found-cell-refused (knots g′ i) (quick-cell-of g′ (at coordinates) i)) axes refused-same,
+          any-ext (λ i. outside-refused (mode-at g i) (side (knots g i) (at coordinates i)))
+              (λ i. outside-refused (mode-at g i) (side (knots g′ i) (at coordinates i))) axes
+              (λ i l. ap (outside-refused (mode-at g i)) (side-same i l)),
         )
         refl
 

@@ -1,10 +1,19 @@
--- Each promise has one answer: whatever satisfies the record of a public call, for the same inputs, is equal in its answer and in all that was lent.
+-- Each promise has one answer: whatever satisfies the record of a public call, for the same inputs, is equal in its answer and in all that
+-- was lent.
 use mathlib.Core.Path.{_≡_, sym, _∙_}
 use mathlib.Core.List.{List}
 use Prim.Native.Nat.{ℕ}
 use lib.Ieee.{Float}
 use Rattle.rules.specs.Sizes.{Grid, Place}
-use Rattle.rules.specs.Calls.{MomentsPromise, CurvePromise, SlopesPromise, BuildPromise, ChangePromise, QueryPromise, QuickQueryPromise}
+use Rattle.rules.specs.Calls.{
+  MomentsPromise,
+  CurvePromise,
+  SlopesPromise,
+  BuildPromise,
+  ChangePromise,
+  QueryPromise,
+  QuickQueryPromise,
+}
 use Rattle.rules.specs.EvenCalls.{EvenQueryPromise}
 use Rattle.rules.specs.StepCalls.{ExactPromise, AxisPromise, StepPromise, SteppedPromise}
 use Rattle.rules.specs.declared.Condition.{Condition}

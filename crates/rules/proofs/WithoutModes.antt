@@ -1,4 +1,5 @@
--- What does not read the modes of a grid's axes: sizes, knots, all refusals but 18, the cells and the value in a cell; and so the build, the change, and the queries where every axis extends.
+-- What does not read the modes of a grid's axes: sizes, knots, all refusals but 18, the cells and the value in a cell; and so the build,
+-- the change, and the queries where every axis extends.
 use mathlib.Core.Path.{_≡_, refl, ap, ap₂, fun-ext, _∙_}
 use mathlib.Core.Bool.{true, false}
 use mathlib.Core.List.{List, _++_}
@@ -7,15 +8,62 @@ use lib.Dec.{ltb, eqb}
 use lib.ListN.{take, drop}
 use lib.Ieee.{Float}
 use Rattle.rules.specs.Numbers.{at, any, table, filter}
-use Rattle.rules.specs.Sizes.{Grid, points, condition, sum-below, product-below, knots, knots-length, samples-length, masks, tensor-length, Place, flat, unflat, spot}
-use Rattle.rules.specs.Refusals.{points-refused, some-points-refused, place-refused, ends-refused, some-ends-refused, knots-refused, some-knots-refused, found-cell-refused, some-found-cell-refused, fewness-refused, some-fewness-refused}
+use Rattle.rules.specs.Sizes.{
+  Grid,
+  points,
+  condition,
+  sum-below,
+  product-below,
+  knots,
+  knots-length,
+  samples-length,
+  masks,
+  tensor-length,
+  Place,
+  flat,
+  unflat,
+  spot,
+}
+use Rattle.rules.specs.Refusals.{
+  points-refused,
+  some-points-refused,
+  place-refused,
+  ends-refused,
+  some-ends-refused,
+  knots-refused,
+  some-knots-refused,
+  found-cell-refused,
+  some-found-cell-refused,
+  fewness-refused,
+  some-fewness-refused,
+}
 use Rattle.rules.specs.Tensor.{slope-along, entry, sample, place-at, mask-at, tensor}
-use Rattle.rules.specs.Change.{can-differ, with-sample, changed-entry, changed-tensor, Lane, starts, lanes-from, lanes-along, lanes-below, change-lanes}
+use Rattle.rules.specs.Change.{
+  can-differ,
+  with-sample,
+  changed-entry,
+  changed-tensor,
+  Lane,
+  starts,
+  lanes-from,
+  lanes-along,
+  lanes-below,
+  change-lanes,
+}
 use Rattle.rules.specs.Steps.{h}
 use Rattle.rules.specs.Outside.{with-axes, ButForModes}
 use Rattle.rules.specs.Even.{first-that, uneven-refused, some-uneven-refused, uneven-axis, uneven-interval, direct-cell-of}
 use Rattle.rules.specs.Query.{corner, cell, fraction, value-in, cell-of, query, quick-cell-of, quick-query}
-use Rattle.rules.specs.Calls.{labels-of, labels, quick-labels, build-refusal, BuildPromise, change-refusal, change-answer, ChangePromise}
+use Rattle.rules.specs.Calls.{
+  labels-of,
+  labels,
+  quick-labels,
+  build-refusal,
+  BuildPromise,
+  change-refusal,
+  change-answer,
+  ChangePromise,
+}
 use Rattle.rules.specs.Extended.{
   extended-query-refusal,
   extended-query-answer,
@@ -78,10 +126,12 @@ module _ (g : Grid) (all : List Axis) (same : ButForModes g all) where
   uneven-interval-same = cc (uneven-axis-same, knots-same (uneven-axis g), same .same-points (uneven-axis g))
 
   pub knots-refused-same : some-knots-refused g ≡ some-knots-refused other
-  knots-refused-same = ap (λ (n : ℕ → ℕ). any (λ i. knots-refused (take (n i) (drop (sum-below n i) (g .flat-knots))) (n i)) (g .axes)) points-same
+  knots-refused-same =
+      ap (λ (n : ℕ → ℕ). any (λ i. knots-refused (take (n i) (drop (sum-below n i) (g .flat-knots))) (n i)) (g .axes)) points-same
 
   fewness-refused-same : some-fewness-refused g ≡ some-fewness-refused other
-  fewness-refused-same = ap₂ (λ (c : ℕ → Condition) (n : ℕ → ℕ). any (λ i. fewness-refused (c i) (n i)) (g .axes)) condition-same points-same
+  fewness-refused-same =
+      ap₂ (λ (c : ℕ → Condition) (n : ℕ → ℕ). any (λ i. fewness-refused (c i) (n i)) (g .axes)) condition-same points-same
 
   -- ---- the tensor
 
@@ -111,7 +161,8 @@ module _ (g : Grid) (all : List Axis) (same : ButForModes g all) where
       ap₂ (λ (n : ℕ) (f : ℕ → Float). table n f) tensor-length-same
       (fun-ext (λ e. rw (sample-same samples, entry-same (sample other samples) (g .axes) (mask-at g e), place-same e) refl))
 
-  pub build-refusal-without-modes : (samples out scratch : List Float) → build-refusal g samples out scratch ≡ build-refusal other samples out scratch
+  pub build-refusal-without-modes : (samples out scratch : List Float)
+      → build-refusal g samples out scratch ≡ build-refusal other samples out scratch
   unfolding build-refusal
   build-refusal-without-modes samples out scratch =
       rw (
@@ -141,7 +192,8 @@ module _ (g : Grid) (all : List Axis) (same : ButForModes g all) where
 
   -- ---- the change
 
-  changed-entry-same : (changed : Place) (v : Float) (old : Place → ℕ → Float) (i mask : ℕ) → changed-entry g changed v old i mask ≡ changed-entry other changed v old i mask
+  changed-entry-same : (changed : Place) (v : Float) (old : Place → ℕ → Float) (i mask : ℕ)
+      → changed-entry g changed v old i mask ≡ changed-entry other changed v old i mask
   unfolding changed-entry with-sample can-differ
   changed-entry-same changed v old zero mask = refl
   changed-entry-same changed v old (suc i) mask =
@@ -161,13 +213,15 @@ module _ (g : Grid) (all : List Axis) (same : ButForModes g all) where
   old-same : (numbers : List Float) → old-numbers g numbers ≡ old-numbers other numbers
   old-same numbers = fun-ext (λ p. fun-ext (λ mask. ap (λ (n : ℕ → ℕ). at numbers (flat n (g .axes) p * masks g + mask)) points-same))
 
-  pub changed-tensor-without-modes : (changed : Place) (v : Float) (old : List Float) → changed-tensor g changed v old ≡ changed-tensor other changed v old
+  pub changed-tensor-without-modes : (changed : Place) (v : Float) (old : List Float)
+      → changed-tensor g changed v old ≡ changed-tensor other changed v old
   unfolding changed-tensor
   changed-tensor-without-modes changed v old =
       ap₂ (λ (n : ℕ) (f : ℕ → Float). table n f) tensor-length-same
       (fun-ext (λ e. rw (old-same old, changed-entry-same changed v (old-numbers other old) (g .axes) (mask-at g e), place-same e) refl))
 
-  pub change-refusal-without-modes : (old scratch : List Float) (changed : Place) (v : Float) → change-refusal g old scratch changed v ≡ change-refusal other old scratch changed v
+  pub change-refusal-without-modes : (old scratch : List Float) (changed : Place) (v : Float)
+      → change-refusal g old scratch changed v ≡ change-refusal other old scratch changed v
   unfolding change-refusal
   change-refusal-without-modes old scratch changed v =
       rw (
@@ -189,7 +243,8 @@ module _ (g : Grid) (all : List Axis) (same : ButForModes g all) where
   lanes-along-same : (i mask : ℕ) → lanes-along g i mask ≡ lanes-along other i mask
   unfolding lanes-along
   lanes-along-same i zero = refl
-  lanes-along-same i (suc mask) = ap₂ (λ (before here : List Lane). before ++ here) (lanes-along-same i mask) (ap (lanes-from i mask) (starts-same i))
+  lanes-along-same i (suc mask) =
+      ap₂ (λ (before here : List Lane). before ++ here) (lanes-along-same i mask) (ap (lanes-from i mask) (starts-same i))
 
   lanes-below-same : (i : ℕ) → lanes-below g i ≡ lanes-below other i
   unfolding lanes-below
@@ -199,9 +254,13 @@ module _ (g : Grid) (all : List Axis) (same : ButForModes g all) where
   lanes-same : (changed : Place) → change-lanes g changed ≡ change-lanes other changed
   unfolding change-lanes can-differ
   lanes-same changed =
-      ap₂ (λ (n : ℕ → ℕ) (lanes : List Lane). filter (λ lane. can-differ g changed (lane .axis) (lane .mask) (unflat n (g .axes) (lane .start))) lanes) points-same (lanes-below-same (g .axes))
+      ap₂
+      (λ (n : ℕ → ℕ) (lanes : List Lane). filter
+      (λ lane. can-differ g changed (lane .axis) (lane .mask) (unflat n (g .axes) (lane .start))) lanes)
+      points-same (lanes-below-same (g .axes))
 
-  change-answer-same : (old scratch : List Float) (changed : Place) (v : Float) → change-answer g old scratch changed v ≡ change-answer other old scratch changed v
+  change-answer-same : (old scratch : List Float) (changed : Place) (v : Float)
+      → change-answer g old scratch changed v ≡ change-answer other old scratch changed v
   unfolding change-answer
   change-answer-same old scratch changed v = cc (change-refusal-without-modes old scratch changed v, lanes-same changed)
 
@@ -237,7 +296,8 @@ module _ (g : Grid) (all : List Axis) (same : ButForModes g all) where
   numbers-same numbers cells e =
       ap (λ (n : ℕ → ℕ). at numbers (flat n (g .axes) (corner (g .axes) cells (e / masks g)) * masks g + e % masks g)) points-same
 
-  pub value-without-modes : (numbers : List Float) (cells : Place) (point : ℕ → Float) → value-in g numbers cells point ≡ value-in other numbers cells point
+  pub value-without-modes : (numbers : List Float) (cells : Place) (point : ℕ → Float)
+      → value-in g numbers cells point ≡ value-in other numbers cells point
   unfolding value-in
   value-without-modes numbers cells point =
       blend-ext (g .axes) 0 _ _ _ _ _ _
@@ -255,32 +315,51 @@ module _ (g : Grid) (all : List Axis) (same : ButForModes g all) where
 
   query-same : (numbers : List Float) (point : ℕ → Float) → query g numbers point ≡ query other numbers point
   unfolding query
-  query-same numbers point = value-without-modes numbers (cell-of g point) point ∙ ap (λ (cells : Place). value-in other numbers cells point) (cell-without-modes point)
+  query-same numbers point =
+      value-without-modes numbers (cell-of g point) point
+      ∙ ap (λ (cells : Place). value-in other numbers cells point) (cell-without-modes point)
 
   quick-query-same : (numbers : List Float) (point : ℕ → Float) → quick-query g numbers point ≡ quick-query other numbers point
   unfolding quick-query
-  quick-query-same numbers point = value-without-modes numbers (quick-cell-of g point) point ∙ ap (λ (cells : Place). value-in other numbers cells point) (quick-cell-without-modes point)
+  quick-query-same numbers point =
+      value-without-modes numbers (quick-cell-of g point) point
+      ∙ ap (λ (cells : Place). value-in other numbers cells point) (quick-cell-without-modes point)
 
-  found-cells-same : (point : ℕ → Float) → some-found-cell-refused g (quick-cell-of g point) ≡ some-found-cell-refused other (quick-cell-of other point)
+  found-cells-same : (point : ℕ → Float)
+      → some-found-cell-refused g (quick-cell-of g point) ≡ some-found-cell-refused other (quick-cell-of other point)
   found-cells-same point =
-      ap₂ (λ (n : ℕ → ℕ) (cells : Place). any (λ i. found-cell-refused (take (n i) (drop (sum-below n i) (g .flat-knots))) (cells i)) (g .axes)) points-same (quick-cell-without-modes point)
+      ap₂
+      (λ (n : ℕ → ℕ) (cells : Place). any (λ i. found-cell-refused (take (n i) (drop (sum-below n i) (g .flat-knots))) (cells i))
+      (g .axes))
+      points-same (quick-cell-without-modes point)
 
-  extended-refusal-same : (numbers coordinates : List Float) → extended-query-refusal g numbers coordinates ≡ extended-query-refusal other numbers coordinates
+  extended-refusal-same : (numbers coordinates : List Float)
+      → extended-query-refusal g numbers coordinates ≡ extended-query-refusal other numbers coordinates
   unfolding extended-query-refusal
   extended-refusal-same numbers coordinates =
       rw (query-same numbers (at coordinates), points-refused-same, tensor-length-same, knots-length-same, knots-refused-same) refl
 
-  extended-quick-refusal-same : (numbers coordinates : List Float) → extended-quick-refusal g numbers coordinates ≡ extended-quick-refusal other numbers coordinates
+  extended-quick-refusal-same : (numbers coordinates : List Float)
+      → extended-quick-refusal g numbers coordinates ≡ extended-quick-refusal other numbers coordinates
   unfolding extended-quick-refusal
   extended-quick-refusal-same numbers coordinates =
-      rw (quick-query-same numbers (at coordinates), found-cells-same (at coordinates), points-refused-same, tensor-length-same, knots-length-same) refl
+      rw (
+        quick-query-same numbers (at coordinates),
+        found-cells-same (at coordinates),
+        points-refused-same,
+        tensor-length-same,
+        knots-length-same,
+      )
+      refl
 
-  pub extended-without-modes : (numbers coordinates : List Float) → extended-query-answer g numbers coordinates ≡ extended-query-answer other numbers coordinates
+  pub extended-without-modes : (numbers coordinates : List Float)
+      → extended-query-answer g numbers coordinates ≡ extended-query-answer other numbers coordinates
   unfolding extended-query-answer
   extended-without-modes numbers coordinates =
       cc (extended-refusal-same numbers coordinates, query-same numbers (at coordinates), labels-without-modes coordinates)
 
-  pub extended-quick-without-modes : (numbers coordinates : List Float) → extended-quick-answer g numbers coordinates ≡ extended-quick-answer other numbers coordinates
+  pub extended-quick-without-modes : (numbers coordinates : List Float)
+      → extended-quick-answer g numbers coordinates ≡ extended-quick-answer other numbers coordinates
   unfolding extended-quick-answer
   extended-quick-without-modes numbers coordinates =
       cc (extended-quick-refusal-same numbers coordinates, quick-query-same numbers (at coordinates), quick-labels-same coordinates)

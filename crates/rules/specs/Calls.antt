@@ -7,8 +7,37 @@ use lib.Dec.{ltb, eqb}
 use lib.ListN.{length}
 use lib.Ieee.{Float}
 use Rattle.rules.specs.Numbers.{plus-zero, at, zeros, table}
-use Rattle.rules.specs.Sizes.{most-axes, scratch-of-rows, Grid, knots-length, knots, samples-length, tensor-length, scratch-length, Place}
-use Rattle.rules.specs.Refusals.{axes-refused, points-refused, some-points-refused, tensor-refused, length-refused, scratch-refused, place-refused, number-refused, some-number-refused, ends-refused, some-ends-refused, knots-refused, some-knots-refused, some-found-cell-refused, fewness-refused, some-fewness-refused, outcome-refused, answer-refused}
+use Rattle.rules.specs.Sizes.{
+  most-axes,
+  scratch-of-rows,
+  Grid,
+  knots-length,
+  knots,
+  samples-length,
+  tensor-length,
+  scratch-length,
+  Place,
+}
+use Rattle.rules.specs.Refusals.{
+  axes-refused,
+  points-refused,
+  some-points-refused,
+  tensor-refused,
+  length-refused,
+  scratch-refused,
+  place-refused,
+  number-refused,
+  some-number-refused,
+  ends-refused,
+  some-ends-refused,
+  knots-refused,
+  some-knots-refused,
+  some-found-cell-refused,
+  fewness-refused,
+  some-fewness-refused,
+  outcome-refused,
+  answer-refused,
+}
 use Rattle.rules.specs.Moments.{moments}
 use Rattle.rules.specs.Curve.{curve, knot-slopes}
 use Rattle.rules.specs.Tensor.{tensor}
@@ -103,7 +132,10 @@ module _ (n : ℕ) (knots samples moments-in slopes-out : List Float) where
   unfolding knot-slopes
   slopes-refusal =
       cond (points-refused n) 2
-      (cond (length-refused (length knots) n || length-refused (length samples) n || length-refused (length moments-in) n || length-refused (length slopes-out) n) 4
+      (cond
+      (length-refused (length knots) n || length-refused (length samples) n || length-refused (length
+      moments-in) n || length-refused (length slopes-out) n)
+      4
       (cond (some-number-refused knots || some-number-refused samples) 7
       (cond (knots-refused knots n) 8
       (cond (outcome-refused (knot-slopes knots (n - 1) samples moments-in)) 10 0))))
@@ -123,7 +155,10 @@ module _ (g : Grid) (samples tensor-out scratch-lent : List Float) where
       cond (axes-refused g) 1
       (cond (some-points-refused g) 2
       (cond (tensor-refused g) 3
-      (cond (length-refused (length (g .flat-knots)) (knots-length g) || length-refused (length samples) (samples-length g) || length-refused (length tensor-out) (tensor-length g)) 4
+      (cond
+      (length-refused (length (g .flat-knots)) (knots-length g) || length-refused (length samples) (samples-length
+      g) || length-refused (length tensor-out) (tensor-length g))
+      4
       (cond (scratch-refused (length scratch-lent) (scratch-length g)) 5
       (cond (some-number-refused (g .flat-knots) || some-ends-refused g || some-number-refused samples) 7
       (cond (some-knots-refused g) 8
@@ -182,7 +217,8 @@ answer-of refusal value labels = record {
 -- 4 of every query
 abbrev pub query-lengths-refused : Grid → List Float → List Float → Bool
 query-lengths-refused g tensor-lent coordinates =
-    length-refused (length (g .flat-knots)) (knots-length g) || length-refused (length tensor-lent) (tensor-length g) || length-refused (length coordinates) (g .axes)
+    length-refused (length (g .flat-knots)) (knots-length g) || length-refused (length tensor-lent) (tensor-length g)
+    || length-refused (length coordinates) (g .axes)
 
 -- the labels of the query, and those of the quick query: the cells of the coordinates as they are given, in every mode
 unfoldable pub labels : Grid → List Float → List ℕ

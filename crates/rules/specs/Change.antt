@@ -13,7 +13,8 @@ unfoldable pub agree : (ℕ → Bool) → ℕ → Place → Place → Bool
 agree free zero p q = true
 agree free (suc d) p q = (free d || eqb (p d) (q d)) && agree free d p q
 
--- whether the lane along axis i of the numbers at a mask, the one on which p lies, can differ: on every other axis that is not in the mask it has the changed place's index
+-- whether the lane along axis i of the numbers at a mask, the one on which p lies, can differ: on every other axis that is not in the mask
+-- it has the changed place's index
 unfoldable pub can-differ : Grid → Place → ℕ → ℕ → Place → Bool
 unfolding agree in-mask
 can-differ g changed i mask p = agree (in-mask (mask + 2 ^ i)) (g .axes) p changed
@@ -23,7 +24,8 @@ unfoldable pub with-sample : Grid → (Place → Float) → Place → Float → 
 unfolding agree
 with-sample g samples changed v p = cond (agree (λ j. false) (g .axes) p changed) v (samples p)
 
--- as `entry`, from the numbers of any tensor: the new sample stands in its place, lanes that can differ are solved, and every other number is the old one
+-- as `entry`, from the numbers of any tensor: the new sample stands in its place, lanes that can differ are solved, and every other number
+-- is the old one
 unfoldable pub changed-entry : Grid → Place → Float → (Place → ℕ → Float) → ℕ → ℕ → Place → Float
 unfolding with-sample can-differ slope-along
 changed-entry g changed v old zero mask p = with-sample g (λ q. old q 0) changed v p

@@ -1,4 +1,5 @@
--- The chapter Ends of docs/RULES.md: the conditions that have names, the ends of a spline through derivatives, and the fewest points that an axis needs.
+-- The chapter Ends of docs/RULES.md: the conditions that have names, the ends of a spline through derivatives, and the fewest points that
+-- an axis needs.
 use Prim.Native.Nat.{ℕ, zero, suc, _+_}
 use lib.Ieee.{Float}
 use Rattle.rules.specs.Numbers.{plus-zero}
@@ -42,7 +43,8 @@ abbrev pub crossed : Condition → Condition
 crossed (Endpoints lower upper) = Endpoints (zero-valued lower) (zero-valued upper)
 crossed Periodic = Periodic
 
--- what a spline through the numbers at a mask takes: through the samples, at mask 0, the condition itself, and through derivatives the crossed one
+-- what a spline through the numbers at a mask takes: through the samples, at mask 0, the condition itself, and through derivatives the
+-- crossed one
 abbrev pub condition-at : ℕ → Condition → Condition
 condition-at zero condition = condition
 condition-at (suc mask) condition = crossed condition

@@ -7,7 +7,14 @@ use lib.Dec.{eqb}
 use lib.Ieee.{Float}
 use Rattle.rules.specs.Numbers.{at}
 use Rattle.rules.specs.Sizes.{Grid}
-use Rattle.rules.specs.Refusals.{axes-refused, some-points-refused, tensor-refused, some-number-refused, some-knots-refused, answer-refused}
+use Rattle.rules.specs.Refusals.{
+  axes-refused,
+  some-points-refused,
+  tensor-refused,
+  some-number-refused,
+  some-knots-refused,
+  answer-refused,
+}
 use Rattle.rules.specs.Outside.{some-outside-refused}
 use Rattle.rules.specs.Even.{some-uneven-refused, uneven-axis, uneven-interval}
 use Rattle.rules.specs.Query.{even-cell-of, even-query}

@@ -5,7 +5,15 @@ use Prim.Native.Nat.{ℕ}
 use lib.Ieee.{Float}
 use Rattle.rules.specs.Numbers.{at}
 use Rattle.rules.specs.Sizes.{Grid}
-use Rattle.rules.specs.Refusals.{axes-refused, some-points-refused, tensor-refused, some-number-refused, some-knots-refused, some-found-cell-refused, answer-refused}
+use Rattle.rules.specs.Refusals.{
+  axes-refused,
+  some-points-refused,
+  tensor-refused,
+  some-number-refused,
+  some-knots-refused,
+  some-found-cell-refused,
+  answer-refused,
+}
 use Rattle.rules.specs.Even.{some-uneven-refused, uneven-axis, uneven-interval, direct-cell-of}
 use Rattle.rules.specs.Query.{value-in, query, quick-cell-of, quick-query}
 use Rattle.rules.specs.Calls.{answer-of, labels-of, query-lengths-refused, labels, quick-labels}

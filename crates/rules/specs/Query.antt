@@ -10,7 +10,8 @@ use Rattle.rules.specs.Search.{lower-index}
 use Rattle.rules.specs.Outside.{placed-on}
 use Rattle.rules.specs.Even.{direct-cell-of}
 
--- the blend of two knots with values p0, p1 and slopes m0, m1, at the fraction t of their width; with the names of the Rust in `evaluate_hermite_1d`
+-- the blend of two knots with values p0, p1 and slopes m0, m1, at the fraction t of their width; with the names of the Rust in
+-- `evaluate_hermite_1d`
 unfoldable pub hermite : Float → Float → Float → Float → Float → Float → Float
 hermite p0 m0 p1 m1 width t =
     let t2 : Float = t ⊗ t in

@@ -1,4 +1,5 @@
--- The chapter Refusals of docs/RULES.md: for each number the test by which it is given. Which call has which, and in what order, stands in Calls.
+-- The chapter Refusals of docs/RULES.md: for each number the test by which it is given. Which call has which, and in what order, stands in
+-- Calls.
 use mathlib.Core.Bool.{Bool, false, not, _||_}
 use mathlib.Core.List.{List}
 use Prim.Native.Nat.{ℕ, _+_, _-_}
@@ -8,7 +9,18 @@ use lib.Ieee.{Float, lt}
 use lib.Ieee.Scale.{finite}
 use Rattle.rules.specs.Numbers.{at, any}
 use Rattle.rules.specs.Ends.{fewest-points}
-use Rattle.rules.specs.Sizes.{most-axes, fewest-on-an-axis, most-on-an-axis, most-in-a-tensor, Grid, points, condition, knots, tensor-length, Place}
+use Rattle.rules.specs.Sizes.{
+  most-axes,
+  fewest-on-an-axis,
+  most-on-an-axis,
+  most-in-a-tensor,
+  Grid,
+  points,
+  condition,
+  knots,
+  tensor-length,
+  Place,
+}
 use Rattle.rules.specs.Steps.{h}
 use Rattle.rules.specs.declared.End.{End}
 use Rattle.rules.specs.declared.End.the-variants.{NotAKnot, FirstDerivative, SecondDerivative}

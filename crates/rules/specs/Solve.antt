@@ -1,4 +1,5 @@
--- The chapter Solve of docs/RULES.md: the two solves of linear rows, each row a function of its index. Row k has sub (k - 1), diag k, sup k and rhs k; the last row is row l.
+-- The chapter Solve of docs/RULES.md: the two solves of linear rows, each row a function of its index. Row k has sub (k - 1), diag k, sup k
+-- and rhs k; the last row is row l.
 use mathlib.Core.Bool.{cond}
 use Prim.Native.Nat.{ℕ, zero, suc, _-_}
 use lib.Dec.{eqb}

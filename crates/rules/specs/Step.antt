@@ -1,4 +1,5 @@
--- The chapter Step of docs/RULES.md: whether a point is a knot, the knot that it steps to on one axis, and the sample at the indices of all axes.
+-- The chapter Step of docs/RULES.md: whether a point is a knot, the knot that it steps to on one axis, and the sample at the indices of all
+-- axes.
 use mathlib.Core.Bool.{cond}
 use mathlib.Core.List.{List}
 use Prim.Native.Nat.{ℕ, _+_, _-_}

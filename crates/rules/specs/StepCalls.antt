@@ -8,7 +8,19 @@ use lib.ListN.{getD, length}
 use lib.Ieee.{Float}
 use Rattle.rules.specs.Numbers.{at, table}
 use Rattle.rules.specs.Sizes.{most-axes, Grid, knots-length, samples-length}
-use Rattle.rules.specs.Refusals.{axes-refused, points-refused, some-points-refused, tensor-refused, length-refused, lower-refused, number-refused, some-number-refused, knots-refused, some-knots-refused, location-refused}
+use Rattle.rules.specs.Refusals.{
+  axes-refused,
+  points-refused,
+  some-points-refused,
+  tensor-refused,
+  length-refused,
+  lower-refused,
+  number-refused,
+  some-number-refused,
+  knots-refused,
+  some-knots-refused,
+  location-refused,
+}
 use Rattle.rules.specs.Step.{exact-index, locate-axis, step-index, stepped-place, stepped, lower-step, upper-step}
 use Rattle.rules.specs.Calls.{answered, counted, labelled}
 use Rattle.rules.specs.declared.StepDirection.{StepDirection}
@@ -108,7 +120,10 @@ module _ (g : Grid) (directions : List StepDirection) (samples coordinates : Lis
       cond (axes-refused g) 1
       (cond (some-points-refused g) 2
       (cond (tensor-refused g) 3
-      (cond (length-refused (length (g .flat-knots)) (knots-length g) || length-refused (length samples) (samples-length g) || length-refused (length coordinates) (g .axes)) 4
+      (cond
+      (length-refused (length (g .flat-knots)) (knots-length g) || length-refused (length samples) (samples-length
+      g) || length-refused (length coordinates) (g .axes))
+      4
       (cond (some-number-refused (g .flat-knots) || some-number-refused samples || some-number-refused coordinates) 7
       (cond (some-knots-refused g) 8 0)))))
 

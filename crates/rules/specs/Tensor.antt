@@ -16,7 +16,8 @@ slope-along g i mask numbers p =
     lane-slope (knots g i) (points g i - 1) (condition-at mask (condition g i))
     (table (points g i) (λ k. numbers (moved p i k))) (p i)
 
--- the number at a place and a mask once the axes below i are done: at mask 0 the sample, else the slope along the highest axis of the mask, of the numbers without it
+-- the number at a place and a mask once the axes below i are done: at mask 0 the sample, else the slope along the highest axis of the mask,
+-- of the numbers without it
 unfoldable pub entry : Grid → (Place → Float) → ℕ → ℕ → Place → Float
 unfolding slope-along
 entry g samples zero mask p = samples p

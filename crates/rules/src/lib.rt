@@ -63,7 +63,8 @@ pub struct QueryAnswer {
     pub labels: [usize; 4],
 }
 
-// What a query of even axes answers: the same, and after 21 the lowest axis that is not even and its first interval that fails, both 0 else.
+// What a query of even axes answers: the same, and after 21 the lowest axis that is not even and its first interval that fails, both 0
+// else.
 pub struct EvenAnswer {
     pub refusal: usize,
     pub value: f64,

@@ -9,11 +9,11 @@ use lib.Ieee.{Float}
 use Rattle.rules.specs.Sizes.{Grid, tensor-length}
 use Rattle.rules.specs.Tensor.{tensor}
 use Rattle.rules.proofs.Refused.{or-else-passed}
-use Rattle.checks.proofs.Rows.{axes-few}
-use Rattle.sheet.specs.Fields.{edition, axes, sheet-grid, sheet-samples}
-use Rattle.sheet.specs.Faults.{sheet-refusal}
-use Rattle.sheet.specs.Read.{over}
-use Rattle.sheet.proofs.Parts.{parts, take-over}
+use Rattle.grid_checks.proofs.Rows.{axes-few}
+use Rattle.sheet_read.specs.Fields.{edition, axes, sheet-grid, sheet-samples}
+use Rattle.sheet_read.specs.Faults.{sheet-refusal}
+use Rattle.sheet_read.specs.Read.{over}
+use Rattle.sheet_read.proofs.Parts.{parts, take-over}
 use Rattle.sheet_build.specs.SheetTensor.{answer-of, own-refusal, SheetPromise}
 use Rattle.sheet_build.specs.Within.{Enough}
 use Rattle.sheet_build.specs.declared.SheetAnswer.{SheetAnswer}
@@ -41,10 +41,12 @@ module _ (bytes : List ℕ) where
       (given : SheetAnswer) (k s t w : List Float) (p : SheetPromise bytes knots samples lent scratch given k s t w)
     where
       answer-alone : given ≡ answer-of (sheet-refusal bytes) (own-refusal bytes) (edition bytes) g
-      answer-alone = rw (reading-is bytes knots samples lent scratch enough, refusal-is bytes knots samples lent scratch enough) at (p .answer)
+      answer-alone =
+          rw (reading-is bytes knots samples lent scratch enough, refusal-is bytes knots samples lent scratch enough) at (p .answer)
 
       pub answered-alone : given .refusal ≡ own-refusal bytes
-      answered-alone = ap (λ (a : SheetAnswer). a .refusal) answer-alone ∙ answered-refusal (sheet-refusal bytes) (own-refusal bytes) (edition bytes) g
+      answered-alone =
+          ap (λ (a : SheetAnswer). a .refusal) answer-alone ∙ answered-refusal (sheet-refusal bytes) (own-refusal bytes) (edition bytes) g
 
       -- an accepted sheet
       module _ (none : own-refusal bytes ≡ 0) where

@@ -11,7 +11,7 @@ use Rattle.rules.specs.Tensor.{tensor}
 use Rattle.rules.specs.Calls.{stored, counted, BuildPromise}
 use Rattle.rules.specs.declared.Axis.{Axis}
 use Rattle.grid.specs.Given.{grid, sizes-of}
-use Rattle.sheet.specs.Read.{over}
+use Rattle.sheet_read.specs.Read.{over}
 use Rattle.sheet_build.specs.SheetTensor.{unread-answer, read-answer, answer-of, grid-in, samples-in, parts-refusal, PartsPromise}
 use Rattle.sheet_build.specs.declared.SheetAnswer.{SheetAnswer}
 
@@ -34,15 +34,18 @@ unfolding tensor
 length-tensor g samples = length-table (tensor-length g) _
 
 -- the first n places stored or as they were, and the others as they were
-front-later : (refusal n : ℕ) (lent new : List Float) → length new ≡ n → stored refusal (take n lent) new ++ drop n lent ≡ stored refusal lent (over new lent)
+front-later : (refusal n : ℕ) (lent new : List Float) → length new ≡ n
+    → stored refusal (take n lent) new ++ drop n lent ≡ stored refusal lent (over new lent)
 front-later zero n lent new e = rw e
 front-later (suc refusal) n lent new e = take-append-drop n lent
 
 module _
     (edition axes : ℕ) (all : List Axis) (knots samples lent scratch : List Float) (knots-end samples-end n : ℕ)
-    (k : knots-end ≡ knots-length (sizes-of axes all)) (s : samples-end ≡ samples-length (sizes-of axes all)) (t : n ≡ tensor-length (sizes-of axes all))
+    (k : knots-end ≡ knots-length (sizes-of axes all)) (s : samples-end ≡ samples-length (sizes-of axes all))
+    (t : n ≡ tensor-length (sizes-of axes all))
     (r : ℕ) (new scratch-later : List Float)
-    (built : BuildPromise (grid axes all (take (knots-end - 0) knots)) (take (samples-end - 0) samples) (take (n - 0) lent) scratch r new scratch-later)
+    (built : BuildPromise (grid axes all (take (knots-end - 0) knots)) (take (samples-end - 0) samples) (take (n - 0) lent) scratch r new
+    scratch-later)
   where
     abbrev g : Grid
     g = grid-in axes all knots
@@ -57,7 +60,8 @@ module _
         let c : n - 0 ≡ tensor-length (sizes-of axes all) = omega arith in
         rw (a, b, c) at built
 
-    parts-answered : (given : SheetAnswer) → given ≡ read-answer r edition g → PartsPromise g y lent scratch edition given (new ++ drop (n - 0) lent) scratch-later
+    parts-answered : (given : SheetAnswer) → given ≡ read-answer r edition g
+        → PartsPromise g y lent scratch edition given (new ++ drop (n - 0) lent) scratch-later
     parts-answered given e = record {
       answer = rw (of-parts .answer) at e;
       output =
@@ -66,8 +70,12 @@ module _
       scratch = of-parts .scratch;
     }
 
-    pub parts-refused : (r ≡ 0 → ⊥) → PartsPromise g y lent scratch edition (record { refusal = r; edition = edition; axes = axes; all = all; length = 0 }) (new ++ drop (n - 0) lent) scratch-later
+    pub parts-refused : (r ≡ 0 → ⊥)
+        → PartsPromise g y lent scratch edition (record { refusal = r; edition = edition; axes = axes; all = all; length = 0 })
+        (new ++ drop (n - 0) lent) scratch-later
     parts-refused met = parts-answered _ (rw (none-counted r (tensor-length g) met))
 
-    pub parts-built : r ≡ 0 → PartsPromise g y lent scratch edition (record { refusal = r; edition = edition; axes = axes; all = all; length = n }) (new ++ drop (n - 0) lent) scratch-later
+    pub parts-built : r ≡ 0
+        → PartsPromise g y lent scratch edition (record { refusal = r; edition = edition; axes = axes; all = all; length = n })
+        (new ++ drop (n - 0) lent) scratch-later
     parts-built none = parts-answered _ (rw (none, t))

@@ -1,4 +1,5 @@
--- What the class of the call's refusal says of the answer and the buffers: after Reading nothing of the sheet shows, after Building the answer has its axes and its parts stand in the buffers.
+-- What the class of the call's refusal says of the answer and the buffers: after Reading nothing of the sheet shows, after Building the
+-- answer has its axes and its parts stand in the buffers.
 use mathlib.Core.Path.{_≡_, refl, sym, ap, _∙_}
 use mathlib.Core.Bool.{_||_}
 use mathlib.Core.List.{List}
@@ -8,19 +9,33 @@ use borrow.Author.Tests.{eq-eqb, ltb-false}
 use lib.ListN.{length, take, length-take}
 use lib.Ieee.{Float}
 use Rattle.rules.specs.Sizes.{Grid, tensor-length, scratch-length}
-use Rattle.rules.specs.Refusals.{scratch-refused, some-number-refused, some-ends-refused, some-knots-refused, some-fewness-refused, outcome-refused}
+use Rattle.rules.specs.Refusals.{
+  scratch-refused,
+  some-number-refused,
+  some-ends-refused,
+  some-knots-refused,
+  some-fewness-refused,
+  outcome-refused,
+}
 use Rattle.rules.specs.Tensor.{tensor}
 use Rattle.rules.specs.Calls.{build-refusal}
 use Rattle.rules.proofs.Refused.{unchanged}
-use Rattle.kinds.specs.Classes.{class}
-use Rattle.kinds.specs.declared.classes.Class.the-variants.{Reading, Building}
-use Rattle.kinds.proofs.Apart.{none-not-reading, reading-not-building, none-not-building}
-use Rattle.kinds.proofs.Tested.{tested}
-use Rattle.kinds.proofs.Classed.{Of, no-fault}
-use Rattle.sheet.specs.Fields.{edition, sheet-grid, sheet-samples}
-use Rattle.sheet.specs.Read.{over}
-use Rattle.sheet.proofs.Parts.{parts}
-use Rattle.sheet_build.specs.SheetTensor.{unread-answer, read-answer, parts-refusal, reading-refusal, sheet-tensor-refusal, SheetPromise}
+use Rattle.grid_codes.specs.Classes.{class}
+use Rattle.grid_codes.specs.declared.classes.Class.the-variants.{Reading, Building}
+use Rattle.grid_codes.proofs.Apart.{none-not-reading, reading-not-building, none-not-building}
+use Rattle.grid_codes.proofs.Tested.{tested}
+use Rattle.grid_codes.proofs.Classed.{Of, no-fault}
+use Rattle.sheet_read.specs.Fields.{edition, sheet-grid, sheet-samples}
+use Rattle.sheet_read.specs.Read.{over}
+use Rattle.sheet_read.proofs.Parts.{parts}
+use Rattle.sheet_build.specs.SheetTensor.{
+  unread-answer,
+  read-answer,
+  parts-refusal,
+  reading-refusal,
+  sheet-tensor-refusal,
+  SheetPromise,
+}
 use Rattle.sheet_build.specs.declared.SheetAnswer.{SheetAnswer}
 use Rattle.sheet_build.proofs.Faults.{reading-of-reading}
 use Rattle.sheet_build.proofs.Builds.{unread-is, answered-refusal}
@@ -91,7 +106,8 @@ module _ (bytes : List ℕ) (knots samples lent scratch : List Float) where
           p .samples ∙ sym (unchanged reading samples _ met),
         )
 
-    pub parts-stand : class (given .refusal) ≡ Building → (given ≡ read-answer refusal (edition bytes) g) × (k ≡ over (g .flat-knots) knots) × (s ≡ over y samples)
+    pub parts-stand : class (given .refusal) ≡ Building
+        → (given ≡ read-answer refusal (edition bytes) g) × (k ≡ over (g .flat-knots) knots) × (s ≡ over y samples)
     parts-stand c =
         let none = was-read (sym class-is ∙ c) in
         (rw none at (p .answer), rw none at (p .knots), rw none at (p .samples))

@@ -1,4 +1,5 @@
--- Demand 3 of a tensor that `tensor_of_sheet` made, from its promise alone: what a caller finds in the answer and in the buffers is an accepted build, so the four statements hold of it.
+-- Demand 3 of a tensor that `tensor_of_sheet` made, from its promise alone: what a caller finds in the answer and in the buffers is an
+-- accepted build, so the four statements hold of it.
 use mathlib.Core.Path.{_≡_, sym, ap, _∙_}
 use mathlib.Core.List.{List}
 use Prim.Native.Nat.{ℕ}
@@ -8,11 +9,26 @@ use Rattle.rules.specs.Sizes.{Grid, knots-length, samples-length, tensor-length
 use Rattle.rules.specs.Tensor.{tensor}
 use Rattle.rules.specs.Calls.{BuildPromise}
 use Rattle.rules.proofs.Refused.{or-else-passed}
-use Rattle.tensor.proofs.Demand3.{BitsOfFreshBuild, RefusalOfFreshBuild, BitsKeptElsewhere, has-bits-of-fresh-build, refused-as-fresh-build, keeps-bits-elsewhere}
-use Rattle.sheet.specs.Fields.{edition, sheet-grid, sheet-samples}
-use Rattle.sheet.specs.Read.{over}
-use Rattle.sheet.proofs.Parts.{Parts, parts, take-over}
-use Rattle.sheet_build.specs.SheetTensor.{read-answer, grid-in, samples-in, parts-refusal, reading-refusal, sheet-tensor-refusal, SheetPromise}
+use Rattle.tensor.proofs.Demand3.{
+  BitsOfFreshBuild,
+  RefusalOfFreshBuild,
+  BitsKeptElsewhere,
+  has-bits-of-fresh-build,
+  refused-as-fresh-build,
+  keeps-bits-elsewhere,
+}
+use Rattle.sheet_read.specs.Fields.{edition, sheet-grid, sheet-samples}
+use Rattle.sheet_read.specs.Read.{over}
+use Rattle.sheet_read.proofs.Parts.{Parts, parts, take-over}
+use Rattle.sheet_build.specs.SheetTensor.{
+  read-answer,
+  grid-in,
+  samples-in,
+  parts-refusal,
+  reading-refusal,
+  sheet-tensor-refusal,
+  SheetPromise,
+}
 use Rattle.sheet_build.specs.declared.SheetAnswer.{SheetAnswer}
 use Rattle.sheet_build.proofs.Builds.{answered-refusal, length-tensor}
 use Rattle.sheet_build.proofs.Promises.{read-passed}
@@ -73,7 +89,8 @@ module _
         let stand : t ≡ over (tensor g y) lent = rw refusal-none at (p .output) in
         rw (answer-is, stand) (take-over (tensor g y) lent (tensor-length g) (length-tensor g y))
 
-    pub sheet-is-built : BuildPromise (grid-made given k) (samples-made given s) (take (given .length) lent) scratch 0 (tensor-made given t) w
+    pub sheet-is-built : BuildPromise (grid-made given k) (samples-made given s) (take (given .length) lent) scratch 0 (tensor-made given t)
+        w
     unfolding sheet-tensor-refusal
     sheet-is-built =
         let room : take (given .length) lent ≡ take (tensor-length g) lent = rw answer-is in

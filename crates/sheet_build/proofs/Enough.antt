@@ -9,15 +9,16 @@ use lib.Ieee.{Float}
 use Rattle.rules.specs.Numbers.{plus-zero, zeros}
 use Rattle.rules.specs.Sizes.{tensor-length, scratch-length}
 use Rattle.rules.specs.Calls.{or-else, build-refusal}
-use Rattle.sheet.specs.Fields.{sheet-grid, sheet-samples}
-use Rattle.sheet.specs.Faults.{sheet-refusal}
-use Rattle.sheet.specs.Read.{read-refusal}
-use Rattle.sheet.proofs.Parts.{parts}
+use Rattle.sheet_read.specs.Fields.{sheet-grid, sheet-samples}
+use Rattle.sheet_read.specs.Faults.{sheet-refusal}
+use Rattle.sheet_read.specs.Read.{read-refusal}
+use Rattle.sheet_read.proofs.Parts.{parts}
 use Rattle.sheet_build.specs.SheetTensor.{parts-refusal, building-refusal, own-refusal, reading-refusal, sheet-tensor-refusal}
 use Rattle.sheet_build.specs.Within.{Enough}
 
 -- a build that is lent a tensor of its length and enough scratch
-pub lent-build : (bytes : List ℕ) (lent scratch : List Float) → length lent ≡ tensor-length (sheet-grid bytes) → scratch-length (sheet-grid bytes) ≤ length scratch
+pub lent-build : (bytes : List ℕ) (lent scratch : List Float) → length lent ≡ tensor-length (sheet-grid bytes)
+    → scratch-length (sheet-grid bytes) ≤ length scratch
     → build-refusal (sheet-grid bytes) (sheet-samples bytes) lent scratch ≡ building-refusal bytes
 unfolding build-refusal building-refusal
 lent-build bytes lent scratch exact enough =
@@ -29,7 +30,8 @@ lent-build bytes lent scratch exact enough =
       le-ltb (length (zeros (scratch-length g))) (scratch-length g) (omega (arith, length-replicate (scratch-length g) plus-zero)),
     )
 
-module _ (bytes : List ℕ) (knots samples lent scratch : List Float) (enough : Enough (length knots) (length samples) (length lent) (length scratch)) where
+module _ (bytes : List ℕ) (knots samples lent scratch : List Float)
+    (enough : Enough (length knots) (length samples) (length lent) (length scratch)) where
   pub reading-is : reading-refusal bytes knots samples lent scratch ≡ sheet-refusal bytes
   unfolding reading-refusal read-refusal
   reading-is = rw (eq-eqb _ _ (enough .tensor), eq-eqb _ _ (enough .knots), eq-eqb _ _ (enough .samples))
@@ -46,6 +48,7 @@ module _ (bytes : List ℕ) (knots samples lent scratch : List Float) (enough : 
   refusal-is = rw reading-is (go (sheet-refusal bytes) refl)
     where
       go : (number : ℕ) → sheet-refusal bytes ≡ number
-          → or-else (sheet-refusal bytes) (parts-refusal (sheet-grid bytes) (sheet-samples bytes) lent scratch) ≡ or-else (sheet-refusal bytes) (building-refusal bytes)
+          → or-else (sheet-refusal bytes) (parts-refusal (sheet-grid bytes) (sheet-samples bytes) lent scratch)
+          ≡ or-else (sheet-refusal bytes) (building-refusal bytes)
       go zero e = rw (e, building-is e)
       go (suc number) e = rw e

@@ -9,16 +9,27 @@ use lib.ListN.{length}
 use lib.Ieee.{Float}
 use borrow.Author.Tests.{ltb-true, ltb-false, ne-eqb}
 use Rattle.rules.specs.Sizes.{Grid, knots-length, samples-length, tensor-length, scratch-length}
-use Rattle.rules.specs.Refusals.{axes-refused, some-points-refused, tensor-refused, length-refused, scratch-refused, some-number-refused, some-ends-refused, some-knots-refused, some-fewness-refused, outcome-refused}
+use Rattle.rules.specs.Refusals.{
+  axes-refused,
+  some-points-refused,
+  tensor-refused,
+  length-refused,
+  scratch-refused,
+  some-number-refused,
+  some-ends-refused,
+  some-knots-refused,
+  some-fewness-refused,
+  outcome-refused,
+}
 use Rattle.rules.specs.Tensor.{tensor}
 use Rattle.rules.specs.Calls.{or-else, build-refusal}
-use Rattle.kinds.specs.Classes.{of-writing, class}
-use Rattle.kinds.specs.declared.classes.Class.the-variants.{Reading, Writing, Unknown}
-use Rattle.kinds.proofs.Among.{above}
-use Rattle.kinds.proofs.Apart.{place}
-use Rattle.kinds.proofs.Classed.{Of}
-use Rattle.sheet.specs.Faults.{sheet-refusal}
-use Rattle.sheet.proofs.Numbers.{sheet-of-reading}
+use Rattle.grid_codes.specs.Classes.{of-writing, class}
+use Rattle.grid_codes.specs.declared.classes.Class.the-variants.{Reading, Writing, Unknown}
+use Rattle.grid_codes.proofs.Among.{above}
+use Rattle.grid_codes.proofs.Apart.{place}
+use Rattle.grid_codes.proofs.Classed.{Of}
+use Rattle.sheet_read.specs.Faults.{sheet-refusal}
+use Rattle.sheet_read.proofs.Numbers.{sheet-of-reading}
 use Rattle.sheet_build.specs.SheetTensor.{building-refusal, own-refusal}
 
 -- a number of the class Reading is at most 22
@@ -56,7 +67,10 @@ few-of-build g samples lent scratch =
     at-most (axes-refused g) (omega arith)
     (at-most (some-points-refused g) (omega arith)
     (at-most (tensor-refused g) (omega arith)
-    (at-most (length-refused (length (g .flat-knots)) (knots-length g) || length-refused (length samples) (samples-length g) || length-refused (length lent) (tensor-length g)) (omega arith)
+    (at-most
+    (length-refused (length (g .flat-knots)) (knots-length g) || length-refused (length samples) (samples-length
+    g) || length-refused (length lent) (tensor-length g))
+    (omega arith)
     (at-most (scratch-refused (length scratch) (scratch-length g)) (omega arith)
     (at-most (some-number-refused (g .flat-knots) || some-ends-refused g || some-number-refused samples) (omega arith)
     (at-most (some-knots-refused g) (omega arith)

@@ -11,17 +11,28 @@ use Rattle.rules.specs.Sizes.{Grid, knots-length, samples-length, tensor-length
 use Rattle.rules.specs.Refusals.{length-refused}
 use Rattle.rules.specs.Calls.{stored, scratch-after}
 use Rattle.rules.proofs.Refused.{or-else-met, unchanged}
-use Rattle.checks.proofs.Rows.{axes-few, in-range, exact}
-use Rattle.kinds.specs.Classes.{class, unread}
-use Rattle.kinds.proofs.Classed.{read-none}
-use Rattle.sheet.specs.Fields.{edition, axes, sheet-grid, sheet-samples}
-use Rattle.sheet.specs.Faults.{sheet-refusal}
-use Rattle.sheet.specs.Read.{over, read-refusal, ReadPromise}
-use Rattle.sheet.specs.declared.ReadAnswer.{ReadAnswer}
-use Rattle.sheet.proofs.Walks.{passed as no-test}
-use Rattle.sheet.proofs.Parts.{Parts, parts, take-over}
-use Rattle.sheet.proofs.Promises.{answer-refusal, lengths-passed}
-use Rattle.sheet_build.specs.SheetTensor.{unread-answer, answer-of, PartsGiven, grid-in, samples-in, parts-refusal, PartsPromise, reading-refusal, sheet-tensor-refusal, SheetPromise}
+use Rattle.grid_checks.proofs.Rows.{axes-few, in-range, exact}
+use Rattle.grid_codes.specs.Classes.{class, unread}
+use Rattle.grid_codes.proofs.Classed.{read-none}
+use Rattle.sheet_read.specs.Fields.{edition, axes, sheet-grid, sheet-samples}
+use Rattle.sheet_read.specs.Faults.{sheet-refusal}
+use Rattle.sheet_read.specs.Read.{over, read-refusal, ReadPromise}
+use Rattle.sheet_read.specs.declared.ReadAnswer.{ReadAnswer}
+use Rattle.sheet_read.proofs.Walks.{passed as no-test}
+use Rattle.sheet_read.proofs.Parts.{Parts, parts, take-over}
+use Rattle.sheet_read.proofs.Promises.{answer-refusal, lengths-passed}
+use Rattle.sheet_build.specs.SheetTensor.{
+  unread-answer,
+  answer-of,
+  PartsGiven,
+  grid-in,
+  samples-in,
+  parts-refusal,
+  PartsPromise,
+  reading-refusal,
+  sheet-tensor-refusal,
+  SheetPromise,
+}
 use Rattle.sheet_build.specs.declared.SheetAnswer.{SheetAnswer}
 use Rattle.sheet_build.proofs.Faults.{reading-of-reading, not-ten}
 use Rattle.sheet_build.proofs.Builds.{unread-is}
@@ -70,7 +81,8 @@ module _ (bytes : List ℕ) (knots samples lent scratch : List Float) where
     knots = k;
     samples = s;
     output = rw (refusal-met met) (unchanged reading lent _ met);
-    scratch = rw (refusal-met met) (ten-alone reading scratch met (not-ten reading (reading-of-reading bytes knots samples lent scratch) met));
+    scratch =
+        rw (refusal-met met) (ten-alone reading scratch met (not-ten reading (reading-of-reading bytes knots samples lent scratch) met));
   }
 
   -- 4 for the tensor's buffer
@@ -151,17 +163,20 @@ module _ (bytes : List ℕ) (knots samples lent scratch : List Float) where
       grid-is : grid-in (a .axes) (a .all) k ≡ g
       unfolding sheet-grid
       grid-is =
-          let stand : take (knots-length g) k ≡ g .flat-knots = rw knots-stand (take-over (g .flat-knots) knots (knots-length g) (known .knots)) in
+          let stand : take (knots-length g) k ≡ g .flat-knots =
+          rw knots-stand (take-over (g .flat-knots) knots (knots-length g) (known .knots)) in
           rw (axes-are, all-are, stand)
 
       samples-is : samples-in (a .axes) (a .all) s ≡ y
       samples-is = rw (axes-are, all-are, samples-stand) (take-over y samples (samples-length g) (known .samples))
 
       pub sheet-built : (given : SheetAnswer) (tensor-later scratch-later : List Float)
-          → PartsPromise (grid-in (a .axes) (a .all) k) (samples-in (a .axes) (a .all) s) lent scratch (a .edition) given tensor-later scratch-later
+          → PartsPromise (grid-in (a .axes) (a .all) k) (samples-in (a .axes) (a .all) s) lent scratch (a .edition) given tensor-later
+          scratch-later
           → SheetPromise bytes knots samples lent scratch given k s tensor-later scratch-later
       sheet-built given tensor-later scratch-later built =
-          let p : PartsPromise g y lent scratch (edition bytes) given tensor-later scratch-later = rw (grid-is, samples-is, edition-is) at built in
+          let p : PartsPromise g y lent scratch (edition bytes) given tensor-later scratch-later =
+          rw (grid-is, samples-is, edition-is) at built in
           record {
             answer = rw (passed, refusal-passed passed) (p .answer);
             knots = knots-are;
@@ -172,7 +187,8 @@ module _ (bytes : List ℕ) (knots samples lent scratch : List Float) where
 
 -- ---- what a caller knows of the answer
 
-short-answer : (reading refusal edition : ℕ) (g : Grid) (most : ℕ) → (reading ≡ 0 → tensor-length g ≤ most) → answer-of reading refusal edition g .length ≤ most
+short-answer : (reading refusal edition : ℕ) (g : Grid) (most : ℕ) → (reading ≡ 0 → tensor-length g ≤ most)
+    → answer-of reading refusal edition g .length ≤ most
 short-answer zero zero edition g most small = small refl
 short-answer zero (suc refusal) edition g most small = omega arith
 short-answer (suc reading) refusal edition g most small = omega arith
@@ -182,5 +198,6 @@ module _ (bytes : List ℕ) (knots samples lent scratch : List Float) (given : S
   pub length-most : SheetPromise bytes knots samples lent scratch given k s t w → given .length ≤ 4096
   length-most p =
       rw (p .answer)
-      (short-answer (reading-refusal bytes knots samples lent scratch) (sheet-tensor-refusal bytes knots samples lent scratch) (edition bytes) (sheet-grid bytes) 4096
+      (short-answer (reading-refusal bytes knots samples lent scratch) (sheet-tensor-refusal bytes knots samples lent scratch)
+      (edition bytes) (sheet-grid bytes) 4096
       (λ e. ltb-false 4096 (tensor-length (sheet-grid bytes)) (parts bytes (read-passed bytes knots samples lent scratch e .1) .tensor)))

@@ -1,4 +1,5 @@
--- The promise has one answer: whatever satisfies it, for the same sheet and the same lent slices, is equal in its answer and in all that was lent.
+-- The promise has one answer: whatever satisfies it, for the same sheet and the same lent slices, is equal in its answer and in all that
+-- was lent.
 use mathlib.Core.Path.{_≡_, sym, _∙_}
 use mathlib.Core.List.{List}
 use Prim.Native.Nat.{ℕ}

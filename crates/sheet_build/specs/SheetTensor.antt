@@ -1,4 +1,5 @@
--- The chapter SheetTensor of docs/RULES.md: the public call `tensor_of_sheet`, its refusal, its answer, and what stands afterwards in all that it was lent.
+-- The chapter SheetTensor of docs/RULES.md: the public call `tensor_of_sheet`, its refusal, its answer, and what stands afterwards in all
+-- that it was lent.
 use mathlib.Core.Path.{_≡_}
 use mathlib.Core.Bool.{cond}
 use mathlib.Core.List.{List}
@@ -12,9 +13,9 @@ use Rattle.rules.specs.Tensor.{tensor}
 use Rattle.rules.specs.Calls.{or-else, stored, counted, scratch-after, build-refusal}
 use Rattle.rules.specs.declared.Axis.{Axis}
 use Rattle.grid.specs.Given.{grid, sizes-of, points-of, InRange}
-use Rattle.sheet.specs.Fields.{edition, sheet-grid, sheet-samples}
-use Rattle.sheet.specs.Faults.{sheet-refusal}
-use Rattle.sheet.specs.Read.{over, read-refusal}
+use Rattle.sheet_read.specs.Fields.{edition, sheet-grid, sheet-samples}
+use Rattle.sheet_read.specs.Faults.{sheet-refusal}
+use Rattle.sheet_read.specs.Read.{over, read-refusal}
 use Rattle.sheet_build.specs.declared.SheetAnswer.{SheetAnswer}
 
 -- the answer of a sheet that is not read: no edition, no axes, all four as not in use, and no numbers
@@ -69,7 +70,8 @@ module _ (g : Grid) (samples tensor-lent scratch-lent : List Float) where
 -- what its build refuses that has a tensor and a scratch of the lengths that it asks for
 unfoldable pub building-refusal : List ℕ → ℕ
 building-refusal bytes =
-    build-refusal (sheet-grid bytes) (sheet-samples bytes) (zeros (tensor-length (sheet-grid bytes))) (zeros (scratch-length (sheet-grid bytes)))
+    build-refusal (sheet-grid bytes) (sheet-samples bytes) (zeros (tensor-length (sheet-grid bytes)))
+    (zeros (scratch-length (sheet-grid bytes)))
 
 -- the refusal that its bytes alone decide: its fault, and then what its build refuses
 unfoldable pub own-refusal : List ℕ → ℕ
@@ -84,7 +86,8 @@ module _ (bytes : List ℕ) (knots-lent samples-lent tensor-lent scratch-lent : 
   unfoldable pub sheet-tensor-refusal : ℕ
   sheet-tensor-refusal = or-else reading-refusal (parts-refusal (sheet-grid bytes) (sheet-samples bytes) tensor-lent scratch-lent)
 
-  -- the answer has the axes, and the buffers of knots and samples change, where the reader refuses nothing; those of the tensor where the build does not either
+  -- the answer has the axes, and the buffers of knots and samples change, where the reader refuses nothing; those of the tensor where the
+  -- build does not either
   pub record SheetPromise (given : SheetAnswer) (knots-later samples-later tensor-later scratch-later : List Float) : Type 0 where
     pub answer : given ≡ answer-of reading-refusal sheet-tensor-refusal (edition bytes) (sheet-grid bytes)
     pub knots : knots-later ≡ stored reading-refusal knots-lent (over (sheet-grid bytes .flat-knots) knots-lent)

@@ -1,8 +1,8 @@
 // From the bytes of a packed sheet to its tensor: the reader, then the build.
 ghost use mathlib.Core.Path.{_≡_};
 ghost use Rattle.sheet_build.specs.SheetTensor.{unread-answer, grid-in, samples-in, PartsGiven, PartsPromise, SheetPromise};
-use kinds::classes::is_built;
-use kinds::classes::is_unread;
+use grid_codes::classes::is_built;
+use grid_codes::classes::is_unread;
 use rules::Axis;
 
 // A refusal's number, 0 for none, the sheet's edition, how many axes there are, the four axes, and how many numbers the tensor has.
@@ -38,7 +38,9 @@ fn build_parts(
     scratch: &mut [f64],
 ) -> SheetAnswer
     requires { ⌜ PartsGiven axes all (now knots) (now samples) (now tensor) ⌝ }
-    ensures { λ r. ⌜ PartsPromise (grid-in axes all (now (knots .entry))) (samples-in axes all (now (samples .entry))) (now (tensor .entry)) (now (scratch .entry)) edition r (now (tensor .exit)) (now (scratch .exit)) ⌝ }
+    ensures { λ r.
+        ⌜ PartsPromise (grid-in axes all (now (knots .entry))) (samples-in axes all (now (samples .entry))) (now (tensor .entry))
+        (now (scratch .entry)) edition r (now (tensor .exit)) (now (scratch .exit)) ⌝ }
 {
     let knots_end = grid::knots_length(axes, all);
     let samples_end = grid::samples_length(axes, all);
@@ -69,12 +71,12 @@ fn build_parts(
     }
 }
 
-// PUBLIC. Reads a sheet of either edition and builds its tensor: edition, axes and the tensor's length are the answer, the sheet's knots, its samples and the
-// tensor's numbers go to the first places of their buffers. Refuses a tensor buffer of another length than 4,096 by 4, then what the
-// reader refuses, each by the reader's number, and then what the build refuses: 5 a scratch shorter than the tensor plus 2,048, 7, 8, 9
-// and 10. After a refusal of the build the sheet has been read: the answer has its edition, its axes and a length of 0, knots and samples stand in
-// their buffers, and the tensor is as it was. After any refusal before the build the answer has edition 0 and no axes, and all three are as they were.
-// The scratch is +0.0 after 0 and 10, and else as it was.
+// PUBLIC. Reads a sheet of either edition and builds its tensor: edition, axes and the tensor's length are the answer, the sheet's knots,
+// its samples and the tensor's numbers go to the first places of their buffers. Refuses a tensor buffer of another length than 4,096 by 4,
+// then what the reader refuses, each by the reader's number, and then what the build refuses: 5 a scratch shorter than the tensor plus
+// 2,048, 7, 8, 9 and 10. After a refusal of the build the sheet has been read: the answer has its edition, its axes and a length of 0,
+// knots and samples stand in their buffers, and the tensor is as it was. After any refusal before the build the answer has edition 0 and no
+// axes, and all three are as they were. The scratch is +0.0 after 0 and 10, and else as it was.
 pub fn tensor_of_sheet(
     bytes: &[u8],
     knots: &mut [f64],
@@ -82,12 +84,14 @@ pub fn tensor_of_sheet(
     tensor: &mut [f64],
     scratch: &mut [f64],
 ) -> SheetAnswer
-    ensures { λ r. ⌜ SheetPromise (now (bytes .entry)) (now (knots .entry)) (now (samples .entry)) (now (tensor .entry)) (now (scratch .entry)) r (now (knots .exit)) (now (samples .exit)) (now (tensor .exit)) (now (scratch .exit)) ⌝ }
+    ensures { λ r.
+        ⌜ SheetPromise (now (bytes .entry)) (now (knots .entry)) (now (samples .entry)) (now (tensor .entry)) (now (scratch .entry)) r
+        (now (knots .exit)) (now (samples .exit)) (now (tensor .exit)) (now (scratch .exit)) ⌝ }
 {
     if tensor.len() != 4096 {
         return not_read(4);
     }
-    let sheet = sheet::read(bytes, knots, samples);
+    let sheet = sheet_read::read(bytes, knots, samples);
     let fault = sheet.refusal;
     if is_unread(fault) {
         return not_read(fault);

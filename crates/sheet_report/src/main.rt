@@ -1,4 +1,4 @@
 // The report program: what a stream of sheets holds, printed.
 fn main() {
-    report_print::run();
+    program_report_print::run();
 }

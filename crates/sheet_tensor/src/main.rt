@@ -1,4 +1,4 @@
 // The sheet program: the tensor of a sheet, printed.
 fn main() {
-    sheet_print::run();
+    program_sheet_print::run();
 }

@@ -1,4 +1,5 @@
--- Where the fields of a grid's axes stand in bytes, the reader finds these axes and their knots, with no fault; and the fields of all axes that it finds stand.
+-- Where the fields of a grid's axes stand in bytes, the reader finds these axes and their knots, with no fault; and the fields of all axes
+-- that it finds stand.
 use mathlib.Core.Path.{_≡_, refl, sym, ap, ap₂, subst, _∙_}
 use mathlib.Core.Bool.{Bool, true, false, cond}
 use mathlib.Core.Logic.{⊎-elim}
@@ -15,17 +16,31 @@ use Rattle.rules.specs.Sizes.{most-axes, unused-axis, Grid, points, sum-below, 
 use Rattle.rules.specs.declared.Axis.{Axis}
 use Rattle.rules.proofs.Tables.{table-ext}
 use Rattle.grid.proofs.Knots.{knots-of-axis}
-use Rattle.bits.specs.Written.{bits-in}
-use Rattle.bits.proofs.Rows.{Stand, stand-first, stand-second, stand-append}
-use Rattle.bits.proofs.Numbers.{NoNan, each-take, each-drop}
-use Rattle.kinds.specs.Kinds.{periodic-at-one-end}
-use Rattle.kinds.specs.Modes.{unknown-mode}
-use Rattle.sheet.specs.Fields.{axes, mode-bits, points-at, lower-kind, upper-kind, mode-said, axis-at, knots-at, axis-end, axis-begin, entries, knots-below, sheet-grid}
-use Rattle.sheet.specs.Faults.{axis-fault, axes-fault}
-use Rattle.sheet.proofs.Walks.{begin-next, each-faultless, faultless-axis}
-use Rattle.sheet.proofs.Stores.{knots-below-next, length-knots-at}
-use Rattle.sheet.proofs.Sheets.{Accepted, entry-at}
-use Rattle.sheet.proofs.Parts.{knots-sum}
+use Rattle.base_bits.specs.Written.{bits-in}
+use Rattle.base_bits.proofs.Rows.{Stand, stand-first, stand-second, stand-append}
+use Rattle.base_bits.proofs.Numbers.{NoNan, each-take, each-drop}
+use Rattle.grid_codes.specs.Kinds.{periodic-at-one-end}
+use Rattle.grid_codes.specs.Modes.{unknown-mode}
+use Rattle.sheet_read.specs.Fields.{
+  axes,
+  mode-bits,
+  points-at,
+  lower-kind,
+  upper-kind,
+  mode-said,
+  axis-at,
+  knots-at,
+  axis-end,
+  axis-begin,
+  entries,
+  knots-below,
+  sheet-grid,
+}
+use Rattle.sheet_read.specs.Faults.{axis-fault, axes-fault}
+use Rattle.sheet_read.proofs.Walks.{begin-next, each-faultless, faultless-axis}
+use Rattle.sheet_read.proofs.Stores.{knots-below-next, length-knots-at}
+use Rattle.sheet_read.proofs.Sheets.{Accepted, entry-at}
+use Rattle.sheet_read.proofs.Parts.{knots-sum}
 use Rattle.sheet_write.specs.SheetOf.{axis-fields, axes-fields}
 use Rattle.sheet_write.specs.RoundTrip.{PartsHeld, entry, in-use}
 use Rattle.sheet_write.proofs.Ends.{EndsNoNan}
@@ -74,7 +89,8 @@ fault-first : (bytes : List ℕ) → axes-fault bytes 0 ≡ 0
 unfolding axes-fault
 fault-first bytes = refl
 
-module _ (g : Grid) (samples : List Float) (k : Known g samples) (held : PartsHeld g samples) (bytes : List ℕ) (s : Stand bytes 7 (axes-fields (mode-bits bytes) g (g .axes))) where
+module _ (g : Grid) (samples : List Float) (k : Known g samples) (held : PartsHeld g samples) (bytes : List ℕ)
+    (s : Stand bytes 7 (axes-fields (mode-bits bytes) g (g .axes))) where
   abbrev width : ℕ
   width = mode-bits bytes
 
@@ -92,7 +108,8 @@ module _ (g : Grid) (samples : List Float) (k : Known g samples) (held : PartsHe
       (let two = k .grid-given .in-range .some-points i l in omega arith)
       (knots-of-axis g (k .grid-given .knots-exact) i l)
       (held .ends-held i l)
-      (each-take _ (points g i) (drop (sum-below (points g) i) (g .flat-knots)) (each-drop _ (sum-below (points g) i) (g .flat-knots) (held .knots-held)))
+      (each-take _ (points g i) (drop (sum-below (points g) i) (g .flat-knots))
+      (each-drop _ (sum-below (points g) i) (g .flat-knots) (held .knots-held)))
       (here-stands i l)
 
   pub begin-is : (i : ℕ) → i ≤ g .axes → axis-begin bytes i ≡ begin i
@@ -118,7 +135,8 @@ module _ (g : Grid) (samples : List Float) (k : Known g samples) (held : PartsHe
   unfolding entries
   entries-found = table-ext most-axes _ _ (λ i l. same i (ltb i (g .axes)) refl)
     where
-      same : (i : ℕ) (b : Bool) → ltb i (g .axes) ≡ b → cond b (axis-at bytes (axis-begin bytes i)) unused-axis ≡ cond b (entry g i) unused-axis
+      same : (i : ℕ) (b : Bool) → ltb i (g .axes) ≡ b
+          → cond b (axis-at bytes (axis-begin bytes i)) unused-axis ≡ cond b (entry g i) unused-axis
       same i true e = found i (ltb-true i (g .axes) e) .axis-same
       same i false e = refl
 
@@ -139,16 +157,21 @@ module _ (bytes : List ℕ) where
       ⊎-elim (λ (e : i ≡ suc n). ([], rw e (sym (append-nil (knots-below bytes (suc n))))))
       (λ (m : i < suc n).
       let before = prefix i n (le-of-suc-le-suc m) in
-      let new = knots-at bytes (axis-begin bytes n) in
-      (before .0 ++ new, knots-below-next bytes n ∙ ap (λ (x : List Float). x ++ new) (before .1) ∙ append-assoc (knots-below bytes i) (before .0) new))
+      let new = knots-at bytes (axis-begin bytes n) in (
+        before .0 ++ new,
+        knots-below-next bytes n ∙ ap (λ (x : List Float). x ++ new) (before .1)
+            ∙ append-assoc (knots-below bytes i) (before .0) new,
+      ))
       (eq-or-lt-of-le l)
 
-  cut : (i n a p : ℕ) → i < n → length (knots-below bytes i) ≡ a → length (knots-at bytes (axis-begin bytes i)) ≡ p → take p (drop a (knots-below bytes n)) ≡ knots-at bytes (axis-begin bytes i)
+  cut : (i n a p : ℕ) → i < n → length (knots-below bytes i) ≡ a → length (knots-at bytes (axis-begin bytes i)) ≡ p
+      → take p (drop a (knots-below bytes n)) ≡ knots-at bytes (axis-begin bytes i)
   cut i n a p l e f =
       let all = prefix (suc i) n l in
       let first = knots-below bytes i in
       let here = knots-at bytes (axis-begin bytes i) in
-      let is : knots-below bytes n ≡ first ++ (here ++ all .0) = all .1 ∙ rw (knots-below-next bytes i) (append-assoc first here (all .0)) in
+      let is : knots-below bytes n ≡ first ++ (here ++ all .0) =
+      all .1 ∙ rw (knots-below-next bytes i) (append-assoc first here (all .0)) in
       rw (is, drop-at first (here ++ all .0) a e) (take-at here (all .0) p f)
 
 module _ (bytes : List ℕ) (ok : Accepted bytes) (samples : List Float) (fine : WithoutNan (sheet-grid bytes) samples) where
@@ -173,7 +196,8 @@ module _ (bytes : List ℕ) (ok : Accepted bytes) (samples : List Float) (fine :
   knots-is : (i : ℕ) → i < n → knots g i ≡ knots-at bytes (axis-begin bytes i)
   unfolding sheet-grid
   knots-is i l =
-      cut bytes i n (sum-below (points g) i) (points g i) l (sum-is i (omega arith)) (length-knots-at bytes (axis-begin bytes i) ∙ sym (points-is i l))
+      cut bytes i n (sum-below (points g) i) (points g i) l (sum-is i (omega arith))
+      (length-knots-at bytes (axis-begin bytes i) ∙ sym (points-is i l))
 
   in-axes : (i : ℕ) → i < n → i < g .axes
   unfolding sheet-grid
@@ -185,7 +209,8 @@ module _ (bytes : List ℕ) (ok : Accepted bytes) (samples : List Float) (fine :
   fine-knots : (i : ℕ) → i < n → NoNan (knots-at bytes (axis-begin bytes i))
   fine-knots i l =
       rw (← knots-is i l)
-      (each-take _ (points g i) (drop (sum-below (points g) i) (g .flat-knots)) (each-drop _ (sum-below (points g) i) (g .flat-knots) (fine .knots-fine)))
+      (each-take _ (points g i) (drop (sum-below (points g) i) (g .flat-knots))
+      (each-drop _ (sum-below (points g) i) (g .flat-knots) (fine .knots-fine)))
 
   kinds : (i : ℕ) → i < n → periodic-at-one-end (lower-kind bytes (axis-begin bytes i)) (upper-kind bytes (axis-begin bytes i)) ≡ false
   kinds i l = faultless-axis bytes (axis-begin bytes i) (each-faultless bytes n i (ok .faultless) l) .2
@@ -193,7 +218,9 @@ module _ (bytes : List ℕ) (ok : Accepted bytes) (samples : List Float) (fine :
   mode : (i : ℕ) → i < n → unknown-mode (mode-said bytes (axis-begin bytes i)) ≡ false
   mode i l = faultless-axis bytes (axis-begin bytes i) (each-faultless bytes n i (ok .faultless) l) .3
 
-  fields-are : (i : ℕ) → i < n → axis-fields (mode-bits bytes) (entry g i) (knots g i) ≡ axis-fields (mode-bits bytes) (axis-at bytes (axis-begin bytes i)) (knots-at bytes (axis-begin bytes i))
+  fields-are : (i : ℕ) → i < n
+      → axis-fields (mode-bits bytes) (entry g i) (knots g i)
+      ≡ axis-fields (mode-bits bytes) (axis-at bytes (axis-begin bytes i)) (knots-at bytes (axis-begin bytes i))
   fields-are i l = ap₂ (axis-fields (mode-bits bytes)) (entry-is i l) (knots-is i l)
 
   pub end-is : (i : ℕ) → i ≤ n → 7 + bits-in (axes-fields (mode-bits bytes) g i) ≡ axis-begin bytes i
@@ -203,7 +230,8 @@ module _ (bytes : List ℕ) (ok : Accepted bytes) (samples : List Float) (fine :
       let next = axes-next (mode-bits bytes) g i in
       let bits = ap bits-in (fields-are i l) in
       let here = end-back bytes (axis-begin bytes i) (kinds i l) (mode i l) in
-      (let e : 7 + bits-in (axes-fields (mode-bits bytes) g (suc i)) ≡ axis-end bytes (axis-begin bytes i) = omega arith in e) ∙ sym (begin-next bytes i)
+      (let e : 7 + bits-in (axes-fields (mode-bits bytes) g (suc i)) ≡ axis-end bytes (axis-begin bytes i) = omega arith in e)
+      ∙ sym (begin-next bytes i)
 
   none-stand : Stand bytes 7 (axes-fields (mode-bits bytes) g 0)
   unfolding Stand axes-fields
@@ -213,5 +241,7 @@ module _ (bytes : List ℕ) (ok : Accepted bytes) (samples : List Float) (fine :
   axes-stand zero l = none-stand
   axes-stand (suc i) l =
       rw (axes-append (mode-bits bytes) g i)
-      (stand-append bytes 7 (axes-fields (mode-bits bytes) g i) (axis-fields (mode-bits bytes) (entry g i) (knots g i)) (axes-stand i (omega arith))
-      (rw (end-is i (omega arith), fields-are i l) (axis-stands bytes (axis-begin bytes i) (kinds i l) (mode i l) (fine-ends i l) (fine-knots i l))))
+      (stand-append bytes 7 (axes-fields (mode-bits bytes) g i) (axis-fields (mode-bits bytes) (entry g i) (knots g i))
+      (axes-stand i (omega arith))
+      (rw (end-is i (omega arith), fields-are i l)
+      (axis-stands bytes (axis-begin bytes i) (kinds i l) (mode i l) (fine-ends i l) (fine-knots i l))))

@@ -1,4 +1,5 @@
--- What an edition that is not refused says: it is one of the two, and there is room for each mode in its field; and that the writer refuses no sheet's own edition.
+-- What an edition that is not refused says: it is one of the two, and there is room for each mode in its field; and that the writer refuses
+-- no sheet's own edition.
 use mathlib.Core.Path.{_≡_, refl}
 use mathlib.Core.Bool.{Bool, true, false, _&&_}
 use mathlib.Core.List.{List}
@@ -8,19 +9,19 @@ use native.Mathlib.Omega.{arith}
 use borrow.Author.Tests.{eqb-true, not-false}
 use lib.Dec.{eqb, lit<}
 use lib.ListN.{getD}
-use Rattle.base.proofs.Scan.{any-at, any-never}
+use Rattle.base_numbers.proofs.Scan.{any-at, any-never}
 use Rattle.rules.specs.Outside.{mode-number}
 use Rattle.rules.specs.Sizes.{unused-axis, Grid}
 use Rattle.rules.specs.declared.Mode.{Mode}
 use Rattle.rules.specs.declared.Mode.the-variants.{Extend, Hold, Refuse}
 use Rattle.rules.proofs.Cases.{not-both}
-use Rattle.kinds.specs.Editions.{unknown-edition, mode-width, mode-refused}
-use Rattle.kinds.proofs.Among.{above}
-use Rattle.sheet.specs.Fields.{edition as edition-said, axes, axis-at, axis-begin, entries, sheet-grid}
-use Rattle.sheet.specs.Faults.{sheet-refusal}
-use Rattle.sheet.proofs.Walks.{passed}
-use Rattle.sheet.proofs.Sheets.{accepted, entry-at}
-use Rattle.sheet.proofs.Edition1.{extends}
+use Rattle.grid_codes.specs.Editions.{unknown-edition, mode-width, mode-refused}
+use Rattle.grid_codes.proofs.Among.{above}
+use Rattle.sheet_read.specs.Fields.{edition as edition-said, axes, axis-at, axis-begin, entries, sheet-grid}
+use Rattle.sheet_read.specs.Faults.{sheet-refusal}
+use Rattle.sheet_read.proofs.Walks.{passed}
+use Rattle.sheet_read.proofs.Sheets.{accepted, entry-at}
+use Rattle.sheet_read.proofs.Edition1.{extends}
 use Rattle.sheet_write.specs.Write.{some-mode-refused, edition-refusal}
 
 which : (edition : ℕ) → unknown-edition edition ≡ false → (edition ≡ 1) ⊎ (edition ≡ 2)
@@ -47,7 +48,8 @@ second-fits : (mode : Mode) → mode-number mode < 2 ^ mode-width 2
 unfolding mode-width
 second-fits mode = mode-most mode
 
-pub mode-fits : (edition : ℕ) (mode : Mode) → unknown-edition edition ≡ false → mode-refused edition mode ≡ false → mode-number mode < 2 ^ mode-width edition
+pub mode-fits : (edition : ℕ) (mode : Mode) → unknown-edition edition ≡ false → mode-refused edition mode ≡ false
+    → mode-number mode < 2 ^ mode-width edition
 mode-fits edition mode known fine =
     ⊎-elim (λ (e : edition ≡ 1). rw e (first-fits mode (rw e at fine))) (λ (e : edition ≡ 2). rw e (second-fits mode)) (which edition known)
 

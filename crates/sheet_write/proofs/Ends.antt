@@ -16,11 +16,19 @@ use Rattle.rules.specs.declared.End.the-variants.{NotAKnot, FirstDerivative, Se
 use Rattle.rules.specs.declared.Condition.{Condition}
 use Rattle.rules.specs.declared.Condition.the-variants.{Endpoints, Periodic}
 use Rattle.rules.proofs.Cases.{not-both}
-use Rattle.kinds.specs.Kinds.{values-of-kind, end-of-kind, condition-of-kind, periodic-at-one-end, kind-of-end, lower-kind-of, upper-kind-of}
-use Rattle.bits.specs.Bits.{number, field}
-use Rattle.bits.specs.Written.{bits-in}
-use Rattle.bits.proofs.Rows.{Stand, Sized, stand-first, stand-second, stand-append, bits-in-append, sized-append}
-use Rattle.bits.proofs.Numbers.{number-stands}
+use Rattle.grid_codes.specs.Kinds.{
+  values-of-kind,
+  end-of-kind,
+  condition-of-kind,
+  periodic-at-one-end,
+  kind-of-end,
+  lower-kind-of,
+  upper-kind-of,
+}
+use Rattle.base_bits.specs.Bits.{number, field}
+use Rattle.base_bits.specs.Written.{bits-in}
+use Rattle.base_bits.proofs.Rows.{Stand, Sized, stand-first, stand-second, stand-append, bits-in-append, sized-append}
+use Rattle.base_bits.proofs.Numbers.{number-stands}
 use Rattle.sheet_write.specs.SheetOf.{end-fields, ends-fields}
 use Rattle.sheet_write.specs.RoundTrip.{EndHeld, EndsHeld}
 
@@ -34,7 +42,8 @@ end-bits (SecondDerivative value) = refl
 
 -- ---- where they stand they are read
 
-pub end-read : (bytes : List ℕ) (at : ℕ) (e : End) → EndHeld e → Stand bytes at (end-fields e) → end-of-kind (kind-of-end e) (number bytes at) ≡ e
+pub end-read : (bytes : List ℕ) (at : ℕ) (e : End) → EndHeld e → Stand bytes at (end-fields e)
+    → end-of-kind (kind-of-end e) (number bytes at) ≡ e
 unfolding Stand end-of-kind
 end-read bytes at NotAKnot held s = refl
 end-read bytes at (FirstDerivative value) held s = ap FirstDerivative (ap (ofBits binary64) (s .0) ∙ ofBits-toBits binary64 value held)
@@ -55,10 +64,15 @@ periodic-read : (bytes : List ℕ) (at : ℕ) → found bytes at 3 3 ≡ Periodi
 unfolding condition-of-kind
 periodic-read bytes at = refl
 
-pub condition-read : (bytes : List ℕ) (at : ℕ) (c : Condition) → EndsHeld c → Stand bytes at (ends-fields c) → found bytes at (lower-kind-of c) (upper-kind-of c) ≡ c
+pub condition-read : (bytes : List ℕ) (at : ℕ) (c : Condition) → EndsHeld c → Stand bytes at (ends-fields c)
+    → found bytes at (lower-kind-of c) (upper-kind-of c) ≡ c
 condition-read bytes at (Endpoints lower upper) held s =
-    let second : Stand bytes (at + 64 * values-of-kind (kind-of-end lower)) (end-fields upper) = rw (end-bits lower) at (stand-second bytes at (end-fields lower) (end-fields upper) s) in
-    rw (end-read bytes at lower (held .0) (stand-first bytes at (end-fields lower) (end-fields upper) s), end-read bytes _ upper (held .1) second)
+    let second : Stand bytes (at + 64 * values-of-kind (kind-of-end lower)) (end-fields upper) =
+    rw (end-bits lower) at (stand-second bytes at (end-fields lower) (end-fields upper) s) in
+    rw (
+      end-read bytes at lower (held .0) (stand-first bytes at (end-fields lower) (end-fields upper) s),
+      end-read bytes _ upper (held .1) second,
+    )
     (no-kind-3 lower lower upper)
 condition-read bytes at Periodic held s = periodic-read bytes at
 
@@ -69,7 +83,8 @@ unfolding bits-in values-of-kind
 no-bits = refl
 
 pub ends-bits : (c : Condition) → bits-in (ends-fields c) ≡ 64 * (values-of-kind (lower-kind-of c) + values-of-kind (upper-kind-of c))
-ends-bits (Endpoints lower upper) = let a = end-bits lower in let b = end-bits upper in bits-in-append (end-fields lower) (end-fields upper) ∙ omega arith
+ends-bits (Endpoints lower upper) =
+    let a = end-bits lower in let b = end-bits upper in bits-in-append (end-fields lower) (end-fields upper) ∙ omega arith
 ends-bits Periodic = no-bits
 
 kind-most : (e : End) → kind-of-end e < 3
@@ -93,7 +108,8 @@ end-sized (SecondDerivative value) held = (toBits-lt binary64 value held, tt)
 
 pub ends-sized : (c : Condition) → EndsHeld c → Sized (ends-fields c)
 unfolding Sized
-ends-sized (Endpoints lower upper) held = sized-append (end-fields lower) (end-fields upper) (end-sized lower (held .0)) (end-sized upper (held .1))
+ends-sized (Endpoints lower upper) held =
+    sized-append (end-fields lower) (end-fields upper) (end-sized lower (held .0)) (end-sized upper (held .1))
 ends-sized Periodic held = tt
 
 -- kind 3 stands at both ends or at none
@@ -128,7 +144,8 @@ kind-back (suc zero) value h = refl
 kind-back (suc (suc zero)) value h = refl
 kind-back (suc (suc (suc kind))) value h = absurd (omega (arith, h))
 
-end-stands : (bytes : List ℕ) (at kind : ℕ) → kind < 3 → EndNoNan (end-of-kind kind (number bytes at)) → Stand bytes at (end-fields (end-of-kind kind (number bytes at)))
+end-stands : (bytes : List ℕ) (at kind : ℕ) → kind < 3 → EndNoNan (end-of-kind kind (number bytes at))
+    → Stand bytes at (end-fields (end-of-kind kind (number bytes at)))
 unfolding end-of-kind Stand
 end-stands bytes at zero h fine = tt
 end-stands bytes at (suc zero) h fine = (number-stands bytes at fine, tt)
@@ -136,7 +153,8 @@ end-stands bytes at (suc (suc zero)) h fine = (number-stands bytes at fine, tt)
 end-stands bytes at (suc (suc (suc kind))) h fine = absurd (omega (arith, h))
 
 -- two kinds of a sheet that is not refused by 13: both below 3, or both 3
-pub both-or-none : (lower upper : ℕ) → lower < 4 → upper < 4 → periodic-at-one-end lower upper ≡ false → ((lower < 3) × (upper < 3)) ⊎ ((lower ≡ 3) × (upper ≡ 3))
+pub both-or-none : (lower upper : ℕ) → lower < 4 → upper < 4 → periodic-at-one-end lower upper ≡ false
+    → ((lower < 3) × (upper < 3)) ⊎ ((lower ≡ 3) × (upper ≡ 3))
 unfolding periodic-at-one-end
 both-or-none lower upper l u e =
     elim (decLt lower 3) [
@@ -147,7 +165,8 @@ both-or-none lower upper l u e =
     ]
   where
     lesser : (n : ℕ) → n < 4 → eqb n 3 ≡ false → n < 3
-    lesser n h other = ⊎-elim (λ (q : n ≡ 3). not-both (eqb n 3) (eq-eqb n 3 q) other) (λ below. below) (eq-or-lt-of-le (le-of-suc-le-suc h))
+    lesser n h other =
+        ⊎-elim (λ (q : n ≡ 3). not-both (eqb n 3) (eq-eqb n 3 q) other) (λ below. below) (eq-or-lt-of-le (le-of-suc-le-suc h))
 
 pub record KindsBack (bytes : List ℕ) (at lower upper : ℕ) : Type 0 where
   pub lower-same : lower-kind-of (found bytes at lower upper) ≡ lower
@@ -179,7 +198,8 @@ periodic-back bytes at = record {
   stands = rw (periodic-read bytes at) (λ fine. tt);
 }
 
-pub kinds-back : (bytes : List ℕ) (at lower upper : ℕ) → lower < 4 → upper < 4 → periodic-at-one-end lower upper ≡ false → KindsBack bytes at lower upper
+pub kinds-back : (bytes : List ℕ) (at lower upper : ℕ) → lower < 4 → upper < 4 → periodic-at-one-end lower upper ≡ false
+    → KindsBack bytes at lower upper
 kinds-back bytes at lower upper l u e =
     ⊎-elim
     (λ (below : (lower < 3) × (upper < 3)). endpoints-back bytes at lower upper (below .0) (below .1))

@@ -1,4 +1,5 @@
--- The example sheet written from its parts in both editions, one refusal of each kind, and a sheet with a nan in it, which the reader takes and the writer does not: the rows of one theorem about the definitions; and the example sheet written back.
+-- The example sheet written from its parts in both editions, one refusal of each kind, and a sheet with a nan in it, which the reader takes
+-- and the writer does not: the rows of one theorem about the definitions; and the example sheet written back.
 use mathlib.Core.Path.{_≡_, refl, subst}
 use mathlib.Core.Bool.{true}
 use mathlib.Core.List.{List, [], _∷_, _++_}
@@ -14,18 +15,30 @@ use Rattle.rules.specs.declared.Axis.{Axis}
 use Rattle.rules.specs.declared.Condition.{Condition}
 use Rattle.rules.specs.declared.Mode.{Mode}
 use Rattle.rules.specs.declared.Mode.the-variants.{Extend, Hold, Refuse}
-use Rattle.bits.specs.Bits.{bit, field}
-use Rattle.bits.proofs.Writes.{Bytes}
-use Rattle.bits.specs.Written.{patch, with-bit, with-field, bits-in, with-fields, packed}
-use Rattle.kinds.specs.Kinds.{values-of-kind, end-of-kind, condition-of-kind, periodic-at-one-end}
-use Rattle.kinds.specs.Modes.{mode-of-number}
-use Rattle.kinds.specs.Editions.{unknown-edition, mode-width, mode-refused}
-use Rattle.sheet.specs.Fields.{points-at, values-at, axis-at, knots-begin, knots-at, axis-end, axis-begin, entries, knots-below, sheet-grid, sheet-samples}
-use Rattle.sheet.specs.Faults.{axis-fault, axes-fault, tail-refused, samples-fault, sheet-refusal}
-use Rattle.sheet.specs.Read.{buffer-length, over, ReadPromise}
-use Rattle.sheet.specs.declared.ReadAnswer.{ReadAnswer}
-use Rattle.sheet.proofs.Unique.{read-refuses-no-sheet}
-use Rattle.sheet.proofs.Examples.{zero-bytes, example, second-edition}
+use Rattle.base_bits.specs.Bits.{bit, field}
+use Rattle.base_bits.proofs.Writes.{Bytes}
+use Rattle.base_bits.specs.Written.{patch, with-bit, with-field, bits-in, with-fields, packed}
+use Rattle.grid_codes.specs.Kinds.{values-of-kind, end-of-kind, condition-of-kind, periodic-at-one-end}
+use Rattle.grid_codes.specs.Modes.{mode-of-number}
+use Rattle.grid_codes.specs.Editions.{unknown-edition, mode-width, mode-refused}
+use Rattle.sheet_read.specs.Fields.{
+  points-at,
+  values-at,
+  axis-at,
+  knots-begin,
+  knots-at,
+  axis-end,
+  axis-begin,
+  entries,
+  knots-below,
+  sheet-grid,
+  sheet-samples,
+}
+use Rattle.sheet_read.specs.Faults.{axis-fault, axes-fault, tail-refused, samples-fault, sheet-refusal}
+use Rattle.sheet_read.specs.Read.{buffer-length, over, ReadPromise}
+use Rattle.sheet_read.specs.declared.ReadAnswer.{ReadAnswer}
+use Rattle.sheet_read.proofs.Unique.{read-refuses-no-sheet}
+use Rattle.sheet_read.proofs.Examples.{zero-bytes, example, second-edition}
 use Rattle.sheet_write.specs.SheetOf.{axis-fields, axes-fields, part-fields, sheet-fields, sheet-of}
 use Rattle.sheet_write.specs.Write.{no-sheet-refusal, edition-refusal, write-refusal, WritePromise}
 use Rattle.sheet_write.specs.RoundTrip.{grid-read, samples-read}
@@ -71,7 +84,11 @@ pub record Examples : Type 0 where
   pub nan-refused : no-sheet-refusal (sheet-grid with-nan) (sheet-samples with-nan) ≡ 7
 
 pub examples : Examples
-unfolding any sum-below product-below bit field values-of-kind end-of-kind condition-of-kind periodic-at-one-end mode-of-number unknown-edition mode-width mode-refused points-at values-at axis-at knots-begin knots-at axis-end axis-begin entries knots-below sheet-grid axis-fault axes-fault tail-refused samples-fault sheet-refusal patch with-bit with-field bits-in with-fields packed axis-fields axes-fields part-fields sheet-fields sheet-of no-sheet-refusal edition-refusal write-refusal step-refused h lt sub add neg ofBits toBits
+unfolding any sum-below product-below bit field values-of-kind end-of-kind condition-of-kind periodic-at-one-end mode-of-number
+    unknown-edition mode-width mode-refused points-at values-at axis-at knots-begin knots-at axis-end axis-begin entries knots-below
+    sheet-grid axis-fault axes-fault tail-refused samples-fault sheet-refusal patch with-bit with-field bits-in with-fields packed
+    axis-fields axes-fields part-fields sheet-fields sheet-of no-sheet-refusal edition-refusal write-refusal step-refused h lt sub add neg
+    ofBits toBits
 examples = record {
   written = refl;
   extended = refl;
@@ -107,5 +124,6 @@ pub example-written-back :
 example-written-back knots-lent samples-lent kl sl r k s q buffer room a b p =
     let taken = read-refuses-no-sheet example knots-lent samples-lent r k s q kl sl (examples .example-read) in
     let given = read example knots-lent samples-lent r k s q taken in
-    let passed : no-sheet-refusal (grid-read r k) (samples-read r s) ≡ 0 = cc (given .grid-is, given .samples-are, examples .example-passed) in
+    let passed : no-sheet-refusal (grid-read r k) (samples-read r s) ≡ 0 =
+    cc (given .grid-is, given .samples-are, examples .example-passed) in
     written-back example example-bytes knots-lent samples-lent r k s q taken passed buffer room a b p

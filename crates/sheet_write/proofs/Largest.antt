@@ -1,4 +1,5 @@
--- The bits of a sheet counted from its sizes, and how long it can be: 10,309 bytes at most, 10,308 in edition 1, and a grid of 256 × 4 with four numbers at its ends has them.
+-- The bits of a sheet counted from its sizes, and how long it can be: 10,309 bytes at most, 10,308 in edition 1, and a grid of 256 × 4 with
+-- four numbers at its ends has them.
 use mathlib.Core.Path.{_≡_, _∙_}
 use mathlib.Core.List.{List}
 use Prim.Native.Nat.{ℕ, zero, suc, _+_, _-_, _*_, _^_, _<_, _≤_}
@@ -10,10 +11,10 @@ use lib.Ieee.{Float}
 use Rattle.rules.specs.Sizes.{Grid, points, condition, sum-below, product-below, knots}
 use Rattle.rules.specs.declared.Condition.{Condition}
 use Rattle.grid.proofs.Knots.{knots-of-axis}
-use Rattle.kinds.specs.Kinds.{lower-kind-of, upper-kind-of}
-use Rattle.bits.specs.Written.{bits-in, bytes-for}
-use Rattle.kinds.specs.Editions.{mode-width}
-use Rattle.sheet.proofs.Extents.{value-most, width-most}
+use Rattle.grid_codes.specs.Kinds.{lower-kind-of, upper-kind-of}
+use Rattle.base_bits.specs.Written.{bits-in, bytes-for}
+use Rattle.grid_codes.specs.Editions.{mode-width}
+use Rattle.sheet_read.proofs.Extents.{value-most, width-most}
 use Rattle.sheet_write.specs.SheetOf.{axes-fields, part-fields, sheet-of}
 use Rattle.sheet_write.specs.Write.{no-sheet-refusal}
 use Rattle.sheet_write.specs.Within.{values, values-below, parts-bits}
@@ -24,7 +25,8 @@ use Rattle.sheet_write.specs.RoundTrip.{entry}
 -- ---- counted from the sizes
 
 module _ (g : Grid) (samples : List Float) (k : Known g samples) where
-  axes-count : (width i : ℕ) → i ≤ g .axes → bits-in (axes-fields width g i) ≡ 12 * i + width * i + 64 * (values-below (g .entries) i + sum-below (points g) i)
+  axes-count : (width i : ℕ) → i ≤ g .axes
+      → bits-in (axes-fields width g i) ≡ 12 * i + width * i + 64 * (values-below (g .entries) i + sum-below (points g) i)
   unfolding sum-below
   axes-count width zero l = let none = axes-none width g in omega arith
   axes-count width (suc i) l =
@@ -67,17 +69,22 @@ two-sum a b h k l =
                 let v : ℕ = b - 4 in
                 let x : a ≡ u + 4 = omega (arith, many) in
                 let y : b ≡ v + 4 = omega (arith, more) in
-                let z : (u + 4) * (v + 4) ≡ u * v + u * 4 + (4 * v + 16) = rw (add-mul u 4 (v + 4), mul-add u v 4, mul-add 4 v 4) (omega arith) in
+                let z : (u + 4) * (v + 4) ≡ u * v + u * 4 + (4 * v + 16) =
+                rw (add-mul u 4 (v + 4), mul-add u v 4, mul-add 4 v 4) (omega arith) in
                 let w : (u + 4) * (v + 4) ≤ 1024 = rw (← x, ← y) l in omega (arith, x, y, z, w)
           ]
     ]
 
-all-most : (width : ℕ) (p : ℕ → ℕ) (n : ℕ) → width ≤ 2 → 1 ≤ n → n ≤ 4 → ((i : ℕ) → i < n → 2 ≤ p i) → ((i : ℕ) → i < n → p i ≤ 256) → product-below p n * 2 ^ n ≤ 4096 → 140 * n + width * n + 64 * (sum-below p n + product-below p n) ≤ 82456 + 2 * width
+all-most : (width : ℕ) (p : ℕ → ℕ) (n : ℕ) → width ≤ 2 → 1 ≤ n → n ≤ 4 → ((i : ℕ) → i < n → 2 ≤ p i) → ((i : ℕ) → i < n → p i ≤ 256)
+    → product-below p n * 2 ^ n ≤ 4096 → 140 * n + width * n + 64 * (sum-below p n + product-below p n) ≤ 82456 + 2 * width
 unfolding sum-below product-below
 all-most width p zero narrow some few two most small = absurd (omega arith)
 all-most width p (suc zero) narrow some few two most small = let a = most 0 (omega arith) in omega arith
 all-most width p (suc (suc zero)) narrow some few two most small =
-    let s = two-sum (p 0) (p 1) (most 0 (omega arith)) (most 1 (omega arith)) (rw one-mul at (let e : 1 * p 0 * p 1 ≤ 1024 = omega arith in e)) in omega arith
+    let s =
+    two-sum (p 0) (p 1) (most 0 (omega arith)) (most 1 (omega arith))
+    (rw one-mul at (let e : 1 * p 0 * p 1 ≤ 1024 = omega arith in e)) in
+    omega arith
 all-most width p (suc (suc (suc zero))) narrow some few two most small =
     let a = most 0 (omega arith) in
     let b = most 1 (omega arith) in
@@ -88,26 +95,32 @@ all-most width p (suc (suc (suc (suc zero)))) narrow some few two most small =
     let c = most 3 (omega arith) in
     let x : 1 * p 0 * 2 ≤ 1 * p 0 * p 1 = mul-le-mul (le-refl (1 * p 0)) (two 1 (omega arith)) in
     let y : 1 * p 0 * p 1 * 2 ≤ 1 * p 0 * p 1 * p 2 = mul-le-mul (le-refl (1 * p 0 * p 1)) (two 2 (omega arith)) in
-    let z : 1 * p 0 * p 1 * p 2 * 2 ≤ 1 * p 0 * p 1 * p 2 * p 3 = mul-le-mul (le-refl (1 * p 0 * p 1 * p 2)) (two 3 (omega arith)) in omega arith
+    let z : 1 * p 0 * p 1 * p 2 * 2 ≤ 1 * p 0 * p 1 * p 2 * p 3 = mul-le-mul (le-refl (1 * p 0 * p 1 * p 2)) (two 3 (omega arith)) in
+    omega arith
 all-most width p (suc (suc (suc (suc (suc n))))) narrow some few two most small = absurd (omega arith)
 
 -- the parts of any sheet
-pub bits-most : (edition : ℕ) (g : Grid) (samples : List Float) → Known g samples → parts-bits edition (g .axes) (g .entries) ≤ 82463 + 2 * mode-width edition
+pub bits-most : (edition : ℕ) (g : Grid) (samples : List Float) → Known g samples
+    → parts-bits edition (g .axes) (g .entries) ≤ 82463 + 2 * mode-width edition
 unfolding parts-bits
 bits-most edition g samples k =
     let range = k .grid-given .in-range in
     let v = sum-most (λ i. values (condition g i)) 2 (g .axes) (λ i l. values-most (condition g i)) in
-    let a = all-most (mode-width edition) (points g) (g .axes) (width-most edition) (range .some-axes) (range .few-axes) (range .some-points) (range .few-points) (k .grid-given .small) in
+    let a =
+    all-most (mode-width edition) (points g) (g .axes) (width-most edition) (range .some-axes) (range .few-axes) (range .some-points)
+    (range .few-points) (k .grid-given .small) in
     omega arith
 
-length-most : (edition : ℕ) (g : Grid) (samples : List Float) → no-sheet-refusal g samples ≡ 0 → length (sheet-of edition g samples) ≤ bytes-for (82463 + 2 * mode-width edition)
+length-most : (edition : ℕ) (g : Grid) (samples : List Float) → no-sheet-refusal g samples ≡ 0
+    → length (sheet-of edition g samples) ≤ bytes-for (82463 + 2 * mode-width edition)
 length-most edition g samples e =
     let k = known g samples e in
     let a = sheet-length edition g samples in
     let b = part-count g samples k edition in
     let c = bits-most edition g samples k in omega arith
 
-pub sheet-length-most : (edition : ℕ) (g : Grid) (samples : List Float) → no-sheet-refusal g samples ≡ 0 → length (sheet-of edition g samples) ≤ 10309
+pub sheet-length-most : (edition : ℕ) (g : Grid) (samples : List Float) → no-sheet-refusal g samples ≡ 0
+    → length (sheet-of edition g samples) ≤ 10309
 sheet-length-most edition g samples e = let a = length-most edition g samples e in let b = width-most edition in omega arith
 
 pub edition-1-length-most : (g : Grid) (samples : List Float) → no-sheet-refusal g samples ≡ 0 → length (sheet-of 1 g samples) ≤ 10308
@@ -115,11 +128,13 @@ unfolding mode-width
 edition-1-length-most g samples e = length-most 1 g samples e
 
 -- and so none has more than 65,536
-pub sheet-length-below : (edition : ℕ) (g : Grid) (samples : List Float) → no-sheet-refusal g samples ≡ 0 → length (sheet-of edition g samples) ≤ 65536
+pub sheet-length-below : (edition : ℕ) (g : Grid) (samples : List Float) → no-sheet-refusal g samples ≡ 0
+    → length (sheet-of edition g samples) ≤ 65536
 sheet-length-below edition g samples e = let most = sheet-length-most edition g samples e in omega arith
 
 -- the largest: two axes of 256 and of 4 points, with a number at each of the four ends
-module _ (g : Grid) (samples : List Float) (e : no-sheet-refusal g samples ≡ 0) (two : g .axes ≡ 2) (first : points g 0 ≡ 256) (second : points g 1 ≡ 4)
+module _ (g : Grid) (samples : List Float) (e : no-sheet-refusal g samples ≡ 0) (two : g .axes ≡ 2) (first : points g 0 ≡ 256)
+    (second : points g 1 ≡ 4)
     (lower : values (condition g 0) ≡ 2) (upper : values (condition g 1) ≡ 2) where
   largest-bits : (edition : ℕ) → bits-in (part-fields edition g samples) ≡ 82463 + mode-width edition * 2
   unfolding parts-bits sum-below product-below

@@ -1,4 +1,5 @@
--- Parts that have a sheet are those that a build with a tensor and scratch of the right lengths does not refuse before it works; and none of their numbers is the nan.
+-- Parts that have a sheet are those that a build with a tensor and scratch of the right lengths does not refuse before it works; and none
+-- of their numbers is the nan.
 use mathlib.Core.Path.{_≡_, refl, ap, _∙_}
 use mathlib.Core.Bool.{false, or-false}
 use mathlib.Core.List.{List}
@@ -9,8 +10,8 @@ use borrow.Author.Tests.{eq-eqb, le-ltb, not-false}
 use lib.ListN.{length, drop}
 use lib.Ieee.{Float}
 use lib.Ieee.Scale.{finite}
-use Rattle.base.proofs.Finite.{finite-not-nan}
-use Rattle.base.proofs.Scan.{neither, any-at}
+use Rattle.base_numbers.proofs.Finite.{finite-not-nan}
+use Rattle.base_numbers.proofs.Scan.{neither, any-at}
 use Rattle.rules.specs.Numbers.{at}
 use Rattle.rules.specs.Sizes.{Grid, points, condition, knots, sum-below, tensor-length, scratch-length}
 use Rattle.rules.specs.Refusals.{number-refused, some-number-refused, end-refused, ends-refused}
@@ -18,15 +19,16 @@ use Rattle.rules.specs.declared.End.{End}
 use Rattle.rules.specs.declared.End.the-variants.{NotAKnot, FirstDerivative, SecondDerivative}
 use Rattle.rules.specs.declared.Condition.{Condition}
 use Rattle.rules.specs.declared.Condition.the-variants.{Endpoints, Periodic}
-use Rattle.checks.specs.Check.{build-check}
-use Rattle.checks.specs.Given.{BuildGiven}
-use Rattle.checks.proofs.Accepted.{build-given}
-use Rattle.bits.proofs.Numbers.{NoNan, each-at, each-take, each-drop}
+use Rattle.grid_checks.specs.Check.{build-check}
+use Rattle.grid_checks.specs.Given.{BuildGiven}
+use Rattle.grid_checks.proofs.Accepted.{build-given}
+use Rattle.base_bits.proofs.Numbers.{NoNan, each-at, each-take, each-drop}
 use Rattle.sheet_write.specs.Write.{no-sheet-refusal}
 use Rattle.sheet_write.proofs.Ends.{EndNoNan, EndsNoNan}
 
 -- the tests of the parts are the build's
-pub as-the-build : (g : Grid) (samples : List Float) → build-check g samples (tensor-length g) (scratch-length g) ≡ no-sheet-refusal g samples
+pub as-the-build : (g : Grid) (samples : List Float)
+    → build-check g samples (tensor-length g) (scratch-length g) ≡ no-sheet-refusal g samples
 unfolding build-check no-sheet-refusal
 as-the-build g samples =
     rw (eq-eqb (tensor-length g) (tensor-length g) refl, or-false, le-ltb (scratch-length g) (scratch-length g) (le-refl _))

@@ -11,11 +11,11 @@ use Rattle.rules.specs.Calls.{counted}
 use Rattle.rules.specs.declared.Axis.{Axis}
 use Rattle.grid.specs.Given.{grid, sizes-of}
 use Rattle.rules.proofs.Refused.{or-else-met, unchanged}
-use Rattle.bits.specs.Written.{bits-in, with-fields, bytes-for}
-use Rattle.bits.proofs.Writes.{Bytes}
-use Rattle.bits.proofs.Rows.{over-any}
-use Rattle.sheet.specs.Read.{over}
-use Rattle.sheet.proofs.Extents.{width-most}
+use Rattle.base_bits.specs.Written.{bits-in, with-fields, bytes-for}
+use Rattle.base_bits.proofs.Writes.{Bytes}
+use Rattle.base_bits.proofs.Rows.{over-any}
+use Rattle.sheet_read.specs.Read.{over}
+use Rattle.sheet_read.proofs.Extents.{width-most}
 use Rattle.sheet_write.specs.SheetOf.{part-fields, sheet-fields, sheet-of}
 use Rattle.sheet_write.specs.Write.{no-sheet-refusal, edition-refusal, write-refusal, write-answer, WritePromise}
 use Rattle.sheet_write.specs.Within.{SheetGiven, parts-bits}
@@ -29,13 +29,15 @@ none-counted zero count met = absurd (met refl)
 none-counted (suc refusal) count met = refl
 
 -- the edition is judged by the axes alone
-pub edition-of-axes : (edition axes : ℕ) (all : List Axis) (knots : List Float) → edition-refusal edition (sizes-of axes all) ≡ edition-refusal edition (grid axes all knots)
+pub edition-of-axes : (edition axes : ℕ) (all : List Axis) (knots : List Float)
+    → edition-refusal edition (sizes-of axes all) ≡ edition-refusal edition (grid axes all knots)
 unfolding edition-refusal
 edition-of-axes edition axes all knots = refl
 
 module _ (edition : ℕ) (g : Grid) (samples : List Float) (buffer : List ℕ) where
   -- an answer with this refusal, and nothing written
-  refused : (r : ℕ) → r ≡ write-refusal edition g samples buffer → (r ≡ 0 → ⊥) → WritePromise edition g samples buffer (record { refusal = r; length = 0 }) buffer
+  refused : (r : ℕ) → r ≡ write-refusal edition g samples buffer → (r ≡ 0 → ⊥)
+      → WritePromise edition g samples buffer (record { refusal = r; length = 0 }) buffer
   unfolding write-answer
   refused r e met =
       let some : write-refusal edition g samples buffer ≡ 0 → ⊥ = λ z. met (e ∙ z) in
@@ -48,7 +50,8 @@ module _ (edition : ℕ) (g : Grid) (samples : List Float) (buffer : List ℕ) w
   unfolding write-refusal
   parts-first met = sym (or-else-met (no-sheet-refusal g samples) _ met)
 
-  pub parts-refused : (r : ℕ) → r ≡ no-sheet-refusal g samples → (r ≡ 0 → ⊥) → WritePromise edition g samples buffer (record { refusal = r; length = 0 }) buffer
+  pub parts-refused : (r : ℕ) → r ≡ no-sheet-refusal g samples → (r ≡ 0 → ⊥)
+      → WritePromise edition g samples buffer (record { refusal = r; length = 0 }) buffer
   parts-refused r e met = refused r (e ∙ parts-first (λ z. met (e ∙ z))) met
 
   module _ (r : ℕ) (e : r ≡ no-sheet-refusal g samples) (none : r ≡ 0) where
@@ -62,7 +65,8 @@ module _ (edition : ℕ) (g : Grid) (samples : List Float) (buffer : List ℕ) w
     unfolding write-refusal
     edition-first met = rw passed (sym (or-else-met (edition-refusal edition g) _ met))
 
-    pub edition-refused : (f : ℕ) → f ≡ edition-refusal edition g → (f ≡ 0 → ⊥) → WritePromise edition g samples buffer (record { refusal = f; length = 0 }) buffer
+    pub edition-refused : (f : ℕ) → f ≡ edition-refusal edition g → (f ≡ 0 → ⊥)
+        → WritePromise edition g samples buffer (record { refusal = f; length = 0 }) buffer
     edition-refused f is met = refused f (is ∙ edition-first (λ z. met (is ∙ z))) met
 
     module _ (told : edition-refusal edition g ≡ 0) (bits : ℕ) (is : bits ≡ parts-bits edition (g .axes) (g .entries)) where
@@ -76,7 +80,8 @@ module _ (edition : ℕ) (g : Grid) (samples : List Float) (buffer : List ℕ) w
       unfolding write-refusal
       short l = rw (passed, told, lt-ltb (length buffer) (length (sheet-of edition g samples)) (rw size l))
 
-      pub buffer-refused : length buffer < bytes-for bits → WritePromise edition g samples buffer (record { refusal = 15; length = 0 }) buffer
+      pub buffer-refused : length buffer < bytes-for bits
+          → WritePromise edition g samples buffer (record { refusal = 15; length = 0 }) buffer
       buffer-refused l = refused 15 (short l) (λ z. omega (arith, z))
 
       module _ (long : bytes-for bits ≤ length buffer) where
@@ -106,9 +111,12 @@ module _ (edition : ℕ) (g : Grid) (samples : List Float) (buffer : List ℕ) w
 
         over-is : Bytes buffer → with-fields buffer 0 (sheet-fields edition g samples) ≡ over (sheet-of edition g samples) buffer
         unfolding sheet-of
-        over-is all = over-any (sheet-fields edition g samples) (bytes-for (bits-in (part-fields edition g samples))) (sheet-bits edition g samples) buffer all (rw (part-count g samples given edition, ← is) long)
+        over-is all =
+            over-any (sheet-fields edition g samples) (bytes-for (bits-in (part-fields edition g samples))) (sheet-bits edition g samples)
+            buffer all (rw (part-count g samples given edition, ← is) long)
 
-        pub written : Bytes buffer → (later : List ℕ) → later ≡ with-fields buffer 0 (sheet-fields edition g samples) → WritePromise edition g samples buffer (record { refusal = 0; length = bytes-for bits }) later
+        pub written : Bytes buffer → (later : List ℕ) → later ≡ with-fields buffer 0 (sheet-fields edition g samples)
+            → WritePromise edition g samples buffer (record { refusal = 0; length = bytes-for bits }) later
         unfolding write-answer
         written all later put = record {
           answer = rw (← taken, size);

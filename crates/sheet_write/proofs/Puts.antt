@@ -8,19 +8,19 @@ use native.Mathlib.Omega.{arith}
 use lib.ListN.{length, take, drop, length-take, length-drop}
 use lib.Seq.{getD-take, getD-drop}
 use lib.Ieee.{Float, nan, binary64, toBits}
-use Rattle.base.proofs.Scan.{any-at, any-never}
+use Rattle.base_numbers.proofs.Scan.{any-at, any-never}
 use Rattle.rules.specs.Numbers.{at}
 use Rattle.rules.specs.Sizes.{Grid, points, sum-below, knots}
 use Rattle.rules.specs.Outside.{mode-number}
 use Rattle.rules.specs.Refusals.{number-refused, some-number-refused}
 use Rattle.rules.specs.declared.Axis.{Axis}
 use Rattle.grid.proofs.Products.{sum-within, sum-more}
-use Rattle.kinds.specs.Kinds.{lower-kind-of, upper-kind-of}
-use Rattle.kinds.specs.Editions.{mode-width}
-use Rattle.bits.specs.Within.{Within}
-use Rattle.bits.specs.Written.{with-field, Field, number-field, number-fields, bits-in, with-fields, filler}
-use Rattle.bits.proofs.Rows.{bits-in-append, with-fields-append, fields-length}
-use Rattle.sheet.proofs.Extents.{width-most}
+use Rattle.grid_codes.specs.Kinds.{lower-kind-of, upper-kind-of}
+use Rattle.grid_codes.specs.Editions.{mode-width}
+use Rattle.base_bits.specs.Within.{Within}
+use Rattle.base_bits.specs.Written.{with-field, Field, number-field, number-fields, bits-in, with-fields, filler}
+use Rattle.base_bits.proofs.Rows.{bits-in-append, with-fields-append, fields-length}
+use Rattle.sheet_read.proofs.Extents.{width-most}
 use Rattle.sheet_write.specs.SheetOf.{ends-fields, axis-fields, axes-fields, part-fields, sheet-fields}
 use Rattle.sheet_write.specs.Within.{HeadGiven, with-head, AxisGiven, AxesGiven, SheetGiven}
 use Rattle.sheet_write.specs.RoundTrip.{entry}
@@ -44,7 +44,8 @@ module _ (b : List ℕ) (p : ℕ) where
   unfolding bits-in with-fields
   none-put fields e = rw e (omega arith, refl)
 
-  pub one-put : (later : List ℕ) (fields : List Field) (v : Float) → fields ≡ number-field v ∷ [] → later ≡ with-field b p 64 (toBits binary64 v) → (p + 64 ≡ p + bits-in fields) × (later ≡ with-fields b p fields)
+  pub one-put : (later : List ℕ) (fields : List Field) (v : Float) → fields ≡ number-field v ∷ []
+      → later ≡ with-field b p 64 (toBits binary64 v) → (p + 64 ≡ p + bits-in fields) × (later ≡ with-fields b p fields)
   unfolding bits-in with-fields
   one-put later fields v e put = rw e (omega arith, put)
 
@@ -56,7 +57,8 @@ module _ (b : List ℕ) (p : ℕ) where
   one-within fields v e w = rw (one-bits fields v e) at w
 
   pub both-put :
-      (x y : List Field) (middle later : List ℕ) (next end : ℕ) → next ≡ p + bits-in x → middle ≡ with-fields b p x → end ≡ next + bits-in y → later ≡ with-fields middle next y
+      (x y : List Field) (middle later : List ℕ) (next end : ℕ) → next ≡ p + bits-in x → middle ≡ with-fields b p x → end ≡ next + bits-in y
+      → later ≡ with-fields middle next y
       → (end ≡ p + bits-in (x ++ y)) × (later ≡ with-fields b p (x ++ y))
   both-put x y middle later next end n m e l =
       let two = bits-in-append x y in
@@ -65,7 +67,8 @@ module _ (b : List ℕ) (p : ℕ) where
   pub first-within : (x y : List Field) → Within b p (bits-in (x ++ y)) → Within b p (bits-in x)
   first-within x y w = let two = bits-in-append x y in part-within b b p (bits-in (x ++ y)) p (bits-in x) w refl (omega arith)
 
-  pub second-within : (x y : List Field) (middle : List ℕ) (next : ℕ) → next ≡ p + bits-in x → middle ≡ with-fields b p x → Within b p (bits-in (x ++ y)) → Within middle next (bits-in y)
+  pub second-within : (x y : List Field) (middle : List ℕ) (next : ℕ) → next ≡ p + bits-in x → middle ≡ with-fields b p x
+      → Within b p (bits-in (x ++ y)) → Within middle next (bits-in y)
   second-within x y middle next n m w =
       let two = bits-in-append x y in
       part-within b middle p (bits-in (x ++ y)) next (bits-in y) w (ap length m ∙ fields-length b p x) (omega arith)
@@ -90,7 +93,11 @@ module _ (b : List ℕ) (p width : ℕ) (axis : Axis) (x : List Float) where
       let row : List Field = ends-fields (axis .condition) ++ number-fields x in
       let rest : with-fields b4 (p + 12 + width) row ≡ later =
       with-fields-append b4 (p + 12 + width) (ends-fields (axis .condition)) (number-fields x) ∙ rw (← n, ← e5) (sym e6) in
-      let head : with-field (with-field (with-field (with-field b p 8 (axis .points - 1)) (p + 8) 2 (lower-kind-of (axis .condition))) (p + 8 + 2) 2 (upper-kind-of (axis .condition))) (p + 8 + 2 + 2) width (mode-number (axis .mode)) ≡ b4 =
+      let head : with-field
+      (with-field (with-field (with-field b p 8 (axis .points - 1)) (p + 8) 2 (lower-kind-of (axis .condition))) (p + 8 + 2) 2
+      (upper-kind-of (axis .condition)))
+      (p + 8 + 2 + 2) width (mode-number (axis .mode))
+      ≡ b4 =
       rw (ten, last) (sym e4) in
       (omega arith, sym rest ∙ ap₂ (λ (d : List ℕ) (q : ℕ). with-fields d (q + width) row) (sym head) (sym twelve))
 
@@ -111,7 +118,8 @@ part-finite : (xs : List Float) (a p : ℕ) → some-number-refused xs ≡ false
 part-finite xs a p fine =
     any-never (λ k. number-refused (at (take p (drop a xs)) k)) (length (take p (drop a xs))) (λ k l.
     let size : length (take p (drop a xs)) ≡ min p (length xs - a) = length-take p (drop a xs) ∙ rw (length-drop a xs) in
-    rw (getD-take p (drop a xs) k nan (omega arith), getD-drop a xs k nan) (any-at (λ j. number-refused (at xs j)) (length xs) fine (a + k) (omega arith)))
+    rw (getD-take p (drop a xs) k nan (omega arith), getD-drop a xs k nan)
+    (any-at (λ j. number-refused (at xs j)) (length xs) fine (a + k) (omega arith)))
 
 pub record Turn (b : List ℕ) (width : ℕ) (g : Grid) (bytes : List ℕ) (p from i : ℕ) : Type 0 where
   pub most : i ≤ g .axes
@@ -151,10 +159,13 @@ module _ (b : List ℕ) (width : ℕ) (g : Grid) (bytes : List ℕ) (p from i : 
           some-points = omega arith;
           finite-ends = given .fields .finite-ends i l;
           finite-knots = part-finite (g .flat-knots) (sum-below (points g) i) (points g i) (given .fields .finite-knots);
-          within = part-within b bytes 7 (bits-in (axes-fields width g (g .axes))) p (bits-in (axis-fields width (entry g i) (knots g i))) (given .within) (t .same-length) (omega (arith, t .place));
+          within =
+              part-within b bytes 7 (bits-in (axes-fields width g (g .axes))) p (bits-in (axis-fields width (entry g i) (knots g i)))
+              (given .within) (t .same-length) (omega (arith, t .place));
         })
 
-  pub turn-next : points g i ≤ 256 → (later : List ℕ) (end : ℕ) → end ≡ p + bits-in (axis-fields width (entry g i) part) → later ≡ with-fields bytes p (axis-fields width (entry g i) part) → Turn b width g later end (from + points g i) (i + 1)
+  pub turn-next : points g i ≤ 256 → (later : List ℕ) (end : ℕ) → end ≡ p + bits-in (axis-fields width (entry g i) part)
+      → later ≡ with-fields bytes p (axis-fields width (entry g i) part) → Turn b width g later end (from + points g i) (i + 1)
   turn-next most later end e put =
       let here : end ≡ p + bits-in (axis-fields width (entry g i) (knots g i)) = rw part-is at e in
       let put-here : later ≡ with-fields bytes p (axis-fields width (entry g i) (knots g i)) = rw part-is at put in
@@ -167,10 +178,17 @@ module _ (b : List ℕ) (width : ℕ) (g : Grid) (bytes : List ℕ) (p from i : 
         same-length = ap length put-here ∙ fields-length bytes p (axis-fields width (entry g i) (knots g i)) ∙ t .same-length;
         done =
             put-here
-            ∙ rw (add-one i, axes-append width g i, with-fields-append b 7 (axes-fields width g i) (axis-fields width (entry g i) (knots g i)), ← t .place, ← t .done);
+            ∙ rw (
+              add-one i,
+              axes-append width g i,
+              with-fields-append b 7 (axes-fields width g i) (axis-fields width (entry g i) (knots g i)),
+              ← t .place,
+              ← t .done,
+            );
       }
 
-pub turn-last : (b : List ℕ) (width : ℕ) (g : Grid) (bytes : List ℕ) (p from i : ℕ) → Turn b width g bytes p from i → g .axes ≤ i → (p ≡ 7 + bits-in (axes-fields width g (g .axes))) × (bytes ≡ with-fields b 7 (axes-fields width g (g .axes)))
+pub turn-last : (b : List ℕ) (width : ℕ) (g : Grid) (bytes : List ℕ) (p from i : ℕ) → Turn b width g bytes p from i → g .axes ≤ i
+    → (p ≡ 7 + bits-in (axes-fields width g (g .axes))) × (bytes ≡ with-fields b 7 (axes-fields width g (g .axes)))
 turn-last b width g bytes p from i t ge = let e : i ≡ g .axes = omega (arith, t .most) in (rw e at (t .place), rw e at (t .done))
 
 -- ---- all of a sheet
@@ -182,8 +200,10 @@ module _ (b : List ℕ) (edition : ℕ) (g : Grid) (samples : List Float) where
 
   -- where the axes end, where the samples end, and the last byte
   pub record Ends : Type 0 where
-    pub axes-end : 7 + bits-in (axes-fields (mode-width edition) g (g .axes)) + 64 * length samples ≡ bits-in (part-fields edition g samples)
-    pub last : bits-in (part-fields edition g samples) + (8 - bits-in (part-fields edition g samples) % 8) % 8 ≡ bits-in (sheet-fields edition g samples)
+    pub axes-end : 7 + bits-in (axes-fields (mode-width edition) g (g .axes)) + 64 * length samples
+        ≡ bits-in (part-fields edition g samples)
+    pub last : bits-in (part-fields edition g samples) + (8 - bits-in (part-fields edition g samples) % 8) % 8
+        ≡ bits-in (sheet-fields edition g samples)
 
   pub ends : Ends
   unfolding sheet-fields
@@ -195,29 +215,37 @@ module _ (b : List ℕ) (edition : ℕ) (g : Grid) (samples : List Float) where
   }
 
   -- there is room for the axes, after edition and number of axes
-  pub axes-given : (d : List ℕ) (width : ℕ) → width ≡ mode-width edition → length d ≡ length b → SheetGiven b edition g samples → AxesGiven d width g
+  pub axes-given : (d : List ℕ) (width : ℕ) → width ≡ mode-width edition → length d ≡ length b → SheetGiven b edition g samples
+      → AxesGiven d width g
   axes-given d width is same given =
       let all = ends in
       rw is
       (record {
         narrow = width-most edition;
         fields = given .fields;
-        within = part-within b d 0 (bits-in (sheet-fields edition g samples)) 7 (bits-in (axes-fields (mode-width edition) g (g .axes))) (given .within) same (omega arith);
+        within =
+            part-within b d 0 (bits-in (sheet-fields edition g samples)) 7 (bits-in (axes-fields (mode-width edition) g (g .axes)))
+            (given .within) same (omega arith);
       })
 
   -- what was put with that many bits for a mode
-  pub axes-end-is : (width next : ℕ) → width ≡ mode-width edition → next ≡ 7 + bits-in (axes-fields width g (g .axes)) → next ≡ 7 + bits-in (axes-fields (mode-width edition) g (g .axes))
+  pub axes-end-is : (width next : ℕ) → width ≡ mode-width edition → next ≡ 7 + bits-in (axes-fields width g (g .axes))
+      → next ≡ 7 + bits-in (axes-fields (mode-width edition) g (g .axes))
   axes-end-is width next is n = rw is at n
 
-  pub axes-put-is : (width : ℕ) (d later : List ℕ) → width ≡ mode-width edition → later ≡ with-fields d 7 (axes-fields width g (g .axes)) → later ≡ with-fields d 7 (axes-fields (mode-width edition) g (g .axes))
+  pub axes-put-is : (width : ℕ) (d later : List ℕ) → width ≡ mode-width edition → later ≡ with-fields d 7 (axes-fields width g (g .axes))
+      → later ≡ with-fields d 7 (axes-fields (mode-width edition) g (g .axes))
   axes-put-is width d later is put = rw is at put
 
   -- there is room for what fills the last byte
-  pub last-within : (d : List ℕ) (next : ℕ) → length d ≡ length b → next ≡ 7 + bits-in (axes-fields (mode-width edition) g (g .axes)) → Within b 0 (bits-in (sheet-fields edition g samples))
+  pub last-within : (d : List ℕ) (next : ℕ) → length d ≡ length b → next ≡ 7 + bits-in (axes-fields (mode-width edition) g (g .axes))
+      → Within b 0 (bits-in (sheet-fields edition g samples))
       → Within d (next + 64 * length samples) ((8 - (next + 64 * length samples) % 8) % 8)
   last-within d next same n w =
       let here : next + 64 * length samples ≡ bits-in (part-fields edition g samples) = rw n (ends .axes-end) in
-      rw here (part-within b d 0 (bits-in (sheet-fields edition g samples)) (bits-in (part-fields edition g samples)) _ w same (let e = ends .last in omega arith))
+      rw here
+      (part-within b d 0 (bits-in (sheet-fields edition g samples)) (bits-in (part-fields edition g samples)) _ w same
+      (let e = ends .last in omega arith))
 
   with-last : (d : List ℕ) (p : ℕ) (f : Field) → with-fields d p (f ∷ []) ≡ with-field d p (f .width) (f .value)
   unfolding with-fields
@@ -235,7 +263,8 @@ module _ (b : List ℕ) (edition : ℕ) (g : Grid) (samples : List Float) where
   parts-put b1 b2 b3 b4 next e1 e2 n e3 e4 =
       let start : b2 ≡ with-field (with-field b 0 4 edition) 4 3 (g .axes) = rw (← e1) e2 in
       let row : List Field = axes-fields (mode-width edition) g (g .axes) ++ number-fields samples in
-      let rest : b4 ≡ with-fields b2 7 row = e4 ∙ rw (with-fields-append b2 7 (axes-fields (mode-width edition) g (g .axes)) (number-fields samples), ← e3, ← n) in
+      let rest : b4 ≡ with-fields b2 7 row =
+      e4 ∙ rw (with-fields-append b2 7 (axes-fields (mode-width edition) g (g .axes)) (number-fields samples), ← e3, ← n) in
       rest ∙ ap (λ (d : List ℕ). with-fields d 7 row) start
 
   pub sheet-put :

@@ -1,4 +1,5 @@
--- Where the fields of an axis stand in bytes, the reader finds that axis and its knots; and where it finds an axis, the fields of what it found stand.
+-- Where the fields of an axis stand in bytes, the reader finds that axis and its knots; and where it finds an axis, the fields of what it
+-- found stand.
 use mathlib.Core.Path.{_≡_, sym, _∙_}
 use mathlib.Core.Bool.{false}
 use mathlib.Core.List.{List, _++_}
@@ -10,17 +11,29 @@ use lib.Ieee.{Float}
 use Rattle.rules.specs.Refusals.{points-refused}
 use Rattle.rules.specs.Outside.{mode-number}
 use Rattle.rules.specs.declared.Axis.{Axis}
-use Rattle.kinds.specs.Kinds.{periodic-at-one-end, lower-kind-of, upper-kind-of}
-use Rattle.kinds.specs.Modes.{unknown-mode}
-use Rattle.kinds.proofs.Told.{mode-again, mode-known, number-again}
-use Rattle.bits.specs.Bits.{field, numbers-short}
-use Rattle.bits.specs.Written.{bits-in, number-fields}
-use Rattle.bits.proofs.Runs.{field-below, short-together}
-use Rattle.bits.proofs.Rows.{Stand, stand-first, stand-second, stand-append}
-use Rattle.bits.proofs.Numbers.{Held, numbers-read, NoNan, numbers-stand}
-use Rattle.sheet.specs.Fields.{mode-bits, points-at, lower-kind, upper-kind, mode-said, values-at, values-begin, axis-at, knots-begin, knots-at, axis-end}
-use Rattle.sheet.specs.Faults.{axis-fault}
-use Rattle.sheet.proofs.Stores.{length-knots-at}
+use Rattle.grid_codes.specs.Kinds.{periodic-at-one-end, lower-kind-of, upper-kind-of}
+use Rattle.grid_codes.specs.Modes.{unknown-mode}
+use Rattle.grid_codes.proofs.Told.{mode-again, mode-known, number-again}
+use Rattle.base_bits.specs.Bits.{field, numbers-short}
+use Rattle.base_bits.specs.Written.{bits-in, number-fields}
+use Rattle.base_bits.proofs.Runs.{field-below, short-together}
+use Rattle.base_bits.proofs.Rows.{Stand, stand-first, stand-second, stand-append}
+use Rattle.base_bits.proofs.Numbers.{Held, numbers-read, NoNan, numbers-stand}
+use Rattle.sheet_read.specs.Fields.{
+  mode-bits,
+  points-at,
+  lower-kind,
+  upper-kind,
+  mode-said,
+  values-at,
+  values-begin,
+  axis-at,
+  knots-begin,
+  knots-at,
+  axis-end,
+}
+use Rattle.sheet_read.specs.Faults.{axis-fault}
+use Rattle.sheet_read.proofs.Stores.{length-knots-at}
 use Rattle.sheet_write.specs.SheetOf.{ends-fields, axis-fields}
 use Rattle.sheet_write.specs.Within.{values}
 use Rattle.sheet_write.specs.RoundTrip.{EndsHeld}
@@ -37,7 +50,8 @@ record Fields (bytes : List ℕ) (at width : ℕ) (axis : Axis) (x : List Float)
   mode : field bytes (at + 12) width ≡ mode-number (axis .mode)
   rest : Stand bytes (at + 12 + width) (ends-fields (axis .condition) ++ number-fields x)
 
-fields : (bytes : List ℕ) (at width : ℕ) (axis : Axis) (x : List Float) → Stand bytes at (axis-fields width axis x) → Fields bytes at width axis x
+fields : (bytes : List ℕ) (at width : ℕ) (axis : Axis) (x : List Float) → Stand bytes at (axis-fields width axis x)
+    → Fields bytes at width axis x
 unfolding Stand axis-fields
 fields bytes at width axis x s =
     let ten : at + 8 + 2 ≡ at + 10 = omega arith in
@@ -74,7 +88,15 @@ module _ (bytes : List ℕ) (at : ℕ) (axis : Axis) (x : List Float) (some : 1 
   axis-read : axis-at bytes at ≡ axis
   unfolding axis-at
   axis-read =
-      rw (points-read, f .lower, f .upper, f .mode, mode-again (axis .mode), condition-read bytes (values-begin bytes at) (axis .condition) ends-held (stand-first bytes (values-begin bytes at) (ends-fields (axis .condition)) (number-fields x) (f .rest)))
+      rw (
+        points-read,
+        f .lower,
+        f .upper,
+        f .mode,
+        mode-again (axis .mode),
+        condition-read bytes (values-begin bytes at) (axis .condition) ends-held
+            (stand-first bytes (values-begin bytes at) (ends-fields (axis .condition)) (number-fields x) (f .rest)),
+      )
 
   begin-read : knots-begin bytes at ≡ values-begin bytes at + bits-in (ends-fields (axis .condition))
   unfolding knots-begin
@@ -84,7 +106,8 @@ module _ (bytes : List ℕ) (at : ℕ) (axis : Axis) (x : List Float) (some : 1 
   unfolding knots-at
   knots-read =
       rw (begin-read, points-read, ← exact)
-      (numbers-read bytes (values-begin bytes at + bits-in (ends-fields (axis .condition))) x held (stand-second bytes (values-begin bytes at) (ends-fields (axis .condition)) (number-fields x) (f .rest)))
+      (numbers-read bytes (values-begin bytes at + bits-in (ends-fields (axis .condition))) x held
+      (stand-second bytes (values-begin bytes at) (ends-fields (axis .condition)) (number-fields x) (f .rest)))
 
   end-read : axis-end bytes at ≡ at + bits-in (axis-fields (mode-bits bytes) axis x)
   unfolding axis-end
@@ -107,14 +130,17 @@ module _ (bytes : List ℕ) (at : ℕ) (axis : Axis) (x : List Float) (some : 1 
   }
 
 pub axis-found :
-    (bytes : List ℕ) (at : ℕ) (axis : Axis) (x : List Float) → 1 ≤ axis .points → length x ≡ axis .points → EndsHeld (axis .condition) → Held x
+    (bytes : List ℕ) (at : ℕ) (axis : Axis) (x : List Float) → 1 ≤ axis .points → length x ≡ axis .points → EndsHeld (axis .condition)
+    → Held x
     → Stand bytes at (axis-fields (mode-bits bytes) axis x)
     → AxisRead bytes at axis x
-axis-found bytes at axis x some exact ends-held held s = all-read bytes at axis x some exact ends-held held (fields bytes at (mode-bits bytes) axis x s)
+axis-found bytes at axis x some exact ends-held held s =
+    all-read bytes at axis x some exact ends-held held (fields bytes at (mode-bits bytes) axis x s)
 
 -- and it has no fault, where all of it is there
 pub found-faultless :
-    (bytes : List ℕ) (at : ℕ) (axis : Axis) (x : List Float) → AxisRead bytes at axis x → 2 ≤ axis .points → axis .points ≤ 256 → length x ≡ axis .points
+    (bytes : List ℕ) (at : ℕ) (axis : Axis) (x : List Float) → AxisRead bytes at axis x → 2 ≤ axis .points → axis .points ≤ 256
+    → length x ≡ axis .points
     → at + bits-in (axis-fields (mode-bits bytes) axis x) ≤ 8 * length bytes
     → axis-fault bytes at ≡ 0
 unfolding axis-fault
@@ -122,10 +148,12 @@ found-faultless bytes at axis x r two most exact room =
     let n = values-at bytes at + points-at bytes at in
     let a = axis-bits (mode-bits bytes) axis x in
     let small : points-refused (points-at bytes at) ≡ false = rw (r .points, le-ltb (axis .points) 2 two, le-ltb 256 (axis .points) most) in
-    let kinds : periodic-at-one-end (lower-kind bytes at) (upper-kind bytes at) ≡ false = rw (r .lower, r .upper) (kinds-agree (axis .condition)) in
+    let kinds : periodic-at-one-end (lower-kind bytes at) (upper-kind bytes at) ≡ false =
+    rw (r .lower, r .upper) (kinds-agree (axis .condition)) in
     let mode : unknown-mode (mode-said bytes at) ≡ false = rw (r .mode-same) (mode-known (axis .mode)) in
     let long : numbers-short bytes (values-begin bytes at) n ≡ false =
-    sym (short-together bytes (values-begin bytes at) n (omega (arith, r .points))) ∙ le-ltb (8 * length bytes) (values-begin bytes at + 64 * n) (omega (arith, r .points, r .values-same)) in
+    sym (short-together bytes (values-begin bytes at) n (omega (arith, r .points)))
+    ∙ le-ltb (8 * length bytes) (values-begin bytes at + 64 * n) (omega (arith, r .points, r .values-same)) in
     rw (
       le-ltb (8 * length bytes) (at + 8) (omega arith),
       small,
@@ -139,9 +167,12 @@ found-faultless bytes at axis x r two most exact room =
 
 -- ---- from the axis to fields
 
-module _ (bytes : List ℕ) (at : ℕ) (kinds : periodic-at-one-end (lower-kind bytes at) (upper-kind bytes at) ≡ false) (mode : unknown-mode (mode-said bytes at) ≡ false) where
+module _ (bytes : List ℕ) (at : ℕ) (kinds : periodic-at-one-end (lower-kind bytes at) (upper-kind bytes at) ≡ false)
+    (mode : unknown-mode (mode-said bytes at) ≡ false) where
   back : KindsBack bytes (values-begin bytes at) (lower-kind bytes at) (upper-kind bytes at)
-  back = kinds-back bytes (values-begin bytes at) (lower-kind bytes at) (upper-kind bytes at) (field-below bytes (at + 8) 2) (field-below bytes (at + 10) 2) kinds
+  back =
+      kinds-back bytes (values-begin bytes at) (lower-kind bytes at) (upper-kind bytes at) (field-below bytes (at + 8) 2)
+      (field-below bytes (at + 10) 2) kinds
 
   lower-back : lower-kind-of (axis-at bytes at .condition) ≡ lower-kind bytes at
   unfolding axis-at
@@ -177,7 +208,8 @@ module _ (bytes : List ℕ) (at : ℕ) (kinds : periodic-at-one-end (lower-kind 
     unfolding axis-at
     ends-stand = back .stands fine-ends
 
-    knots-stand : Stand bytes (values-begin bytes at + bits-in (ends-fields (axis-at bytes at .condition))) (number-fields (knots-at bytes at))
+    knots-stand : Stand bytes (values-begin bytes at + bits-in (ends-fields (axis-at bytes at .condition)))
+        (number-fields (knots-at bytes at))
     unfolding knots-at
     knots-stand = rw (← begin-back) (numbers-stand bytes (knots-begin bytes at) (points-at bytes at) fine)
 
@@ -186,5 +218,7 @@ module _ (bytes : List ℕ) (at : ℕ) (kinds : periodic-at-one-end (lower-kind 
     axis-stands =
         let ten : at + 8 + 2 ≡ at + 10 = omega arith in
         let twelve : at + 8 + 2 + 2 ≡ at + 12 = omega arith in
-        let rest = stand-append bytes (values-begin bytes at) (ends-fields (axis-at bytes at .condition)) (number-fields (knots-at bytes at)) ends-stand knots-stand in
+        let rest =
+        stand-append bytes (values-begin bytes at) (ends-fields (axis-at bytes at .condition)) (number-fields (knots-at bytes at))
+        ends-stand knots-stand in
         (points-back, (sym lower-back, (rw ten (sym upper-back), (rw twelve mode-back, rw twelve rest))))

@@ -12,17 +12,29 @@ use Rattle.rules.specs.Sizes.{unused-axis, Grid, knots-length, samples-length}
 use Rattle.rules.specs.declared.Axis.{Axis}
 use Rattle.rules.proofs.Tables.{at-table}
 use Rattle.grid.specs.Given.{grid, sizes-of}
-use Rattle.bits.proofs.Writes.{Bytes}
-use Rattle.bits.proofs.Rows.{packed-bytes}
-use Rattle.sheet.specs.Fields.{edition as edition-said, axes, entries, knots-below, sheet-grid, sheet-samples}
-use Rattle.sheet.specs.Faults.{sheet-refusal}
-use Rattle.sheet.specs.Read.{over, ReadPromise}
-use Rattle.sheet.specs.declared.ReadAnswer.{ReadAnswer}
-use Rattle.sheet.proofs.Unique.{read-accepts, read-refuses-no-sheet}
-use Rattle.sheet.proofs.Parts.{take-over, parts}
+use Rattle.base_bits.proofs.Writes.{Bytes}
+use Rattle.base_bits.proofs.Rows.{packed-bytes}
+use Rattle.sheet_read.specs.Fields.{edition as edition-said, axes, entries, knots-below, sheet-grid, sheet-samples}
+use Rattle.sheet_read.specs.Faults.{sheet-refusal}
+use Rattle.sheet_read.specs.Read.{over, ReadPromise}
+use Rattle.sheet_read.specs.declared.ReadAnswer.{ReadAnswer}
+use Rattle.sheet_read.proofs.Unique.{read-accepts, read-refuses-no-sheet}
+use Rattle.sheet_read.proofs.Parts.{take-over, parts}
 use Rattle.sheet_write.specs.SheetOf.{sheet-fields, sheet-of}
 use Rattle.sheet_write.specs.Write.{no-sheet-refusal, WritePromise}
-use Rattle.sheet_write.specs.RoundTrip.{PartsHeld, entry, in-use, SheetRead, grid-read, samples-read, HasOneSheet, OneSheet, OneSheetRead, ReadBack, WrittenBack}
+use Rattle.sheet_write.specs.RoundTrip.{
+  PartsHeld,
+  entry,
+  in-use,
+  SheetRead,
+  grid-read,
+  samples-read,
+  HasOneSheet,
+  OneSheet,
+  OneSheetRead,
+  ReadBack,
+  WrittenBack,
+}
 use Rattle.sheet_write.specs.declared.WriteAnswer.{WriteAnswer}
 use Rattle.sheet_write.proofs.Editions.{own-edition}
 use Rattle.sheet_write.proofs.Parts.{known, WithoutNan, without-nan}

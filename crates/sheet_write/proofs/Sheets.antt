@@ -1,4 +1,5 @@
--- Reading and writing undo each other: the sheet of parts is accepted and has these parts, and the sheet of an accepted sheet's parts is that sheet.
+-- Reading and writing undo each other: the sheet of parts is accepted and has these parts, and the sheet of an accepted sheet's parts is
+-- that sheet.
 use mathlib.Core.Path.{_≡_, refl, sym, ap, ap₂, subst, _∙_}
 use mathlib.Core.Bool.{false, not, cond}
 use mathlib.Core.List.{List, [], _∷_, _++_}
@@ -11,24 +12,44 @@ use lib.ListN.{length, getD, take, drop}
 use lib.Pow.{pow-pos}
 use lib.Seq.{take-all}
 use lib.Ieee.{Float}
-use Rattle.base.proofs.Scan.{neither}
+use Rattle.base_numbers.proofs.Scan.{neither}
 use Rattle.rules.specs.Numbers.{any}
 use Rattle.rules.specs.Sizes.{most-axes, unused-axis, Grid, points, sum-below, knots-length, samples-length, tensor-length}
 use Rattle.rules.specs.Refusals.{tensor-refused}
 use Rattle.rules.specs.declared.Axis.{Axis}
 use Rattle.rules.proofs.Tables.{at-table, length-table}
 use Rattle.rules.proofs.Sums.{product-ext}
-use Rattle.bits.specs.Bits.{bit, field, number, numbers-short}
-use Rattle.bits.specs.Written.{number-fields, bits-in, filler}
-use Rattle.bits.proofs.Runs.{short-together}
-use Rattle.bits.proofs.Writes.{Bytes}
-use Rattle.bits.proofs.Rows.{Stand, Sized, stand-first, stand-second, stand-append, sized-append, packed-stand, packed-of, bits-in-append}
-use Rattle.bits.proofs.Numbers.{numbers-sized, numbers-read, numbers-stand, each-take, each-drop}
-use Rattle.kinds.specs.Editions.{mode-width}
-use Rattle.sheet.specs.Fields.{edition as edition-said, axes, mode-bits, entries, knots-below, sheet-grid, samples-begin, sheet-samples, samples-end}
-use Rattle.sheet.specs.Faults.{tail-refused, samples-fault, sheet-refusal}
-use Rattle.sheet.proofs.Samples.{bits-set, product-least}
-use Rattle.sheet.proofs.Sheets.{Accepted, accepted, axes-allowed, some-axes, samples-room}
+use Rattle.base_bits.specs.Bits.{bit, field, number, numbers-short}
+use Rattle.base_bits.specs.Written.{number-fields, bits-in, filler}
+use Rattle.base_bits.proofs.Runs.{short-together}
+use Rattle.base_bits.proofs.Writes.{Bytes}
+use Rattle.base_bits.proofs.Rows.{
+  Stand,
+  Sized,
+  stand-first,
+  stand-second,
+  stand-append,
+  sized-append,
+  packed-stand,
+  packed-of,
+  bits-in-append,
+}
+use Rattle.base_bits.proofs.Numbers.{numbers-sized, numbers-read, numbers-stand, each-take, each-drop}
+use Rattle.grid_codes.specs.Editions.{mode-width}
+use Rattle.sheet_read.specs.Fields.{
+  edition as edition-said,
+  axes,
+  mode-bits,
+  entries,
+  knots-below,
+  sheet-grid,
+  samples-begin,
+  sheet-samples,
+  samples-end,
+}
+use Rattle.sheet_read.specs.Faults.{tail-refused, samples-fault, sheet-refusal}
+use Rattle.sheet_read.proofs.Samples.{bits-set, product-least}
+use Rattle.sheet_read.proofs.Sheets.{Accepted, accepted, axes-allowed, some-axes, samples-room}
 use Rattle.sheet_write.specs.SheetOf.{ends-fields, axis-fields, axes-fields, part-fields, sheet-fields, sheet-of}
 use Rattle.sheet_write.specs.Write.{no-sheet-refusal, edition-refusal}
 use Rattle.sheet_write.specs.RoundTrip.{PartsHeld, entry, in-use, SheetRead}
@@ -44,7 +65,8 @@ module _ (edition : ℕ) (g : Grid) (samples : List Float) (k : Known g samples)
   abbrev width : ℕ
   width = mode-width edition
 
-  axis-sized : (i : ℕ) → i < g .axes → Sized (axis-fields width (entry g i) (take (points g i) (drop (sum-below (points g) i) (g .flat-knots))))
+  axis-sized : (i : ℕ) → i < g .axes
+      → Sized (axis-fields width (entry g i) (take (points g i) (drop (sum-below (points g) i) (g .flat-knots))))
   unfolding Sized axis-fields
   axis-sized i l =
       let most = k .grid-given .in-range .few-points i l in
@@ -59,7 +81,9 @@ module _ (edition : ℕ) (g : Grid) (samples : List Float) (k : Known g samples)
             (
               mode-fits edition (entry g i .mode) (t .known) (t .modes i l),
               sized-append (ends-fields c) (number-fields x) (ends-sized c (held .ends-held i l))
-                  (numbers-sized x (each-take _ (points g i) (drop (sum-below (points g) i) (g .flat-knots)) (each-drop _ (sum-below (points g) i) (g .flat-knots) (held .knots-held)))),
+                  (numbers-sized x
+                  (each-take _ (points g i) (drop (sum-below (points g) i) (g .flat-knots)) (each-drop _ (sum-below (points g) i)
+                  (g .flat-knots) (held .knots-held)))),
             ),
           ),
         ),
@@ -83,7 +107,8 @@ module _ (edition : ℕ) (g : Grid) (samples : List Float) (k : Known g samples)
         edition-fits edition (t .known),
         (
           (let e : g .axes < 8 = omega arith in e),
-          sized-append (axes-fields width g (g .axes)) (number-fields samples) (axes-sized (g .axes) (le-refl _)) (numbers-sized samples (held .samples-held)),
+          sized-append (axes-fields width g (g .axes)) (number-fields samples) (axes-sized (g .axes) (le-refl _))
+              (numbers-sized samples (held .samples-held)),
         ),
       )
       (filler-sized (bits-in (part-fields edition g samples)))
@@ -97,7 +122,8 @@ record PartFields (bytes : List ℕ) (edition : ℕ) (g : Grid) (samples : List 
   axes-there : Stand bytes 7 (axes-fields (mode-bits bytes) g (g .axes))
   samples-there : Stand bytes (7 + bits-in (axes-fields (mode-bits bytes) g (g .axes))) (number-fields samples)
 
-part-stand : (bytes : List ℕ) (edition : ℕ) (g : Grid) (samples : List Float) → Stand bytes 0 (part-fields edition g samples) → PartFields bytes edition g samples
+part-stand : (bytes : List ℕ) (edition : ℕ) (g : Grid) (samples : List Float) → Stand bytes 0 (part-fields edition g samples)
+    → PartFields bytes edition g samples
 unfolding Stand part-fields
 part-stand bytes edition g samples s =
     let fields = axes-fields (mode-width edition) g (g .axes) in
@@ -112,7 +138,8 @@ part-stand bytes edition g samples s =
 none-set : (bytes : List ℕ) (at n : ℕ) → field bytes at n ≡ 0 → any (λ k. not (eqb (bit bytes (at + k)) 0)) n ≡ false
 none-set bytes at n e = bits-set bytes at n ∙ rw e
 
-module _ (edition : ℕ) (g : Grid) (samples : List Float) (k : Known g samples) (held : PartsHeld g samples) (t : Taken edition g) (bytes : List ℕ) (f : PartFields bytes edition g samples)
+module _ (edition : ℕ) (g : Grid) (samples : List Float) (k : Known g samples) (held : PartsHeld g samples) (t : Taken edition g)
+    (bytes : List ℕ) (f : PartFields bytes edition g samples)
     (room : bits-in (part-fields edition g samples) ≤ 8 * length bytes) where
   abbrev n : ℕ
   n = g .axes
@@ -130,7 +157,8 @@ module _ (edition : ℕ) (g : Grid) (samples : List Float) (k : Known g samples)
   knots-read : knots-below bytes (axes bytes) ≡ g .flat-knots
   knots-read =
       rw (f .said)
-      (knots-found g samples k held bytes (f .axes-there) n (le-refl n) ∙ take-all (knots-length g) (g .flat-knots) (let e = k .grid-given .knots-exact in omega arith))
+      (knots-found g samples k held bytes (f .axes-there) n (le-refl n)
+      ∙ take-all (knots-length g) (g .flat-knots) (let e = k .grid-given .knots-exact in omega arith))
 
   size-read : (i : ℕ) → i < n → getD (in-use g) i unused-axis .points ≡ points g i
   size-read i l =
@@ -149,7 +177,9 @@ module _ (edition : ℕ) (g : Grid) (samples : List Float) (k : Known g samples)
   begin-read = rw (f .said) (begin-is g samples k held bytes (f .axes-there) n (le-refl n))
 
   samples-read : sheet-samples bytes ≡ samples
-  samples-read = rw (begin-read, count-is) (numbers-read bytes (7 + bits-in (axes-fields (mode-bits bytes) g n)) samples (held .samples-held) (f .samples-there))
+  samples-read =
+      rw (begin-read, count-is)
+      (numbers-read bytes (7 + bits-in (axes-fields (mode-bits bytes) g n)) samples (held .samples-held) (f .samples-there))
 
   end-read : samples-end bytes ≡ bits-in (part-fields edition g samples)
   end-read = let e = parts-are in let b = begin-read in let c = count-is in omega arith
@@ -166,8 +196,11 @@ module _ (edition : ℕ) (g : Grid) (samples : List Float) (k : Known g samples)
 
   samples-long : numbers-short bytes (samples-begin bytes) (samples-length (sheet-grid bytes)) ≡ false
   samples-long =
-      sym (short-together bytes (samples-begin bytes) (samples-length (sheet-grid bytes)) (rw count-read (product-least (points g) n (k .grid-given .in-range .some-points))))
-      ∙ le-ltb (8 * length bytes) (samples-begin bytes + 64 * samples-length (sheet-grid bytes)) (let a = all-there in let b = begin-read in let c = count-is in omega arith)
+      sym
+      (short-together bytes (samples-begin bytes) (samples-length (sheet-grid bytes))
+      (rw count-read (product-least (points g) n (k .grid-given .in-range .some-points))))
+      ∙ le-ltb (8 * length bytes) (samples-begin bytes + 64 * samples-length (sheet-grid bytes))
+      (let a = all-there in let b = begin-read in let c = count-is in omega arith)
 
   module _ (tail : tail-refused bytes (samples-end bytes) ≡ false) where
     samples-faultless : samples-fault bytes ≡ 0
@@ -197,7 +230,8 @@ module _ (edition : ℕ) (g : Grid) (samples : List Float) (k : Known g samples)
     }
 
 -- what follows the last sample: zeros, and fewer than 8
-tail-passed : (bytes : List ℕ) (b : ℕ) → bits-in (filler b ∷ []) + b ≡ 8 * length bytes → Stand bytes b (filler b ∷ []) → tail-refused bytes b ≡ false
+tail-passed : (bytes : List ℕ) (b : ℕ) → bits-in (filler b ∷ []) + b ≡ 8 * length bytes → Stand bytes b (filler b ∷ [])
+    → tail-refused bytes b ≡ false
 unfolding tail-refused bits-in Stand
 tail-passed bytes b whole s =
     let left : 8 * length bytes - b ≡ (8 - b % 8) % 8 = omega arith in
@@ -219,10 +253,12 @@ sheet-found edition g samples k held t bytes whole s =
     let room : b ≤ 8 * length bytes = omega arith in
     let zero-plus : 0 + b ≡ b = omega arith in
     let after : Stand bytes b last = subst (λ (p : ℕ). Stand bytes p last) zero-plus (stand-second bytes 0 parts last s) in
-    sheet-read edition g samples k held t bytes f room (rw (end-read edition g samples k held t bytes f room) (tail-passed bytes b (omega arith) after))
+    sheet-read edition g samples k held t bytes f room
+    (rw (end-read edition g samples k held t bytes f room) (tail-passed bytes b (omega arith) after))
 
 -- the sheet of parts is accepted, and has these parts
-pub read-of-sheet : (edition : ℕ) (g : Grid) (samples : List Float) → no-sheet-refusal g samples ≡ 0 → edition-refusal edition g ≡ 0 → PartsHeld g samples
+pub read-of-sheet : (edition : ℕ) (g : Grid) (samples : List Float) → no-sheet-refusal g samples ≡ 0 → edition-refusal edition g ≡ 0
+    → PartsHeld g samples
     → SheetRead (sheet-of edition g samples) edition g samples
 unfolding sheet-of
 read-of-sheet edition g samples e f held =
@@ -259,13 +295,15 @@ module _ (bytes : List ℕ) (ok : Accepted bytes) (fine : WithoutNan (sheet-grid
     refl,
     (
       said-back,
-      stand-append bytes 7 (axes-fields (mode-bits bytes) (sheet-grid bytes) (sheet-grid bytes .axes)) (number-fields (sheet-samples bytes)) axes-back
+      stand-append bytes 7 (axes-fields (mode-bits bytes) (sheet-grid bytes) (sheet-grid bytes .axes)) (number-fields (sheet-samples bytes))
+          axes-back
           (rw begin-back (numbers-stand bytes (samples-begin bytes) (samples-length (sheet-grid bytes)) (fine .samples-fine))),
     ),
   )
 
 -- what follows the last sample is what fills the last byte
-tail-back : (bytes : List ℕ) (b : ℕ) → b ≤ 8 * length bytes → tail-refused bytes b ≡ false → (b + bits-in (filler b ∷ []) ≡ 8 * length bytes) × Stand bytes b (filler b ∷ [])
+tail-back : (bytes : List ℕ) (b : ℕ) → b ≤ 8 * length bytes → tail-refused bytes b ≡ false
+    → (b + bits-in (filler b ∷ []) ≡ 8 * length bytes) × Stand bytes b (filler b ∷ [])
 unfolding tail-refused bits-in Stand
 tail-back bytes b room e =
     let both = neither _ _ e in

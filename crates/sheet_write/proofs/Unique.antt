@@ -7,7 +7,7 @@ use lib.ListN.{length}
 use lib.Ieee.{Float}
 use Rattle.rules.specs.Sizes.{Grid}
 use Rattle.rules.proofs.Refused.{or-else-passed}
-use Rattle.sheet.specs.Read.{over}
+use Rattle.sheet_read.specs.Read.{over}
 use Rattle.sheet_write.specs.SheetOf.{sheet-of}
 use Rattle.sheet_write.specs.Write.{no-sheet-refusal, edition-refusal, write-refusal, write-answer, WritePromise}
 use Rattle.sheet_write.specs.declared.WriteAnswer.{WriteAnswer}
@@ -19,7 +19,8 @@ pub write-unique :
     → (a ≡ a′) × (b ≡ b′)
 write-unique edition g samples buffer a a′ b b′ p q = (p .answer ∙ sym (q .answer), p .output ∙ sym (q .output))
 
-parts-passed : (edition : ℕ) (g : Grid) (samples : List Float) (buffer : List ℕ) → write-refusal edition g samples buffer ≡ 0 → (no-sheet-refusal g samples ≡ 0) × (edition-refusal edition g ≡ 0)
+parts-passed : (edition : ℕ) (g : Grid) (samples : List Float) (buffer : List ℕ) → write-refusal edition g samples buffer ≡ 0
+    → (no-sheet-refusal g samples ≡ 0) × (edition-refusal edition g ≡ 0)
 unfolding write-refusal
 parts-passed edition g samples buffer z =
     let parts = or-else-passed (no-sheet-refusal g samples) _ z in

@@ -1,4 +1,5 @@
--- Reading and writing undo each other, in each edition: what the statements speak of, and the statements. proofs/RoundTrip.antt proves them.
+-- Reading and writing undo each other, in each edition: what the statements speak of, and the statements. proofs/RoundTrip.antt proves
+-- them.
 --
 -- 1. An input that passes the build's checks has one sheet: it is accepted and has these parts, and no other list of bytes is and has.
 -- 2. So two sheets of one edition with the same parts are one, if these pass the checks: of the definitions, and of two reads.
@@ -23,12 +24,12 @@ use Rattle.rules.specs.declared.Condition.{Condition}
 use Rattle.rules.specs.declared.Condition.the-variants.{Endpoints, Periodic}
 use Rattle.rules.specs.declared.Axis.{Axis}
 use Rattle.grid.specs.Given.{grid, sizes-of}
-use Rattle.bits.proofs.Writes.{Bytes}
-use Rattle.bits.proofs.Numbers.{Held}
-use Rattle.sheet.specs.Fields.{edition as edition-said, axes, entries, knots-below, sheet-grid, sheet-samples}
-use Rattle.sheet.specs.Faults.{sheet-refusal}
-use Rattle.sheet.specs.Read.{buffer-length, over, ReadPromise}
-use Rattle.sheet.specs.declared.ReadAnswer.{ReadAnswer}
+use Rattle.base_bits.proofs.Writes.{Bytes}
+use Rattle.base_bits.proofs.Numbers.{Held}
+use Rattle.sheet_read.specs.Fields.{edition as edition-said, axes, entries, knots-below, sheet-grid, sheet-samples}
+use Rattle.sheet_read.specs.Faults.{sheet-refusal}
+use Rattle.sheet_read.specs.Read.{buffer-length, over, ReadPromise}
+use Rattle.sheet_read.specs.declared.ReadAnswer.{ReadAnswer}
 use Rattle.sheet_write.specs.SheetOf.{sheet-of}
 use Rattle.sheet_write.specs.Write.{no-sheet-refusal, edition-refusal, WritePromise}
 use Rattle.sheet_write.specs.declared.WriteAnswer.{WriteAnswer}

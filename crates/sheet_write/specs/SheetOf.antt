@@ -10,9 +10,9 @@ use Rattle.rules.specs.declared.End.the-variants.{NotAKnot, FirstDerivative, Se
 use Rattle.rules.specs.declared.Condition.{Condition}
 use Rattle.rules.specs.declared.Condition.the-variants.{Endpoints, Periodic}
 use Rattle.rules.specs.declared.Axis.{Axis}
-use Rattle.bits.specs.Written.{Field, wide, number-field, number-fields, bits-in, filler, packed}
-use Rattle.kinds.specs.Kinds.{lower-kind-of, upper-kind-of}
-use Rattle.kinds.specs.Editions.{mode-width}
+use Rattle.base_bits.specs.Written.{Field, wide, number-field, number-fields, bits-in, filler, packed}
+use Rattle.grid_codes.specs.Kinds.{lower-kind-of, upper-kind-of}
+use Rattle.grid_codes.specs.Editions.{mode-width}
 
 -- the number of an end, where it has one
 abbrev pub end-fields : End → List Field

@@ -5,16 +5,26 @@ use mathlib.Core.List.{List}
 use Prim.Native.Nat.{ℕ, _+_, _-_, _*_, _<_, _≤_}
 use lib.ListN.{length}
 use lib.Ieee.{Float}
-use Rattle.rules.specs.Sizes.{most-axes, fewest-on-an-axis, most-on-an-axis, Grid, points, condition, sum-below, knots-length, samples-length}
+use Rattle.rules.specs.Sizes.{
+  most-axes,
+  fewest-on-an-axis,
+  most-on-an-axis,
+  Grid,
+  points,
+  condition,
+  sum-below,
+  knots-length,
+  samples-length,
+}
 use Rattle.rules.specs.Outside.{mode-number}
 use Rattle.rules.specs.Refusals.{some-number-refused, ends-refused}
 use Rattle.rules.specs.declared.Axis.{Axis}
 use Rattle.rules.specs.declared.Condition.{Condition}
 use Rattle.grid.specs.Given.{sizes-of, condition-of}
-use Rattle.kinds.specs.Kinds.{values-of-kind, lower-kind-of, upper-kind-of}
-use Rattle.kinds.specs.Editions.{mode-width}
-use Rattle.bits.specs.Within.{Within}
-use Rattle.bits.specs.Written.{with-field, bits-in}
+use Rattle.grid_codes.specs.Kinds.{values-of-kind, lower-kind-of, upper-kind-of}
+use Rattle.grid_codes.specs.Editions.{mode-width}
+use Rattle.base_bits.specs.Within.{Within}
+use Rattle.base_bits.specs.Written.{with-field, bits-in}
 use Rattle.sheet_write.specs.SheetOf.{axis-fields, axes-fields, sheet-fields}
 
 -- the fields that an axis has before its numbers, and room for them from bit `at` on
@@ -27,7 +37,8 @@ pub record HeadGiven (bytes : List ℕ) (at width : ℕ) (axis : Axis) : Type 0 
 abbrev pub with-head : List ℕ → ℕ → ℕ → Axis → List ℕ
 with-head bytes at width axis =
     with-field
-    (with-field (with-field (with-field bytes at 8 (axis .points - 1)) (at + 8) 2 (lower-kind-of (axis .condition))) (at + 10) 2 (upper-kind-of (axis .condition)))
+    (with-field (with-field (with-field bytes at 8 (axis .points - 1)) (at + 8) 2 (lower-kind-of (axis .condition))) (at + 10) 2
+    (upper-kind-of (axis .condition)))
     (at + 12) width (mode-number (axis .mode))
 
 -- an axis and its knots, and room for them from bit `at` on

@@ -8,10 +8,19 @@ use lib.ListN.{length, getD}
 use lib.Ieee.{Float}
 use Rattle.rules.specs.Numbers.{any}
 use Rattle.rules.specs.Sizes.{unused-axis, Grid, knots-length, samples-length}
-use Rattle.rules.specs.Refusals.{axes-refused, some-points-refused, tensor-refused, length-refused, some-number-refused, some-ends-refused, some-knots-refused, some-fewness-refused}
+use Rattle.rules.specs.Refusals.{
+  axes-refused,
+  some-points-refused,
+  tensor-refused,
+  length-refused,
+  some-number-refused,
+  some-ends-refused,
+  some-knots-refused,
+  some-fewness-refused,
+}
 use Rattle.rules.specs.Calls.{or-else, stored, counted}
-use Rattle.kinds.specs.Editions.{unknown-edition, mode-refused}
-use Rattle.sheet.specs.Read.{over}
+use Rattle.grid_codes.specs.Editions.{unknown-edition, mode-refused}
+use Rattle.sheet_read.specs.Read.{over}
 use Rattle.sheet_write.specs.SheetOf.{sheet-of}
 use Rattle.sheet_write.specs.declared.WriteAnswer.{WriteAnswer}
 

@@ -6,11 +6,11 @@ ghost use Rattle.grid.specs.Given.{sizes-of, points-of, condition-of, InRange};
 ghost use Rattle.sheet_write.specs.Within.{values, values-below, parts-bits};
 use grid::knots_length;
 use grid::samples_length;
-use kinds::editions::mode_width;
-use kinds::ends::lower_kind;
-use kinds::ends::upper_kind;
-use kinds::ends::values_of_kind;
-use kinds::ends::wide;
+use grid_codes::editions::mode_width;
+use grid_codes::ends::lower_kind;
+use grid_codes::ends::upper_kind;
+use grid_codes::ends::values_of_kind;
+use grid_codes::ends::wide;
 use rules::Axis;
 use rules::Condition;
 

@@ -5,18 +5,18 @@ ghost use mathlib.Core.Bool.{false};
 ghost use Prim.Native.Nat.{_+_};
 ghost use Rattle.rules.specs.Refusals.{end-refused, ends-refused};
 ghost use Rattle.grid.specs.Given.{grid};
-ghost use Rattle.bits.specs.Within.{Within};
-ghost use Rattle.bits.specs.Written.{bits-in, with-fields};
+ghost use Rattle.base_bits.specs.Within.{Within};
+ghost use Rattle.base_bits.specs.Written.{bits-in, with-fields};
 ghost use Rattle.sheet_write.specs.SheetOf.{end-fields, ends-fields, axis-fields, axes-fields, sheet-fields};
 ghost use Rattle.sheet_write.specs.Within.{HeadGiven, with-head, AxisGiven, AxesGiven, SheetGiven};
-use bits::writing::put_field;
-use bits::writing::put_number;
-use bits::writing::put_numbers;
-use kinds::editions::mode_width;
-use kinds::ends::lower_kind;
-use kinds::ends::upper_kind;
-use kinds::ends::wide;
-use kinds::modes::mode_number;
+use base_bits::writing::put_field;
+use base_bits::writing::put_number;
+use base_bits::writing::put_numbers;
+use grid_codes::editions::mode_width;
+use grid_codes::ends::lower_kind;
+use grid_codes::ends::upper_kind;
+use grid_codes::ends::wide;
+use grid_codes::modes::mode_number;
 use rules::Axis;
 use rules::Condition;
 use rules::End;
@@ -42,7 +42,8 @@ fn put_end(bytes: &mut [u8], at: usize, end: End) -> usize
 // The numbers of both ends, the lower first.
 fn put_ends(bytes: &mut [u8], at: usize, condition: Condition) -> usize
     requires { ⌜ (ends-refused condition ≡ false) × Within (now bytes) at (bits-in (ends-fields condition)) ⌝ }
-    ensures { λ r. ⌜ (r ≡ at + bits-in (ends-fields condition)) × (now (bytes .exit) ≡ with-fields (now (bytes .entry)) at (ends-fields condition)) ⌝ }
+    ensures { λ r.
+        ⌜ (r ≡ at + bits-in (ends-fields condition)) × (now (bytes .exit) ≡ with-fields (now (bytes .entry)) at (ends-fields condition)) ⌝ }
 {
     match condition {
         Condition::Endpoints(lower, upper) => {
@@ -69,7 +70,9 @@ fn put_head(bytes: &mut [u8], at: usize, width: usize, axis: Axis)
 // An axis: what it has before its numbers, the numbers of its ends, its knots.
 fn put_axis(bytes: &mut [u8], at: usize, width: usize, axis: Axis, knots: &[f64]) -> usize
     requires { ⌜ AxisGiven (now bytes) at width axis (now knots) ⌝ }
-    ensures { λ r. ⌜ (r ≡ at + bits-in (axis-fields width axis (now (knots .entry)))) × (now (bytes .exit) ≡ with-fields (now (bytes .entry)) at (axis-fields width axis (now (knots .entry)))) ⌝ }
+    ensures { λ r.
+        ⌜ (r ≡ at + bits-in (axis-fields width axis (now (knots .entry))))
+        × (now (bytes .exit) ≡ with-fields (now (bytes .entry)) at (axis-fields width axis (now (knots .entry)))) ⌝ }
 {
     let condition = axis.condition;
     put_head(bytes, at, width, axis);
@@ -81,7 +84,9 @@ fn put_axis(bytes: &mut [u8], at: usize, width: usize, axis: Axis, knots: &[f64]
 // The axes in use, from bit 7 on, each with its part of the knots.
 fn put_axes(bytes: &mut [u8], width: usize, axes: usize, all: [Axis; 4], knots: &[f64]) -> usize
     requires { ⌜ AxesGiven (now bytes) width (grid axes all (now knots)) ⌝ }
-    ensures { λ r. ⌜ (r ≡ 7 + bits-in (axes-fields width (grid axes all (now (knots .entry))) axes)) × (now (bytes .exit) ≡ with-fields (now (bytes .entry)) 7 (axes-fields width (grid axes all (now (knots .entry))) axes)) ⌝ }
+    ensures { λ r.
+        ⌜ (r ≡ 7 + bits-in (axes-fields width (grid axes all (now (knots .entry))) axes))
+        × (now (bytes .exit) ≡ with-fields (now (bytes .entry)) 7 (axes-fields width (grid axes all (now (knots .entry))) axes)) ⌝ }
 {
     let mut at = 7;
     let mut from = 0;
@@ -106,7 +111,9 @@ pub fn put_sheet(
     samples: &[f64],
 )
     requires { ⌜ SheetGiven (now bytes) edition (grid axes all (now knots)) (now samples) ⌝ }
-    ensures { λ _. ⌜ now (bytes .exit) ≡ with-fields (now (bytes .entry)) 0 (sheet-fields edition (grid axes all (now (knots .entry))) (now (samples .entry))) ⌝ }
+    ensures { λ _.
+        ⌜ now (bytes .exit) ≡ with-fields (now (bytes .entry)) 0
+        (sheet-fields edition (grid axes all (now (knots .entry))) (now (samples .entry))) ⌝ }
 {
     put_field(bytes, 0, 4, edition as u64);
     put_field(bytes, 4, 3, axes as u64);

@@ -5,11 +5,11 @@ ghost use Prim.Native.Nat.{_≤_};
 ghost use Rattle.sheet_write.specs.Write.{no-sheet-refusal, some-mode-refused, edition-refusal, WritePromise};
 use crate::counts::part_bits;
 use crate::fields::put_sheet;
-use checks::build_refusal;
-use checks::sizes::sizes_refusal;
 use grid::tensor_length;
-use kinds::editions::is_unknown_edition;
-use kinds::editions::mode_refused;
+use grid_checks::build_refusal;
+use grid_checks::sizes::sizes_refusal;
+use grid_codes::editions::is_unknown_edition;
+use grid_codes::editions::mode_refused;
 use rules::Axis;
 
 mod fields; // fields.rt: the fields of a sheet, one after the other
@@ -30,7 +30,14 @@ fn no_sheet_refusal(axes: usize, all: [Axis; 4], knots: &[f64], samples: &[f64])
         return refusal;
     }
     let tensor = tensor_length(axes, all);
-    build_refusal(axes, all, knots, samples, tensor, tensor + scratch::ROWS)
+    build_refusal(
+        axes,
+        all,
+        knots,
+        samples,
+        tensor,
+        tensor + grid_scratch::ROWS,
+    )
 }
 
 // Whether the mode of an axis in use is refused by 23.
@@ -78,7 +85,8 @@ pub fn write(
     edition: usize,
     buffer: &mut [u8],
 ) -> WriteAnswer
-    ensures { λ r. ⌜ WritePromise edition (grid axes all (now (knots .entry))) (now (samples .entry)) (now (buffer .entry)) r (now (buffer .exit)) ⌝ }
+    ensures { λ r.
+        ⌜ WritePromise edition (grid axes all (now (knots .entry))) (now (samples .entry)) (now (buffer .entry)) r (now (buffer .exit)) ⌝ }
 {
     let refusal = no_sheet_refusal(axes, all, knots, samples);
     if refusal != 0 {

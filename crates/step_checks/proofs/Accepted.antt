@@ -11,20 +11,21 @@ use borrow.Author.Tests.{ltb-false, not-false}
 use Rattle.rules.specs.Numbers.{at}
 use Rattle.rules.specs.Sizes.{Grid, points, knots-length, knots, samples-length, tensor-length}
 use Rattle.rules.specs.Refusals.{points-refused, number-refused, some-number-refused, knots-refused}
-use Rattle.base.proofs.Scan.{neither, any-at}
+use Rattle.base_numbers.proofs.Scan.{neither, any-at}
 use Rattle.grid.proofs.Knots.{knots-of-axis}
-use Rattle.checks.specs.Given.{GridGiven}
-use Rattle.checks.proofs.Rows.{none-applies, exact, exact-3}
-use Rattle.checks.proofs.Accepted.{grid-known}
-use Rattle.checks.proofs.FiniteKnots.{axis-finite}
-use Rattle.locate.proofs.Accepted.{accepted-rise}
+use Rattle.grid_checks.specs.Given.{GridGiven}
+use Rattle.grid_checks.proofs.Rows.{none-applies, exact, exact-3}
+use Rattle.grid_checks.proofs.Accepted.{grid-known}
+use Rattle.grid_checks.proofs.FiniteKnots.{axis-finite}
+use Rattle.axis_locate.proofs.Accepted.{accepted-rise}
 use Rattle.step_checks.specs.Check.{point-rows, point-check, exact-rows, exact-check, stepped-rows, stepped-check}
 use Rattle.step_checks.specs.Given.{PointGiven, ExactGiven, SteppedGiven}
 
 -- ---- the calls on one axis
 
 module _ (n : ℕ) (x : List Float) where
-  known : (point : Float) → points-refused n ≡ false → length x ≡ n → some-number-refused x ≡ false → number-refused point ≡ false → knots-refused x n ≡ false → PointGiven n x point
+  known : (point : Float) → points-refused n ≡ false → length x ≡ n → some-number-refused x ≡ false → number-refused point ≡ false
+      → knots-refused x n ≡ false → PointGiven n x point
   known point range knots-exact knots-finite point-finite rise =
       let two = neither _ _ range in
       record {
@@ -55,7 +56,8 @@ module _ (n : ℕ) (x : List Float) where
 -- ---- the stepped surface
 
 module _ (g : Grid) (samples coordinates : List Float) where
-  module _ (given : GridGiven g (tensor-length g)) (fine : (i : ℕ) → i < g .axes → points-refused (points g i) ≡ false) (count : length coordinates ≡ g .axes) (coordinates-finite : some-number-refused coordinates ≡ false) where
+  module _ (given : GridGiven g (tensor-length g)) (fine : (i : ℕ) → i < g .axes → points-refused (points g i) ≡ false)
+      (count : length coordinates ≡ g .axes) (coordinates-finite : some-number-refused coordinates ≡ false) where
     on-axis : (i : ℕ) → i < g .axes → PointGiven (points g i) (knots g i) (at coordinates i)
     on-axis i l =
         let n = points g i in
@@ -72,8 +74,10 @@ module _ (g : Grid) (samples coordinates : List Float) where
   stepped-given e =
       let none = none-applies (stepped-rows g samples coordinates) tt e in
       let later = none .1 .1 .1 in
-      let lengths = exact-3 (length (g .flat-knots)) (knots-length g) (length samples) (samples-length g) (length coordinates) (g .axes) (later .0) in
-      let three = neither (some-number-refused (g .flat-knots) || some-number-refused samples) (some-number-refused coordinates) (later .1 .0) in
+      let lengths =
+      exact-3 (length (g .flat-knots)) (knots-length g) (length samples) (samples-length g) (length coordinates) (g .axes) (later .0) in
+      let three =
+      neither (some-number-refused (g .flat-knots) || some-number-refused samples) (some-number-refused coordinates) (later .1 .0) in
       let numbers = neither (some-number-refused (g .flat-knots)) (some-number-refused samples) (three .0) in
       let given = grid-known g (tensor-length g) (none .0) (none .1 .0) (none .1 .1 .0) (lengths .0) refl (numbers .0) (later .1 .1 .0) in
       record {

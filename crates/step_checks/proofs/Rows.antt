@@ -6,8 +6,8 @@ use Prim.Native.Nat.{ℕ}
 use lib.ListN.{length}
 use lib.Ieee.{Float}
 use Rattle.rules.specs.Refusals.{points-refused}
-use Rattle.checks.specs.Tables.{lowest}
-use Rattle.checks.proofs.Rows.{none-applies, rows-stop, rows-pass, exact}
+use Rattle.grid_checks.specs.Tables.{lowest}
+use Rattle.grid_checks.proofs.Rows.{none-applies, rows-stop, rows-pass, exact}
 use Rattle.step_checks.specs.Check.{axis-rows, axis-check, numbers-rows, numbers-check}
 
 module _ (n : ℕ) (x : List Float) {number : ℕ} (e : number ≡ axis-check n (length x)) where
@@ -30,6 +30,7 @@ module _ (n : ℕ) (x : List Float) {number : ℕ} (e : number ≡ axis-check n 
   knots-fit z = ap points-refused (axis-fits z .1) ∙ axis-fits z .0
 
   -- what the knots give by their own number is what they give by the points
-  pub numbers-of-points : {answer : ℕ} (point : Float) → number ≡ 0 → answer ≡ numbers-check (length x) x point → answer ≡ lowest (numbers-rows n x point) 0
+  pub numbers-of-points : {answer : ℕ} (point : Float) → number ≡ 0 → answer ≡ numbers-check (length x) x point
+      → answer ≡ lowest (numbers-rows n x point) 0
   unfolding numbers-check
   numbers-of-points point z a = a ∙ ap (λ (m : ℕ). lowest (numbers-rows m x point) 0) (axis-fits z .1)

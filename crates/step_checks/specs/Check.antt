@@ -5,9 +5,17 @@ use Prim.Native.Nat.{ℕ}
 use lib.ListN.{length}
 use lib.Ieee.{Float}
 use Rattle.rules.specs.Sizes.{Grid, knots-length, samples-length}
-use Rattle.rules.specs.Refusals.{points-refused, length-refused, lower-refused, number-refused, some-number-refused, knots-refused, some-knots-refused}
-use Rattle.checks.specs.Tables.{Refusal, row, lowest}
-use Rattle.checks.specs.Check.{sizes-rows}
+use Rattle.rules.specs.Refusals.{
+  points-refused,
+  length-refused,
+  lower-refused,
+  number-refused,
+  some-number-refused,
+  knots-refused,
+  some-knots-refused,
+}
+use Rattle.grid_checks.specs.Tables.{Refusal, row, lowest}
+use Rattle.grid_checks.specs.Check.{sizes-rows}
 
 -- ---- the calls on one axis of n points
 
@@ -49,7 +57,9 @@ module _ (g : Grid) (samples coordinates : List Float) where
   abbrev pub stepped-rows : List Refusal
   stepped-rows =
       sizes-rows g ++ (
-      row 4 (length-refused (length (g .flat-knots)) (knots-length g) || length-refused (length samples) (samples-length g) || length-refused (length coordinates) (g .axes))
+      row 4
+      (length-refused (length (g .flat-knots)) (knots-length g) || length-refused (length samples) (samples-length g)
+      || length-refused (length coordinates) (g .axes))
       ∷ row 7 (some-number-refused (g .flat-knots) || some-number-refused samples || some-number-refused coordinates)
       ∷ row 8 (some-knots-refused g)
       ∷ []

@@ -7,9 +7,19 @@ use lib.ListN.{length}
 use lib.Ieee.{Float}
 use lib.Ieee.Scale.{finite}
 use Rattle.rules.specs.Numbers.{at}
-use Rattle.rules.specs.Sizes.{fewest-on-an-axis, most-on-an-axis, most-in-a-tensor, Grid, points, knots-length, knots, samples-length, tensor-length}
+use Rattle.rules.specs.Sizes.{
+  fewest-on-an-axis,
+  most-on-an-axis,
+  most-in-a-tensor,
+  Grid,
+  points,
+  knots-length,
+  knots,
+  samples-length,
+  tensor-length,
+}
 use Rattle.grid.specs.Given.{InRange}
-use Rattle.locate.specs.Answers.{Rising}
+use Rattle.axis_locate.specs.Answers.{Rising}
 
 -- of n knots and a point
 pub record PointGiven (n : ℕ) (x : List Float) (point : Float) : Type 0 where

@@ -1,4 +1,5 @@
-// The refusals of steps as code: for each public call the first number that it meets before it works, and 0 where there is none. The pass over the knots for refusal 8 is made before they are looked at for refusal 7, as in `checks`.
+// The refusals of steps as code: for each public call the first number that it meets before it works, and 0 where there is none. The pass
+// over the knots for refusal 8 is made before they are looked at for refusal 7, as in `checks`.
 ghost use mathlib.Core.Path.{_≡_};
 ghost use mathlib.Core.Bool.{false, _||_};
 ghost use lib.ListN.{length};
@@ -6,10 +7,10 @@ ghost use Rattle.rules.specs.Sizes.{knots-length, samples-length};
 ghost use Rattle.rules.specs.Refusals.{points-refused, length-refused};
 ghost use Rattle.grid.specs.Given.{grid, sizes-of, points-of, InRange};
 ghost use Rattle.step_checks.specs.Check.{axis-check, numbers-check, point-check, exact-check, stepped-check};
-use checks::lengths;
-use checks::numbers;
-use checks::rising;
-use checks::sizes;
+use grid_checks::lengths;
+use grid_checks::numbers;
+use grid_checks::rising;
+use grid_checks::sizes;
 use rules::Axis;
 
 // What the points and the number of knots of an axis meet: 2, 4, or 0.
@@ -77,7 +78,11 @@ pub fn stepped_lengths_refused(
     coordinates: usize,
 ) -> bool
     requires { ⌜ InRange axes (points-of all) ⌝ }
-    ensures { λ r. ⌜ r ≡ (length-refused knots (knots-length (sizes-of axes all)) || length-refused samples (samples-length (sizes-of axes all)) || length-refused coordinates axes) ⌝ }
+    ensures { λ r.
+        ⌜ r ≡
+        (length-refused knots (knots-length (sizes-of axes all)) || length-refused samples (samples-length (sizes-of axes all))
+        || length-refused coordinates axes)
+        ⌝ }
 {
     if lengths::length_refused(knots, grid::knots_length(axes, all)) {
         return true;
@@ -109,7 +114,7 @@ pub fn stepped_refusal(
     if numbers::slices_refused(knots_refused, knots, samples) {
         return 7;
     }
-    if base::any_not_finite(coordinates) {
+    if base_numbers::any_not_finite(coordinates) {
         return 7;
     }
     if knots_refused {

@@ -13,13 +13,13 @@ use Rattle.rules.specs.Numbers.{at}
 use Rattle.rules.specs.Sizes.{Grid, masks, samples-length, tensor-length, Place, place-of}
 use Rattle.rules.specs.Tensor.{tensor}
 use Rattle.rules.specs.Calls.{BuildPromise}
-use Rattle.checks.specs.Check.{build-check}
-use Rattle.checks.specs.Given.{BuildGiven}
-use Rattle.checks.proofs.ThenOutcome.{refused, build-outcome}
-use Rattle.lanes.specs.Lanes.{Lies, Stored}
-use Rattle.passes.specs.Passes.{WorkGiven, Refreshed}
+use Rattle.grid_checks.specs.Check.{build-check}
+use Rattle.grid_checks.specs.Given.{BuildGiven}
+use Rattle.grid_checks.proofs.ThenOutcome.{refused, build-outcome}
+use Rattle.tensor_lane.specs.Lanes.{Lies, Stored}
+use Rattle.tensor_passes.specs.Passes.{WorkGiven, Refreshed}
 use Rattle.grid.specs.Given.{On}
-use Rattle.passes.proofs.MaskTurns.{given-again}
+use Rattle.tensor_passes.proofs.MaskTurns.{given-again}
 use Rattle.tensor.specs.Working.{outcome-in, Finished}
 use Rattle.tensor.proofs.Outcome.{built, samples-stored}
 use Rattle.tensor.proofs.Promises.{given-of, answer-is, output-is, scratch-is}
@@ -36,7 +36,8 @@ pub origin-on : {g : Grid} {w : List Float} → WorkGiven g w → On g (place-of
 origin-on given j below = omega (arith, origin j, given .in-range .some-points j below)
 
 module _ (g : Grid) (samples tensor-out scratch : List Float) where
-  pub build-refused : (r : ℕ) → r ≡ build-check g samples (length tensor-out) (length scratch) → r ≢ 0 → BuildPromise g samples tensor-out scratch r tensor-out scratch
+  pub build-refused : (r : ℕ) → r ≡ build-check g samples (length tensor-out) (length scratch) → r ≢ 0
+      → BuildPromise g samples tensor-out scratch r tensor-out scratch
   build-refused r e some =
       let left = refused (build-outcome g samples tensor-out scratch) (λ z. some (e ∙ z)) in
       record { answer = e ∙ sym (left .same); output = left .output tensor-out (tensor g samples); scratch = left .scratch scratch }
@@ -58,7 +59,8 @@ module _ (g : Grid) (samples tensor-out scratch : List Float) where
     }
 
     module _
-        (r m : ℕ) (w w′ tensor-later scratch-later : List Float) (place : Place) (passed : build-check g samples (length tensor-out) (length scratch) ≡ 0)
+        (r m : ℕ) (w w′ tensor-later scratch-later : List Float) (place : Place)
+        (passed : build-check g samples (length tensor-out) (length scratch) ≡ 0)
         (m-is : m ≡ masks g)
         (begun : Stored scratch w (at samples) (length samples) 2048 m) (after : Refreshed g w w′ true place (g .axes))
         (finished : Finished tensor-out w′ r tensor-later scratch-later)
@@ -70,7 +72,9 @@ module _ (g : Grid) (samples tensor-out scratch : List Float) where
         came-out =
             ap (λ (n : ℕ). take n (drop 2048 w′)) (known .grid-given .tensor-exact)
             ∙ built g w w′ (given-again w′ long build-given-passes) place samples
-            (samples-stored g w samples (λ f lt. subst (λ (k : ℕ). at w (2048 + f * k) ≡ at samples f) m-is (begun .values f (omega (arith, known .samples-exact)))))
+            (samples-stored g w samples
+            (λ f lt. subst (λ (k : ℕ).
+            at w (2048 + f * k) ≡ at samples f) m-is (begun .values f (omega (arith, known .samples-exact)))))
             after
 
         pub build-done : BuildPromise g samples tensor-out scratch r tensor-later scratch-later
@@ -79,5 +83,6 @@ module _ (g : Grid) (samples tensor-out scratch : List Float) where
             record {
               answer = answer-is tensor-out (tensor g samples) scratch w′ tensor-later scratch-later decided passed came-out long finished;
               output = output-is tensor-out (tensor g samples) scratch w′ tensor-later scratch-later decided passed came-out long finished;
-              scratch = scratch-is tensor-out (tensor g samples) scratch w′ tensor-later scratch-later decided passed came-out long finished;
+              scratch =
+                  scratch-is tensor-out (tensor g samples) scratch w′ tensor-later scratch-later decided passed came-out long finished;
             }

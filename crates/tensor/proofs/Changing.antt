@@ -17,12 +17,12 @@ use Rattle.rules.specs.Calls.{counted, change-answer, ChangePromise}
 use Rattle.rules.specs.declared.ChangeAnswer.{ChangeAnswer}
 use Rattle.rules.proofs.Places.{flat-below}
 use Rattle.rules.proofs.LaneCount.{lane-count}
-use Rattle.checks.specs.Check.{change-check}
-use Rattle.checks.specs.Given.{ChangeGiven}
-use Rattle.checks.proofs.ThenOutcome.{refused, change-outcome}
-use Rattle.passes.specs.Passes.{lanes-solved-below, WorkGiven, Refreshed}
-use Rattle.passes.proofs.Count.{change-count}
-use Rattle.passes.proofs.MaskTurns.{given-again}
+use Rattle.grid_checks.specs.Check.{change-check}
+use Rattle.grid_checks.specs.Given.{ChangeGiven}
+use Rattle.grid_checks.proofs.ThenOutcome.{refused, change-outcome}
+use Rattle.tensor_passes.specs.Passes.{lanes-solved-below, WorkGiven, Refreshed}
+use Rattle.tensor_passes.proofs.Count.{change-count}
+use Rattle.tensor_passes.proofs.MaskTurns.{given-again}
 use Rattle.tensor.specs.Working.{Loaded, outcome-in, Finished}
 use Rattle.tensor.proofs.Outcome.{changed-is, sample-stored, others-kept}
 use Rattle.tensor.proofs.Promises.{given-of, answer-is, output-is, scratch-is}
@@ -59,7 +59,8 @@ module _ (g : Grid) (tensor-lent scratch : List Float) (changed : Place) (v : Fl
     changed-small = omega (arith, changed-inside, known .grid-given .tensor-exact, known .grid-given .small)
 
     module _
-        (r at-spot lanes : ℕ) (w w′ tensor-later scratch-later : List Float) (passed : change-check g tensor-lent (length scratch) changed v ≡ 0)
+        (r at-spot lanes : ℕ) (w w′ tensor-later scratch-later : List Float)
+        (passed : change-check g tensor-lent (length scratch) changed v ≡ 0)
         (spot-is : at-spot ≡ spot g changed 0)
         (begun : Loaded scratch w tensor-lent at-spot v)
         (after : Refreshed g w w′ false changed (g .axes) × (lanes ≡ lanes-solved-below (points g) (g .axes) false (g .axes)))
@@ -85,7 +86,8 @@ module _ (g : Grid) (tensor-lent scratch : List Float) (changed : Place) (v : Fl
         count-is : lanes ≡ length (change-lanes g changed)
         count-is = after .1 ∙ change-count (points g) (g .axes) (g .axes) (omega arith) ∙ sym (lane-count g changed (known .on-the-grid))
 
-        change-worked : (n : ℕ) → n ≡ counted r (length (change-lanes g changed)) → ChangePromise g tensor-lent scratch changed v (answer-of r n) tensor-later scratch-later
+        change-worked : (n : ℕ) → n ≡ counted r (length (change-lanes g changed))
+            → ChangePromise g tensor-lent scratch changed v (answer-of r n) tensor-later scratch-later
         unfolding change-answer
         change-worked n n-is =
             let decided = change-outcome g tensor-lent scratch changed v in

@@ -1,4 +1,5 @@
--- Demand 3, README's third promise, from the promises of `build` and `change` and the theorems of rules alone: first the four statements, then their proofs.
+-- Demand 3, README's third promise, from the promises of `build` and `change` and the theorems of rules alone: first the four statements,
+-- then their proofs.
 use native.Mathlib.Omega.{arith}
 use mathlib.Core.Path.{_≡_, refl, sym, ap, ap₂, _∙_, subst}
 use mathlib.Core.Logic.{_≢_}
@@ -13,7 +14,19 @@ use lib.Ieee.{Float, nan}
 use borrow.Author.Tests.{eq-eqb, eqb-true, eqb-false, leb-false, le-ltb}
 use Rattle.rules.specs.Numbers.{at, any}
 use Rattle.rules.specs.Sizes.{Grid, points, knots-length, samples-length, masks, tensor-length, scratch-length, Place, flat, spot, in-mask}
-use Rattle.rules.specs.Refusals.{axes-refused, some-points-refused, tensor-refused, length-refused, place-refused, number-refused, some-number-refused, some-ends-refused, some-knots-refused, some-fewness-refused, outcome-refused}
+use Rattle.rules.specs.Refusals.{
+  axes-refused,
+  some-points-refused,
+  tensor-refused,
+  length-refused,
+  place-refused,
+  number-refused,
+  some-number-refused,
+  some-ends-refused,
+  some-knots-refused,
+  some-fewness-refused,
+  outcome-refused,
+}
 use Rattle.rules.specs.Tensor.{sample, tensor}
 use Rattle.rules.specs.Change.{agree, changed-tensor, change-lanes, lane-sum}
 use Rattle.rules.specs.Calls.{stored, counted, build-refusal, BuildPromise, change-refusal, change-answer}
@@ -24,8 +37,8 @@ use Rattle.rules.proofs.Tables.{length-table}
 use Rattle.rules.proofs.ChangeIsBuild.{kept, built-entry, set-is-with-sample, change-is-build}
 use Rattle.rules.proofs.LaneCount.{lane-count}
 use Rattle.rules.proofs.Refused.{any-ext}
-use Rattle.base.proofs.Scan.{neither, any-found, any-at}
-use Rattle.lane_starts.proofs.Agreement.{agree-at}
+use Rattle.base_numbers.proofs.Scan.{neither, any-found, any-at}
+use Rattle.tensor_starts.proofs.Agreement.{agree-at}
 use Rattle.tensor.specs.Changes.{Step, Kept, tensor-after, standing, samples-after}
 
 -- ---- what the statements speak of
@@ -44,16 +57,19 @@ BitsOfFreshBuild g samples t =
     → BuildPromise g (samples-after g samples steps) out′ scratch′ refusal fresh cleared′
     → (refusal ≡ 0) × (fresh ≡ tensor-after t steps)
 
--- 2: one more change, with the stated room, is refused by 6 where its place is off the grid, and else just as a fresh build from the samples with the new one is
+-- 2: one more change, with the stated room, is refused by 6 where its place is off the grid, and else just as a fresh build from the
+-- samples with the new one is
 abbrev pub RefusalOfFreshBuild : Grid → List Float → List Float → Type 0
 RefusalOfFreshBuild g samples t =
     (steps : List Step) → Kept g t steps
     → (step : Step) → scratch-length g ≤ length (step .scratch) → Kept g (tensor-after t steps) (step ∷ [])
     → (out′ scratch′ fresh cleared′ : List Float) (refusal : ℕ) → Fitting g out′ scratch′
-    → BuildPromise g (set (samples-after g samples steps) (flat (points g) (g .axes) (step .place)) (step .sample)) out′ scratch′ refusal fresh cleared′
+    → BuildPromise g (set (samples-after g samples steps) (flat (points g) (g .axes) (step .place)) (step .sample)) out′ scratch′ refusal
+    fresh cleared′
     → step .answer .refusal ≡ cond (place-refused g (step .place)) 6 refusal
 
--- 3: one more change leaves the number at a place and a mask where, on some axis outside the mask, the place has another index than the changed one
+-- 3: one more change leaves the number at a place and a mask where, on some axis outside the mask, the place has another index than the
+-- changed one
 abbrev pub BitsKeptElsewhere : Grid → List Float → Type 0
 BitsKeptElsewhere g t =
     (steps : List Step) → Kept g t steps
@@ -70,13 +86,17 @@ CountsItsLanes =
 
 -- each of a tensor that an accepted build made
 abbrev pub HasBitsOfFreshBuild : Type 0
-HasBitsOfFreshBuild = (g : Grid) (samples out scratch t cleared : List Float) → BuildPromise g samples out scratch 0 t cleared → BitsOfFreshBuild g samples t
+HasBitsOfFreshBuild =
+    (g : Grid) (samples out scratch t cleared : List Float) → BuildPromise g samples out scratch 0 t cleared → BitsOfFreshBuild g samples t
 
 abbrev pub RefusedAsFreshBuild : Type 0
-RefusedAsFreshBuild = (g : Grid) (samples out scratch t cleared : List Float) → BuildPromise g samples out scratch 0 t cleared → RefusalOfFreshBuild g samples t
+RefusedAsFreshBuild =
+    (g : Grid) (samples out scratch t cleared : List Float) → BuildPromise g samples out scratch 0 t cleared
+    → RefusalOfFreshBuild g samples t
 
 abbrev pub KeepsBitsElsewhere : Type 0
-KeepsBitsElsewhere = (g : Grid) (samples out scratch t cleared : List Float) → BuildPromise g samples out scratch 0 t cleared → BitsKeptElsewhere g t
+KeepsBitsElsewhere =
+    (g : Grid) (samples out scratch t cleared : List Float) → BuildPromise g samples out scratch 0 t cleared → BitsKeptElsewhere g t
 
 -- ---- rows of refusals
 
@@ -128,14 +148,22 @@ accepted-is-sound g samples out scratch e =
     let r1 = peel (axes-refused g) 0 _ e in
     let r2 = peel (some-points-refused g) 1 _ (r1 .1) in
     let r3 = peel (tensor-refused g) 2 _ (r2 .1) in
-    let r4 = peel (length-refused (length (g .flat-knots)) (knots-length g) || length-refused (length samples) (samples-length g) || length-refused (length out) (tensor-length g)) 3 _ (r3 .1) in
+    let r4 =
+    peel
+    (length-refused (length (g .flat-knots)) (knots-length g) || length-refused (length samples) (samples-length g)
+    || length-refused (length out) (tensor-length g))
+    3 _ (r3 .1) in
     let r5 = peel (ltb (length scratch) (scratch-length g)) 4 _ (r4 .1) in
     let r7 = peel (some-number-refused (g .flat-knots) || some-ends-refused g || some-number-refused samples) 6 _ (r5 .1) in
     let r8 = peel (some-knots-refused g) 7 _ (r7 .1) in
     let r9 = peel (some-fewness-refused g) 8 _ (r8 .1) in
     let r10 = peel (outcome-refused (tensor g samples)) 9 0 (r9 .1) in
-    let lengths = neither (length-refused (length (g .flat-knots)) (knots-length g) || length-refused (length samples) (samples-length g)) (length-refused (length out) (tensor-length g)) (r4 .0) in
-    let two = neither (length-refused (length (g .flat-knots)) (knots-length g)) (length-refused (length samples) (samples-length g)) (lengths .0) in
+    let lengths =
+    neither (length-refused (length (g .flat-knots)) (knots-length g) || length-refused (length samples) (samples-length g))
+    (length-refused (length out) (tensor-length g)) (r4 .0) in
+    let two =
+    neither (length-refused (length (g .flat-knots)) (knots-length g)) (length-refused (length samples) (samples-length g))
+    (lengths .0) in
     let numbers = neither (some-number-refused (g .flat-knots) || some-ends-refused g) (some-number-refused samples) (r7 .0) in
     let both = neither (some-number-refused (g .flat-knots)) (some-ends-refused g) (numbers .0) in
     record {
@@ -162,18 +190,23 @@ module _ (g : Grid) (samples : List Float) (sound : Sound g samples) where
       past (axes-refused g) 1 (sound .axes-fine)
       (past (some-points-refused g) 2 (sound .points-fine)
       (past (tensor-refused g) 3 (sound .tensor-fine)
-      (past (length-refused (length (g .flat-knots)) (knots-length g) || length-refused (length others) (samples-length g) || length-refused (length out) (tensor-length g)) 4
+      (past
+      (length-refused (length (g .flat-knots)) (knots-length g) || length-refused (length others) (samples-length
+      g) || length-refused (length out) (tensor-length g))
+      4
       (none-of-three _ _ _ (exact _ _ (sound .knots-exact)) (exact _ _ long) (exact _ _ (fitting .0)))
       (past (ltb (length scratch) (scratch-length g)) 5 (le-ltb (length scratch) (scratch-length g) (fitting .1))
       (ap₂ (λ (b : Bool) (n : ℕ). cond b 7 n)
-      (third-alone (some-number-refused (g .flat-knots)) (some-ends-refused g) (some-number-refused others) (sound .knots-finite) (sound .ends-finite))
+      (third-alone (some-number-refused (g .flat-knots)) (some-ends-refused g) (some-number-refused others) (sound .knots-finite)
+      (sound .ends-finite))
       (past (some-knots-refused g) 8 (sound .knots-rise) (past (some-fewness-refused g) 9 (sound .enough-points) refl)))))))
 
   -- a change of the built tensor by 6, 7 or 10 or not at all
   change-number :
       (scratch : List Float) (place : Place) (v : Float) → length (tensor g samples) ≡ tensor-length g → scratch-length g ≤ length scratch
       → change-refusal g (tensor g samples) scratch place v
-      ≡ cond (place-refused g place) 6 (cond (number-refused v) 7 (cond (outcome-refused (changed-tensor g place v (tensor g samples))) 10 0))
+      ≡ cond (place-refused g place) 6
+      (cond (number-refused v) 7 (cond (outcome-refused (changed-tensor g place v (tensor g samples))) 10 0))
   unfolding change-refusal
   change-number scratch place v long room =
       past (axes-refused g) 1 (sound .axes-fine)
@@ -190,10 +223,13 @@ module _ (g : Grid) (samples : List Float) (sound : Sound g samples) where
       last-fine true b e = refl
       last-fine false b e = e
 
-      numbers : (some-number-refused (g .flat-knots) || some-ends-refused g || number-refused v || some-number-refused (tensor g samples)) ≡ number-refused v
+      numbers : (some-number-refused (g .flat-knots) || some-ends-refused g || number-refused v || some-number-refused (tensor g samples))
+          ≡ number-refused v
       numbers =
-          last-fine (some-number-refused (g .flat-knots) || some-ends-refused g || number-refused v) (some-number-refused (tensor g samples)) (sound .outcome-finite)
-          ∙ third-alone (some-number-refused (g .flat-knots)) (some-ends-refused g) (number-refused v) (sound .knots-finite) (sound .ends-finite)
+          last-fine (some-number-refused (g .flat-knots) || some-ends-refused g || number-refused v)
+          (some-number-refused (tensor g samples)) (sound .outcome-finite)
+          ∙ third-alone (some-number-refused (g .flat-knots)) (some-ends-refused g) (number-refused v) (sound .knots-finite)
+          (sound .ends-finite)
 
   pub tensor-long : length (tensor g samples) ≡ tensor-length g
   unfolding tensor
@@ -226,7 +262,8 @@ module _ (g : Grid) (samples : List Float) (sound : Sound g samples) where
             (λ k below. at-k k below (eqb k number) refl)
             ∙ sound .samples-finite
           where
-            at-k : (k : ℕ) → k < length samples → (b : Bool) → eqb k number ≡ b → number-refused (at changed k) ≡ number-refused (at samples k)
+            at-k : (k : ℕ) → k < length samples → (b : Bool) → eqb k number ≡ b
+                → number-refused (at changed k) ≡ number-refused (at samples k)
             at-k k below true same =
                 let here = eqb-true k number same in
                 ap (λ (i : ℕ). number-refused (at changed i)) here
@@ -262,7 +299,8 @@ pub record Accepted (g : Grid) (t : List Float) (place : Place) (v : Float) : Ty
 on-grid : (g : Grid) (place : Place) → place-refused g place ≡ false → OnGrid (points g) (g .axes) place
 on-grid g place fine i below = leb-false (points g i) (place i) (any-at (λ j. leb (points g j) (place j)) (g .axes) fine i below)
 
-pub change-accepted : (g : Grid) (t scratch : List Float) (place : Place) (v : Float) → change-refusal g t scratch place v ≡ 0 → Accepted g t place v
+pub change-accepted : (g : Grid) (t scratch : List Float) (place : Place) (v : Float) → change-refusal g t scratch place v ≡ 0
+    → Accepted g t place v
 unfolding change-refusal
 change-accepted g t scratch place v e =
     let r1 = peel (axes-refused g) 0 _ e in
@@ -275,7 +313,8 @@ change-accepted g t scratch place v e =
     let r8 = peel (some-knots-refused g) 7 _ (r7 .1) in
     let r9 = peel (some-fewness-refused g) 8 _ (r8 .1) in
     let r10 = peel (outcome-refused (changed-tensor g place v t)) 9 0 (r9 .1) in
-    let numbers = neither (some-number-refused (g .flat-knots) || some-ends-refused g || number-refused v) (some-number-refused t) (r7 .0) in
+    let numbers =
+    neither (some-number-refused (g .flat-knots) || some-ends-refused g || number-refused v) (some-number-refused t) (r7 .0) in
     record {
       on-the-grid = on-grid g place (r6 .0);
       sample-finite = neither (some-number-refused (g .flat-knots) || some-ends-refused g) (number-refused v) (numbers .0) .1;
@@ -295,7 +334,8 @@ pub record Stands (g : Grid) (samples t : List Float) : Type 0 where
   pub is : t ≡ tensor g samples
 
 -- after the build
-pub built-stands : (g : Grid) (samples out scratch t cleared : List Float) → BuildPromise g samples out scratch 0 t cleared → Stands g samples t
+pub built-stands : (g : Grid) (samples out scratch t cleared : List Float) → BuildPromise g samples out scratch 0 t cleared
+    → Stands g samples t
 built-stands g samples out scratch t cleared p = record {
   sound = accepted-is-sound g samples out scratch (sym (p .answer));
   is = p .output ∙ ap (λ (r : ℕ). stored r out (tensor g samples)) (sym (p .answer));
@@ -331,7 +371,8 @@ module _ (g : Grid) (samples t : List Float) (step : Step) (stands : Stands g sa
       go (suc r) e = stands
 
 -- after a list of changes
-pub steps-stand : (g : Grid) (samples t : List Float) → Stands g samples t → (steps : List Step) → Kept g t steps → Stands g (samples-after g samples steps) (tensor-after t steps)
+pub steps-stand : (g : Grid) (samples t : List Float) → Stands g samples t → (steps : List Step) → Kept g t steps
+    → Stands g (samples-after g samples steps) (tensor-after t steps)
 steps-stand g samples t stands [] promised = stands
 steps-stand g samples t stands (step ∷ steps) promised =
     steps-stand g (standing g (step .answer .refusal) samples (step .place) (step .sample)) (step .tensor-later)
@@ -377,7 +418,8 @@ refusal-of-fresh-build g samples t first steps promised step room next out′ sc
     go false e =
         let on = on-grid g p e in
         let after : List Float = set now (flat (points g) (g .axes) p) v in
-        ap₂ (λ (a b : Bool). cond a 7 (cond b 10 0)) (sym (new-finite g now sound p v on)) (ap outcome-refused (changed-is-built g now sound p v on))
+        ap₂ (λ (a b : Bool). cond a 7 (cond b 10 0)) (sym (new-finite g now sound p v on))
+        (ap outcome-refused (changed-is-built g now sound p v on))
         ∙ sym (build-number g now sound after out′ scratch′ (changed-long g now sound p v on) fitting) ∙ sym (again .answer)
 
 pub bits-kept-elsewhere : (g : Grid) (samples t : List Float) → Stands g samples t → BitsKeptElsewhere g t
@@ -411,7 +453,8 @@ bits-kept-elsewhere g samples t first steps promised step next q mask j on small
         let accepted = change-accepted g before (step .scratch) p v e in
         let sound = stands .sound in
         let after : List Float = set now (flat (points g) (g .axes) p) v in
-        ap (λ (l : List Float). at l (spot g q mask)) (ap (changed-tensor g p v) (stands .is) ∙ changed-is-built g now sound p v (accepted .on-the-grid))
+        ap (λ (l : List Float). at l (spot g q mask))
+        (ap (changed-tensor g p v) (stands .is) ∙ changed-is-built g now sound p v (accepted .on-the-grid))
         ∙ built-entry g after (g .axes) mask q (le-refl (g .axes)) small on
         ∙ sym (kept g (sample g now) p v (sample g after) (set-is-with-sample g now p v (accepted .on-the-grid) (sound .samples-exact))
         (g .axes) mask q (le-refl (g .axes)) small on (differs (agree (in-mask mask) (g .axes) q p) refl))

@@ -13,7 +13,22 @@ use Rattle.rules.specs.Change.{lane-sum}
 use Rattle.rules.specs.declared.ChangeAnswer.{ChangeAnswer}
 use Rattle.rules.proofs.Places.{OnGrid, flat-ext, flat-one}
 use Rattle.tensor.specs.Changes.{Step, Kept, standing, samples-after}
-use Rattle.tensor.specs.EitherOrder.{SamePlace, DifferentPlaces, SameChange, Every, AllAccepted, AllDifferent, SameChanges, none, one-more, answers, SameSamplesSameTensor, EitherOrder, LaterAlone, AnyOrder}
+use Rattle.tensor.specs.EitherOrder.{
+  SamePlace,
+  DifferentPlaces,
+  SameChange,
+  Every,
+  AllAccepted,
+  AllDifferent,
+  SameChanges,
+  none,
+  one-more,
+  answers,
+  SameSamplesSameTensor,
+  EitherOrder,
+  LaterAlone,
+  AnyOrder,
+}
 use Rattle.tensor.proofs.Demand3.{change-accepted, refusal-is, built-stands, steps-stand, counts-its-lanes}
 
 -- ---- the same samples
@@ -45,7 +60,8 @@ accepted-answer g = record { refusal = 0; lanes = lane-sum (points g) (g .axes) 
 answer-is : (g : Grid) (t : List Float) (step : Step) → Kept g t (step ∷ []) → step .answer .refusal ≡ 0 → step .answer ≡ accepted-answer g
 answer-is g t step promised accepted = λ i. record { refusal = accepted i; lanes = counts-its-lanes g t step promised accepted .1 i }
 
-answers-are : (g : Grid) (t : List Float) (steps : List Step) → Kept g t steps → AllAccepted steps → answers steps ≡ replicate (length steps) (accepted-answer g)
+answers-are : (g : Grid) (t : List Float) (steps : List Step) → Kept g t steps → AllAccepted steps
+    → answers steps ≡ replicate (length steps) (accepted-answer g)
 answers-are g t [] promised accepted = refl
 answers-are g t (step ∷ steps) promised accepted =
     ap₂ (λ (a : ChangeAnswer) (rest : List ChangeAnswer). a ∷ rest)
@@ -62,7 +78,8 @@ abbrev all-stored : Grid → List Float → List Step → List Float
 all-stored g samples [] = samples
 all-stored g samples (step ∷ steps) = all-stored g (set samples (number g step) (step .sample)) steps
 
-accepted-are-stored : (g : Grid) (samples : List Float) (steps : List Step) → AllAccepted steps → samples-after g samples steps ≡ all-stored g samples steps
+accepted-are-stored : (g : Grid) (samples : List Float) (steps : List Step) → AllAccepted steps
+    → samples-after g samples steps ≡ all-stored g samples steps
 unfolding number
 accepted-are-stored g samples [] accepted = refl
 accepted-are-stored g samples (step ∷ steps) accepted =
@@ -73,7 +90,8 @@ same-number : (g : Grid) (a b : Step) → SamePlace g (a .place) (b .place) → 
 unfolding number
 same-number g a b same = flat-ext (points g) (g .axes) (a .place) (b .place) same
 
-different-numbers : (g : Grid) (a b : Step) → OnTheGrid g a → OnTheGrid g b → DifferentPlaces g (a .place) (b .place) → number g a ≢ number g b
+different-numbers : (g : Grid) (a b : Step) → OnTheGrid g a → OnTheGrid g b → DifferentPlaces g (a .place) (b .place)
+    → number g a ≢ number g b
 unfolding number
 different-numbers g a b on-a on-b different e =
     different .apart (flat-one (points g) (g .axes) (a .place) (b .place) on-a on-b e (different .axis) (different .in-use))
@@ -90,7 +108,8 @@ module _ (Holds : Step → Type 0) where
   every-with (b ∷ before) behind a holds every = (every .0, every-with before behind a holds (every .1))
 
   -- what does not tell the same change apart holds of the same changes in every order
-  every-same : (g : Grid) → ((a b : Step) → SameChange g a b → Holds a → Holds b) → (steps others : List Step) → SameChanges g steps others → Every Holds steps → Every Holds others
+  every-same : (g : Grid) → ((a b : Step) → SameChange g a b → Holds a → Holds b) → (steps others : List Step) → SameChanges g steps others
+      → Every Holds steps → Every Holds others
   every-same g carries [] [] none every = tt
   every-same g carries (a ∷ steps) others (one-more {a′} before behind same rest) every =
       every-with before behind a′ (carries a a′ same (every .0)) (every-same g carries steps (before ++ behind) rest (every .1))
@@ -104,7 +123,8 @@ stored-first :
 stored-first g samples [] behind a apart = refl
 stored-first g samples (b ∷ before) behind a apart =
     stored-first g (set samples (number g b) (b .sample)) before behind a (apart .1)
-    ∙ ap (λ (l : List Float). all-stored g l (before ++ behind)) (set-comm samples (number g b) (number g a) (b .sample) (a .sample) (λ e. apart .0 (sym e)))
+    ∙ ap (λ (l : List Float). all-stored g l (before ++ behind))
+    (set-comm samples (number g b) (number g a) (b .sample) (a .sample) (λ e. apart .0 (sym e)))
 
 -- no two steps have one number
 abbrev DifferentNumbers : Grid → List Step → Type 0
@@ -113,9 +133,11 @@ DifferentNumbers g (a ∷ steps) = Every (λ b. number g a ≢ number g b) steps
 
 different-places-numbers : (g : Grid) (steps : List Step) → Every (OnTheGrid g) steps → AllDifferent g steps → DifferentNumbers g steps
 different-places-numbers g [] on different = tt
-different-places-numbers g (a ∷ steps) on different = (go steps (on .1) (different .0), different-places-numbers g steps (on .1) (different .1))
+different-places-numbers g (a ∷ steps) on different =
+    (go steps (on .1) (different .0), different-places-numbers g steps (on .1) (different .1))
   where
-    go : (rest : List Step) → Every (OnTheGrid g) rest → Every (λ b. DifferentPlaces g (a .place) (b .place)) rest → Every (λ b. number g a ≢ number g b) rest
+    go : (rest : List Step) → Every (OnTheGrid g) rest → Every (λ b. DifferentPlaces g (a .place) (b .place)) rest
+        → Every (λ b. number g a ≢ number g b) rest
     go [] on-rest apart = tt
     go (b ∷ rest) on-rest apart = (different-numbers g a b (on .0) (on-rest .0) (apart .0), go rest (on-rest .1) (apart .1))
 
@@ -134,7 +156,8 @@ same-samples-stored g samples (a ∷ steps) others (one-more {a′} before behin
     apart : Every (λ b. number g a′ ≢ number g b) (before ++ behind)
     apart =
         rw (← here)
-        (every-same (λ b. number g a ≢ number g b) g (λ b b′ again ne e. ne (e ∙ sym (same-number g b b′ (again .place)))) steps (before ++ behind) rest (different .0))
+        (every-same (λ b. number g a ≢ number g b) g (λ b b′ again ne e. ne (e ∙ sym (same-number g b b′ (again .place)))) steps
+        (before ++ behind) rest (different .0))
 
 same-length : (g : Grid) (steps others : List Step) → SameChanges g steps others → length steps ≡ length others
 same-length g [] [] none = refl
@@ -148,7 +171,8 @@ pub any-order : AnyOrder
 any-order g samples out scratch t cleared built steps others promised promised′ same different accepted accepted′ = (
   same-samples-same-tensor g samples out scratch t cleared built steps others promised promised′
       (accepted-are-stored g samples steps accepted
-      ∙ same-samples-stored g samples steps others same (different-places-numbers g steps (all-on-the-grid g t steps promised accepted) different)
+      ∙ same-samples-stored g samples steps others same
+      (different-places-numbers g steps (all-on-the-grid g t steps promised accepted) different)
       ∙ sym (accepted-are-stored g samples others accepted′)),
   answers-are g t steps promised accepted
       ∙ ap (λ (n : ℕ). replicate n (accepted-answer g)) (same-length g steps others same)

@@ -9,7 +9,8 @@ use Rattle.rules.specs.Numbers.{zeros}
 use Rattle.rules.specs.Refusals.{outcome-refused}
 use Rattle.tensor.specs.Working.{outcome-in, Finished}
 
-module _ (tensor w w′ : List Float) (n : ℕ) (bad : Bool) (n-is : n ≡ length tensor) (looked : bad ≡ outcome-refused (take n (drop 2048 w))) (cleared : w′ ≡ zeros (length w)) where
+module _ (tensor w w′ : List Float) (n : ℕ) (bad : Bool) (n-is : n ≡ length tensor) (looked : bad ≡ outcome-refused (take n (drop 2048 w)))
+    (cleared : w′ ≡ zeros (length w)) where
   looked-at : bad ≡ outcome-refused (outcome-in w tensor)
   looked-at = looked ∙ ap (λ (k : ℕ). outcome-refused (take k (drop 2048 w))) n-is
 

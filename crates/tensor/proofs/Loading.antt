@@ -9,7 +9,8 @@ use lib.Ieee.{Float, nan}
 use Rattle.rules.specs.Numbers.{at}
 use Rattle.tensor.specs.Working.{Loaded}
 
-module _ (w tensor : List Float) (n spot : ℕ) (number : Float) (room : 2048 + length tensor ≤ length w) (inside : spot < length tensor) (n-is : n ≡ length tensor) where
+module _ (w tensor : List Float) (n spot : ℕ) (number : Float) (room : 2048 + length tensor ≤ length w) (inside : spot < length tensor)
+    (n-is : n ≡ length tensor) where
   -- the scratch with the copy
   abbrev copy : List Float
   copy = take 2048 w ++ (tensor ++ drop n (drop 2048 w))

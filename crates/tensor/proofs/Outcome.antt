@@ -19,12 +19,12 @@ use Rattle.rules.specs.Change.{agree, can-differ, with-sample, changed-entry, c
 use Rattle.rules.proofs.Cases.{arms-ext, arms-one, not-both}
 use Rattle.rules.proofs.Places.{moved-on-grid, flat-below, flat-ext, flat-one, flat-unflat, unflat-on-grid}
 use Rattle.rules.proofs.Locality.{rest-below, slope-along-ext}
-use Rattle.lanes.proofs.Parts.{part-is-table}
-use Rattle.lane_starts.specs.Starts.{free}
-use Rattle.lane_starts.proofs.Agreement.{agree-at, agree-all}
-use Rattle.passes.specs.Passes.{solves, working, WorkGiven, refreshed, Refreshed}
+use Rattle.tensor_lane.proofs.Parts.{part-is-table}
+use Rattle.tensor_starts.specs.Starts.{free}
+use Rattle.tensor_starts.proofs.Agreement.{agree-at, agree-all}
+use Rattle.tensor_passes.specs.Passes.{solves, working, WorkGiven, refreshed, Refreshed}
 use Rattle.grid.specs.Given.{On}
-use Rattle.passes.proofs.Pass.{digits-one}
+use Rattle.tensor_passes.proofs.Pass.{digits-one}
 
 module _ (g : Grid) where
   -- ---- the numbers after the passes
@@ -68,7 +68,8 @@ module _ (g : Grid) where
           (λ high.
           arms-ext (can-differ g changed i (mask - 2 ^ i) p)
           (λ solved.
-          slope-along-ext g i (mask - 2 ^ i) (refreshed g false changed old′ i (mask - 2 ^ i)) (changed-entry g changed v old i (mask - 2 ^ i)) p p refl
+          slope-along-ext g i (mask - 2 ^ i) (refreshed g false changed old′ i (mask - 2 ^ i))
+          (changed-entry g changed v old i (mask - 2 ^ i)) p p refl
           (λ k below.
           refreshed-is-changed i (mask - 2 ^ i) (moved p i k) (omega arith) (rest-below i mask lt high) (omega arith)
           (moved-on-grid (points g) (g .axes) i k p on below)))
@@ -116,7 +117,8 @@ module _ (g : Grid) where
     changed-is changed v old stored kept after =
         working-list w′ given (λ p mask. changed-entry g changed v (λ q m. at old (spot g q m)) (g .axes) mask p) (λ p mask on small.
         after .done p mask on small small
-        ∙ refreshed-is-changed changed v (λ q m. at old (spot g q m)) (working g w) stored kept (g .axes) mask p (omega arith) small small on)
+        ∙ refreshed-is-changed changed v (λ q m. at old (spot g q m)) (working g w) stored kept (g .axes) mask p (omega arith) small small
+        on)
 
   -- ---- the working tensor before the passes
 
@@ -136,8 +138,10 @@ module _ (g : Grid) where
       (new : at w (2048 + spot g changed 0) ≡ v)
       (copied : (e : ℕ) → e < tensor-length g → e ≢ spot g changed 0 → at w (2048 + e) ≡ at old e)
     where
-      one-spot : (p : Place) (mask : ℕ) → mask < masks g → spot g p mask ≡ spot g changed 0 → (flat (points g) (g .axes) p ≡ flat (points g) (g .axes) changed) × (mask ≡ 0)
-      one-spot p mask small e = digits-one (masks g) (flat (points g) (g .axes) p) (flat (points g) (g .axes) changed) mask 0 small (pow-pos (g .axes)) e
+      one-spot : (p : Place) (mask : ℕ) → mask < masks g → spot g p mask ≡ spot g changed 0
+          → (flat (points g) (g .axes) p ≡ flat (points g) (g .axes) changed) × (mask ≡ 0)
+      one-spot p mask small e =
+          digits-one (masks g) (flat (points g) (g .axes) p) (flat (points g) (g .axes) changed) mask 0 small (pow-pos (g .axes)) e
 
       pub sample-stored : (p : Place) → On g p → working g w p 0 ≡ with-sample g (λ q. at old (spot g q 0)) changed v p
       unfolding with-sample

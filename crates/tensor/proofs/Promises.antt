@@ -9,9 +9,9 @@ use Rattle.rules.specs.Numbers.{zeros}
 use Rattle.rules.specs.Sizes.{Grid}
 use Rattle.rules.specs.Refusals.{outcome-refused}
 use Rattle.rules.specs.Calls.{stored, scratch-after}
-use Rattle.checks.specs.Given.{GridGiven, SolveGiven}
-use Rattle.checks.proofs.ThenOutcome.{ThenOutcome, outcome}
-use Rattle.passes.specs.Passes.{WorkGiven}
+use Rattle.grid_checks.specs.Given.{GridGiven, SolveGiven}
+use Rattle.grid_checks.proofs.ThenOutcome.{ThenOutcome, outcome}
+use Rattle.tensor_passes.specs.Passes.{WorkGiven}
 use Rattle.tensor.specs.Working.{outcome-in, Finished}
 
 -- what the checks leave is what the passes are given

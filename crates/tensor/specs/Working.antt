@@ -9,7 +9,7 @@ use lib.Ieee.{Float}
 use Rattle.rules.specs.Numbers.{at, zeros}
 use Rattle.rules.specs.Refusals.{outcome-refused}
 use Rattle.rules.specs.Calls.{stored}
-use Rattle.scratch.specs.Layout.{tensor-begin, row}
+use Rattle.grid_scratch.specs.Layout.{tensor-begin, row}
 
 -- a tensor copied to the scratch, with one number of it new
 pub record Loaded (w w′ tensor : List Float) (spot : ℕ) (number : Float) : Type 0 where

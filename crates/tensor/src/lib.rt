@@ -17,15 +17,24 @@ pub fn build(
     tensor: &mut [f64],
     scratch: &mut [f64],
 ) -> usize
-    ensures { λ r. ⌜ BuildPromise (grid axes all (now (knots .entry))) (now (samples .entry)) (now (tensor .entry)) (now (scratch .entry)) r (now (tensor .exit)) (now (scratch .exit)) ⌝ }
+    ensures { λ r.
+        ⌜ BuildPromise (grid axes all (now (knots .entry))) (now (samples .entry)) (now (tensor .entry)) (now (scratch .entry)) r
+        (now (tensor .exit)) (now (scratch .exit)) ⌝ }
 {
-    let refusal = checks::build_refusal(axes, all, knots, samples, tensor.len(), scratch.len());
+    let refusal = grid_checks::build_refusal(
+        axes,
+        all,
+        knots,
+        samples,
+        tensor.len(),
+        scratch.len(),
+    );
     if refusal != 0 {
         return refusal;
     }
     let masks = grid::masks(axes);
     working::store_samples(scratch, samples, masks);
-    passes::solve_axes(scratch, axes, all, knots, [0; 4], true);
+    tensor_passes::solve_axes(scratch, axes, all, knots, [0; 4], true);
     working::finish(tensor, scratch)
 }
 
@@ -41,15 +50,25 @@ pub fn change(
     place: [usize; 4],
     sample: f64,
 ) -> ChangeAnswer
-    ensures { λ r. ⌜ ChangePromise (grid axes all (now (knots .entry))) (now (tensor .entry)) (now (scratch .entry)) (place-of place) sample r (now (tensor .exit)) (now (scratch .exit)) ⌝ }
+    ensures { λ r.
+        ⌜ ChangePromise (grid axes all (now (knots .entry))) (now (tensor .entry)) (now (scratch .entry)) (place-of place) sample r
+        (now (tensor .exit)) (now (scratch .exit)) ⌝ }
 {
-    let refusal = checks::change_refusal(axes, all, knots, tensor, scratch.len(), place, sample);
+    let refusal = grid_checks::change_refusal(
+        axes,
+        all,
+        knots,
+        tensor,
+        scratch.len(),
+        place,
+        sample,
+    );
     if refusal != 0 {
         return ChangeAnswer { refusal, lanes: 0 };
     }
     let spot = grid::place_number(axes, all, place) * grid::masks(axes);
     working::load(scratch, tensor, spot, sample);
-    let lanes = passes::solve_axes(scratch, axes, all, knots, place, false);
+    let lanes = tensor_passes::solve_axes(scratch, axes, all, knots, place, false);
     let outcome = working::finish(tensor, scratch);
     if outcome != 0 {
         return ChangeAnswer {

@@ -2,15 +2,16 @@
 ghost use Prim.Native.Nat.{_+_, _<_, _≤_};
 ghost use lib.ListN.{length};
 ghost use Rattle.rules.specs.Numbers.{at};
-ghost use Rattle.scratch.specs.Layout.{tensor-begin};
-ghost use Rattle.lanes.specs.Lanes.{Lies, Stored};
+ghost use Rattle.grid_scratch.specs.Layout.{tensor-begin};
+ghost use Rattle.tensor_lane.specs.Lanes.{Lies, Stored};
 ghost use Rattle.tensor.specs.Working.{Loaded, Finished};
-use scratch::TENSOR;
+use grid_scratch::TENSOR;
 
 // The samples go to mask 0.
 pub fn store_samples(w: &mut [f64], samples: &[f64], masks: usize)
     requires { ⌜ Lies (now w) (length (now samples)) tensor-begin masks × (1 ≤ masks) ⌝ }
-    ensures { λ _. ⌜ Stored (now (w .entry)) (now (w .exit)) (at (now (samples .entry))) (length (now (samples .entry))) tensor-begin masks ⌝ }
+    ensures { λ _.
+        ⌜ Stored (now (w .entry)) (now (w .exit)) (at (now (samples .entry))) (length (now (samples .entry))) tensor-begin masks ⌝ }
 {
     let mut k = 0;
     while k < samples.len() {
@@ -25,21 +26,22 @@ pub fn load(w: &mut [f64], tensor: &[f64], spot: usize, number: f64)
     ensures { λ _. ⌜ Loaded (now (w .entry)) (now (w .exit)) (now (tensor .entry)) spot number ⌝ }
 {
     let end = TENSOR + tensor.len();
-    base::copy(&mut w[TENSOR..end], tensor);
+    base_numbers::copy(&mut w[TENSOR..end], tensor);
     w[TENSOR + spot] = number;
 }
 
-// What came out is looked at, and stored when all of it is finite; then the scratch is cleared. It answers 10, or 0 where the tensor was stored.
+// What came out is looked at, and stored when all of it is finite; then the scratch is cleared. It answers 10, or 0 where the tensor was
+// stored.
 pub fn finish(tensor: &mut [f64], w: &mut [f64]) -> usize
     requires { ⌜ tensor-begin + length (now tensor) ≤ length (now w) ⌝ }
     ensures { λ r. ⌜ Finished (now (tensor .entry)) (now (w .entry)) r (now (tensor .exit)) (now (w .exit)) ⌝ }
 {
     let end = TENSOR + tensor.len();
-    if base::any_of_many_not_finite(&w[TENSOR..end]) {
-        base::clear(w);
+    if base_numbers::any_of_many_not_finite(&w[TENSOR..end]) {
+        base_numbers::clear(w);
         return 10;
     }
-    base::copy(tensor, &w[TENSOR..end]);
-    base::clear(w);
+    base_numbers::copy(tensor, &w[TENSOR..end]);
+    base_numbers::clear(w);
     0
 }

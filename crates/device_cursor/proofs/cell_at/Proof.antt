@@ -1,3 +1,4 @@
+-- The 16 bytes of cell i as four numbers in the order p0, p1, d0, d1; all of them lie within the curve.
 use mir.Syntax.{w64}
 use mir.ValLaws.{toZ-ofZ}
 use borrow.Author.Needs.{needs}

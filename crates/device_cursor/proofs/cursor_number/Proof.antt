@@ -1,3 +1,5 @@
+-- Below the last cursor it is cell n / 256 at n mod 256, and at the last one the last cell at 256. Of a curve that is not refused
+-- there is a cell, and each is in range, which is what `number_of` asks.
 use mathlib.Core.Path.{_∙_}
 use Prim.Native.Nat.{_-_, _/_}
 use native.Mathlib.Omega.{arith}

@@ -1,3 +1,5 @@
+-- 20 for a length that is not 1 to 255 whole cells, 19 at the first cell out of range, else 0. The loop's invariant: the cells
+-- below `i` are in range. The measure is the cells left.
 use Prim.Native.Nat.{_≤_, _-_}
 use mathlib.Core.Path.{_≡_, sym, _∙_}
 use mathlib.Core.Bool.{true}

@@ -1,3 +1,4 @@
+-- Little-endian: the four bytes times 1, 256, 65,536 and 16,777,216, whose sum is below 2 ^ 32. All four lie within the curve.
 use native.Mathlib.Omega.{arith}
 use Rattle.device_cursor.specs.DeviceCurve.{four-bytes}
 use borrow.Author.Needs.{needs}

@@ -1,6 +1,7 @@
+-- The range test of one cell, on the numbers that the curve's bytes give for cell i.
 use mathlib.Core.Path.{ap, _∙_}
-use Rattle.device.specs.DeviceCell.{cell-in-range}
-use Rattle.device.specs.declared.Cell.{Cell}
+use Rattle.device_cell.specs.DeviceCell.{cell-in-range}
+use Rattle.device_cell.specs.declared.Cell.{Cell}
 use borrow.Author.Needs.{needs}
 use Rattle.device_cursor.proofs.in_range_at.Statement.{statement}
 use Rattle.device_cursor.proofs.in_range_at.Tie as tie

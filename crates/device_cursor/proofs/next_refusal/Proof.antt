@@ -1,3 +1,5 @@
+-- The curve's own refusal comes first; of a curve without one, 20 for a cursor behind 256 times the cells, which does not overflow
+-- as they are at most 255, and 0 for any other.
 use mathlib.Core.Path.{_≡_, sym, _∙_}
 use native.Mathlib.Omega.{arith}
 use lib.ListN.{length}

@@ -1,3 +1,4 @@
+-- Two's complement by hand: four bytes below 2 ^ 31 are their own number, and from there on 2 ^ 32 is taken away, which fits 64 bits.
 use Prim.Native.Nat.{_+_, _<_}
 use mathlib.Core.Path.{_≡_, ap, _∙_}
 use native.Mathlib.Omega.{arith}
@@ -5,7 +6,7 @@ use lib.IntN.{pos, _-ℤ_}
 use mir.Syntax.{w64}
 use mir.Val.{SFits, toZ}
 use mir.ValLaws.{toZ-pos, toZ-ofZ}
-use Rattle.integers.proofs.Sizes.{sized-pos, sized-sub, sized-fits}
+use Rattle.base_integers.proofs.Sizes.{sized-pos, sized-sub, sized-fits}
 use Rattle.device_cursor.specs.DeviceCurve.{signed}
 use Rattle.device_cursor.proofs.Judged.{low, high}
 use borrow.Author.Needs.{needs}

@@ -1,8 +1,9 @@
+-- The number of cell i at position k, the cell read from the curve: that it is in range is required, and so handed on.
 use mathlib.Core.Path.{ap, _∙_}
 use mir.Syntax.{w32}
 use mir.ValLaws.{toZ-ofZ}
-use Rattle.device.specs.DeviceCell.{cell-number}
-use Rattle.device.specs.declared.Cell.{Cell}
+use Rattle.device_cell.specs.DeviceCell.{cell-number}
+use Rattle.device_cell.specs.declared.Cell.{Cell}
 use borrow.Author.Needs.{needs}
 use Rattle.device_cursor.proofs.number_of.Statement.{statement}
 use Rattle.device_cursor.proofs.number_of.Tie as tie

@@ -1,3 +1,4 @@
+-- A length is accepted exactly where 16 divides it and it lies in 16..4080; a branch for each of the tests.
 use borrow.Author.Tests.{le-leb, lt-leb, eq-eqb, ne-eqb}
 use Rattle.device_cursor.specs.DeviceCurve.{whole-cells}
 use Rattle.device_cursor.proofs.whole_cells.Statement.{statement}

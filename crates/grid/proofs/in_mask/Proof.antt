@@ -1,3 +1,4 @@
+-- The bit of the axis: the mask divided by 2 to the power of the axis is odd, in the rules as in the code.
 use mathlib.Core.Path.{refl}
 use borrow.Author.Needs.{needs}
 use Rattle.rules.specs.Sizes.{in-mask}

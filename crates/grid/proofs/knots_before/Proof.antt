@@ -1,3 +1,4 @@
+-- `sum` is the points of the axes below `j`, at most 256 for each and so 1024 in the end. The measure is the axes left.
 use native.Mathlib.Omega.{arith}
 use mathlib.Core.Path.{_≡_, sym}
 use Prim.Native.Nat.{_*_, _-_, _≤_}

@@ -1,3 +1,4 @@
+-- The knots of all axes are those before the one behind the last; that there are few axes, of few points each, is in the range given.
 use borrow.Author.Needs.{needs}
 use Rattle.grid.proofs.knots_length.Statement.{statement}
 use Rattle.grid.proofs.knots_length.Tie as tie

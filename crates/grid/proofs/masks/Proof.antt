@@ -1,3 +1,4 @@
+-- A shift by at most 4 loses no bit of 64, so it is the power of two, and 16 at most.
 use native.Mathlib.Nat.{one-mul, mod-eq-of-lt, lt-of-le-of-lt, pow-le-pow-right}
 use mathlib.Core.Path.{_≡_}
 use Prim.Native.Nat.{ℕ, _*_, _%_, _^_, _≤_}

@@ -1,3 +1,5 @@
+-- `number` is the flat number of the place on the axes below `j`; with one axis more it stays below 4096 (`number-fits`), so nothing
+-- overflows. The measure is the axes left.
 use borrow.Author.Needs.{needs}
 use native.Mathlib.Omega.{arith}
 use mathlib.Core.Path.{_≡_}

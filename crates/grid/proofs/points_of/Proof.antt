@@ -1,3 +1,4 @@
+-- There are four axes, and the four numbers taken out of them are their points at each index (`points-taken`).
 use mathlib.Core.Path.{_≡_}
 use lib.ListN.{length}
 use Rattle.grid.proofs.Points.{points-taken}

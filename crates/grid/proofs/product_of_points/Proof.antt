@@ -1,3 +1,5 @@
+-- `product` is that of the points below `i` and at most 256 to the power `i`, which four axes keep within 2^32. The measure is the
+-- axes left.
 use mathlib.Core.Path.{_≡_, sym}
 use Prim.Native.Nat.{_+_, _*_, _-_, _^_, _≤_}
 use native.Mathlib.Nat.{le-trans}
@@ -16,7 +18,8 @@ Inv-loop axes points product₀ i₀ product i =
 abbrev μ-loop : tie.MeasureT-loop
 μ-loop axes points product₀ i₀ product i = axes - i
 
-grown : (c : tie.In-loop Inv-loop μ-loop) → c .before .loop .product * place-of (c .before .before .args .points .now) (c .before .loop .i) ≤ 256 ^ (c .before .loop .i + 1)
+grown : (c : tie.In-loop Inv-loop μ-loop)
+    → c .before .loop .product * place-of (c .before .before .args .points .now) (c .before .loop .i) ≤ 256 ^ (c .before .loop .i + 1)
 grown c =
     product-bound _ _ _ (c .before .loop .inv .2)
     (c .before .before .pre .0 .few-points (c .before .loop .i) (omega arith))

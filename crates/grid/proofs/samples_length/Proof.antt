@@ -1,3 +1,4 @@
+-- The points taken out of the four axes are theirs, so their product is the number of the grid's places, at most 2^32.
 use mathlib.Core.Path.{ap, subst, sym, _∙_}
 use Prim.Native.Nat.{ℕ}
 use Rattle.rules.specs.Sizes.{product-below}
@@ -11,7 +12,8 @@ product-of-points-requires c κs = (subst (InRange _) (sym (c .before .points-of
 
 returns : tie.Need-returns
 returns c = (
-  c .product-of-points .ensures .0 ∙ ap (λ (n : ℕ → ℕ). product-below n (c .before .before .before .args .axes)) (c .before .before .points-of .ensures),
+  c .product-of-points .ensures .0
+      ∙ ap (λ (n : ℕ → ℕ). product-below n (c .before .before .before .args .axes)) (c .before .before .points-of .ensures),
   c .product-of-points .ensures .1,
 )
 

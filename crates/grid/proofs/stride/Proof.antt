@@ -1,3 +1,5 @@
+-- `step` is the stride of `axis` on the axes below `j`, of which `axis` is one; it never passes 4096 (`stride-fits`). The measure is
+-- the axes left behind `axis`.
 use borrow.Author.Needs.{needs}
 use native.Mathlib.Omega.{arith}
 use mathlib.Core.Path.{_≡_}

@@ -1,3 +1,4 @@
+-- Places times masks: at most 2^32 times 16, so the product fits 64 bits and is that of the rules.
 use Rattle.grid.proofs.Products.{with-masks, fits-64}
 use borrow.Author.Needs.{needs}
 use Rattle.grid.proofs.tensor_length.Statement.{statement}

@@ -1,3 +1,4 @@
+-- Four arrays of zeros have the lengths that reading and building ask for: 1,024, 1,024, 4,096 and 6,144. The walk does the rest.
 use native.Mathlib.Omega.{arith}
 use lib.ListN.{length-replicate}
 use Rattle.rules.specs.Numbers.{plus-zero}

@@ -1,5 +1,7 @@
+-- From the totals of nothing, which stand before the first byte (`stands-none`), a feeding that leaves no byte unless it stops has the
+-- report of all of them (`fed-last`).
 use native.Mathlib.Omega.{arith}
-use Rattle.totals.proofs.Sheets.{running-none}
+use Rattle.report_totals.proofs.Sheets.{running-none}
 use Rattle.report.proofs.Steps.{stands-none, fed-last}
 use borrow.Author.Needs.{needs}
 use Rattle.report.proofs.report_of_bytes.Statement.{statement}

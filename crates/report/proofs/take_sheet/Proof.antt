@@ -14,7 +14,9 @@ abbrev start : tie.After-tensor-of-sheet → tie.Start
 start b = b .before .before .before .before .before .before .before .before .before .before .before .before .before .before
 
 returns : tie.Need-returns
-returns c = step-full _ _ (c .before .before .before .before .before .before .before .pre .1) (c .if1 .taken)
+returns c =
+    let start = c .before .before .before .before .before .before .before in
+    step-full _ _ (start .pre .1) (c .if1 .taken)
 
 part-with-sheet-end : tie.Need-part-with-sheet-end
 part-with-sheet-end c =
@@ -25,7 +27,8 @@ part-with-sheet-end c =
 with-sheet-requires : tie.Need-with-sheet-requires
 with-sheet-requires c κs =
     let b = c .before .before .before .before .before .before .before .before .before .before in
-    let size = b .before .before .before .before .before .before .size-of-front .ensures .0 in
+    let at-size-of-front = b .before .before .before .before .before .before in
+    let size = at-size-of-front .size-of-front .ensures .0 in
     let most = length-most _ _ _ _ _ _ _ _ _ _ (b .tensor-of-sheet .ensures) in (
       front-few (start b .args .bytes .now) _ _ _ _ (start b .pre .2) _ _ _ _ _ _ size (b .tensor-of-sheet .ensures),
       front-axes (start b .args .bytes .now) _ _ _ _ (start b .pre .2) _ _ _ _ _ _ size (b .tensor-of-sheet .ensures),
@@ -36,10 +39,14 @@ with-sheet-requires c κs =
 returns-2 : tie.Need-returns-2
 unfolding stops
 returns-2 c =
-    let b = c .before .before .before .before .before .before .before .before .before .before .before .before in
-    let size = b .before .before .before .before .before .before .size-of-front .ensures in
-    took _ _ _ _ _ _ _ (start b .pre .2) _ _ _ _ _ _ _ (start b .pre .1) (start b .pre .0) (b .before .before .before .before .before .before .before .if1 .left) (size .0) (size .1) (b .tensor-of-sheet .ensures)
-    (c .before .with-sheet .ensures)
+    let at-with-sheet = c .before in
+    let b = at-with-sheet .before .before .before .before .before .before .before .before .before .before .before in
+    let at-size-of-front = b .before .before .before .before .before .before in
+    let at-if1 = at-size-of-front .before in
+    let size = at-size-of-front .size-of-front .ensures in
+    took _ _ _ _ _ _ _ (start b .pre .2) _ _ _ _ _ _ _ (start b .pre .1) (start b .pre .0) (at-if1 .if1 .left) (size .0) (size .1)
+    (b .tensor-of-sheet .ensures)
+    (at-with-sheet .with-sheet .ensures)
     (c .is-unread .ensures)
 
 pub take-sheet-spec : {M : Type 1} → statement M

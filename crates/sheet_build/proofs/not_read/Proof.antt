@@ -1,3 +1,4 @@
+-- Of a sheet that was not read the refusal alone shows: all four axes are the unused one, and edition, axes and length are 0.
 use borrow.Author.Needs.{needs}
 use Rattle.sheet_build.proofs.not_read.Statement.{statement}
 use Rattle.sheet_build.proofs.not_read.Tie as tie

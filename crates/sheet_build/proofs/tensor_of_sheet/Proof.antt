@@ -3,7 +3,7 @@ use mathlib.Core.Path.{_≡_, sym, _∙_}
 use native.Mathlib.Omega.{arith}
 use borrow.Author.Needs.{needs}
 use lib.ListN.{length}
-use Rattle.kinds.proofs.Classed.{unread-met}
+use Rattle.grid_codes.proofs.Classed.{unread-met}
 use Rattle.sheet_build.proofs.Promises.{reader-passed, buffer-refused, sheet-refused, parts-given, sheet-built}
 use Rattle.sheet_build.proofs.tensor_of_sheet.Statement.{statement}
 use Rattle.sheet_build.proofs.tensor_of_sheet.Tie as tie
@@ -44,10 +44,11 @@ build-parts-requires c κs =
 
 returns-3 : tie.Need-returns-3
 returns-3 c =
-    let e = c .before .before .before .before .before .before .before .before .before .before in
+    let at-build-parts = c .before .before .before .before in
+    let e = at-build-parts .before .before .before .before .before .before in
     let r = read-of e in
     sheet-built _ _ _ _ (start r .args .scratch .now) (long r) _ _ _ (r .read .ensures) (none e) _ _ _
-    (c .before .before .before .before .build-parts .ensures)
+    (at-build-parts .build-parts .ensures)
 
 pub tensor-of-sheet-spec : {M : Type 1} → statement M
 tensor-of-sheet-spec =

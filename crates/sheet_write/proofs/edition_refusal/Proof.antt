@@ -1,3 +1,4 @@
+-- 12 for an edition that there is not, then 23 for an axis in use whose mode it refuses, else 0: the rules' own order.
 use mathlib.Core.Path.{sym, _∙_}
 use Rattle.sheet_write.specs.Write.{edition-refusal}
 use borrow.Author.Needs.{needs}

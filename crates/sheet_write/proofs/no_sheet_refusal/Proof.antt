@@ -1,5 +1,7 @@
+-- 1, 2 and 3 end it by the sizes alone; behind them stand the build's tests, told a tensor and a scratch of just their lengths, so
+-- that 5 cannot come (`as-the-build`).
 use Rattle.grid.specs.Given.{grid}
-use Rattle.checks.proofs.Rows.{sizes-passed, sizes-stop}
+use Rattle.grid_checks.proofs.Rows.{sizes-passed, sizes-stop}
 use Rattle.sheet_write.specs.Write.{no-sheet-refusal}
 use Rattle.sheet_write.proofs.Parts.{as-the-build}
 use borrow.Author.Needs.{needs}
@@ -15,8 +17,11 @@ tensor-length-requires c κs = sizes-passed _ _ (c .before .sizes-refusal .ensur
 
 returns-2 : tie.Need-returns-2
 returns-2 c =
-    let args = c .before .before .before .before .before .before .args in
-    rw (c .build-refusal .ensures, c .before .tensor-length .ensures .0) (as-the-build (grid (args .axes) (args .all) (args .knots .now)) (args .samples .now))
+    let at-tensor-length = c .before in
+    let start = at-tensor-length .before .before .before .before .before in
+    let args = start .args in
+    rw (c .build-refusal .ensures, at-tensor-length .tensor-length .ensures .0)
+    (as-the-build (grid (args .axes) (args .all) (args .knots .now)) (args .samples .now))
 
 pub no-sheet-refusal-spec : {M : Type 1} → statement M
 no-sheet-refusal-spec =

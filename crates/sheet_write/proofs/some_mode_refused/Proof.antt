@@ -1,3 +1,4 @@
+-- No axis below `i` has a mode that the edition refuses, and one that has ends the walk with true. The measure is the axes left.
 use Prim.Native.Nat.{_≤_, _-_}
 use mathlib.Core.Path.{_≡_, sym, _∙_}
 use mathlib.Core.Bool.{false}
@@ -5,8 +6,8 @@ use native.Mathlib.Omega.{arith}
 use lib.ListN.{getD}
 use Rattle.rules.specs.Numbers.{any}
 use Rattle.rules.specs.Sizes.{unused-axis}
-use Rattle.base.proofs.Scan.{any-none, any-more, any-found, any-end}
-use Rattle.kinds.specs.Editions.{mode-refused}
+use Rattle.base_numbers.proofs.Scan.{any-none, any-more, any-found, any-end}
+use Rattle.grid_codes.specs.Editions.{mode-refused}
 use borrow.Author.Needs.{needs}
 use Rattle.sheet_write.proofs.some_mode_refused.Statement.{statement}
 use Rattle.sheet_write.proofs.some_mode_refused.Tie as tie
@@ -24,7 +25,9 @@ returns : tie.Need-returns Inv-loop μ-loop
 returns c =
     let turn = c .before .before .before .before in
     let args = turn .before .args in
-    sym (any-found (λ k. mode-refused (args .edition) (getD (args .t3) k unused-axis .mode)) (turn .loop .i) _ (omega arith) (sym (c .before .mode-refused .ensures) ∙ c .if1 .taken))
+    sym
+    (any-found (λ k. mode-refused (args .edition) (getD (args .t3) k unused-axis .mode)) (turn .loop .i) _ (omega arith)
+    (sym (c .before .mode-refused .ensures) ∙ c .if1 .taken))
 
 loop-again : tie.Need-loop-again Inv-loop μ-loop
 loop-again c =

@@ -1,5 +1,6 @@
+-- 2 for the points is asked before 4 for the number of knots; each of the three ways out is the first row that applies.
 use mathlib.Core.Path.{refl}
-use Rattle.checks.proofs.Rows.{stop, pass}
+use Rattle.grid_checks.proofs.Rows.{stop, pass}
 use Rattle.step_checks.specs.Check.{axis-check}
 use borrow.Author.Needs.{needs}
 use Rattle.step_checks.proofs.axis_refusal.Statement.{statement}

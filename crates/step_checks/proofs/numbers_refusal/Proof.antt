@@ -1,6 +1,7 @@
+-- 7 is answered before 8 although the pass for 8 comes first: by `axis-finite` knots that pass it need no look for 7.
 use mathlib.Core.Path.{refl}
-use Rattle.checks.proofs.Rows.{first, second, stop, pass}
-use Rattle.checks.proofs.FiniteKnots.{axis-finite}
+use Rattle.grid_checks.proofs.Rows.{first, second, stop, pass}
+use Rattle.grid_checks.proofs.FiniteKnots.{axis-finite}
 use Rattle.step_checks.specs.Check.{numbers-check}
 use borrow.Author.Needs.{needs}
 use Rattle.step_checks.proofs.numbers_refusal.Statement.{statement}
@@ -15,18 +16,27 @@ returns c = stop _ (first _ (c .before .some-knot-refused .ensures) (c .if1 .tak
 
 returns-2 : tie.Need-returns-2
 unfolding numbers-check
-returns-2 c = stop _ (second (c .before .before .before .some-knot-refused .ensures) (c .before .before .if1 .left) (c .before .number-refused .ensures)) (c .if2 .taken)
+returns-2 c =
+    stop _
+    (second (c .before .before .before .some-knot-refused .ensures) (c .before .before .if1 .left) (c .before .number-refused .ensures))
+    (c .if2 .taken)
 
 returns-3 : tie.Need-returns-3
 unfolding numbers-check
 returns-3 c =
-    pass _ (second (c .before .before .before .before .some-knot-refused .ensures) (c .before .before .before .if1 .left) (c .before .before .number-refused .ensures)) (c .before .if2 .left)
+    pass _
+    (second (c .before .before .before .before .some-knot-refused .ensures) (c .before .before .before .if1 .left)
+    (c .before .before .number-refused .ensures))
+    (c .before .if2 .left)
     (stop _ (c .before .before .before .before .before .knots-refused .ensures) (c .if3 .taken))
 
 returns-4 : tie.Need-returns-4
 unfolding numbers-check
 returns-4 c =
-    pass _ (second (c .before .before .before .before .some-knot-refused .ensures) (c .before .before .before .if1 .left) (c .before .before .number-refused .ensures)) (c .before .if2 .left)
+    pass _
+    (second (c .before .before .before .before .some-knot-refused .ensures) (c .before .before .before .if1 .left)
+    (c .before .before .number-refused .ensures))
+    (c .before .if2 .left)
     (pass _ (c .before .before .before .before .before .knots-refused .ensures) (c .if3 .left) refl)
 
 pub numbers-refusal-spec : {M : Type 1} → statement M

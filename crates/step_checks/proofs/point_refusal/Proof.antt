@@ -1,3 +1,4 @@
+-- 2 or 4 where the axis has one; else there are as many knots as points, and what their numbers meet is the answer.
 use Rattle.step_checks.specs.Check.{point-check}
 use Rattle.step_checks.proofs.Rows.{axis-stop, axis-pass, knots-fit, numbers-of-points}
 use borrow.Author.Needs.{needs}
@@ -15,7 +16,8 @@ returns-2 : tie.Need-returns-2
 unfolding point-check
 returns-2 c =
     axis-pass _ (c .before .before .before .before .args .knots .now) (c .before .before .axis-refusal .ensures) _ (c .before .if1 .left)
-    (numbers-of-points _ (c .before .before .before .before .args .knots .now) (c .before .before .axis-refusal .ensures) _ (c .before .if1 .left) (c .numbers-refusal .ensures))
+    (numbers-of-points _ (c .before .before .before .before .args .knots .now) (c .before .before .axis-refusal .ensures) _
+    (c .before .if1 .left) (c .numbers-refusal .ensures))
 
 pub point-refusal-spec : {M : Type 1} → statement M
 point-refusal-spec =

@@ -1,5 +1,6 @@
+-- Knots, samples and coordinates, each held against the length that the sizes ask for: true at the first that differs.
 use mathlib.Core.Path.{refl}
-use Rattle.checks.proofs.Rows.{first, second}
+use Rattle.grid_checks.proofs.Rows.{first, second}
 use borrow.Author.Needs.{needs}
 use Rattle.step_checks.proofs.stepped_lengths_refused.Statement.{statement}
 use Rattle.step_checks.proofs.stepped_lengths_refused.Tie as tie
@@ -10,14 +11,23 @@ returns c = rw (← c .before .before .knots-length .ensures .0) (first _ (first
 returns-2 : tie.Need-returns-2
 returns-2 c =
     rw (← c .before .before .before .before .before .knots-length .ensures .0, ← c .before .before .samples-length .ensures .0)
-    (first _ (second (c .before .before .before .before .length-refused .ensures) (c .before .before .before .if1 .left) (c .before .length-refused2 .ensures)) (c .if2 .taken))
+    (first _
+    (second (c .before .before .before .before .length-refused .ensures) (c .before .before .before .if1 .left)
+    (c .before .length-refused2 .ensures))
+    (c .if2 .taken))
 
 returns-3 : tie.Need-returns-3
 returns-3 c =
-    rw (← c .before .before .before .before .before .before .knots-length .ensures .0, ← c .before .before .before .samples-length .ensures .0)
+    let at-if2 = c .before in
+    let at-length-refused2 = at-if2 .before in
+    let at-samples-length = at-length-refused2 .before in
+    let at-if1 = at-samples-length .before in
+    let at-length-refused = at-if1 .before in
+    let at-knots-length = at-length-refused .before in
+    rw (← at-knots-length .knots-length .ensures .0, ← at-samples-length .samples-length .ensures .0)
     (second
-    (second (c .before .before .before .before .before .length-refused .ensures) (c .before .before .before .before .if1 .left) (c .before .before .length-refused2 .ensures))
-    (c .before .if2 .left)
+    (second (at-length-refused .length-refused .ensures) (at-if1 .if1 .left) (at-length-refused2 .length-refused2 .ensures))
+    (at-if2 .if2 .left)
     (c .length-refused3 .ensures))
 
 pub stepped-lengths-refused-spec : {M : Type 1} → statement M

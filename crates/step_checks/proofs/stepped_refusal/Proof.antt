@@ -1,11 +1,13 @@
+-- 1 2 3 4 7 8 in this order: `past-sizes`, `past-lengths` and `past-numbers` say that the rows before a test do not apply, and
+-- `grid-finite` that knots which pass 8 need no look for 7.
 use mathlib.Core.Path.{_≡_, refl, sym, _∙_}
 use mathlib.Core.List.{List}
 use lib.ListN.{length}
 use Rattle.rules.specs.Sizes.{knots-length, samples-length}
 use Rattle.grid.specs.Given.{grid, sizes-of, points-of, InRange}
-use Rattle.checks.specs.Tables.{Refusal}
-use Rattle.checks.proofs.Rows.{first, second, stop, pass, Past, sizes-passed, sizes-stop, sizes-pass, exact-3}
-use Rattle.checks.proofs.FiniteKnots.{grid-finite}
+use Rattle.grid_checks.specs.Tables.{Refusal}
+use Rattle.grid_checks.proofs.Rows.{first, second, stop, pass, Past, sizes-passed, sizes-stop, sizes-pass, exact-3}
+use Rattle.grid_checks.proofs.FiniteKnots.{grid-finite}
 use Rattle.step_checks.specs.Check.{stepped-rows, stepped-check}
 use borrow.Author.Needs.{needs}
 use Rattle.step_checks.proofs.stepped_refusal.Statement.{statement}
@@ -14,7 +16,8 @@ use Rattle.step_checks.proofs.stepped_refusal.Tie as tie
 abbrev rows : tie.Start → List Refusal
 rows s = stepped-rows (grid (s .args .axes) (s .args .all) (s .args .knots .now)) (s .args .samples .now) (s .args .coordinates .now)
 
-given : (c : tie.Else1) → InRange (c .before .before .before .before .before .args .axes) (points-of (c .before .before .before .before .before .args .all))
+given : (c : tie.Else1)
+    → InRange (c .before .before .before .before .before .args .axes) (points-of (c .before .before .before .before .before .args .all))
 given c = sizes-passed _ _ (c .before .sizes-refusal .ensures) (c .if1 .left)
 
 abbrev start : (c : tie.Else2) → tie.Start
@@ -23,7 +26,9 @@ start c = (c .before .before .before .before .before .before .before)
 knots-exact : (c : tie.Else2) → length (start c .args .knots .now) ≡ knots-length (sizes-of (start c .args .axes) (start c .args .all))
 knots-exact c =
     exact-3
-    (length (start c .args .knots .now)) (knots-length (sizes-of (start c .args .axes) (start c .args .all))) (length (start c .args .samples .now)) (samples-length (sizes-of (start c .args .axes) (start c .args .all))) (length (start c .args .coordinates .now)) (start c .args .axes)
+    (length (start c .args .knots .now)) (knots-length (sizes-of (start c .args .axes) (start c .args .all)))
+    (length (start c .args .samples .now)) (samples-length (sizes-of (start c .args .axes) (start c .args .all)))
+    (length (start c .args .coordinates .now)) (start c .args .axes)
     (sym (c .before .stepped-lengths-refused .ensures) ∙ c .if2 .left)
     .0
 
@@ -33,10 +38,13 @@ past-sizes c answer e = sizes-pass _ _ (c .before .sizes-refusal .ensures) _ (c 
 past-lengths : (c : tie.Else2) → Past (rows (c .before .before .before .before .before .before .before)) 4
 past-lengths c answer e = past-sizes (c .before .before) _ (pass _ (c .before .stepped-lengths-refused .ensures) (c .if2 .left) e)
 
-past-numbers : (c : tie.Else4) → Past (rows (c .before .before .before .before .before .before .before .before .before .before .before .before)) 5
+past-numbers : (c : tie.Else4)
+    → Past (rows (c .before .before .before .before .before .before .before .before .before .before .before .before)) 5
 past-numbers c answer e =
     past-lengths (c .before .before .before .before .before) _
-    (pass _ (second (c .before .before .before .slices-refused .ensures) (c .before .before .if3 .left) (c .before .any-not-finite .ensures)) (c .if4 .left) e)
+    (pass _
+    (second (c .before .before .before .slices-refused .ensures) (c .before .before .if3 .left) (c .before .any-not-finite .ensures))
+    (c .if4 .left) e)
 
 returns : tie.Need-returns
 unfolding stepped-check
@@ -48,7 +56,11 @@ returns-2 c = past-sizes (c .before .before) _ (stop _ (c .before .stepped-lengt
 
 slices-refused-requires : tie.Need-slices-refused-requires
 slices-refused-requires c κs =
-    grid-finite (c .before .before .before .before .before .before .before .before .args .axes) (c .before .before .before .before .before .before .before .before .args .all) (c .before .before .before .before .before .before .before .before .args .knots .now) (given (c .before .before .before)) (knots-exact (c .before)) (c .some-knots-refused .ensures)
+    let lengths-passed = c .before in
+    let sizes-passed = lengths-passed .before .before in
+    let start = sizes-passed .before .before .before .before .before in
+    grid-finite (start .args .axes) (start .args .all) (start .args .knots .now) (given sizes-passed) (knots-exact lengths-passed)
+    (c .some-knots-refused .ensures)
 
 returns-3 : tie.Need-returns-3
 unfolding stepped-check
@@ -58,7 +70,9 @@ returns-4 : tie.Need-returns-4
 unfolding stepped-check
 returns-4 c =
     past-lengths (c .before .before .before .before .before) _
-    (stop _ (second (c .before .before .before .slices-refused .ensures) (c .before .before .if3 .left) (c .before .any-not-finite .ensures)) (c .if4 .taken))
+    (stop _
+    (second (c .before .before .before .slices-refused .ensures) (c .before .before .if3 .left) (c .before .any-not-finite .ensures))
+    (c .if4 .taken))
 
 returns-5 : tie.Need-returns-5
 unfolding stepped-check
@@ -66,7 +80,8 @@ returns-5 c = past-numbers (c .before) _ (stop _ (c .before .before .before .bef
 
 returns-6 : tie.Need-returns-6
 unfolding stepped-check
-returns-6 c = past-numbers (c .before) _ (pass _ (c .before .before .before .before .before .some-knots-refused .ensures) (c .if5 .left) refl)
+returns-6 c =
+    past-numbers (c .before) _ (pass _ (c .before .before .before .before .before .some-knots-refused .ensures) (c .if5 .left) refl)
 
 pub stepped-refusal-spec : {M : Type 1} → statement M
 stepped-refusal-spec =

@@ -1,13 +1,15 @@
+-- A refusal before the work leaves all as it was (`build-refused`); else the passes over the samples at mask 0 leave the tensor of the
+-- rules, which by `build-done` is stored, or refused by 10, and the scratch is cleared.
 use borrow.Author.Needs.{needs}
 use native.Mathlib.Omega.{arith}
 use mathlib.Core.Path.{_≡_, sym, _∙_}
 use lib.ListN.{length}
 use lib.Pow.{pow-pos}
-use Rattle.checks.specs.Given.{BuildGiven}
+use Rattle.grid_checks.specs.Given.{BuildGiven}
 use Rattle.grid.specs.Given.{grid}
-use Rattle.checks.specs.Check.{build-check}
-use Rattle.checks.proofs.Accepted.{build-given}
-use Rattle.passes.proofs.MaskTurns.{given-again}
+use Rattle.grid_checks.specs.Check.{build-check}
+use Rattle.grid_checks.proofs.Accepted.{build-given}
+use Rattle.tensor_passes.proofs.MaskTurns.{given-again}
 use Rattle.tensor.proofs.Building.{origin-on, build-refused, build-given-passes, samples-lie, build-done}
 use Rattle.tensor.proofs.build.Statement.{statement}
 use Rattle.tensor.proofs.build.Tie as tie
@@ -16,10 +18,15 @@ use Rattle.tensor.proofs.build.Tie as tie
 abbrev start : tie.Else1 → tie.Start
 start c = c .before .before .before .before .before .before
 
-passed : (c : tie.Else1) → build-check (grid (start c .args .axes) (start c .args .all) (start c .args .knots .now)) (start c .args .samples .now) (length (start c .args .tensor .now)) (length (start c .args .scratch .now)) ≡ 0
+passed : (c : tie.Else1)
+    → build-check (grid (start c .args .axes) (start c .args .all) (start c .args .knots .now)) (start c .args .samples .now)
+    (length (start c .args .tensor .now)) (length (start c .args .scratch .now))
+    ≡ 0
 passed c = sym (c .before .build-refusal .ensures) ∙ c .if1 .left
 
-known : (c : tie.Else1) → BuildGiven (grid (start c .args .axes) (start c .args .all) (start c .args .knots .now)) (start c .args .samples .now) (length (start c .args .tensor .now)) (length (start c .args .scratch .now))
+known : (c : tie.Else1)
+    → BuildGiven (grid (start c .args .axes) (start c .args .all) (start c .args .knots .now)) (start c .args .samples .now)
+    (length (start c .args .tensor .now)) (length (start c .args .scratch .now))
 known c = build-given _ _ _ _ (passed c)
 
 returns : tie.Need-returns

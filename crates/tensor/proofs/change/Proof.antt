@@ -1,15 +1,25 @@
+-- Three ways out, each kept to the promise: refused before the work (`change-refused`), 10 after it with no lane counted
+-- (`change-stopped`), or the changed tensor stored and its lanes counted (`change-done`). `spot-is` says where the new sample goes.
 use borrow.Author.Needs.{needs}
 use native.Mathlib.Omega.{arith}
 use mathlib.Core.Path.{_≡_, sym, _∙_}
 use lib.ListN.{length}
 use Rattle.rules.specs.Sizes.{place-of}
-use Rattle.checks.specs.Given.{ChangeGiven}
+use Rattle.grid_checks.specs.Given.{ChangeGiven}
 use Rattle.grid.specs.Given.{grid}
-use Rattle.checks.specs.Check.{change-check}
-use Rattle.checks.proofs.Accepted.{change-given}
-use Rattle.passes.proofs.Pass.{sizes-given}
-use Rattle.passes.proofs.MaskTurns.{given-again}
-use Rattle.tensor.proofs.Changing.{change-refused, change-given-passes, spot-is, changed-inside, changed-small, change-stopped, change-done}
+use Rattle.grid_checks.specs.Check.{change-check}
+use Rattle.grid_checks.proofs.Accepted.{change-given}
+use Rattle.tensor_passes.proofs.Pass.{sizes-given}
+use Rattle.tensor_passes.proofs.MaskTurns.{given-again}
+use Rattle.tensor.proofs.Changing.{
+  change-refused,
+  change-given-passes,
+  spot-is,
+  changed-inside,
+  changed-small,
+  change-stopped,
+  change-done,
+}
 use Rattle.tensor.proofs.change.Statement.{statement}
 use Rattle.tensor.proofs.change.Tie as tie
 
@@ -17,10 +27,15 @@ use Rattle.tensor.proofs.change.Tie as tie
 abbrev start : tie.Else1 → tie.Start
 start c = c .before .before .before .before .before .before
 
-passed : (c : tie.Else1) → change-check (grid (start c .args .axes) (start c .args .all) (start c .args .knots .now)) (start c .args .tensor .now) (length (start c .args .scratch .now)) (place-of (start c .args .place)) (start c .args .sample) ≡ 0
+passed : (c : tie.Else1)
+    → change-check (grid (start c .args .axes) (start c .args .all) (start c .args .knots .now)) (start c .args .tensor .now)
+    (length (start c .args .scratch .now)) (place-of (start c .args .place)) (start c .args .sample)
+    ≡ 0
 passed c = sym (c .before .change-refusal .ensures) ∙ c .if1 .left
 
-known : (c : tie.Else1) → ChangeGiven (grid (start c .args .axes) (start c .args .all) (start c .args .knots .now)) (start c .args .tensor .now) (length (start c .args .scratch .now)) (place-of (start c .args .place)) (start c .args .sample)
+known : (c : tie.Else1)
+    → ChangeGiven (grid (start c .args .axes) (start c .args .all) (start c .args .knots .now)) (start c .args .tensor .now)
+    (length (start c .args .scratch .now)) (place-of (start c .args .place)) (start c .args .sample)
 known c = change-given _ _ _ _ _ (passed c)
 
 returns : tie.Need-returns

@@ -1,3 +1,5 @@
+-- A refused step keeps the cursor and gives 0. Else the curve was judged good and the cursor is not past the last one,
+-- so the value is the number there, and one more still fits 32 bits, since a curve has at most 255 cells.
 use mathlib.Core.Path.{_≡_, sym, _∙_}
 use Prim.Native.Nat.{_≤_}
 use native.Mathlib.Omega.{arith}
@@ -20,7 +22,8 @@ start c = c .before .before .before .before
 none : (c : tie.Else1) → next-refusal (start c .args .curve .now) (start c .args .self .n) ≡ 0
 none c = sym (c .before .next-refusal .ensures) ∙ c .if1 .left
 
-known : (c : tie.Else1) → (curve-refusal (start c .args .curve .now) ≡ 0) × (start c .args .self .n ≤ last-cursor (start c .args .curve .now))
+known : (c : tie.Else1)
+    → (curve-refusal (start c .args .curve .now) ≡ 0) × (start c .args .self .n ≤ last-cursor (start c .args .curve .now))
 known c = passed (start c .args .curve .now) (start c .args .self .n) (none c)
 
 cursor-number-requires : tie.Need-cursor-number-requires

@@ -1,3 +1,4 @@
+-- Each of two ends is made zero-valued, the lower one first, and Periodic stays what it is.
 use mathlib.Core.Path.{sym, ap}
 use borrow.Author.Needs.{needs}
 use Rattle.rules.specs.Ends.{crossed}

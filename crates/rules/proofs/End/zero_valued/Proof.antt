@@ -1,3 +1,4 @@
+-- The kind that the match tells stays, and the number it carries, if it carries one, becomes +0.0.
 use mathlib.Core.Path.{sym, ap}
 use borrow.Author.Needs.{needs}
 use Rattle.rules.specs.Ends.{zero-valued}

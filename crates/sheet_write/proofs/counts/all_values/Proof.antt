@@ -1,3 +1,4 @@
+-- `sum` is how many ends of the axes below `i` have a number, and at most twice `i`, so 8 in the end. The measure is the axes left.
 use mathlib.Core.Path.{_≡_, sym}
 use Prim.Native.Nat.{_*_, _-_, _≤_}
 use native.Mathlib.Omega.{arith}
@@ -22,8 +23,11 @@ add-sum c = omega (arith, c .values .ensures .1)
 
 loop-again : tie.Need-loop-again Inv-loop μ-loop
 loop-again c =
-    let turn = c .before .before .before in
-    (omega arith, rw (sum-more (λ i. values (condition-of (turn .before .args .t2) i)), ← turn .loop .inv .1, c .values .ensures .0), omega (arith, c .values .ensures .1))
+    let turn = c .before .before .before in (
+      omega arith,
+      rw (sum-more (λ i. values (condition-of (turn .before .args .t2) i)), ← turn .loop .inv .1, c .values .ensures .0),
+      omega (arith, c .values .ensures .1),
+    )
 
 returns : tie.Need-returns Inv-loop μ-loop
 returns c =

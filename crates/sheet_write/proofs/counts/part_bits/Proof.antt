@@ -1,7 +1,9 @@
+-- The bits of all parts, counted from edition and axes alone. The modes have at most 8 bits together; by that and the bounds of the
+-- other counts no sum overflows.
 use Prim.Native.Nat.{_*_, _≤_}
 use native.Mathlib.Nat.{mul-le-mul}
 use native.Mathlib.Omega.{arith}
-use Rattle.sheet.proofs.Extents.{width-most}
+use Rattle.sheet_read.proofs.Extents.{width-most}
 use Rattle.sheet_write.specs.Within.{parts-bits}
 use borrow.Author.Needs.{needs}
 use Rattle.sheet_write.proofs.counts.part_bits.Statement.{statement}
@@ -26,7 +28,12 @@ add-result-5 c = let few = modes (c .before .before .before) in search needs
 returns : tie.Need-returns
 unfolding parts-bits
 returns c =
-    rw (c .before .before .before .mode-width .ensures, c .before .before .all-values .ensures .0, c .before .knots-length .ensures .0, c .samples-length .ensures .0)
+    rw (
+      c .before .before .before .mode-width .ensures,
+      c .before .before .all-values .ensures .0,
+      c .before .knots-length .ensures .0,
+      c .samples-length .ensures .0,
+    )
 
 pub part-bits-spec : {M : Type 1} → statement M
 part-bits-spec =

@@ -1,3 +1,5 @@
+-- The fields of the axes below `i` are put from bit 7 on, `at` is the bit behind them, and `from` counts their knots.
+-- The measure is the axes left.
 use Prim.Native.Nat.{_+_, _-_, _≤_}
 use native.Mathlib.Omega.{arith}
 use lib.ListN.{length}
@@ -23,11 +25,17 @@ array-copy-out-axis : tie.Need-array-copy-out-axis Inv-loop μ-loop
 array-copy-out-axis c = omega (arith, c .before .before .before .before .pre .fields .few)
 
 -- the knots of the axis at hand are there
-room : (c : tie.In-loop Inv-loop μ-loop) → let start = c .before .before .before .before in let turn = c .before .loop in (turn .from + points-of (start .args .t4) (turn .i) ≤ length (start .args .knots .now)) × (turn .from + points-of (start .args .t4) (turn .i) ≤ 1280)
+room : (c : tie.In-loop Inv-loop μ-loop) → let start =
+    c .before .before .before .before in
+    let turn = c .before .loop in
+    (turn .from + points-of (start .args .t4) (turn .i) ≤ length (start .args .knots .now))
+    × (turn .from + points-of (start .args .t4) (turn .i) ≤ 1280)
 room c =
     let given = c .before .before .before .before .pre in
-    let turn = c .before .loop in
-    (turn-room _ _ _ _ _ _ _ (turn .inv) (c .loop-test .taken) given, omega (arith, turn .inv .small, given .fields .few, given .fields .few-points (turn .i) (c .loop-test .taken)))
+    let turn = c .before .loop in (
+      turn-room _ _ _ _ _ _ _ (turn .inv) (c .loop-test .taken) given,
+      omega (arith, turn .inv .small, given .fields .few, given .fields .few-points (turn .i) (c .loop-test .taken)),
+    )
 
 add-to : tie.Need-add-to Inv-loop μ-loop
 add-to c = let fits = room (c .before .before) in omega arith
@@ -47,15 +55,19 @@ part-put-axis-end c = let fits = room (c .before .before .before) in omega arith
 put-axis-requires : tie.Need-put-axis-requires Inv-loop μ-loop
 put-axis-requires c κs =
     let here = c .before .before .before .before in
-    turn-given _ _ _ _ _ _ _ (here .before .loop .inv) (here .loop-test .taken) (c .before .before .before .before .before .before .before .before .pre)
+    let start = here .before .before .before .before in
+    turn-given _ _ _ _ _ _ _ (here .before .loop .inv) (here .loop-test .taken) (start .pre)
 
 loop-again : tie.Need-loop-again Inv-loop μ-loop
 loop-again c =
-    let here = c .before .before .before .before .before .before .before in
+    let at-put-axis = c .before .before in
+    let here = at-put-axis .before .before .before .before .before in
+    let start = here .before .before .before .before in
     let turn = here .before .loop in
-    let given = c .before .before .before .before .before .before .before .before .before .before .before .pre in
-    let put = c .before .before .put-axis .ensures in
-    turn-next _ _ _ _ _ _ _ (turn .inv) (here .loop-test .taken) (given .fields .few-points (turn .i) (here .loop-test .taken)) _ _ (put .0) (put .1)
+    let given = start .pre in
+    let put = at-put-axis .put-axis .ensures in
+    turn-next _ _ _ _ _ _ _ (turn .inv) (here .loop-test .taken) (given .fields .few-points (turn .i) (here .loop-test .taken)) _ _ (put .0)
+    (put .1)
 
 same-length : tie.Need-same-length Inv-loop μ-loop
 same-length c = c .before .loop .inv .same-length

@@ -1,3 +1,4 @@
+-- NotAKnot puts nothing (`none-put`); a derivative puts its one number in 64 bits (`one-put`), finite since it is not refused.
 use mathlib.Core.Path.{ap, sym, _∙_}
 use borrow.Author.Tests.{not-false}
 use Rattle.rules.specs.Refusals.{end-refused}

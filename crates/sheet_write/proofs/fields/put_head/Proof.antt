@@ -1,3 +1,4 @@
+-- Four fields in a row, the points less 1, both kinds and the mode, are put as `with-head` says; each lies in the 12 + `width` bits.
 use native.Mathlib.Omega.{arith}
 use borrow.Author.Needs.{needs}
 use Rattle.sheet_write.proofs.fields.put_head.Statement.{statement}
@@ -26,7 +27,9 @@ put-field-requires-3 c κs =
 
 put-field-requires-4 : tie.Need-put-field-requires-4
 put-field-requires-4 c κs =
-    let start = c .before .before .before .before .before .before .before .before .before .before .before .before .before .before .before .before .before .before .before .before .before in
+    let start =
+    c .before .before .before .before .before .before .before .before .before .before .before .before .before .before .before
+    .before .before .before .before .before .before in
     let within = start .pre .within in
     let narrow = start .pre .narrow in
     (record { room = omega arith; small = omega arith }, omega arith)
@@ -34,9 +37,9 @@ put-field-requires-4 c κs =
 returns : tie.Need-returns
 returns c =
     let mode = c .before .before in
-    let upper = c .before .before .before .before .before .before .before .before in
-    let lower = c .before .before .before .before .before .before .before .before .before .before .before .before .before .before in
-    let points = c .before .before .before .before .before .before .before .before .before .before .before .before .before .before .before .before .before .before .before .before in
+    let upper = mode .before .before .before .before .before .before in
+    let lower = upper .before .before .before .before .before .before in
+    let points = lower .before .before .before .before .before .before in
     rw (
       ← points .put-field .ensures,
       ← lower .before .before .lower-kind .ensures,

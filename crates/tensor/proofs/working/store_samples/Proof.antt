@@ -1,10 +1,12 @@
+-- The first `k` samples stand at mask 0, `masks` apart behind the rows, and no other place has changed.
+-- The measure is the samples left.
 use borrow.Author.Needs.{needs}
 use native.Mathlib.Omega.{arith}
 use mathlib.Core.Path.{refl}
 use Prim.Native.Nat.{_+_, _-_, _*_, _<_}
 use lib.ListN.{length}
 use Rattle.rules.specs.Numbers.{at}
-use Rattle.lanes.proofs.Storing.{Turn, turn-first, turn-next, turn-last}
+use Rattle.tensor_lane.proofs.Storing.{Turn, turn-first, turn-next, turn-last}
 use Rattle.tensor.proofs.working.store_samples.Statement.{statement}
 use Rattle.tensor.proofs.working.store_samples.Tie as tie
 
@@ -15,7 +17,8 @@ abbrev μ-loop : tie.MeasureT-loop
 μ-loop w₀ samples masks k₀ w k = length samples - k
 
 -- sample k has a place
-inside : (c : tie.After-shared-slice-known Inv-loop μ-loop) → 2048 + c .before .before .loop .k * c .before .before .before .args .masks < length (c .before .before .before .args .w .now)
+inside : (c : tie.After-shared-slice-known Inv-loop μ-loop)
+    → 2048 + c .before .before .loop .k * c .before .before .before .args .masks < length (c .before .before .before .args .w .now)
 inside c = let turn = c .before .before in turn .loop .inv .lies .within (turn .loop .k) (omega arith)
 
 loop-holds : tie.Need-loop-holds Inv-loop μ-loop

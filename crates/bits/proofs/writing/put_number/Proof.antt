@@ -1,9 +1,0 @@
-use borrow.Author.Needs.{needs}
-use Rattle.bits.proofs.writing.put_number.Statement.{statement}
-use Rattle.bits.proofs.writing.put_number.Tie as tie
-
-returns : tie.Need-returns
-returns c = cc
-
-pub put-number-spec : {M : Type 1} → statement M
-put-number-spec = tie.close (tie.spec (λ c κs. search needs) (λ c κs. search needs) (λ c. search needs) returns)

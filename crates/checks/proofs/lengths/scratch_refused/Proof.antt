@@ -1,9 +1,0 @@
-use borrow.Author.Needs.{needs}
-use Rattle.checks.proofs.lengths.scratch_refused.Statement.{statement}
-use Rattle.checks.proofs.lengths.scratch_refused.Tie as tie
-
-returns : tie.Need-returns
-returns c = rw (c .tensor-length .ensures .0)
-
-pub scratch-refused-spec : {M : Type 1} → statement M
-scratch-refused-spec = tie.close (tie.spec (λ c κs. search needs) (λ c. search needs) returns)

@@ -1,9 +1,0 @@
-use borrow.Author.Needs.{needs}
-use Rattle.plain_axes.proofs.store_mode.Statement.{statement}
-use Rattle.plain_axes.proofs.store_mode.Tie as tie
-
-returns : tie.Need-returns
-returns c = cc
-
-pub store-mode-spec : {M : Type 1} → statement M
-store-mode-spec = tie.close (tie.spec (λ c κs. search needs) (λ c. search needs) (λ c. search needs) returns)

@@ -1,0 +1,29 @@
+-- What 8 looks at by each way: all knots for a walk, the found cell's for a search, whose step says all (`step-of-cell`), else none.
+use borrow.Author.Needs.{needs}
+use Rattle.query_answer.proofs.Cells.{step-of-cell}
+use Rattle.query_answer.proofs.ways.knots_refused.Statement.{statement}
+use Rattle.query_answer.proofs.ways.knots_refused.Tie as tie
+
+returns : tie.Need-returns
+returns c = rw (c .before .enum-told .given .1) (c .knots-refused .ensures)
+
+returns-2 : tie.Need-returns-2
+returns-2 c = rw (c .before .before .before .enum-told2 .given .1) (step-of-cell _ _ (c .step-refused .ensures))
+
+pub knots-refused-spec : {M : Type 1} → statement M
+knots-refused-spec =
+    tie.close
+    (tie.spec
+    (λ c. search needs)
+    (λ c κs. search needs)
+    (λ c. search needs)
+    (λ c. search needs)
+    (λ c. search needs)
+    (λ c. search needs)
+    (λ c. search needs)
+    (λ c. search needs)
+    (λ c κs. search needs)
+    (λ c. search needs)
+    returns
+    returns-2
+    (λ c. search needs))

@@ -1,0 +1,71 @@
+// A point looked for on each axis in use: its cell, what the axis's mode makes of it, and the weights of the axis there.
+ghost use mathlib.Core.Path.{_≡_};
+ghost use Prim.Native.Nat.{_+_, _<_};
+ghost use lib.ListN.{length};
+ghost use Rattle.query_answer.specs.Given.{SearchFits};
+ghost use Rattle.query_answer.specs.Found.{WeightsStored, Unfound, FoundAmong};
+use crate::ways;
+use axis_locate::outside;
+use ways::Way;
+
+// Whether the point is refused: by 7 for a coordinate, by 8 for the knots of an axis, by 18 where a mode refuses it.
+pub struct Refusals {
+    pub coordinates: bool,
+    pub knots: bool,
+    pub outside: bool,
+}
+
+// The weights of an axis, for a point in the cell with this lower knot, go to their places.
+fn store_weights(weights: &mut [f64], axis: usize, knots: &[f64], lower: usize, point: f64)
+    requires { ⌜ (axis < 4) × (length (now weights) ≡ 16) × (lower + 1 < length (now knots)) ⌝ }
+    ensures { λ _. ⌜ WeightsStored (now (weights .entry)) axis (now (knots .entry)) lower point (now (weights .exit)) ⌝ }
+{
+    let width = knots[lower + 1] - knots[lower];
+    let of_axis = query_blend::hermite_weights(width, (point - knots[lower]) / width);
+    weights[4 * axis] = of_axis.h00;
+    weights[4 * axis + 1] = of_axis.h10;
+    weights[4 * axis + 2] = of_axis.h01;
+    weights[4 * axis + 3] = of_axis.h11;
+}
+
+// The cells go to `lower`, which is 0 past the axes in use, and the weights to `weights`. Of the knots it reads, besides those that are
+// looked at for 8, the first and the last of an axis, those that the halvings look at, and the two of the cell.
+pub fn search_on_axes(
+    way: Way,
+    axes: usize,
+    points: &[usize],
+    modes: &[u8],
+    knots: &[f64],
+    coordinates: &[f64],
+    lower: &mut [usize],
+    weights: &mut [f64],
+) -> Refusals
+    requires { ⌜ SearchFits axes (now points) (now modes) (now knots) (now coordinates) × Unfound (now lower) (now weights) ⌝ }
+    ensures { λ r.
+        ⌜ FoundAmong way axes (now (points .entry)) (now (modes .entry)) (now (knots .entry)) (now (coordinates .entry)) (now (lower .exit))
+        (now (weights .exit)) r ⌝ }
+{
+    let mut coordinates_refused = false;
+    let mut knots_refused = false;
+    let mut outside = false;
+    let mut begin = 0;
+    let mut i = 0;
+    while i < axes {
+        let end = begin + points[i];
+        let point = coordinates[i];
+        let placed = outside::place_on_axis(modes[i], &knots[begin..end], point);
+        let cell = ways::cell_on_axis(way, &knots[begin..end], point, placed.coordinate);
+        lower[i] = cell;
+        store_weights(weights, i, &knots[begin..end], cell, placed.coordinate);
+        coordinates_refused = coordinates_refused | !base_numbers::is_finite(point);
+        knots_refused = knots_refused | ways::knots_refused(way, &knots[begin..end], cell);
+        outside = outside | placed.refused;
+        begin = end;
+        i += 1;
+    }
+    Refusals {
+        coordinates: coordinates_refused,
+        knots: knots_refused,
+        outside,
+    }
+}

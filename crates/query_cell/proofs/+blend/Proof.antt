@@ -1,0 +1,59 @@
+-- The measure is the number of axes that are left.
+use Prim.Native.Nat.{ℕ, _<_}
+use native.Mathlib.Omega.{arith}
+use borrow.Author.Needs.{needs}
+use borrow.Fn.Kinds.{In}
+use borrow.Fn.PlainCycle.{Measures, is, falls, and}
+use Rattle.query_cell.proofs.Fewer.{none-left, one-fewer}
+use Rattle.query_cell.proofs.blend.Reads as blend
+use Rattle.query_cell.proofs.blend.Kinds as blend-kinds
+use Rattle.query_cell.proofs.+blend.Lts-blend as blend-lts
+use Rattle.query_blend.proofs.weights_of.Reads as weights-of-reads
+use Rattle.query_cell.proofs.remove_lowest.Reads as remove-lowest-reads
+use Rattle.query_cell.proofs.+blend.{statement}
+use Rattle.query_cell.proofs.+blend.Tie.{close}
+
+abbrev μ-blend : Measures 9 blend-kinds.ps ℕ
+μ-blend κs a = a .1 .1 .0
+
+abbrev blend-at : ℕ → In 9 blend-kinds.ps
+blend-at t = and 9 blend-kinds.ps (is 9 blend-kinds.ps μ-blend t) blend.Pre
+
+abbrev blend-below : ℕ → In 9 blend-kinds.ps
+blend-below t = and 9 blend-kinds.ps (falls 9 blend-kinds.ps _<_ μ-blend t) blend.Pre
+
+pub +blend-spec : {M : Type 1} → statement M
++blend-spec = close μ-blend λ t. blend-lts.spec (
+  weights-of-reads.Asked,
+  weights-of-reads.Learnt,
+  remove-lowest-reads.Asked,
+  remove-lowest-reads.Learnt,
+  blend-below t,
+  blend.Post,
+)
+    (blend-at t)
+    blend.Post
+    (λ c. search needs)
+    (λ c.
+    let s = c .before .before in
+    none-left _ _ _ (s .args .weights .now .now) (s .args .tensor .now .now) _ (s .args .cell .now)
+    (s .pre .1 .0 .0 .some-axes)
+    (c .before .if1 .taken))
+    (λ c. let s = c .before .before in omega (arith, c .before .if1 .left, s .pre .1 .2))
+    (λ c κs. (let s = c .before .before in
+    (omega (arith, c .before .if1 .left, s .pre .1 .2, s .pre .1 .0 .0 .few-axes), s .pre .1 .1)))
+    (λ c κs. (let s = c .before .before .before .before .before .before .before in
+    let some = c .before .before .before .before .before .before .if1 .left in
+    (s .pre .1 .0, search needs, (omega (arith, some), s .pre .1 .2))))
+    (λ c. omega (arith, c .before .before .before .before .before .before .before .before .if1 .left))
+    (λ c κs. (let s = c .before .before .before .before .before .before .before .before .before in
+    let some = c .before .before .before .before .before .before .before .before .if1 .left in
+    (omega (arith, s .pre .0, some), (s .pre .1 .0, s .pre .1 .1, omega (arith, s .pre .1 .2)))))
+    (λ c.
+    let s = c .before .before .before .before .before .before .before .before .before .before in
+    one-fewer _ _ _ (s .args .weights .now .now) (s .args .tensor .now .now) (s .args .left) (s .args .cell .now) _
+    (c .before .before .before .before .before .before .before .before .before .if1 .left)
+    (s .pre .1 .2)
+    (rw (c .before .before .before .before .before .before .before .weights-of .ensures) at (c .before .before .remove-lowest .ensures))
+    _
+    (c .blend .ensures))

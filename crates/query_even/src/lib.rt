@@ -1,0 +1,93 @@
+// The query of a tensor on even axes: a point located by one division on each axis, and the blend of the cell that is found.
+ghost use mathlib.Core.Path.{_≡_};
+ghost use Rattle.rules.specs.EvenCalls.{nothing-told, EvenQueryPromise};
+ghost use Rattle.grid.specs.Given.{grid};
+ghost use Rattle.query_answer.specs.Given.{QueryFits};
+ghost use Rattle.query_even.specs.Among.{EvenQueryAmong};
+ghost use Rattle.query_even.specs.Uneven.{refused-uneven};
+use query_answer::ways::Way;
+use rules::Axis;
+use rules::EvenAnswer;
+use rules::QueryAnswer;
+
+mod uneven; // uneven.rt: the lowest axis that is not even
+
+// What a query answers, with axis and interval 0.
+fn nothing_told(answer: QueryAnswer) -> EvenAnswer
+    ensures { λ r. ⌜ r ≡ nothing-told answer ⌝ }
+{
+    let labels = answer.labels;
+    EvenAnswer {
+        refusal: answer.refusal,
+        value: answer.value,
+        labels,
+        axis: 0,
+        interval: 0,
+    }
+}
+
+// 21, with the axis that is not even and its interval.
+fn refused_uneven(axis: usize, interval: usize) -> EvenAnswer
+    ensures { λ r. ⌜ r ≡ refused-uneven axis interval ⌝ }
+{
+    EvenAnswer {
+        refusal: 21,
+        value: 0.0,
+        labels: [0; 4],
+        axis,
+        interval,
+    }
+}
+
+// PUBLIC. The surface's value at a point on axes that are even, outside the knots of an axis as its mode says, of which hold moves the
+// point before its cell is found by one division; and for each axis the label, which is the cell that was evaluated, 0 past those in use.
+// Refuses 1 2 3 4 7 8 21 18 10, in this order; then the value is +0.0 and every label 0. After 21 axis and interval are the lowest axis
+// that is not even and its first interval that fails, both counted from 0; they are 0 in every other answer.
+pub fn even_query(
+    axes: usize,
+    all: [Axis; 4],
+    knots: &[f64],
+    tensor: &[f64],
+    coordinates: &[f64],
+) -> EvenAnswer
+    ensures { λ r. ⌜ EvenQueryPromise (grid axes all (now (knots .entry))) (now (tensor .entry)) (now (coordinates .entry)) r ⌝ }
+{
+    let points = grid::points_of(all);
+    let refusal = grid_checks::query_sizes_refusal(
+        axes,
+        &points,
+        knots.len(),
+        tensor.len(),
+        coordinates.len(),
+    );
+    if refusal != 0 {
+        return nothing_told(query_answer::refused(refusal));
+    }
+    let modes = query_answer::modes_of(all);
+    even_query_of_points(axes, &points, &modes, knots, tensor, coordinates)
+}
+
+// The same on axes of these points, with a mode's number for each, where 1 to 4 do not apply. Not public: that they do not is required.
+pub fn even_query_of_points(
+    axes: usize,
+    points: &[usize],
+    modes: &[u8],
+    knots: &[f64],
+    tensor: &[f64],
+    coordinates: &[f64],
+) -> EvenAnswer
+    requires { ⌜ QueryFits axes (now points) (now modes) (now knots) (now tensor) (now coordinates) ⌝ }
+    ensures { λ r.
+        ⌜ EvenQueryAmong axes (now (points .entry)) (now (modes .entry)) (now (knots .entry)) (now (tensor .entry))
+        (now (coordinates .entry)) r ⌝ }
+{
+    let refusal = grid_checks::knots_and_coordinates_refusal(axes, points, knots, coordinates);
+    if refusal != 0 {
+        return nothing_told(query_answer::refused(refusal));
+    }
+    let first = uneven::first_uneven(axes, points, knots);
+    if first.interval != 0 {
+        return refused_uneven(first.axis, first.interval);
+    }
+    nothing_told(query_answer::answer(Way::Direct, axes, points, modes, knots, tensor, coordinates))
+}

@@ -1,0 +1,63 @@
+// The quick query of a tensor: a point located by the search alone, whatever the knots are, and the blend of the cell that is found. It
+// walks no axis.
+ghost use Rattle.rules.specs.Calls.{QuickQueryPromise};
+ghost use Rattle.grid.specs.Given.{grid};
+ghost use Rattle.query_answer.specs.Given.{QueryFits};
+ghost use Rattle.query_quick.specs.Among.{QuickQueryAmong};
+use query_answer::ways::Way;
+use rules::Axis;
+use rules::QueryAnswer;
+
+// PUBLIC. The surface's value at a point, outside the knots of an axis as its mode says, and for each axis the label, which is the cell
+// that was evaluated, 0 past those in use. The answer is the query's wherever that does not refuse the knots. Of the knots it reads the
+// first and the last of each axis, those that at most 8 halvings look at and the two of the cell that is found; of the tensor the cell's
+// corners. Refuses 1 2 3 4, 7 for a coordinate, 8 for the found cell's knots, 18 10, in this order; then the value is +0.0 and every label
+// 0.
+pub fn quick_query(
+    axes: usize,
+    all: [Axis; 4],
+    knots: &[f64],
+    tensor: &[f64],
+    coordinates: &[f64],
+) -> QueryAnswer
+    ensures { λ r. ⌜ QuickQueryPromise (grid axes all (now (knots .entry))) (now (tensor .entry)) (now (coordinates .entry)) r ⌝ }
+{
+    let points = grid::points_of(all);
+    let refusal = grid_checks::query_sizes_refusal(
+        axes,
+        &points,
+        knots.len(),
+        tensor.len(),
+        coordinates.len(),
+    );
+    if refusal != 0 {
+        return query_answer::refused(refusal);
+    }
+    let modes = query_answer::modes_of(all);
+    quick_query_of_points(axes, &points, &modes, knots, tensor, coordinates)
+}
+
+// The same on axes of these points, with a mode's number for each, where 1 to 4 do not apply. Not public: that they do not is required.
+pub fn quick_query_of_points(
+    axes: usize,
+    points: &[usize],
+    modes: &[u8],
+    knots: &[f64],
+    tensor: &[f64],
+    coordinates: &[f64],
+) -> QueryAnswer
+    requires { ⌜ QueryFits axes (now points) (now modes) (now knots) (now tensor) (now coordinates) ⌝ }
+    ensures { λ r.
+        ⌜ QuickQueryAmong axes (now (points .entry)) (now (modes .entry)) (now (knots .entry)) (now (tensor .entry))
+        (now (coordinates .entry)) r ⌝ }
+{
+    query_answer::answer(
+        Way::Searched,
+        axes,
+        points,
+        modes,
+        knots,
+        tensor,
+        coordinates,
+    )
+}

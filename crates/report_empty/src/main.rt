@@ -1,4 +1,0 @@
-// The report program on no bytes.
-fn main() {
-    report_print::run();
-}

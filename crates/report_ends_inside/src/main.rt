@@ -1,4 +1,0 @@
-// The report program on a sheet and the beginning of another.
-fn main() {
-    report_print::run();
-}

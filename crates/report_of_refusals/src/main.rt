@@ -1,4 +1,0 @@
-// The report program on sheets that are refused, among accepted ones, up to one in which it stops.
-fn main() {
-    report_print::run();
-}

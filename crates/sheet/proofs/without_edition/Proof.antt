@@ -1,9 +1,0 @@
-use mathlib.Core.Path.{refl}
-use Rattle.sheet.proofs.without_edition.Statement.{statement}
-use Rattle.sheet.proofs.without_edition.Tie as tie
-
-returns : tie.Need-returns
-returns c = refl
-
-pub without-edition-spec : {M : Type 1} → statement M
-without-edition-spec = tie.close (tie.spec returns)

@@ -1,4 +1,0 @@
-// The sheet program on empty input.
-fn main() {
-    sheet_print::run();
-}

@@ -1,0 +1,85 @@
+// The queries of a tensor, shown as lines: the example's name, the call, the refusal's number, the value and the labels.
+use rules::Axis;
+use rules::Condition;
+use rules::Mode;
+use trial_lines::print;
+use trial_lines::print_count;
+use trial_lines::print_number;
+use trial_lines::print_refusal;
+use trial_tensor_lines::print_counts;
+use trial_tensor_lines::print_query;
+
+// Two axes of three points each, both in one mode.
+pub fn two_of_three(mode: Mode) -> [Axis; 4] {
+    let axis = Axis {
+        points: 3,
+        condition: Condition::natural(),
+        mode: mode,
+    };
+    [axis, axis, Axis::unused(), Axis::unused()]
+}
+
+// The quick query.
+pub fn print_quick(
+    name: &[u8],
+    axes: usize,
+    all: [Axis; 4],
+    knots: &[f64],
+    tensor: &[f64],
+    coordinates: &[f64],
+) {
+    let answer = query_quick::quick_query(axes, all, knots, tensor, coordinates);
+    let labels = answer.labels;
+    print_refusal(name, b"quick query", answer.refusal);
+    print_number(answer.value);
+    print(b" labels");
+    print_counts(labels);
+    print(b"\n");
+}
+
+// The query of even axes, with the axis that is not even and its interval.
+pub fn print_even(
+    name: &[u8],
+    axes: usize,
+    all: [Axis; 4],
+    knots: &[f64],
+    tensor: &[f64],
+    coordinates: &[f64],
+) {
+    let answer = query_even::even_query(axes, all, knots, tensor, coordinates);
+    let labels = answer.labels;
+    print_refusal(name, b"even query", answer.refusal);
+    print_number(answer.value);
+    print(b" labels");
+    print_counts(labels);
+    print(b" uneven");
+    print_count(answer.axis);
+    print_count(answer.interval);
+    print(b"\n");
+}
+
+// The query, and beside it the quick one.
+pub fn print_full_and_quick(
+    name: &[u8],
+    axes: usize,
+    all: [Axis; 4],
+    knots: &[f64],
+    tensor: &[f64],
+    coordinates: &[f64],
+) {
+    print_query(name, axes, all, knots, tensor, coordinates);
+    print_quick(name, axes, all, knots, tensor, coordinates);
+}
+
+// The query, and beside it that of even axes.
+pub fn print_full_and_even(
+    name: &[u8],
+    axes: usize,
+    all: [Axis; 4],
+    knots: &[f64],
+    tensor: &[f64],
+    coordinates: &[f64],
+) {
+    print_query(name, axes, all, knots, tensor, coordinates);
+    print_even(name, axes, all, knots, tensor, coordinates);
+}

@@ -1,0 +1,4 @@
+// The report program on no bytes.
+fn main() {
+    program_report_print::run();
+}
