@@ -55,9 +55,9 @@ rules-page:
 oracle-test:
 	cd oracle && cargo test --offline
 
-# The archive of the exported calls, target/staticlib/libhost.a.
+# The archive of the exported calls, target/staticlib/libhullashlar.a.
 archive:
-	rt staticlib host
+	rt staticlib hullashlar
 
 # Measures the exported calls beside the Rust's functions, and beside the limit where the folder of its C is at hand (LIMIT_SRC, by default
 # ../shared/limit), adds up their stack from the archive's code, and measures the report on long streams; prints the tables of docs/BENCH.md;
@@ -73,9 +73,9 @@ examples: archive
 	mkdir -p target/examples
 	python3 examples/gain_sheet.py | cmp - examples/gain.sheet
 	python3 examples/gain_sheet.py changed | cmp - examples/changed.sheet
-	gcc -std=c11 -Wall -Wextra -Werror -O2 -Iinclude examples/host.c target/staticlib/libhost.a -o target/examples/host_in_c
-	gcc -std=c11 -Wall -Wextra -Werror -O2 -Iinclude examples/firmware.c target/staticlib/libhost.a -o target/examples/firmware
-	rustc --edition 2021 -O examples/host.rs -L native=target/staticlib -l static=host -o target/examples/host_in_rust
+	gcc -std=c11 -Wall -Wextra -Werror -O2 -Iinclude examples/host.c target/staticlib/libhullashlar.a -o target/examples/host_in_c
+	gcc -std=c11 -Wall -Wextra -Werror -O2 -Iinclude examples/firmware.c target/staticlib/libhullashlar.a -o target/examples/firmware
+	rustc --edition 2021 -O examples/host.rs -L native=target/staticlib -l static=hullashlar -o target/examples/host_in_rust
 	target/examples/host_in_c examples/gain.sheet target/examples/c.sheet | diff examples/expected.txt -
 	target/examples/host_in_rust examples/gain.sheet target/examples/rust.sheet | diff examples/expected.txt -
 	target/examples/firmware examples/gain.sheet | diff examples/firmware_expected.txt -
@@ -85,12 +85,12 @@ examples: archive
 # Draws the picture of README.md anew, from numbers that the library computes.
 picture: archive
 	mkdir -p target/picture
-	gcc -std=c11 -Wall -Wextra -Werror -O2 -Iinclude docs/picture/cut.c target/staticlib/libhost.a -o target/picture/cut
+	gcc -std=c11 -Wall -Wextra -Werror -O2 -Iinclude docs/picture/cut.c target/staticlib/libhullashlar.a -o target/picture/cut
 	target/picture/cut | python3 docs/picture/draw.py > docs/picture/stale-derivatives.svg
 
 # What the programs are run on and what they must print: sheets by a script, the fixed list and all outputs by the oracle. It changes
 # nothing unless the script, the generator, an example or the reading has changed.
 expected:
 	python3 tests/make_sheets.py
-	cd oracle && cargo run --offline --release -q -p cases --bin replay_list > ../crates/replay/stdin
+	cd oracle && cargo run --offline --release -q -p cases --bin replay_list > ../crates/trial_replay/stdin
 	cd oracle && cargo run --offline --release -q -p printed -- ../crates

@@ -2,7 +2,7 @@
  * refuses, in its chapters Calls, EvenCalls, StepCalls, Read, SheetTensor, Write, SheetSurface, DeviceCell, DeviceCurve,
  * OwnRefusals, CurveExports, TensorExports, QueryExports, SheetExports, StepExports and DeviceExports.
  *
- * The machine. The archive, target/staticlib/libhost.a, is code for x86-64, with SSE2 and the System V calling
+ * The machine. The archive, target/staticlib/libhullashlar.a, is code for x86-64, with SSE2 and the System V calling
  * convention. Of its host it wants memcpy and memset, and nothing else. It computes under the caller's MXCSR, which
  * must be as a C program finds it at its start: rounding to nearest, subnormal numbers neither flushed to zero nor
  * taken for zero (FTZ and DAZ clear), all exceptions masked. No call changes these settings; exception flags may be set

@@ -8,18 +8,18 @@ pub fn link() {
     println!("cargo::rerun-if-changed=build.rs");
     println!("cargo::rerun-if-changed=../archive.rs");
     let folder = archive_folder();
-    let archive = folder.join("libhost.a");
+    let archive = folder.join("libhullashlar.a");
     println!("cargo::rerun-if-changed={}", archive.display());
     if !archive.is_file() {
         println!(
             "cargo::warning=the archive is missing: {}; all but the tests wants it: make it with \
-             `rt staticlib host`, or set HULLASHLAR_ARCHIVE_DIR to its folder",
+             `rt staticlib hullashlar`, or set HULLASHLAR_ARCHIVE_DIR to its folder",
             archive.display()
         );
         return;
     }
     println!("cargo::rustc-link-search=native={}", folder.display());
-    println!("cargo::rustc-link-lib=static=host");
+    println!("cargo::rustc-link-lib=static=hullashlar");
 }
 
 /// The folder of HULLASHLAR_ARCHIVE_DIR, or where the repository builds the archive.

@@ -10,7 +10,7 @@ report_ends_inside   the example and all but the last byte of another
 report_of_refusals   refused sheets among accepted ones, the last of which stops the report, and a byte
 report_in_memory     the same
 
-The programs sheet_empty and report_empty are run on no bytes at all. What the programs must print is the oracle's to say (oracle/printed)."""
+The programs trial_sheet_empty and trial_report_empty are run on no bytes at all. What the programs must print is the oracle's to say (oracle/printed)."""
 
 import math
 import struct
@@ -230,13 +230,13 @@ def main():
     largest = largest_sheet()
     made = {
         "sheet_tensor": EXAMPLE,
-        "sheet_largest": largest,
-        "sheet_one_byte_more": largest + b"\0",
-        "sheet_cases": cases(),
+        "trial_sheet_largest": largest,
+        "trial_sheet_one_byte_more": largest + b"\0",
+        "trial_sheet_cases": cases(),
         "sheet_report": EXAMPLE,
-        "report_ends_inside": EXAMPLE + EXAMPLE_IN_EDITION_2[:-1],
-        "report_of_refusals": refusals(),
-        "report_in_memory": refusals(),
+        "trial_report_ends_inside": EXAMPLE + EXAMPLE_IN_EDITION_2[:-1],
+        "trial_report_of_refusals": refusals(),
+        "trial_report_in_memory": refusals(),
     }
     for crate, sheet in made.items():
         (ROOT / "crates" / crate / "stdin").write_bytes(sheet)

@@ -10,7 +10,7 @@ import sys
 from pathlib import Path
 
 REPOSITORY = Path(__file__).resolve().parent.parent
-ARCHIVE = REPOSITORY / "target/staticlib/libhost.a"
+ARCHIVE = REPOSITORY / "target/staticlib/libhullashlar.a"
 HEADER = REPOSITORY / "include/hullashlar.h"
 OF_THE_HOST = {"memcpy", "memset"}
 MOST_AXES = 4

@@ -15,7 +15,7 @@ ROOT = Path(__file__).resolve().parent.parent
 SHEET_PROGRAM = ROOT / "target" / "bin" / "sheet_tensor"
 REPORT = ROOT / "target" / "bin" / "sheet_report"
 EXAMPLE = ROOT / "crates" / "sheet_tensor" / "stdin"
-LARGEST = ROOT / "crates" / "sheet_largest" / "stdin"
+LARGEST = ROOT / "crates" / "trial_sheet_largest" / "stdin"
 NOT_READ = b"standard input could not be read\n"
 NOT_WRITTEN = b"standard output could not be written\n"
 

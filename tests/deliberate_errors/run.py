@@ -1,5 +1,5 @@
 #!/usr/bin/env python3
-"""Runs copies of our code, each with one deliberate error in it, on the oracle's fixed list of answers (crates/replay),
+"""Runs copies of our code, each with one deliberate error in it, on the oracle's fixed list of answers (crates/trial_replay),
 and fails unless the list finds every error: some case differs. What no exported call shows is looked for in the report
 of a stream, whose kept output is the oracle's too.
 
@@ -19,39 +19,39 @@ ROOT = HERE.parent.parent
 
 # CRATE/NAME of each error. It is an edit in crates/CRATE/must-fail or, where none there says it, in CRATE beside this file.
 ERRORS = [
-    "passes/cross_pass_keeps_its_number",
-    "lane_starts/lanes_through_the_point_alone",
-    "passes/lanes_through_the_point_counted_as_all",
-    "passes/axes_in_falling_order",
-    "solve/corner_dropped_from_u_vec",
-    "solve/corner_dropped_for_two_intervals",
-    "moments/one_interval_to_the_cyclic_solve",
-    "moments/reciprocal_of_six_in_a_slope",
-    "moments/reciprocal_of_six_in_the_curve",
-    "locate/cell_k_at_interior_knot_k",
-    "answer/reciprocal_of_the_width",
-    "answer/label_of_the_next_cell",
-    "query_exports/full_query_for_the_quick_one",
-    "locate/end_knot_taken_as_outside",
-    "even/cell_before_the_knot",
+    "tensor_passes/cross_pass_keeps_its_number",
+    "tensor_starts/lanes_through_the_point_alone",
+    "tensor_passes/lanes_through_the_point_counted_as_all",
+    "tensor_passes/axes_in_falling_order",
+    "axis_solve/corner_dropped_from_u_vec",
+    "axis_solve/corner_dropped_for_two_intervals",
+    "axis_moments/one_interval_to_the_cyclic_solve",
+    "axis_moments/reciprocal_of_six_in_a_slope",
+    "axis_moments/reciprocal_of_six_in_the_curve",
+    "axis_locate/cell_k_at_interior_knot_k",
+    "query_answer/reciprocal_of_the_width",
+    "query_answer/label_of_the_next_cell",
+    "c_query/full_query_for_the_quick_one",
+    "axis_locate/end_knot_taken_as_outside",
+    "axis_even/cell_before_the_knot",
     "sheet_write/upper_value_first",
-    "step/upward_corner_mended",
-    "device/slopes_exchanged",
-    "device/half_below_zero_up",
-    "sheet/mode_read_from_the_upper_kind",
-    "kinds/mode_dropped_in_edition_1",
-    "answer/mode_of_the_first_axis_for_all",
-    "patterns/minus_zero_unused",
-    "surface/tensor_of_512_refused",
+    "step_axis/upward_corner_mended",
+    "device_cell/slopes_exchanged",
+    "device_cell/half_below_zero_up",
+    "sheet_read/mode_read_from_the_upper_kind",
+    "grid_codes/mode_dropped_in_edition_1",
+    "query_answer/mode_of_the_first_axis_for_all",
+    "sheet_patterns/minus_zero_unused",
+    "sheet_surface/tensor_of_512_refused",
 ]
 
 # The errors that the report of a stream of many sheets is to find.
-REPORT = "report_of_refusals"
+REPORT = "trial_report_of_refusals"
 REPORT_ERRORS = [
-    "totals/mask_for_the_order",
-    "totals/minus_zero_as_a_number",
-    "totals/largest_with_its_sign",
-    "kinds/report_goes_on_after_14",
+    "report_totals/mask_for_the_order",
+    "report_totals/minus_zero_as_a_number",
+    "report_totals/largest_with_its_sign",
+    "grid_codes/report_goes_on_after_14",
 ]
 
 # What `rt try` says of a compiled run: that it wrote what is expected or not.
@@ -88,8 +88,8 @@ def copy_sources(copy):
     left_out = shutil.ignore_patterns("specs", "proofs", "must-fail")
     shutil.copytree(ROOT / "crates", copy / "crates", ignore=left_out)
     shutil.copy(ROOT / "crates.txt", copy)
-    (copy / "crates" / "replay" / "stdout").write_text("")
-    apply("replay/counts_alone", copy)
+    (copy / "crates" / "trial_replay" / "stdout").write_text("")
+    apply("trial_replay/counts_alone", copy)
 
 
 def tried(program, error):
@@ -105,7 +105,7 @@ def tried(program, error):
 
 def replay(error=None):
     """How many cases the list has, and how many of them a copy with this error answers as the list says."""
-    said = tried("replay", error)
+    said = tried("trial_replay", error)
     counts = COUNTS.findall(said)
     if len(counts) != 2 or counts[0] != counts[1]:
         sys.exit(f"{error or 'unchanged'}: not the same counts from two compiled runs:\n{said}")

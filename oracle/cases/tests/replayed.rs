@@ -82,7 +82,7 @@ impl Words {
 const ROOM: usize = 589_824;
 
 /// The list that the program `replay` is run on.
-const STORED: &[u8] = include_bytes!("../../../crates/replay/stdin");
+const STORED: &[u8] = include_bytes!("../../../crates/trial_replay/stdin");
 
 #[test]
 fn the_stored_list_is_the_one_that_is_made() {

@@ -19,21 +19,21 @@ pub use host::{firmware, host};
 /// is no such program.
 pub fn printed(program: &str, input: &[u8]) -> Option<String> {
     let text = match program {
-        "sheet_tensor" | "sheet_empty" | "sheet_largest" | "sheet_one_byte_more" => {
+        "sheet_tensor" | "trial_sheet_empty" | "trial_sheet_largest" | "trial_sheet_one_byte_more" => {
             sheets::tensor(input)
         }
-        "sheet_cases" => sheets::tensors(input),
-        "one_axis_examples" => one_axis::examples(),
-        "one_axis_refusals" => refusals::refusals(),
-        "surface_examples" => surface::examples(),
-        "query_examples" => queries::examples(),
-        "change_examples" => changes::changes(),
-        "either_order_examples" => either_order::either_order(),
+        "trial_sheet_cases" => sheets::tensors(input),
+        "trial_one_axis" => one_axis::examples(),
+        "trial_one_axis_refusals" => refusals::refusals(),
+        "trial_tensor" => surface::examples(),
+        "trial_query" => queries::examples(),
+        "trial_change" => changes::changes(),
+        "trial_either_order" => either_order::either_order(),
         "device_curve" => reading::device_text(input),
-        "cursor_walk" => cursor::walks(),
-        "sheet_report" | "report_empty" | "report_ends_inside" | "report_of_refusals"
-        | "report_in_memory" => reading::Report::of(input).to_string(),
-        "replay" => replay(input),
+        "trial_cursor_walk" => cursor::walks(),
+        "sheet_report" | "trial_report_empty" | "trial_report_ends_inside" | "trial_report_of_refusals"
+        | "trial_report_in_memory" => reading::Report::of(input).to_string(),
+        "trial_replay" => replay(input),
         _ => return None,
     };
     Some(text)

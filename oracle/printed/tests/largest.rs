@@ -40,17 +40,17 @@ fn most_bits(points: &mut Vec<usize>) -> usize {
 #[test]
 fn no_accepted_sheet_is_longer() {
     let longest = most_bits(&mut Vec::new()).div_ceil(8);
-    let sheet = input("sheet_largest");
+    let sheet = input("trial_sheet_largest");
     assert_eq!(sheet.len(), longest);
-    let text = printed("sheet_largest", &sheet).unwrap();
+    let text = printed("trial_sheet_largest", &sheet).unwrap();
     assert!(text.starts_with("tensor 4096\n"));
 }
 
 #[test]
 fn one_byte_more_is_refused() {
-    let mut longer = input("sheet_largest");
+    let mut longer = input("trial_sheet_largest");
     longer.push(0);
-    assert_eq!(input("sheet_one_byte_more"), longer);
-    let text = printed("sheet_one_byte_more", &longer).unwrap();
+    assert_eq!(input("trial_sheet_one_byte_more"), longer);
+    let text = printed("trial_sheet_one_byte_more", &longer).unwrap();
     assert_eq!(text, "refused 14\n");
 }
