@@ -9,7 +9,7 @@ use lib.Seq.{getD-take, getD-drop, length-take-le, take-at}
 use lib.Ieee.{Float, nan}
 use lib.Ieee.Scale.{finite}
 use Rattle.rules.specs.Numbers.{plus-zero, zeros}
-use borrow.Author.Tests.{ltb-false}
+use borrow.Author.Tests.{ltb-false, not-false}
 use Rattle.rules.specs.Ends.{fewest-points}
 use Rattle.rules.specs.Refusals.{outcome-refused, answer-refused}
 use Rattle.rules.specs.Moments.{moment, moments}
@@ -19,16 +19,16 @@ use Rattle.rules.specs.declared.Condition.{Condition}
 use Rattle.rules.specs.declared.CurveAnswer.{CurveAnswer}
 use Rattle.rules.proofs.Tables.{table-is}
 use Rattle.grid_checks.specs.Check.{moments-check, curve-check, slopes-check}
-use Rattle.grid_checks.specs.Given.{MomentsGiven, CurveGiven, SlopesGiven}
+use Rattle.grid_checks.specs.Checked.{MomentsGiven, CurveGiven, SlopesGiven}
 use Rattle.grid_checks.proofs.ThenOutcome.{refused, outcome, outcome-bad, outcome-good, moments-outcome, curve-outcome, slopes-outcome}
 use Rattle.grid_checks.proofs.Accepted.{moments-given, curve-given, slopes-given}
-use Rattle.axis_locate.specs.Answers.{Located}
+use Rattle.axis_locate.specs.CellFound.{Located}
 use Rattle.axis_locate.proofs.Accepted.{accepted-rise}
 use Rattle.axis_rows.specs.Rows.{samples-in, RowsFit}
-use Rattle.axis_moments.specs.Lanes.{MomentsSolved}
+use Rattle.axis_moments.specs.SolvedMoments.{MomentsSolved}
 use Rattle.axis_curve.specs.Work.{outcome-number, MomentsWorked, SlopesWorked}
 use Rattle.axis_curve.proofs.SlopeTurns.{slopes-length}
-use Rattle.axis_moments.specs.Curve.{AxisLengths}
+use Rattle.axis_moments.specs.SlopeAndValue.{AxisLengths}
 
 -- ---- the call of the knot slopes
 
@@ -84,10 +84,6 @@ module _ (n : ℕ) (x y m out : List Float) where
 abbrev answer-of : ℕ → Float → CurveAnswer
 answer-of r v = record { refusal = r; value = v }
 
-not-refused : (b : Bool) → not b ≡ false → b ≡ true
-not-refused true e = refl
-not-refused false e = sym e
-
 module _ (n : ℕ) (x y m : List Float) (point : Float) where
   pub curve-refused :
       (r : ℕ) → r ≡ curve-check n x y (length m) point → (r ≡ 0 → ⊥) → CurvePromise n x y m point (answer-of r plus-zero)
@@ -114,7 +110,7 @@ module _ (n : ℕ) (x y m : List Float) (point : Float) where
     curve-is cell v found e =
         let axis = given .axis in
         let rising = accepted-rise x n (axis .knots-exact) (axis .knots-finite) (axis .knots-rise) in
-        e ∙ ap (λ (i : ℕ). curve-in-cell x y m i point) (found .rising rising (not-refused (finite point) (given .point-finite)))
+        e ∙ ap (λ (i : ℕ). curve-in-cell x y m i point) (found .rising rising (not-false (finite point) (given .point-finite)))
 
     module _ (cell : ℕ) (v : Float) (found : Located x point cell) (is : v ≡ curve-in-cell x y m cell point) (b : Bool)
         (looked : b ≡ finite v) where

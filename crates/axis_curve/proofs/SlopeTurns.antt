@@ -13,7 +13,7 @@ use Rattle.rules.specs.Curve.{knot-slope, knot-slopes}
 use Rattle.rules.proofs.Tables.{length-table, at-table}
 use Rattle.base_numbers.proofs.Front.{front, front-none, front-more, front-all}
 use Rattle.base_numbers.proofs.Scan.{any-none, any-next}
-use Rattle.axis_moments.specs.Curve.{AxisLengths}
+use Rattle.axis_moments.specs.SlopeAndValue.{AxisLengths}
 use Rattle.axis_curve.specs.Work.{SlopesWorked}
 
 -- all the slopes

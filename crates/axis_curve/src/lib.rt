@@ -6,16 +6,16 @@ ghost use Rattle.rules.specs.Ends.{fewest-points};
 ghost use Rattle.rules.specs.Calls.{MomentsPromise, CurvePromise, SlopesPromise};
 ghost use Rattle.axis_rows.specs.Rows.{RowsFit};
 ghost use Rattle.axis_curve.specs.Work.{SlopesWorked, MomentsWorked};
-ghost use Rattle.axis_moments.specs.Curve.{AxisLengths};
+ghost use Rattle.axis_moments.specs.SlopeAndValue.{AxisLengths};
 use axis_moments::curve::curve_in_cell;
 use axis_moments::curve::knot_slope;
 use grid_scratch::MOMENTS;
 use rules::Condition;
 use rules::CurveAnswer;
 
-// All the knot slopes go to a row, and whether one of them is an infinity or NaN is told. The flag is kept to the last knot, whose slope
-// is taken after the others, so the compiler works out several at a time. Not public: it requires what `knot_slope` does, and a place for
-// each slope.
+// All the knot slopes go to a row, and whether one of them is an infinity or NaN is told. The flag is kept to the last knot, whose slope is
+// taken after the others, so the compiler works out several at a time. Not a public call: it requires what `knot_slope` does, and a place
+// for each slope.
 fn some_slope_refused(x: &[f64], y: &[f64], m: &[f64], row: &mut [f64]) -> bool
     requires { ⌜ AxisLengths (now x) (now y) (now m) × (length (now row) ≡ length (now x)) ⌝ }
     ensures { λ r. ⌜ SlopesWorked (now (x .entry)) (now (y .entry)) (now (m .entry)) r (now (row .exit)) ⌝ }
@@ -91,8 +91,8 @@ pub fn curve(
     }
 }
 
-// The moments worked out in scratch and stored when all are finite; then all of scratch is +0.0. Not public: it requires what no refusal
-// leaves.
+// The moments worked out in scratch and stored when all are finite; then all of scratch is +0.0. Not a public call: it requires what
+// refusals 2, 4, 5 and 9 leave.
 fn work_moments(
     knots: &[f64],
     samples: &[f64],

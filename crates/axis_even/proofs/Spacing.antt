@@ -16,7 +16,7 @@ use lib.Ieee.Positive.{positive}
 use Rattle.base_floats.proofs.InUnits.{power-below-one}
 use Rattle.rules.specs.Numbers.{_⊖_, _⊗_, plus-zero}
 use Rattle.rules.specs.Steps.{h}
-use Rattle.rules.proofs.Cases.{not-both}
+use Rattle.rules.proofs.Cases.{not-both, both-left}
 use Rattle.rules.specs.Even.{absolute, epsilon, doubled, tolerance, apart, fails, first-that, first-failing, uneven-refused}
 use Rattle.axis_even.proofs.First.{none-found}
 
@@ -87,10 +87,6 @@ none e = ap (λ (n : ℕ). n * 1) (zero-mul (up e))
 zero-across : (e : ℤ) → 0 * 1 * down e ≡ 0
 zero-across e = zero-mul (down e)
 
-first-holds : (t u : Bool) → t && u ≡ true → t ≡ true
-first-holds true u e = refl
-first-holds false u e = e
-
 pub absolute-below : (v : Float) → lt v plus-zero ≡ true → neg v ≡ absolute v
 unfolding Ieee.ofBits lt neg absolute
 absolute-below nan e = not-both false e refl
@@ -108,7 +104,7 @@ absolute-zero (fin s zero k) fit e = at-zero false k fit
 absolute-zero (fin s (suc m) k) fit e =
     let l = some m k in
     let z = zero-across k in
-    let q : suc m * up k * 1 ≡ 0 * 1 * down k = eqb-true (suc m * up k * 1) (0 * 1 * down k) (first-holds _ _ e) in
+    let q : suc m * up k * 1 ≡ 0 * 1 * down k = eqb-true (suc m * up k * 1) (0 * 1 * down k) (both-left _ _ e) in
     absurd (omega arith)
 
 pub absolute-rest : (v : Float) → lt v plus-zero ≡ false → eq v plus-zero ≡ false → v ≡ absolute v

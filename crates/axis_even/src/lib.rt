@@ -1,5 +1,5 @@
-// Axes whose steps are equal within a tolerance, and the cell of a point there by one division, as the Rust has both. No call here is
-// public: callers see to the number of knots.
+// Axes whose steps are equal within a tolerance, and the cell of a point there by one division, as the Rust has both. None of these is a
+// public call: `validate_uniform_grid_epsilon` and `locate_lower_index_uniform` require two points or more.
 ghost use mathlib.Core.Path.{_≡_};
 ghost use Prim.Native.Nat.{_≤_};
 ghost use lib.ListN.{length};

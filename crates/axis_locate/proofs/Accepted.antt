@@ -12,7 +12,7 @@ use Rattle.rules.specs.Numbers.{at}
 use Rattle.rules.specs.Steps.{h}
 use Rattle.rules.specs.Refusals.{number-refused, some-number-refused, step-refused, knots-refused}
 use Rattle.base_numbers.proofs.Scan.{neither, any-at}
-use Rattle.axis_locate.specs.Answers.{Rising}
+use Rattle.axis_locate.specs.CellFound.{Rising}
 
 step-rises : (knots : List Float) (k : ℕ) → step-refused knots k ≡ false → lt (at knots k) (at knots (k + 1)) ≡ true
 unfolding step-refused

@@ -15,7 +15,7 @@ use Rattle.base_floats.specs.Place.{place, Real, AllFit}
 use Rattle.base_floats.proofs.Reals.{lt-is, le-is}
 use Rattle.rules.specs.Search.{middle, halving, most-halvings, one-back, rust-index, lower-index}
 use Rattle.rules.specs.declared.Side.the-variants.{Below, Inside, Above}
-use Rattle.axis_locate.specs.Answers.{Rising}
+use Rattle.axis_locate.specs.CellFound.{Rising}
 use Rattle.axis_locate.proofs.Split.{Split, split}
 use Rattle.rules.proofs.Halving.{half, halving-ends, halving-down, halving-up}
 

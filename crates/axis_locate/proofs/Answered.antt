@@ -11,7 +11,7 @@ use lib.Ieee.{Float, binary64, fits, lt, le}
 use Rattle.rules.specs.Numbers.{at}
 use Rattle.base_floats.specs.Place.{AllFit}
 use Rattle.rules.specs.Search.{halving, most-halvings, one-back, rust-index, held, lower-index}
-use Rattle.axis_locate.specs.Answers.{Located}
+use Rattle.axis_locate.specs.CellFound.{Located}
 use Rattle.axis_locate.proofs.Among.{lower-index-is-locate}
 
 module _ (knots : List Float) (point : Float) where

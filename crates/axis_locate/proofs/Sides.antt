@@ -11,7 +11,7 @@ use Rattle.rules.specs.declared.Mode.{Mode}
 use Rattle.rules.specs.declared.Mode.the-variants.{Extend, Hold, Refuse}
 use Rattle.rules.specs.declared.Side.{Side}
 use Rattle.rules.specs.declared.Side.the-variants.{Below, Inside, Above}
-use Rattle.axis_locate.specs.Answers.{Placed}
+use Rattle.axis_locate.specs.CellFound.{Placed}
 use Rattle.axis_locate.specs.declared.outside.PlacedPoint.{PlacedPoint}
 
 module _ (x : List Float) (p : Float) where

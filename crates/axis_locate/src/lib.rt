@@ -1,10 +1,10 @@
-// Where a point lies among the knots of an axis, as the Rust's `locate_lower_index` finds it. No call here is public: callers see to the
-// number of knots.
+// Where a point lies among the knots of an axis, as the Rust's `locate_lower_index` finds it. None of these is a public call:
+// `locate_lower_index` requires 2 to 256 knots.
 ghost use mathlib.Core.Path.{_≡_};
 ghost use Prim.Native.Nat.{_+_, _≤_, _<_};
 ghost use lib.ListN.{length};
 ghost use Rattle.rules.specs.Search.{one-back, held};
-ghost use Rattle.axis_locate.specs.Answers.{Located};
+ghost use Rattle.axis_locate.specs.CellFound.{Located};
 
 pub mod outside; // outside.rt: the side of a point, and what a mode makes of it
 

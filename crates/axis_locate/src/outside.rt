@@ -1,11 +1,11 @@
-// On which side of the knots of an axis a point lies, and what the axis's mode makes of a point outside. No call here is public: callers
-// see to it that there is a knot.
+// On which side of the knots of an axis a point lies, and what the axis's mode makes of a point outside. None of these is a public call:
+// all but `is_outside` require a knot.
 ghost use mathlib.Core.Path.{_≡_};
 ghost use Prim.Native.Nat.{_≤_};
 ghost use lib.ListN.{length};
 ghost use Rattle.rules.specs.Outside.{side, nearest, outside};
 ghost use Rattle.grid_codes.specs.Modes.{mode-of-number};
-ghost use Rattle.axis_locate.specs.Answers.{Placed};
+ghost use Rattle.axis_locate.specs.CellFound.{Placed};
 use grid_codes::modes::is_hold;
 use grid_codes::modes::is_refuse;
 use rules::Side;

@@ -16,8 +16,9 @@ use Rattle.rules.specs.declared.End.the-variants.{NotAKnot, FirstDerivative, Se
 use Rattle.rules.specs.declared.Condition.the-variants.{Endpoints}
 use Rattle.grid_scratch.specs.Layout.{row}
 use Rattle.axis_rows.specs.Rows.{samples-in}
-use Rattle.axis_moments.specs.Lanes.{InnerSolved, lower-moment, upper-moment, OneStored, MomentsSolved}
-use Rattle.axis_moments.proofs.RowsOfBothEnds.{zero-or-more, dropped-most}
+use Rattle.rules.proofs.Cases.{zero-or-more}
+use Rattle.rules.proofs.Ends.{dropped-most}
+use Rattle.axis_moments.specs.SolvedMoments.{InnerSolved, lower-moment, upper-moment, OneStored, MomentsSolved}
 
 -- a lower end that drops nothing leaves the first moment
 nothing-dropped : (w x : List Float) (lower : End) → dropped lower ≡ 0 → lower-moment w x lower ≡ at w 1792

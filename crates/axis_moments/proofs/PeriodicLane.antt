@@ -17,8 +17,8 @@ use Rattle.grid_scratch.specs.Layout.{row}
 use Rattle.axis_solve.specs.Cyclic.{CyclicSolved}
 use Rattle.axis_solve.proofs.Agreement.{same-cyclic}
 use Rattle.axis_rows.specs.Rows.{samples-in, RowsFit, InteriorRows, FirstRow, periodic-row}
-use Rattle.axis_moments.specs.Lanes.{MomentsSolved}
-use Rattle.axis_moments.proofs.RowsOfBothEnds.{zero-or-more}
+use Rattle.rules.proofs.Cases.{zero-or-more}
+use Rattle.axis_moments.specs.SolvedMoments.{MomentsSolved}
 
 module _
     (w w₁ w₂ w₃ x : List Float) (given : RowsFit w x) (more : 3 ≤ length x)

@@ -16,16 +16,13 @@ use Rattle.rules.specs.Moments.{lower-row, upper-row, sub, diag, sup, rhs, inne
 use Rattle.rules.specs.declared.End.{End}
 use Rattle.rules.specs.declared.End.the-variants.{NotAKnot, FirstDerivative, SecondDerivative}
 use Rattle.axis_rows.specs.declared.EndRow.{EndRow}
-use Rattle.axis_solve.specs.Rows.{Solved}
+use Rattle.axis_solve.specs.RowsSolved.{Solved}
 use Rattle.grid_scratch.specs.Layout.{row}
 use Rattle.axis_solve.proofs.Agreement.{same-thomas}
 use Rattle.axis_rows.specs.Rows.{lower-end-row, upper-end-row, samples-in, RowsFit, InteriorRows, FirstRow, LastRow}
-use Rattle.axis_moments.specs.Lanes.{InnerSolved}
-
--- a number is 0 or more
-pub zero-or-more : (k : ℕ) → (k ≡ 0) ⊎ (0 < k)
-zero-or-more zero = inl refl
-zero-or-more (suc k) = inr (omega arith)
+use Rattle.rules.proofs.Cases.{zero-or-more}
+use Rattle.rules.proofs.Ends.{dropped-most}
+use Rattle.axis_moments.specs.SolvedMoments.{InnerSolved}
 
 module _
     (w w₁ w₂ w₃ w₄ x : List Float) (lower upper : End) (given : RowsFit w x)
@@ -140,12 +137,6 @@ module _
               (λ e. outside (768 + l) (omega (arith, small)) (omega arith))
               ∙ between .kept j (λ k below e. outside k (omega arith) e);
         }
-
--- an end drops one unknown at most
-pub dropped-most : (end : End) → dropped end ≤ 1
-dropped-most NotAKnot = omega arith
-dropped-most (FirstDerivative v) = omega arith
-dropped-most (SecondDerivative v) = omega arith
 
 -- what an end's row says that it drops is what its end drops
 pub lower-drops : (x y : List Float) (end : End) (first : EndRow) → first ≡ lower-end-row x y end → first .dropped ≡ dropped end

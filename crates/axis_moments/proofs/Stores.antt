@@ -6,7 +6,7 @@ use lib.ListN.{length, set, length-set}
 use lib.Seq.{getD-set-same, getD-set-other}
 use lib.Ieee.{Float, nan}
 use Rattle.rules.specs.Numbers.{at}
-use Rattle.axis_moments.specs.Lanes.{OneStored}
+use Rattle.axis_moments.specs.SolvedMoments.{OneStored}
 
 -- a number stored
 pub one-stored : (w : List Float) (i : ℕ) (a v : Float) → i < length w → a ≡ v → OneStored w (set w i a) i v

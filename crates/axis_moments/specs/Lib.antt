@@ -1,2 +1,2 @@
-pub mod Lanes
-pub mod Curve
+pub mod SolvedMoments
+pub mod SlopeAndValue

@@ -6,7 +6,7 @@ ghost use Rattle.rules.specs.Ends.{dropped, fewest-points};
 ghost use Rattle.rules.specs.Sizes.{scratch-of-rows};
 ghost use Rattle.grid_scratch.specs.Layout.{row-length, moments-row};
 ghost use Rattle.axis_rows.specs.Rows.{RowsFit};
-ghost use Rattle.axis_moments.specs.Lanes.{lower-moment, upper-moment, OneStored, InnerSolved, MomentsSolved};
+ghost use Rattle.axis_moments.specs.SolvedMoments.{lower-moment, upper-moment, OneStored, InnerSolved, MomentsSolved};
 use grid_scratch::MOMENTS;
 use rules::Condition;
 use rules::End;
@@ -105,8 +105,8 @@ fn periodic_moments(w: &mut [f64], x: &[f64])
     }
 }
 
-// The moments of the lane whose samples stand in front of the scratch, under a condition. They go to the row of moments.
-// Not public: it requires a scratch of 2,048 numbers, 2 to 256 knots, and the fewest points of the condition.
+// The moments of the lane whose samples stand in front of the scratch, under a condition. They go to the row of moments. Not a public call:
+// it requires a scratch of 2,048 numbers, 2 to 256 knots, and the fewest points of the condition.
 pub fn compute_m(w: &mut [f64], x: &[f64], condition: Condition)
     requires { ⌜ RowsFit (now w) (now x) × (fewest-points condition ≤ length (now x)) ⌝ }
     ensures { λ _. ⌜ MomentsSolved (now (w .entry)) (now (w .exit)) (now (x .entry)) condition ⌝ }

@@ -1,5 +1,5 @@
-// The rows of the system of moments, as the Rust's `compute_m` writes them: those of the ends and those between them.
-// No function here is public: each requires that knots and samples are there, or a scratch of 2,048 numbers.
+// The rows of the system of moments, as the Rust's `compute_m` writes them: those of the ends and those between them. None of these is a
+// public call: what reads knots and samples requires that they are there, what writes rows that they lie in a scratch of 2,048 numbers.
 ghost use mathlib.Core.Path.{_≡_};
 ghost use Prim.Native.Nat.{_+_, _<_, _≤_};
 ghost use lib.ListN.{length};

@@ -11,7 +11,7 @@ use lib.Ieee.{Float, neg}
 use borrow.Author.Tests.{eq-eqb, ne-eqb}
 use Rattle.rules.specs.Numbers.{at}
 use Rattle.rules.specs.Solve.{diag-mod, u-vec, y, z, factor, cyclic-thomas}
-use Rattle.axis_solve.specs.Rows.{of-rows, RowsGiven, Solved}
+use Rattle.axis_solve.specs.RowsSolved.{of-rows, RowsGiven, Solved}
 use Rattle.grid_scratch.specs.Layout.{row}
 use Rattle.axis_solve.specs.Cyclic.{DiagMod, UVec, factor-of, Subtracted, CyclicSolved}
 use Rattle.axis_solve.proofs.Agreement.{same-thomas}

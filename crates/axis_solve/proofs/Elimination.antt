@@ -12,7 +12,7 @@ use borrow.Author.Count.{below-more}
 use Rattle.rules.specs.Numbers.{at, _⊖_, _⊗_, _⊘_}
 use Rattle.rules.specs.Solve as Solve
 use Rattle.rules.specs.Solve.{cp, dp}
-use Rattle.axis_solve.specs.Rows.{of-rows, RowsGiven, ResultPlace, Eliminated}
+use Rattle.axis_solve.specs.RowsSolved.{of-rows, RowsGiven, ResultPlace, Eliminated}
 use Rattle.grid_scratch.specs.Layout.{row, Outside}
 
 -- the rows below k are done; row k's divisor and second number are known

@@ -6,7 +6,7 @@ use Prim.Native.Nat.{ℕ, zero, suc, _-_, _≤_}
 use lib.Ieee.{Float}
 use Rattle.rules.specs.Numbers.{at}
 use Rattle.rules.specs.Solve.{before-last, thomas}
-use Rattle.axis_solve.specs.Rows.{of-rows, Eliminated, Substituted, Solved}
+use Rattle.axis_solve.specs.RowsSolved.{of-rows, Eliminated, Substituted, Solved}
 use Rattle.grid_scratch.specs.Layout.{row}
 
 module _ (w₀ w₁ w₂ : List Float) (l to : ℕ) (last : Float) (forth : Eliminated w₀ w₁ l to last) (back : Substituted w₁ w₂ l to last 0) where

@@ -10,7 +10,7 @@ use lib.ListN.{length, set, length-set}
 use lib.Seq.{getD-set-same, getD-set-other}
 use lib.Ieee.{Float, nan}
 use Rattle.rules.specs.Numbers.{at, _⊖_, _⊗_}
-use Rattle.axis_solve.specs.Rows.{RowsGiven, ResultPlace, Substituted}
+use Rattle.axis_solve.specs.RowsSolved.{RowsGiven, ResultPlace, Substituted}
 use Rattle.grid_scratch.specs.Layout.{row}
 
 -- once x is stored at row k, the rows from k on are done

@@ -7,7 +7,7 @@ use lib.ListN.{length}
 use lib.Ieee.{Float}
 use Rattle.rules.specs.Numbers.{at, _⊕_, _⊖_, _⊗_, _⊘_, plus-zero, one}
 use Rattle.rules.specs.Solve.{cyclic-thomas}
-use Rattle.axis_solve.specs.Rows.{of-rows}
+use Rattle.axis_solve.specs.RowsSolved.{of-rows}
 use Rattle.grid_scratch.specs.Layout.{rows, diag-row, rhs-row, z-row, moments-row, row, Outside}
 
 -- the diagonal without the corners

@@ -1,8 +1,9 @@
-// The solves of the Rust, over rows of the scratch. Row k of a solve has sub (k - 1), diag k, sup k and rhs k; the last row is row l.
-// No function here is public: each requires a scratch of at least 2,048 numbers and l below 256.
+// The solves of the Rust, over rows of the scratch. Row k of a solve has sub (k - 1), diag k, sup k and rhs k; the last row is row l. None
+// of these is a public call: each requires a scratch of at least 2,048 numbers and l below 256. Besides, `eliminate`, `substitute` and
+// `thomas` require a place for the result, from row Z on and before the tensor; `diag_mod`, `u_vec` and `cyclic_thomas` require 0 < l.
 ghost use mathlib.Core.Path.{_≡_};
 ghost use Prim.Native.Nat.{_+_, _<_};
-ghost use Rattle.axis_solve.specs.Rows.{RowsGiven, ResultPlace, Eliminated, Substituted, Solved};
+ghost use Rattle.axis_solve.specs.RowsSolved.{RowsGiven, ResultPlace, Eliminated, Substituted, Solved};
 ghost use Rattle.axis_solve.specs.Cyclic.{DiagMod, UVec, factor-of, Subtracted, CyclicSolved};
 use grid_scratch::CP;
 use grid_scratch::DIAG;

@@ -1,10 +1,11 @@
-// Fields of a list of bytes, most significant bit first, from any bit on. None of these is public: each requires that its bits are there,
-// or that their places are small numbers.
+// Fields of a list of bytes, most significant bit first, from any bit on. None of these is a public call: what reads fields requires that
+// their bits are there, at places that are small numbers; what asks whether they are short requires such places alone. `chunk` and `raised`
+// require that their bits fit, `least` that neither number is 0.
 ghost use mathlib.Core.Path.{_≡_};
 ghost use Prim.Native.Nat.{_+_, _-_, _*_, _/_, _%_, _^_, _<_, _≤_};
 ghost use lib.ListN.{length};
 ghost use Rattle.base_bits.specs.Bits.{field, short, number, numbers, numbers-short};
-ghost use Rattle.base_bits.specs.Within.{Within};
+ghost use Rattle.base_bits.specs.BitsThere.{Within};
 
 pub mod writing; // writing.rt: fields written
 
@@ -56,7 +57,7 @@ pub fn is_short(bytes: &[u8], at: usize, width: usize) -> bool
     bytes.len() < (at + width + 7) / 8
 }
 
-// Whether one of the patterns from bit `at` on would end behind the last bit.
+// Whether one of the patterns from bit `at` on would end behind the last bit. It requires one pattern or more.
 pub fn are_short(bytes: &[u8], at: usize, count: usize) -> bool
     requires { ⌜ (0 < count) × (at + 64 * count ≤ 1048576) ⌝ }
     ensures { λ r. ⌜ r ≡ numbers-short (now (bytes .entry)) at count ⌝ }

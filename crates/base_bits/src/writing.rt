@@ -1,5 +1,6 @@
-// Fields written into a list of bytes, most significant bit first, from any bit on; all other bits stay. None of these is public: each
-// requires that its bits are there, that their places are small numbers, and that floats are finite.
+// Fields written into a list of bytes, most significant bit first, from any bit on; all other bits stay. None of these is a public call:
+// what writes to the list requires that its bits are there, at places that are small numbers, and what writes floats that they are finite.
+// `piece` and `patched` require that their bits fit.
 ghost use mathlib.Core.Path.{_≡_};
 ghost use mathlib.Core.Bool.{true, false};
 ghost use Prim.Native.Nat.{_+_, _*_, _/_, _%_, _^_, _<_, _≤_};
@@ -8,7 +9,7 @@ ghost use lib.Ieee.{binary64, toBits};
 ghost use lib.Ieee.Scale.{finite};
 ghost use Rattle.rules.specs.Refusals.{some-number-refused};
 ghost use Rattle.base_bits.specs.Written.{patch, with-field, number-fields, with-fields};
-ghost use Rattle.base_bits.specs.Within.{Within};
+ghost use Rattle.base_bits.specs.BitsThere.{Within};
 use crate::least;
 
 // The `count` bits of a number above its `low` lowest ones.

@@ -10,13 +10,10 @@ use lib.Ieee.{Float, binary64}
 use lib.Ieee.Scale.{finite}
 use Rattle.rules.specs.Numbers.{_⊖_, at, any}
 use Rattle.rules.specs.Refusals.{number-refused}
+use borrow.Author.Tests.{not-false}
 use Rattle.base_numbers.specs.Quarters.{difference-of-four}
 use Rattle.base_numbers.proofs.Scan.{any-at, any-never}
 use Rattle.base_numbers.proofs.Finite.{finite-difference}
-
-not-false : (b : Bool) → not b ≡ false → b ≡ true
-not-false true e = refl
-not-false false e = sym e
 
 module _ (s : List Float) (quarter : ℕ) (none : any (λ k. number-refused (difference-of-four s quarter k)) quarter ≡ false) where
   -- the four numbers at a place

@@ -17,8 +17,8 @@ pub fn is_finite(x: f64) -> bool
     if x < infinity { -infinity < x } else { false }
 }
 
-// Whether a difference of four numbers, one of each quarter, is an infinity or NaN; where none is, neither is a number. The flag is kept
-// to the last of them, so the compiler looks at several at a time. Not public: that the quarters lie in the slice is required.
+// Whether a difference of four numbers, one of each quarter, is an infinity or NaN; where none is, neither is a number. The flag is kept to
+// the last of them, so the compiler looks at several at a time. Not a public call: that the quarters lie in the slice is required.
 fn any_difference_not_finite(s: &[f64], quarter: usize) -> bool
     requires { ⌜ 4 * quarter ≤ length (now s) ⌝ }
     ensures { λ r. ⌜ r ≡ any (λ k. number-refused (difference-of-four (now (s .entry)) quarter k)) quarter ⌝ }
@@ -45,7 +45,7 @@ fn finite_in_front(s: &[f64]) -> usize
     4 * quarter
 }
 
-// Whether an infinity or NaN is among the numbers. Not public: that none is among the first of them is required.
+// Whether an infinity or NaN is among the numbers. Not a public call: that none is among the first of them is required.
 fn any_not_finite_from(s: &[f64], first: usize) -> bool
     requires { ⌜ (first ≤ length (now s)) × (any (λ k. number-refused (at (now s) k)) first ≡ false) ⌝ }
     ensures { λ r. ⌜ r ≡ some-number-refused (now (s .entry)) ⌝ }
@@ -85,7 +85,7 @@ pub fn clear(s: &mut [f64])
     }
 }
 
-// The numbers of one slice go to another of the same length. Not public: the lengths are required.
+// The numbers of one slice go to another of the same length. Not a public call: the lengths are required.
 pub fn copy(to: &mut [f64], from: &[f64])
     requires { ⌜ length (now from) ≡ length (now to) ⌝ }
     ensures { λ _. ⌜ now (to .exit) ≡ now (from .entry) ⌝ }
@@ -108,7 +108,7 @@ pub fn float_of(pattern: u64) -> f64
     }
 }
 
-// The pattern of a finite number. Not public: that it is finite is required.
+// The pattern of a finite number. Not a public call: that it is finite is required.
 pub fn pattern_of(x: f64) -> u64
     requires { ⌜ finite x ≡ true ⌝ }
     ensures { λ r. ⌜ r ≡ toBits binary64 x ⌝ }

@@ -9,7 +9,7 @@ use borrow.Author.Tests.{lt-ltb, le-ltb, ltb-false}
 use lib.Dec.{ltb}
 use lib.ListN.{length, length-append}
 use Rattle.base_text.specs.Lines.{decimal-digit, line-end, decimal-digits, decimal, word-line}
-use Rattle.base_text.specs.Answers.{Put}
+use Rattle.base_text.specs.PutBytes.{Put}
 use Rattle.base_text.proofs.Puts.{put-more}
 
 pub fewer-places : (k n : ℕ) → n < 10 ^ suc k → n / 10 < 10 ^ k

@@ -5,7 +5,7 @@ use Prim.Native.Nat.{ℕ, zero, suc, _-_, _/_, _%_}
 use native.Mathlib.Omega.{arith}
 use lib.ListN.{length, length-append}
 use Rattle.base_text.specs.Lines.{hex-digit, hex-digits}
-use Rattle.base_text.specs.Answers.{Put}
+use Rattle.base_text.specs.PutBytes.{Put}
 use Rattle.base_text.proofs.Puts.{put-none, put-more}
 
 pub length-hex-digits : (k n : ℕ) → length (hex-digits k n) ≡ k

@@ -8,7 +8,7 @@ use native.Mathlib.Omega.{arith}
 use lib.ListN.{length, take, getD, set, length-append}
 use lib.Seq.{sets, sets-eq, length-sets, length-take-le, take-suc, take-all}
 use Rattle.base_text.specs.Lines.{written}
-use Rattle.base_text.specs.Answers.{Put}
+use Rattle.base_text.specs.PutBytes.{Put}
 
 sets-more : (xs ys l : List ℕ) (i : ℕ) → sets (sets l i xs) (i + length xs) ys ≡ sets l i (xs ++ ys)
 sets-more [] ys l i = ap (λ (k : ℕ). sets l k ys) (add-zero i)

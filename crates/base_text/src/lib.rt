@@ -1,14 +1,14 @@
-// What all programs print by: bytes, words and numbers, put into a lent text at a place. Each function answers the place behind what it has
-// put.
+// What all programs print by: bytes, words and numbers, put into a lent text at a place. What puts them requires that there is room, and
+// answers the place behind what it has put. None of these is a public call.
 ghost use mathlib.Core.Path.{_≡_};
 ghost use mathlib.Core.List.{[], _∷_};
 ghost use Prim.Native.Nat.{_+_, _<_, _≤_};
 ghost use lib.ListN.{length};
 ghost use lib.Ieee.{binary64, toBits};
 ghost use Rattle.base_text.specs.Lines.{hex-digit, hex-digits, decimal, word-line, refused-line};
-ghost use Rattle.base_text.specs.Answers.{Put};
+ghost use Rattle.base_text.specs.PutBytes.{Put};
 
-// One byte. Not public, as none of those below: that there is room is required.
+// One byte.
 pub fn put_byte(byte: u8, text: &mut [u8], at: usize) -> usize
     requires { ⌜ at < length (now text) ⌝ }
     ensures { λ r. ⌜ Put (byte ∷ []) (now (text .entry)) at (now (text .exit)) r ⌝ }
@@ -43,7 +43,7 @@ pub fn put_decimal(number: u64, text: &mut [u8], at: usize) -> usize
     put_byte(48 + (number % 10) as u8, text, end)
 }
 
-// The byte of a capital hex digit.
+// The byte of a capital hex digit: it requires a digit below 16.
 fn hex_digit(digit: u64) -> u8
     requires { ⌜ digit < 16 ⌝ }
     ensures { λ r. ⌜ r ≡ hex-digit digit ⌝ }

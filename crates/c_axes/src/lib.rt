@@ -1,5 +1,5 @@
-// From numbers and plain slices to conditions and the four axes, and back. Not public: each requires what the host's own refusals leave,
-// the lengths of its slices and few axes.
+// From numbers and plain slices to conditions and the four axes, and back. None of these is a public call: each requires that its slices
+// have their lengths, and what asks about the axes in use that they are at most four. The host's own refusals see to both.
 ghost use mathlib.Core.Path.{_≡_};
 ghost use Prim.Native.Nat.{_+_, _*_, _<_, _≤_};
 ghost use lib.ListN.{length, set};

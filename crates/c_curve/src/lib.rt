@@ -1,4 +1,4 @@
-// The calls of the curve as `host` exports them, over numbers and plain slices. Each returns its refusal's number, 0 for none, in the one
+// The calls of the curve as `hullashlar` exports them, over numbers and plain slices. Each returns its refusal's number, 0 for none, in the
 // order that c_refusals::own says.
 ghost use Rattle.c_curve.specs.CurveExports.{MomentsExport, CurveExport};
 use c_refusals::own;

@@ -1,4 +1,4 @@
-// The calls of the device as `host` exports them, over whole numbers alone. Each returns its refusal's number, 0 for none.
+// The calls of the device as `hullashlar` exports them, over whole numbers alone. Each returns its refusal's number, 0 for none.
 ghost use Rattle.c_device.specs.DeviceExports.{CellExport, NextExport};
 use device_cursor::Cursor;
 

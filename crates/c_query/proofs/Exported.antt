@@ -5,7 +5,8 @@ use Prim.Native.Nat.{ℕ, _≤_}
 use lib.Ieee.{Float}
 use Rattle.rules.specs.Numbers.{plus-zero, table}
 use Rattle.rules.specs.Sizes.{most-axes}
-use Rattle.rules.specs.EvenCalls.{even-query-answer}
+use Rattle.rules.specs.Calls.{QueryPromise, QuickQueryPromise}
+use Rattle.rules.specs.EvenCalls.{even-query-answer, EvenQueryPromise}
 use Rattle.rules.specs.declared.QueryAnswer.{QueryAnswer}
 use Rattle.rules.specs.declared.EvenAnswer.{EvenAnswer}
 use Rattle.c_axes.specs.Axes.{grid-in-modes}
@@ -13,9 +14,7 @@ use Rattle.c_refusals.specs.OwnRefusals.{query-own-refusal, even-query-own-refu
 use Rattle.c_refusals.specs.Slots.{QueryStored, EvenStored}
 use Rattle.c_refusals.proofs.Exported.{own-answer, no-value, no-count, no-labels, call-answer}
 use Rattle.c_refusals.proofs.Lengths.{query-own-fits, even-query-own-fits}
-use Rattle.query_full.specs.Among.{QueryAmong}
-use Rattle.query_quick.specs.Among.{QuickQueryAmong}
-use Rattle.query_even.specs.Among.{EvenQueryAmong}
+use Rattle.query_answer.specs.PointsAndModes.{OfAnyAxes}
 use Rattle.c_query.specs.QueryExports.{AnswerExport, QueryExport, QuickQueryExport, EvenQueryExport}
 use Rattle.c_query.proofs.Given.{axes-given}
 
@@ -55,13 +54,14 @@ module _ (axes : ℕ) (points modes : List ℕ) (knots tensor-lent coordinates v
     few = query-own-fits axes points modes knots tensor-lent coordinates value-lent labels-lent (sym e ∙ none) .in-range .few-axes
 
     pub query-called :
-        (a : QueryAnswer) {v : List Float} {l : List ℕ} → QueryAmong axes points modes knots tensor-lent coordinates a
+        (a : QueryAnswer) {v : List Float} {l : List ℕ} → OfAnyAxes axes points modes knots (λ g. QueryPromise g tensor-lent coordinates a)
         → QueryStored value-lent labels-lent (a .value) (a .labels) v l
         → QueryExport axes points modes knots tensor-lent coordinates value-lent labels-lent (a .refusal) v l
     query-called a among = answer-given _ _ value-lent labels-lent e none a (among _ (axes-given axes points modes few) .answer)
 
     pub quick-query-called :
-        (a : QueryAnswer) {v : List Float} {l : List ℕ} → QuickQueryAmong axes points modes knots tensor-lent coordinates a
+        (a : QueryAnswer) {v : List Float} {l : List ℕ}
+        → OfAnyAxes axes points modes knots (λ g. QuickQueryPromise g tensor-lent coordinates a)
         → QueryStored value-lent labels-lent (a .value) (a .labels) v l
         → QuickQueryExport axes points modes knots tensor-lent coordinates value-lent labels-lent (a .refusal) v l
     quick-query-called a among = answer-given _ _ value-lent labels-lent e none a (among _ (axes-given axes points modes few) .answer)
@@ -96,7 +96,8 @@ module _ (axes : ℕ) (points modes : List ℕ) (knots tensor-lent coordinates v
         (sym e ∙ none) .0 .in-range .few-axes
 
     pub even-query-called :
-        (a : EvenAnswer) {v : List Float} {l u : List ℕ} → EvenQueryAmong axes points modes knots tensor-lent coordinates a
+        (a : EvenAnswer) {v : List Float} {l u : List ℕ}
+        → OfAnyAxes axes points modes knots (λ g. EvenQueryPromise g tensor-lent coordinates a)
         → EvenStored value-lent labels-lent uneven-lent (a .value) (a .labels) (a .axis) (a .interval) v l u
         → EvenQueryExport axes points modes knots tensor-lent coordinates value-lent labels-lent uneven-lent (a .refusal) v l u
     even-query-called a among in-place =

@@ -13,7 +13,7 @@ use Rattle.c_axes.specs.Axes.{axis-without-ends, axes-without-ends, axis-in-mod
 use Rattle.c_axes.proofs.InModes.{modes-put-in}
 use Rattle.c_refusals.proofs.Rows.{given-below}
 use Rattle.c_refusals.proofs.Lengths.{OwnFits}
-use Rattle.query_answer.specs.Given.{modes-of, AxesOf, QueryFits}
+use Rattle.query_answer.specs.PointsAndModes.{modes-of, AxesOf, QueryFits}
 
 pub query-fits :
     {axes : ℕ} {points modes : List ℕ} {knots tensor coordinates value : List Float} {labels : List ℕ}

@@ -16,7 +16,7 @@ use Rattle.rules.specs.declared.EvenAnswer.{EvenAnswer}
 use Rattle.rules.specs.declared.QueryAnswer.{QueryAnswer}
 use Rattle.rules.proofs.WithoutModes.{points-refused-same, knots-length-same, tensor-length-same}
 use Rattle.grid_checks.specs.Tables.{lowest}
-use Rattle.tensor.proofs.Demand3.{exact}
+use Rattle.grid_checks.proofs.Rows.{length-fits}
 use Rattle.query_measured.specs.Measured.{Surface, AtPlace, Reads}
 use Rattle.query_measured.specs.EvenMeasured.{EvenGrid, EvenReads}
 use Rattle.query_measured.proofs.Measured.{measured-is-read, quick-measured-is-read}
@@ -88,7 +88,7 @@ module _
     tensor-exact = S .tensor-exact ∙ sym numbers-same
 
     axes-pass : (number : ℕ) → lowest (axes-rows axes points) number ≡ number
-    axes-pass number = rw (S .axes-fine, exact (length points) 4 (lent .four-points), points-fine, tensor-fine) refl
+    axes-pass number = rw (S .axes-fine, length-fits (length points) 4 (lent .four-points), points-fine, tensor-fine) refl
 
     abbrev later : ℕ
     later = lowest (query-later-rows axes points modes knots tensor coordinates value labels) 0
@@ -96,12 +96,12 @@ module _
     later-pass : later ≡ 0
     later-pass =
         rw (
-          exact (length modes) 4 (lent .four-modes),
-          exact (length value) 1 (lent .one-value),
-          exact (length labels) 4 (lent .four-labels),
-          exact (length knots) (knots-length (sizes-given axes points)) knots-exact,
-          exact (length tensor) (tensor-length (sizes-given axes points)) tensor-exact,
-          exact (length coordinates) axes (A .exact),
+          length-fits (length modes) 4 (lent .four-modes),
+          length-fits (length value) 1 (lent .one-value),
+          length-fits (length labels) 4 (lent .four-labels),
+          length-fits (length knots) (knots-length (sizes-given axes points)) knots-exact,
+          length-fits (length tensor) (tensor-length (sizes-given axes points)) tensor-exact,
+          length-fits (length coordinates) axes (A .exact),
           lent .known-modes,
         ) refl
 
@@ -110,7 +110,7 @@ module _
     no-own = axes-pass later ∙ later-pass
 
     slots-fine : query-slots-refused value labels ≡ false
-    slots-fine = rw (exact (length value) 1 (lent .one-value), exact (length labels) 4 (lent .four-labels)) refl
+    slots-fine = rw (length-fits (length value) 1 (lent .one-value), length-fits (length labels) 4 (lent .four-labels)) refl
 
     -- ---- the theorems
 
@@ -132,10 +132,10 @@ module _
     module _ (uneven : List ℕ) (two : length uneven ≡ 2) (E : EvenGrid g) where
       no-own-even : even-query-own-refusal axes points modes knots tensor coordinates value labels uneven ≡ 0
       unfolding even-query-own-refusal
-      no-own-even = axes-pass (cond (length-refused (length uneven) 2) 4 later) ∙ rw (exact (length uneven) 2 two) later-pass
+      no-own-even = axes-pass (cond (length-refused (length uneven) 2) 4 later) ∙ rw (length-fits (length uneven) 2 two) later-pass
 
       all-fine : even-slots-refused value labels uneven ≡ false
-      all-fine = rw (slots-fine, exact (length uneven) 2 two) refl
+      all-fine = rw (slots-fine, length-fits (length uneven) 2 two) refl
 
       abbrev given : EvenAnswer
       given = even-query-answer g tensor coordinates

@@ -5,7 +5,7 @@ use mathlib.Core.List.{List}
 use Prim.Native.Nat.{ℕ}
 use lib.Ieee.{Float}
 use Rattle.rules.specs.declared.QueryAnswer.{QueryAnswer}
-use Rattle.c_refusals.proofs.Exported.{same}
+use Rattle.rules.proofs.Unique.{same}
 use Rattle.c_query.specs.QueryExports.{AnswerExport, QueryExport, QuickQueryExport, EvenQueryExport}
 
 same-answer :

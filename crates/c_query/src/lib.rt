@@ -1,4 +1,4 @@
-// The calls of queries as `host` exports them, over numbers and plain slices. Each returns its refusal's number, 0 for none, in the one
+// The calls of queries as `hullashlar` exports them, over numbers and plain slices. Each returns its refusal's number, 0 for none, in the
 // order that c_refusals::own says.
 ghost use Rattle.c_query.specs.QueryExports.{QueryExport, QuickQueryExport, EvenQueryExport};
 use c_refusals::own;

@@ -37,6 +37,3 @@ pub left : {A : Type 0} (own : ℕ) (lent : List A) {later l : List A} {r : ℕ}
 left own lent e none leaves = rw (sym e ∙ none) leaves
 
 -- ---- two answers of one record: both equal a third
-
-pub same : {A : Type 0} {a b c : A} → a ≡ c → b ≡ c → a ≡ b
-same p q = p ∙ sym q

@@ -10,7 +10,7 @@ use borrow.Author.Tests.{ltb-false}
 use Rattle.rules.specs.Sizes.{most-axes, place-of, sum-below, product-below, knots-length, samples-length, tensor-length}
 use Rattle.rules.specs.Refusals.{length-refused}
 use Rattle.base_numbers.proofs.Scan.{neither}
-use Rattle.grid.specs.Given.{InRange}
+use Rattle.grid.specs.GridOfCall.{InRange}
 use Rattle.grid_checks.proofs.Rows.{NoneApplies, none-applies, axes-few, in-range, exact, exact-2, exact-3}
 use Rattle.c_refusals.specs.OwnRefusals.{
   sizes-given,

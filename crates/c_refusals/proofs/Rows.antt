@@ -16,9 +16,9 @@ use Rattle.rules.specs.Refusals.{points-refused, length-refused}
 use Rattle.rules.specs.declared.Mode.the-variants.{Extend}
 use Rattle.rules.proofs.Refused.{any-ext}
 use Rattle.rules.proofs.Sums.{sum-ext, product-ext}
-use Rattle.grid.specs.Given.{points-of, InRange}
+use Rattle.grid.specs.GridOfCall.{points-of, InRange}
 use Rattle.grid_checks.specs.Check.{points-check}
-use Rattle.grid_checks.specs.Found.{SizesFound}
+use Rattle.grid_checks.specs.SizesFound.{SizesFound}
 use Rattle.grid_checks.specs.Tables.{row, lowest}
 use Rattle.grid_checks.specs.declared.sizes.Sizes.{Sizes}
 use Rattle.grid_checks.proofs.Rows.{stop, pass, none-applies, rows-stop, rows-pass, axes-few, in-range, exact}

@@ -1,7 +1,8 @@
--- The chapter OwnRefusals of docs/RULES.md: what the host itself refuses, in one order for every export. A call with axes refuses by 1 for
--- their number alone, by 4 for points that are not four, by 2, by 3, by 4 for every other slice and slot, by 13 for the kinds of the axes
--- in use, and by 22 for their modes; a call on one axis by 2, 4 and 13. Each table has the rows of that order down to where the call's own
--- refusals may follow.
+-- The chapter OwnRefusals of docs/RULES.md: what the host itself refuses of curves, tensors, queries and sheets, in one order; what it
+-- refuses of steps and of the device stands in StepExports and DeviceExports. A call with axes refuses by 1 for their number alone, by 4
+-- for points that are not four, by 2, by 3, by 4 for every other slice and slot, by 13 for the kinds of the axes in use, and by 22 for
+-- their modes; a call on one axis by 2, 4 and 13; a call that reads a sheet by 4 alone. Each table has the rows of this order down to where
+-- the call's own refusals may follow.
 use mathlib.Core.Bool.{Bool, cond, _||_}
 use mathlib.Core.List.{List, [], _∷_, _++_}
 use Prim.Native.Nat.{ℕ}

@@ -1,11 +1,12 @@
-// The host's own refusals, in the one order of every export: with axes 1, 4 for the points, 2, 3, 4 for every other slice and slot, 13 for
-// the kinds and 22 for the modes; on one axis 2, 4 and 13. Each is 0 where none applies, and then the call's own follow.
+// The host's own refusals of curves, tensors, queries and sheets, in one order: with axes 1, 4 for the points, 2, 3, 4 for every other
+// slice and slot, 13 for the kinds and 22 for the modes; on one axis 2, 4 and 13; of a sheet that is read 4 alone. Each is 0 where none
+// applies, and then the call's own follow. Steps have theirs in c_step::own, and the device in c_device.
 ghost use mathlib.Core.Path.{_≡_};
 ghost use mathlib.Core.Bool.{_||_};
 ghost use Prim.Native.Nat.{_≤_};
 ghost use Rattle.rules.specs.Sizes.{knots-length, samples-length};
 ghost use Rattle.rules.specs.Refusals.{length-refused};
-ghost use Rattle.grid.specs.Given.{sizes-of, points-of, InRange};
+ghost use Rattle.grid.specs.GridOfCall.{sizes-of, points-of, InRange};
 ghost use Rattle.c_refusals.specs.OwnRefusals.{
   two-ends-refused,
   eight-ends-refused,
@@ -205,7 +206,7 @@ pub fn change_own_refusal(
     0
 }
 
-// Whether knots or samples are not as many as the axes say: the build's test, told of a tensor that has its length. Not public: what
+// Whether knots or samples are not as many as the axes say: the build's test, told of a tensor that has its length. Not a public call: what
 // refusals 1 and 2 leave is required.
 fn parts_refused(axes: usize, all: [Axis; 4], knots: usize, samples: usize) -> bool
     requires { ⌜ InRange axes (points-of all) ⌝ }
@@ -283,8 +284,8 @@ fn modes_or_slots_refused(modes: &[u8], value: &[f64], labels: &[usize]) -> bool
     query_slots_refused(value, labels)
 }
 
-// What a query on axes of these sizes meets after them: 4 for the modes, the slots of its answer and its own slices, and 22. Not public:
-// few axes are required.
+// What a query on axes of these sizes meets after them: 4 for the modes, the slots of its answer and its own slices, and 22. Not a public
+// call: at most four axes are required.
 fn query_later_refusal(
     axes: usize,
     sizes: Sizes,
@@ -314,7 +315,7 @@ fn query_later_refusal(
     0
 }
 
-// Of a query: its axes, and then these.
+// Of a query: what its axes meet, and then 4 for the modes, the slots of its answer and its own slices, and 22.
 pub fn query_own_refusal(
     axes: usize,
     points: &[usize],
@@ -345,7 +346,7 @@ pub fn query_own_refusal(
     )
 }
 
-// Of the query of even axes: the same, and before the other slots 4 for that of an axis that is not even.
+// Of the query of even axes: the same, and before the modes and the other slots 4 for the slot of an axis that is not even.
 pub fn even_query_own_refusal(
     axes: usize,
     points: &[usize],

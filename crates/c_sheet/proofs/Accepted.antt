@@ -12,8 +12,7 @@ use Rattle.rules.specs.Refusals.{axes-refused, points-refused, some-points-refu
 use Rattle.rules.specs.declared.Axis.{Axis}
 use Rattle.base_numbers.proofs.Scan.{neither}
 use Rattle.grid_checks.specs.Tables.{Refusal}
-use Rattle.grid_checks.proofs.Rows.{none-applies, axes-few, exact-2}
-use Rattle.sheet_read.proofs.Walks.{passed}
+use Rattle.grid_checks.proofs.Rows.{none-applies, axes-few, exact-2, length-fits}
 use Rattle.sheet_write.specs.Write.{no-sheet-refusal}
 use Rattle.c_axes.specs.Axes.{axis-given, axes-given, some-kinds-refused, some-modes-refused}
 use Rattle.c_axes.proofs.InModes.{modes-put-in}
@@ -26,7 +25,8 @@ use Rattle.c_refusals.specs.OwnRefusals.{
   read-own-refusal,
 }
 use Rattle.c_refusals.proofs.Lengths.{mode-slot-lengths}
-use Rattle.c_tensor.proofs.Accepted.{none-given, none-of, fits, same-points}
+use Rattle.c_tensor.proofs.Accepted.{none-given, same-points}
+use Rattle.rules.proofs.Cases.{neither-of, passed}
 use Rattle.c_sheet.specs.RoundTrip.{Slices, Lengths, Parts, grid-of, parts-refusal}
 
 -- ---- the read
@@ -38,11 +38,11 @@ pub read-accepted : (lent : Slices) → Lengths lent → read-own lent ≡ 0
 unfolding read-own-refusal
 read-accepted lent long =
     ap (λ (refused : Bool). cond refused 4 0)
-    (none-of
-    (none-of
-    (none-of (fits (length (lent .axes)) 1 (long .one-axes)) (fits (length (lent .points)) 4 (long .four-points)))
-    (none-of (fits (length (lent .kinds)) 8 (long .eight-kinds)) (fits (length (lent .values)) 8 (long .eight-values))))
-    (none-of (fits (length (lent .modes)) 4 (long .four-modes)) (fits (length (lent .edition)) 1 (long .one-edition))))
+    (neither-of
+    (neither-of
+    (neither-of (length-fits (length (lent .axes)) 1 (long .one-axes)) (length-fits (length (lent .points)) 4 (long .four-points)))
+    (neither-of (length-fits (length (lent .kinds)) 8 (long .eight-kinds)) (length-fits (length (lent .values)) 8 (long .eight-values))))
+    (neither-of (length-fits (length (lent .modes)) 4 (long .four-modes)) (length-fits (length (lent .edition)) 1 (long .one-edition))))
 
 -- ---- the write
 
@@ -94,19 +94,20 @@ write-accepted parts slot fine one none =
     none-given (write-rows parts slot) (
       axes-pass .0,
       (
-        fits (length (parts .points)) 4 (fine .four-points),
+        length-fits (length (parts .points)) 4 (fine .four-points),
         (
           same-sizes parts (λ n. any (λ i. points-refused (n i)) (parts .axes)) ∙ points-pass .0,
           (
             same-sizes parts (λ n. ltb 4096 (product-below n (parts .axes) * 2 ^ parts .axes)) ∙ tensor-passes .0,
             (
-              none-of
-                  (none-of
-                  (none-of (fits (length (parts .kinds)) 8 (fine .eight-kinds)) (fits (length (parts .values)) 8 (fine .eight-values)))
-                  (none-of (fits (length (parts .modes)) 4 (fine .four-modes)) (fits (length slot) 1 one)))
-                  (none-of
-                  (fits (length (parts .knots)) _ (long .0 ∙ sym (same-sizes parts (λ n. sum-below n (parts .axes)))))
-                  (fits (length (parts .samples)) _ (long .1 ∙ sym (same-sizes parts (λ n. product-below n (parts .axes)))))),
+              neither-of
+                  (neither-of
+                  (neither-of (length-fits (length (parts .kinds)) 8 (fine .eight-kinds))
+                  (length-fits (length (parts .values)) 8 (fine .eight-values)))
+                  (neither-of (length-fits (length (parts .modes)) 4 (fine .four-modes)) (length-fits (length slot) 1 one)))
+                  (neither-of
+                  (length-fits (length (parts .knots)) _ (long .0 ∙ sym (same-sizes parts (λ n. sum-below n (parts .axes)))))
+                  (length-fits (length (parts .samples)) _ (long .1 ∙ sym (same-sizes parts (λ n. product-below n (parts .axes)))))),
               (fine .kinds-stand, (fine .modes-stand, tt)),
             ),
           ),

@@ -1,5 +1,5 @@
 -- Demand 3 of a tensor that `hullashlar_sheet_tensor` left, on the axes that it hands over: it stands as built, so the four statements of
--- `tensor_exports` hold of it.
+-- `c_tensor` hold of it.
 use mathlib.Core.Path.{_≡_, refl, sym, _∙_}
 use mathlib.Core.List.{List, [], _∷_}
 use Prim.Native.Nat.{ℕ, _≤_}

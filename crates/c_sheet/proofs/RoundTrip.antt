@@ -8,7 +8,7 @@ use lib.Ieee.{Float}
 use Rattle.rules.specs.Sizes.{Grid, knots-length, samples-length, sum-below, product-below}
 use Rattle.rules.specs.declared.Axis.{Axis}
 use Rattle.rules.proofs.Refused.{or-else-passed}
-use Rattle.grid.specs.Given.{grid}
+use Rattle.grid.specs.GridOfCall.{grid}
 use Rattle.base_bits.proofs.Numbers.{each-at}
 use Rattle.sheet_read.specs.Fields.{edition as edition-said, axes as axes-said, entries, knots-below, sheet-grid, sheet-samples}
 use Rattle.sheet_read.specs.Faults.{sheet-refusal}
@@ -27,7 +27,7 @@ use Rattle.sheet_write.proofs.RoundTrip.{one-sheet, read-of-written, written-ow
 use Rattle.c_axes.specs.Axes.{points-found, kinds-found, values-found, modes-found}
 use Rattle.c_refusals.specs.OwnRefusals.{sizes-given}
 use Rattle.c_refusals.specs.Slots.{in-slot}
-use Rattle.c_tensor.proofs.Accepted.{fits}
+use Rattle.grid_checks.proofs.Rows.{length-fits}
 use Rattle.c_sheet.specs.RoundTrip.{
   Slices,
   ReadTo,
@@ -114,7 +114,7 @@ as-write parts buffer slot refusal b l called none =
     record {
       promised = record { answer = refl; output = rw none at (called .output) };
       refusal-is = rw none at (called .answer);
-      slot-is = λ one. place ∙ rw (fits (length slot) 1 one);
+      slot-is = λ one. place ∙ rw (length-fits (length slot) 1 one);
     }
 
 -- ---- what a read that was not refused handed over

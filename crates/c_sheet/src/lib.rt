@@ -1,4 +1,4 @@
-// The calls of sheets as `host` exports them, over numbers and plain slices. Each returns its refusal's number, 0 for none, in the one
+// The calls of sheets as `hullashlar` exports them, over numbers and plain slices. Each returns its refusal's number, 0 for none, in the
 // order that c_refusals::own says.
 ghost use mathlib.Core.Path.{_≡_};
 ghost use mathlib.Core.List.{[], _∷_};
@@ -9,7 +9,7 @@ use c_refusals::own;
 use c_refusals::slots;
 use rules::Axis;
 
-// The modes of axes that were found, and the edition in its slot. Not public: that they have their lengths is required.
+// The modes of axes that were found, and the edition in its slot. Not a public call: that they have their lengths is required.
 fn store_told(said: usize, found: [Axis; 4], modes: &mut [u8], edition: &mut [usize])
     requires { ⌜ (length (now modes) ≡ 4) × (length (now edition) ≡ 1) ⌝ }
     ensures { λ _. ⌜ (now (modes .exit) ≡ modes-found found) × (now (edition .exit) ≡ said ∷ []) ⌝ }

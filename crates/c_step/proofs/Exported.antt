@@ -35,7 +35,7 @@ use Rattle.c_step.specs.StepExports.{
   SteppedExport,
 }
 
--- a number other than 0 that is not refused is that of Upper
+-- every number other than 0 is that of Upper
 pub upper-of : (number : ℕ) → (number ≡ 0 → ⊥) → Upper ≡ direction-of-number number
 upper-of zero other = absurd (other refl)
 upper-of (suc number) other = refl

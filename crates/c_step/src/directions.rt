@@ -5,7 +5,7 @@ ghost use lib.ListN.{length};
 ghost use Rattle.c_step.specs.Directions.{direction-of-number, some-direction-refused, direction-given, directions-given};
 use rules::StepDirection;
 
-// The direction of a number that is not refused.
+// The direction of a number: lower for 0, upper for any other.
 pub fn direction_of_number(number: u8) -> StepDirection
     ensures { λ r. ⌜ r ≡ direction-of-number number ⌝ }
 {
@@ -16,7 +16,7 @@ pub fn direction_of_number(number: u8) -> StepDirection
     }
 }
 
-// Whether the number of an axis in use is neither 0 nor 1. Not public: four numbers and few axes are required.
+// Whether the number of an axis in use is neither 0 nor 1. Not a public call: four numbers and at most four axes are required.
 pub fn some_direction_refused(axes: usize, numbers: &[u8]) -> bool
     requires { ⌜ (axes ≤ 4) × (length (now numbers) ≡ 4) ⌝ }
     ensures { λ r. ⌜ r ≡ some-direction-refused axes (now (numbers .entry)) ⌝ }
@@ -43,7 +43,7 @@ fn direction_given(axes: usize, numbers: &[u8], i: usize) -> StepDirection
     }
 }
 
-// The four directions. Not public: four numbers are required.
+// The four directions. Not a public call: four numbers are required.
 pub fn directions_given(axes: usize, numbers: &[u8]) -> [StepDirection; 4]
     requires { ⌜ length (now numbers) ≡ 4 ⌝ }
     ensures { λ r. ⌜ r ≡ directions-given axes (now (numbers .entry)) ⌝ }

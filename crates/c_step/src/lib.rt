@@ -1,5 +1,5 @@
-// The calls of steps as `host` exports them, over numbers and plain slices. Each returns its refusal's number, 0 for none, in the one order
-// of every export.
+// The calls of steps as `hullashlar` exports them, over numbers and plain slices. Each returns its refusal's number, 0 for none, in the
+// order that own.rt says.
 ghost use Rattle.c_step.specs.StepExports.{ExactExport, AxisExport, StepExport, SteppedExport};
 use c_axes::axes_without_ends;
 use c_refusals::slots::store_count;

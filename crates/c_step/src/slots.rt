@@ -7,7 +7,7 @@ use grid_checks::lengths;
 use rules::AxisLocation;
 use rules::ExactIndex;
 
-// Two numbers go to a slot. Not public: its length is required.
+// Two numbers go to a slot. Not a public call: its length is required.
 fn store_two(slot: &mut [usize], first: usize, second: usize)
     requires { ⌜ length (now slot) ≡ 2 ⌝ }
     ensures { λ _. ⌜ now (slot .exit) ≡ first ∷ second ∷ [] ⌝ }

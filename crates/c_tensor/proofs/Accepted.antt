@@ -14,7 +14,7 @@ use Rattle.rules.specs.Refusals.{points-refused, length-refused}
 use Rattle.rules.specs.declared.Condition.{Condition}
 use Rattle.rules.specs.declared.Mode.the-variants.{Extend}
 use Rattle.grid_checks.specs.Tables.{Refusal, lowest}
-use Rattle.grid_checks.proofs.Rows.{NoneApplies, none-applies}
+use Rattle.grid_checks.proofs.Rows.{NoneApplies, none-applies, length-fits}
 use Rattle.tensor.proofs.Demand3.{Sound}
 use Rattle.c_axes.specs.Axes.{condition-given, axis-given, axes-given, axis-without-ends, axes-without-ends, some-kinds-refused, grid-given}
 use Rattle.c_refusals.specs.OwnRefusals.{
@@ -27,17 +27,12 @@ use Rattle.c_refusals.specs.OwnRefusals.{
   change-own-refusal,
 }
 use Rattle.c_refusals.proofs.Lengths.{build-lengths}
+use Rattle.rules.proofs.Cases.{neither-of}
 
 -- no row applies, so the table gives no number
 pub none-given : (rows : List Refusal) → NoneApplies rows → lowest rows 0 ≡ 0
 none-given [] none = refl
 none-given (refusal ∷ rows) none = rw (none .0) (none-given rows (none .1))
-
-pub none-of : {a b : Bool} → a ≡ false → b ≡ false → (a || b) ≡ false
-none-of e f = rw (e, f)
-
-pub fits : (given size : ℕ) → given ≡ size → length-refused given size ≡ false
-fits given size e = rw (eq-eqb given size e)
 
 -- ---- ends play no part in the sizes of a grid
 
@@ -92,13 +87,13 @@ module _ (axes : ℕ) (points-in kinds : List ℕ) (values knots : List Float) w
   -- they are accepted again with slices of the lengths of their grid
   module _ (fine : Fine axes points-in kinds values) (samples : List Float) (sound : Sound h samples) where
     ends-fit : eight-ends-refused kinds values ≡ false
-    ends-fit = none-of (fits (length kinds) 8 (fine .kinds-eight)) (fits (length values) 8 (fine .values-eight))
+    ends-fit = neither-of (length-fits (length kinds) 8 (fine .kinds-eight)) (length-fits (length values) 8 (fine .values-eight))
 
     sizes-fine : (later : List Refusal) → NoneApplies later → NoneApplies (axes-rows axes points-in ++ later)
     sizes-fine later none = (
       sound .axes-fine,
       (
-        fits (length points-in) 4 (fine .points-four),
+        length-fits (length points-in) 4 (fine .points-four),
         (
           same-sizes axes points-in kinds values knots (λ n. any (λ i. points-refused (n i)) axes) ∙ sound .points-fine,
           (same-sizes axes points-in kinds values knots (λ n. ltb 4096 (product-below n axes * 2 ^ axes)) ∙ sound .tensor-fine, none),
@@ -107,11 +102,11 @@ module _ (axes : ℕ) (points-in kinds : List ℕ) (values knots : List Float) w
     )
 
     knots-fit : length-refused (length knots) (knots-length (sizes-given axes points-in)) ≡ false
-    knots-fit = fits _ _ (sound .knots-exact ∙ sym (same-sizes axes points-in kinds values knots (λ n. sum-below n axes)))
+    knots-fit = length-fits _ _ (sound .knots-exact ∙ sym (same-sizes axes points-in kinds values knots (λ n. sum-below n axes)))
 
     tensor-fits : (t : List Float) → length t ≡ tensor-length h
         → length-refused (length t) (tensor-length (sizes-given axes points-in)) ≡ false
-    tensor-fits t e = fits _ _ (e ∙ sym (same-sizes axes points-in kinds values knots (λ n. product-below n axes * 2 ^ axes)))
+    tensor-fits t e = length-fits _ _ (e ∙ sym (same-sizes axes points-in kinds values knots (λ n. product-below n axes * 2 ^ axes)))
 
     pub build-accepted :
         (others out : List Float) → length others ≡ samples-length h → length out ≡ tensor-length h
@@ -120,9 +115,9 @@ module _ (axes : ℕ) (points-in kinds : List ℕ) (values knots : List Float) w
     build-accepted others out e long =
         none-given (build-own-rows axes points-in kinds values knots others out)
         (sizes-fine (drop 4 (build-own-rows axes points-in kinds values knots others out)) (
-          none-of ends-fit
-              (none-of
-              (none-of knots-fit (fits _ _ (e ∙ sym (same-sizes axes points-in kinds values knots (λ n. product-below n axes)))))
+          neither-of ends-fit
+              (neither-of
+              (neither-of knots-fit (length-fits _ _ (e ∙ sym (same-sizes axes points-in kinds values knots (λ n. product-below n axes)))))
               (tensor-fits out long)),
           (fine .kinds-stand, tt),
         ))
@@ -134,8 +129,8 @@ module _ (axes : ℕ) (points-in kinds : List ℕ) (values knots : List Float) w
     change-accepted t place lanes long four one =
         none-given (change-own-rows axes points-in kinds values knots t place lanes)
         (sizes-fine (drop 4 (change-own-rows axes points-in kinds values knots t place lanes)) (
-          none-of
-              (none-of ends-fit (none-of (fits (length place) 4 four) (fits (length lanes) 1 one)))
-              (none-of knots-fit (tensor-fits t long)),
+          neither-of
+              (neither-of ends-fit (neither-of (length-fits (length place) 4 four) (length-fits (length lanes) 1 one)))
+              (neither-of knots-fit (tensor-fits t long)),
           (fine .kinds-stand, tt),
         ))

@@ -1,5 +1,5 @@
-// The calls of the tensor as `host` exports them, over numbers and plain slices. Each returns its refusal's number, 0 for none, in the one
-// order that c_refusals::own says.
+// The calls of the tensor as `hullashlar` exports them, over numbers and plain slices. Each returns its refusal's number, 0 for none, in
+// the order that c_refusals::own says.
 ghost use Rattle.c_tensor.specs.TensorExports.{BuildExport, ChangeExport};
 use c_refusals::own;
 use c_refusals::slots;

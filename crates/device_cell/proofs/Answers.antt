@@ -53,7 +53,8 @@ natural (negsuc n) e h = let z : _≡_ {A = ℕ} 0 1 = cc in (let y : ⊥ = omeg
 
 -- ---- the two ways to end
 
-no-value : (r : ℕ) (v : ℤ) → (r ≡ 0 → ⊥) → pos 0 ≡ valued r v
+-- a refused answer has no value
+pub no-value : (r : ℕ) (v : ℤ) → (r ≡ 0 → ⊥) → pos 0 ≡ valued r v
 no-value zero v some = absurd (some refl)
 no-value (suc r) v some = refl
 

@@ -11,7 +11,7 @@ use Rattle.base_integers.specs.Sized.{Sized}
 use Rattle.base_integers.proofs.Sizes.{sized-pos, sized-mul, sized-add, sized-sub, sized-more, sized-fits}
 use Rattle.base_integers.proofs.Tests.{both}
 use Rattle.device_cell.specs.DeviceCell.{exact, cell-number, value-in-range, slope-in-range, cell-in-range}
-use Rattle.device_cell.specs.Within.{weight-p0, weight-p1, weight-d0, weight-d1, weights-at, weighted, Room}
+use Rattle.device_cell.specs.CellWeights.{weight-p0, weight-p1, weight-d0, weight-d1, weights-at, weighted, Room}
 use Rattle.device_cell.specs.declared.Cell.{Cell}
 use Rattle.device_cell.proofs.Weighed.{weighed, exact-is}
 use Rattle.device_cell.proofs.Nearest.{nearest-sized}

@@ -9,7 +9,7 @@ use Rattle.base_integers.proofs.Differences.{less-is, less-pos, less-add, less-
 use Rattle.base_integers.proofs.Signs.{neg-times}
 use Rattle.base_integers.proofs.Tests.{up-to, each}
 use Rattle.device_cell.specs.DeviceCell.{exact}
-use Rattle.device_cell.specs.Within.{weight-p0, weight-p1, weight-d0, weight-d1, weights-at, weighted}
+use Rattle.device_cell.specs.CellWeights.{weight-p0, weight-p1, weight-d0, weight-d1, weights-at, weighted}
 use Rattle.device_cell.specs.declared.Cell.{Cell}
 
 pub record Weighed (k : ℕ) : Type 0 where

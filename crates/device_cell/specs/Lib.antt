@@ -1,2 +1,2 @@
 pub mod DeviceCell
-pub mod Within
+pub mod CellWeights

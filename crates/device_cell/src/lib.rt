@@ -4,7 +4,7 @@ ghost use mathlib.Core.Bool.{true};
 ghost use Prim.Native.Nat.{_≤_};
 ghost use Rattle.base_integers.specs.Sized.{Sized};
 ghost use Rattle.device_cell.specs.DeviceCell.{nearest, cell-number, in-range, cell-in-range, cell-refusal, CellPromise};
-ghost use Rattle.device_cell.specs.Within.{weights-at, weighted, Room};
+ghost use Rattle.device_cell.specs.CellWeights.{weights-at, weighted, Room};
 
 // The values and the slopes, scaled by the width, at the two ends of a cell.
 pub struct Cell {
@@ -66,7 +66,7 @@ pub fn cell_in_range(cell: Cell) -> bool
     }
 }
 
-// The weights at a position. Not public, as none of those below: what they require, their callers have looked at.
+// The weights at a position, which is required to be at most 256.
 fn weights_at(k: u64) -> Weights
     requires { ⌜ k ≤ 256 ⌝ }
     ensures { λ r. ⌜ r ≡ weights-at k ⌝ }
@@ -81,7 +81,7 @@ fn weights_at(k: u64) -> Weights
     }
 }
 
-// The exact value times 256³.
+// The exact value times 256³. It requires numbers so small that every step on the way fits.
 fn weighted(w: Weights, p0: i64, p1: i64, d0: i64, d1: i64) -> i64
     requires { ⌜ Room w p0 p1 d0 d1 ⌝ }
     ensures { λ r. ⌜ r ≡ weighted w p0 p1 d0 d1 ⌝ }
@@ -89,7 +89,7 @@ fn weighted(w: Weights, p0: i64, p1: i64, d0: i64, d1: i64) -> i64
     w.p0 * p0 + w.d0 * d0 + w.p1 * p1 - w.d1 * d1
 }
 
-// A number over 256³ to the nearest whole number, a half away from zero.
+// A number over 256³ to the nearest whole number, a half away from zero. It requires one that lies at most 2^40 from zero.
 fn rounded(number: i64) -> i64
     requires { ⌜ Sized 1099511627776 number ⌝ }
     ensures { λ r. ⌜ r ≡ nearest number ⌝ }
@@ -101,7 +101,7 @@ fn rounded(number: i64) -> i64
     }
 }
 
-// The number of a cell at a position.
+// The number of a cell at a position. Not a public call: it requires a cell in range and a position of at most 256.
 pub fn cell_number(cell: Cell, k: u64) -> i32
     requires { ⌜ (cell-in-range cell ≡ true) × (k ≤ 256) ⌝ }
     ensures { λ r. ⌜ r ≡ cell-number cell k ⌝ }

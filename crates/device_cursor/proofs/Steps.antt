@@ -8,6 +8,7 @@ use lib.Dec.{ltb}
 use lib.IntN.{ℤ, pos}
 use borrow.Author.Tests.{lt-ltb, le-ltb, ltb-false}
 use Rattle.device_cell.specs.DeviceCell.{cell-number, valued}
+use Rattle.device_cell.proofs.Answers.{no-value}
 use Rattle.device_cursor.specs.DeviceCurve.{
   cell-at,
   curve-refusal,
@@ -62,10 +63,6 @@ module _ (curve : List ℕ) (n : ℕ) where
       outcome (suc r) past t e = let y : ⊥ = omega arith in absurd y
 
 -- ---- the answer
-
-no-value : (r : ℕ) (v : ℤ) → (r ≡ 0 → ⊥) → pos 0 ≡ valued r v
-no-value zero v some = absurd (some refl)
-no-value (suc r) v some = refl
 
 not-moved : (r n : ℕ) → (r ≡ 0 → ⊥) → n ≡ moved r n
 not-moved zero n some = absurd (some refl)

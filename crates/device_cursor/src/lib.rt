@@ -36,7 +36,7 @@ fn wide(byte: u8) -> u64
     byte as u64
 }
 
-// Four bytes, the lowest first. Not public, as none of those below but the judging: that the bytes are there is required.
+// Four bytes, the lowest first: it requires that they are there.
 fn four_bytes(curve: &[u8], at: usize) -> u64
     requires { ⌜ at + 4 ≤ length (now curve) ⌝ }
     ensures { λ r. ⌜ (r ≡ four-bytes (now (curve .entry)) at) × (r < 4294967296) ⌝ }
@@ -47,7 +47,7 @@ fn four_bytes(curve: &[u8], at: usize) -> u64
         + 16777216 * wide(curve[at + 3])
 }
 
-// The number with a sign in four bytes.
+// The number with a sign in four bytes: it requires that they are there.
 fn number_at(curve: &[u8], at: usize) -> i64
     requires { ⌜ at + 4 ≤ length (now curve) ⌝ }
     ensures { λ r. ⌜ r ≡ number-at (now (curve .entry)) at ⌝ }
@@ -60,7 +60,7 @@ fn number_at(curve: &[u8], at: usize) -> i64
     }
 }
 
-// Cell i.
+// Cell i: it requires that the cell is there.
 fn cell_at(curve: &[u8], i: usize) -> Cell
     requires { ⌜ 16 * i + 16 ≤ length (now curve) ⌝ }
     ensures { λ r. ⌜ r ≡ cell-at (now (curve .entry)) i ⌝ }
@@ -85,7 +85,7 @@ fn whole_cells(length: usize) -> bool
     }
 }
 
-// Whether cell i is in range.
+// Whether cell i is in range: it requires that the cell is there.
 fn in_range_at(curve: &[u8], i: usize) -> bool
     requires { ⌜ 16 * i + 16 ≤ length (now curve) ⌝ }
     ensures { λ r. ⌜ r ≡ cell-in-range (cell-at (now (curve .entry)) i) ⌝ }
@@ -113,7 +113,7 @@ pub fn curve_refusal(curve: &[u8]) -> usize
     }
 }
 
-// Cell i at a position.
+// Cell i at a position: it requires that the cell is there and in range, and a position of at most 256.
 fn number_of(curve: &[u8], i: usize, k: u64) -> i32
     requires { ⌜ (16 * i + 16 ≤ length (now curve)) × (cell-in-range (cell-at (now curve) i) ≡ true) × (k ≤ 256) ⌝ }
     ensures { λ r. ⌜ r ≡ cell-number (cell-at (now (curve .entry)) i) k ⌝ }
@@ -121,7 +121,8 @@ fn number_of(curve: &[u8], i: usize, k: u64) -> i32
     device_cell::cell_number(cell_at(curve, i), k)
 }
 
-// The number at a cursor of a curve that has been judged.
+// The number at a cursor of a curve that has been judged. Not a public call: it requires that the curve is not refused, and that the cursor
+// is not past its end.
 pub fn cursor_number(curve: &[u8], n: usize) -> i32
     requires { ⌜ (curve-refusal (now curve) ≡ 0) × (n ≤ last-cursor (now curve)) ⌝ }
     ensures { λ r. ⌜ r ≡ cursor-number (now (curve .entry)) n ⌝ }

@@ -8,7 +8,7 @@ use Rattle.rules.specs.Sizes.{Place, flat}
 use Rattle.rules.specs.Query.{corner}
 use Rattle.rules.specs.declared.Axis.{Axis}
 use Rattle.rules.proofs.Places.{OnGrid, flat-ext}
-use Rattle.grid.specs.Given.{points-of, CellInside}
+use Rattle.grid.specs.GridOfCall.{points-of, CellInside}
 
 -- ---- two corners side by side
 

@@ -6,7 +6,7 @@ use mathlib.Core.Path.{_≡_, refl}
 use Prim.Native.Nat.{ℕ, _+_, _*_, _<_}
 use Rattle.rules.specs.Sizes.{Place, flat}
 use Rattle.rules.proofs.Places.{OnGrid, flat-below}
-use Rattle.grid.specs.Given.{SizesGiven}
+use Rattle.grid.specs.GridOfCall.{SizesGiven}
 use Rattle.grid.proofs.Products.{sizes-fewer}
 
 pub number-none : (n : ℕ → ℕ) (place : Place) → 0 ≡ flat n 0 place

@@ -6,7 +6,7 @@ use native.Mathlib.Omega.{arith}
 use lib.ListN.{length}
 use Rattle.rules.specs.Sizes.{place-of}
 use Rattle.rules.specs.declared.Axis.{Axis}
-use Rattle.grid.specs.Given.{points-of}
+use Rattle.grid.specs.GridOfCall.{points-of}
 
 pub points-taken : (all : List Axis) → length all ≡ 4
     → place-of (points-of all 0 ∷ points-of all 1 ∷ points-of all 2 ∷ points-of all 3 ∷ []) ≡ points-of all

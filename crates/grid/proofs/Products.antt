@@ -21,7 +21,7 @@ use lib.Dec.{lit<}
 use mir.Val.{Fits}
 use mir.Syntax.{w64}
 use Rattle.rules.specs.Sizes.{sum-below, product-below}
-use Rattle.grid.specs.Given.{SizesGiven}
+use Rattle.grid.specs.GridOfCall.{SizesGiven}
 
 module _ (n : ℕ → ℕ) where
   pub sum-none : sum-below n 0 ≡ 0

@@ -9,17 +9,19 @@ use lib.Dec.{ltb}
 use borrow.Author.Tests.{lt-ltb, le-ltb}
 use Rattle.rules.specs.Sizes.{Place, moved, flat, product-below}
 use Rattle.rules.proofs.Places.{below-or-last, moved-on, moved-off, flat-ext}
-use Rattle.grid.specs.Given.{SizesGiven}
+use Rattle.grid.specs.GridOfCall.{SizesGiven}
 use Rattle.grid.specs.Strides.{stride}
 use Rattle.grid.proofs.Products.{sizes-fewer}
 
 -- ---- neighbours along an axis
 
-stride-before : (n : ℕ → ℕ) (d i : ℕ) → i < d → stride n (suc d) i ≡ stride n d i * n d
+-- an axis more multiplies the strides before it by its points
+pub stride-more-axes : (n : ℕ → ℕ) (d i : ℕ) → i < d → stride n (suc d) i ≡ stride n d i * n d
 unfolding stride
-stride-before n d i lt = ap (λ (b : Bool). cond b (stride n d i * n d) 1) (lt-ltb i d lt)
+stride-more-axes n d i lt = ap (λ (b : Bool). cond b (stride n d i * n d) 1) (lt-ltb i d lt)
 
-stride-last : (n : ℕ → ℕ) (d : ℕ) → stride n (suc d) d ≡ 1
+-- the stride of the last axis
+pub stride-last : (n : ℕ → ℕ) (d : ℕ) → stride n (suc d) d ≡ 1
 unfolding stride
 stride-last n d = ap (λ (b : Bool). cond b (stride n d d * n d) 1) (le-ltb d d (omega arith))
 
@@ -33,7 +35,7 @@ stride-along-before :
     → flat n (suc d) (moved p i k) ≡ flat n (suc d) (moved p i 0) + k * stride n (suc d) i
 unfolding flat
 stride-along-before n d i k p lt less =
-    rw (stride-before n d i lt, moved-off p i k d (omega arith), moved-off p i 0 d (omega arith))
+    rw (stride-more-axes n d i lt, moved-off p i k d (omega arith), moved-off p i 0 d (omega arith))
     (one-digit-more (flat n d (moved p i k)) (flat n d (moved p i 0)) (n d) (p d) k (stride n d i) less)
 
 stride-along-last : (n : ℕ → ℕ) (d k : ℕ) (p : Place) → flat n (suc d) (moved p d k) ≡ flat n (suc d) (moved p d 0) + k * stride n (suc d) d

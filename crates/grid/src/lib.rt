@@ -1,10 +1,11 @@
 // The grid as numbers: how long its slices are, where the knots of an axis begin, where a place stands, how far apart neighbours are, and
-// masks. None of these is public: each requires what refusals 1 to 3 leave, or a part of it.
+// masks. None of these is a public call: each but `points_of` requires what refusals 1 to 3 leave, or a part of it, and that the axis or
+// the place it is given exists.
 ghost use mathlib.Core.Path.{_≡_};
 ghost use Prim.Native.Nat.{ℕ, _^_, _<_, _≤_};
 ghost use lib.ListN.{length};
 ghost use Rattle.rules.specs.Sizes.{knots-length, samples-length, tensor-length, place-of, sum-below, product-below, flat, in-mask};
-ghost use Rattle.grid.specs.Given.{sizes-of, points-of, InRange, SizesGiven};
+ghost use Rattle.grid.specs.GridOfCall.{sizes-of, points-of, InRange, SizesGiven};
 ghost use Rattle.grid.specs.Strides.{stride};
 use rules::Axis;
 

@@ -42,7 +42,16 @@ use Rattle.rules.specs.Refusals.{
 }
 use Rattle.rules.specs.declared.Condition.{Condition}
 use Rattle.base_numbers.proofs.Scan.{neither, any-at}
-use Rattle.grid_checks.specs.Given.{AxisGiven, MomentsGiven, CurveGiven, SlopesGiven, GridGiven, SolveGiven, BuildGiven, ChangeGiven}
+use Rattle.grid_checks.specs.Checked.{
+  AxisGiven,
+  MomentsGiven,
+  CurveGiven,
+  SlopesGiven,
+  GridGiven,
+  SolveGiven,
+  BuildGiven,
+  ChangeGiven,
+}
 use Rattle.grid_checks.specs.Check.{
   moments-rows,
   curve-rows,

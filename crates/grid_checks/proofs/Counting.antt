@@ -12,7 +12,7 @@ use Rattle.rules.specs.Refusals.{points-refused}
 use Rattle.base_numbers.proofs.Scan.{neither, any-none, any-more, any-found}
 use Rattle.grid.proofs.Products.{sum-none, sum-more, product-none, product-more, product-bound, of-four, with-masks}
 use Rattle.grid_checks.specs.Check.{points-check}
-use Rattle.grid_checks.specs.Found.{SizesFound}
+use Rattle.grid_checks.specs.SizesFound.{SizesFound}
 use Rattle.grid_checks.proofs.Rows.{stop, pass}
 
 -- the first i axes are counted: no points of theirs are refused, these are their knots, and these their places times the masks of all axes

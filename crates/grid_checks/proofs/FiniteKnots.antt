@@ -1,4 +1,4 @@
--- Knots that rise by finite steps are finite themselves: one pass over them looks for refusals 7 and 8.
+-- Knots that rise by finite steps are finite themselves: where refusal 8 does not apply, they need not be looked at for refusal 7.
 use mathlib.Core.Path.{_≡_, refl, sym, ap, subst, _∙_}
 use mathlib.Core.Bool.{Bool, true, false, not}
 use mathlib.Core.List.{List}
@@ -19,9 +19,9 @@ use Rattle.rules.specs.Refusals.{points-refused, number-refused, some-number-re
 use Rattle.rules.specs.declared.Axis.{Axis}
 use Rattle.base_numbers.proofs.Scan.{neither, any-at, any-never}
 use Rattle.base_numbers.proofs.Finite.{finite-difference}
-use Rattle.grid_checks.specs.Given.{FiniteUnless}
+use Rattle.grid_checks.specs.Checked.{FiniteUnless}
 use Rattle.grid_checks.specs.Check.{knots-of-points-refused}
-use Rattle.grid.specs.Given.{grid, sizes-of, points-of, InRange}
+use Rattle.grid.specs.GridOfCall.{grid, sizes-of, points-of, InRange}
 use Rattle.grid_checks.proofs.Accepted.{knots-step}
 
 -- each knot has a neighbour, and the step between them is finite

@@ -8,7 +8,7 @@ use lib.Ieee.{Float}
 use Rattle.rules.specs.Sizes.{place-of}
 use Rattle.rules.specs.Refusals.{some-knots-refused}
 use Rattle.rules.specs.declared.Axis.{Axis}
-use Rattle.grid.specs.Given.{grid, sizes-of, points-of, InRange}
+use Rattle.grid.specs.GridOfCall.{grid, sizes-of, points-of, InRange}
 use Rattle.grid_checks.specs.Check.{points-rows, points-check, sizes-rows, knots-of-points-refused}
 use Rattle.grid_checks.specs.Tables.{lowest}
 

@@ -1,14 +1,14 @@
 -- The rows of a table of refusals: what code that asks them one after the other answers, what follows them, and what is known where none
 -- applies.
 use mathlib.Core.Path.{_≡_, refl, sym, ap, _∙_}
-use mathlib.Core.Bool.{Bool, true, false, cond, _||_, _&&_}
+use mathlib.Core.Bool.{Bool, true, false, not, cond, _||_, _&&_}
 use mathlib.Core.List.{List, [], _∷_}
 use Prim.Native.Nat.{ℕ, _<_, _≤_}
 use native.Mathlib.Omega.{arith}
 use lib.ListN.{length, drop}
 use lib.Dec.{T, ltb, ltb→lt}
 use lib.Ieee.{Float}
-use borrow.Author.Tests.{ltb-false, eqb-true, not-false}
+use borrow.Author.Tests.{ltb-false, eqb-true, eq-eqb, not-false}
 use Rattle.rules.specs.Numbers.{any}
 use Rattle.rules.specs.Sizes.{most-axes}
 use Rattle.rules.specs.Refusals.{points-refused, length-refused, knots-refused}
@@ -16,7 +16,7 @@ use Rattle.rules.specs.Calls.{or-else}
 use Rattle.rules.proofs.Refused.{or-else-met}
 use Rattle.rules.specs.declared.Axis.{Axis}
 use Rattle.base_numbers.proofs.Scan.{neither, any-at}
-use Rattle.grid.specs.Given.{sizes-of, points-of, InRange}
+use Rattle.grid.specs.GridOfCall.{sizes-of, points-of, InRange}
 use Rattle.grid_checks.specs.Check.{sizes-rows, sizes-check}
 use Rattle.grid_checks.specs.Tables.{Refusal, lowest}
 
@@ -143,6 +143,11 @@ module _ (axes : ℕ) (entries : List Axis) {number : ℕ} (e : number ≡ sizes
 
 -- ---- row 4
 
+-- a length that is the size is not refused ..
+pub length-fits : (given size : ℕ) → given ≡ size → length-refused given size ≡ false
+length-fits given size e = ap not (eq-eqb given size e)
+
+-- .. and one that is not refused is the size
 pub exact : (given size : ℕ) → length-refused given size ≡ false → given ≡ size
 exact given size e = eqb-true given size (not-false _ e)
 

@@ -39,7 +39,7 @@ use Rattle.rules.specs.Refusals.{
 }
 use Rattle.rules.specs.declared.Axis.{Axis}
 use Rattle.rules.specs.declared.Condition.{Condition}
-use Rattle.grid.specs.Given.{sizes-of}
+use Rattle.grid.specs.GridOfCall.{sizes-of}
 use Rattle.grid_checks.specs.Tables.{Refusal, row, lowest}
 
 -- ---- the calls on one axis of n points

@@ -1,5 +1,5 @@
-pub mod Given
+pub mod Checked
 pub mod Tables
 pub mod Check
-pub mod Found
+pub mod SizesFound
 pub mod Rising

@@ -3,7 +3,7 @@ ghost use mathlib.Core.Path.{_≡_};
 ghost use Prim.Native.Nat.{_≤_};
 ghost use Rattle.rules.specs.Ends.{dropped, fewest-points};
 ghost use Rattle.rules.specs.Refusals.{end-refused, ends-refused, some-ends-refused, fewness-refused, some-fewness-refused};
-ghost use Rattle.grid.specs.Given.{sizes-of};
+ghost use Rattle.grid.specs.GridOfCall.{sizes-of};
 use rules::Axis;
 use rules::Condition;
 use rules::End;
@@ -35,7 +35,7 @@ pub fn ends_refused(condition: Condition) -> bool
     }
 }
 
-// Whether an end of an axis in use has. Not public: few axes are required.
+// Whether an end of an axis in use has. Not a public call: at most four axes are required.
 pub fn some_ends_refused(axes: usize, all: [Axis; 4]) -> bool
     requires { ⌜ axes ≤ 4 ⌝ }
     ensures { λ r. ⌜ r ≡ some-ends-refused (sizes-of axes all) ⌝ }
@@ -80,7 +80,7 @@ pub fn fewness_refused(condition: Condition, points: usize) -> bool
     points < fewest_points(condition)
 }
 
-// Whether an axis in use has too few points for its condition. Not public: few axes are required.
+// Whether an axis in use has too few points for its condition. Not a public call: at most four axes are required.
 pub fn some_fewness_refused(axes: usize, all: [Axis; 4]) -> bool
     requires { ⌜ axes ≤ 4 ⌝ }
     ensures { λ r. ⌜ r ≡ some-fewness-refused (sizes-of axes all) ⌝ }

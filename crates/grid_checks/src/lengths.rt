@@ -3,7 +3,7 @@ ghost use mathlib.Core.Path.{_≡_};
 ghost use mathlib.Core.Bool.{_||_};
 ghost use Rattle.rules.specs.Sizes.{knots-length, samples-length, tensor-length, scratch-length};
 ghost use Rattle.rules.specs.Refusals.{length-refused, scratch-refused};
-ghost use Rattle.grid.specs.Given.{sizes-of, points-of, InRange};
+ghost use Rattle.grid.specs.GridOfCall.{sizes-of, points-of, InRange};
 use crate::sizes::Sizes;
 use rules::Axis;
 
@@ -45,7 +45,7 @@ pub fn slopes_refused(
     length_refused(slopes, points)
 }
 
-// Whether knots, samples or tensor are not as long as a build asks for. Not public: what refusals 1 and 2 leave is required.
+// Whether knots, samples or tensor are not as long as a build asks for. Not a public call: what refusals 1 and 2 leave is required.
 pub fn build_refused(
     axes: usize,
     all: [Axis; 4],
@@ -69,7 +69,7 @@ pub fn build_refused(
     length_refused(tensor, grid::tensor_length(axes, all))
 }
 
-// Whether knots or tensor are not as long as a change asks for. Not public, as above.
+// Whether knots or tensor are not as long as a change asks for. Not a public call: what refusals 1 and 2 leave is required.
 pub fn change_refused(axes: usize, all: [Axis; 4], knots: usize, tensor: usize) -> bool
     requires { ⌜ InRange axes (points-of all) ⌝ }
     ensures { λ r.
@@ -101,7 +101,7 @@ pub fn query_lengths_refused(
     length_refused(coordinates, axes)
 }
 
-// Whether scratch is too short for the tensor and the rows. Not public, as above.
+// Whether scratch is too short for the tensor and the rows. Not a public call: what refusals 1 and 2 leave is required.
 pub fn scratch_refused(axes: usize, all: [Axis; 4], scratch: usize) -> bool
     requires { ⌜ InRange axes (points-of all) ⌝ }
     ensures { λ r. ⌜ r ≡ scratch-refused scratch (scratch-length (sizes-of axes all)) ⌝ }

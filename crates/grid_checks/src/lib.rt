@@ -4,7 +4,7 @@
 ghost use mathlib.Core.Path.{_≡_};
 ghost use lib.ListN.{length};
 ghost use Rattle.rules.specs.Sizes.{place-of, sum-below};
-ghost use Rattle.grid.specs.Given.{grid, InRange};
+ghost use Rattle.grid.specs.GridOfCall.{grid, InRange};
 ghost use Rattle.grid_checks.specs.Check.{
   moments-check,
   curve-check,
@@ -187,7 +187,7 @@ pub fn change_refusal(
     0
 }
 
-// What a query meets of its sizes and lengths, whose axes are of so many points: 1, 2, 3, 4, or 0. Not public: four points are required.
+// What a query meets of its sizes and lengths, on axes of so many points: 1, 2, 3, 4, or 0. Not a public call: it requires four points.
 pub fn query_sizes_refusal(
     axes: usize,
     points: &[usize],
@@ -211,7 +211,7 @@ pub fn query_sizes_refusal(
     0
 }
 
-// What a query meets of its knots and coordinates: 7, 8, or 0. Not public: what refusals 1, 2 and 4 leave is required, and four points.
+// What a query meets of knots and coordinates: 7, 8, or 0. Not a public call: it requires four points, and what refusals 1, 2 and 4 leave.
 pub fn knots_and_coordinates_refusal(
     axes: usize,
     points: &[usize],

@@ -1,11 +1,11 @@
-// Refusal 7: whether all that a call was given is finite. What looks at knots is told whether refusal 8 applies to them: where it does not,
-// the steps between them are finite, and so are they.
+// Refusal 7: whether all that a call was given is finite. What looks at knots is told whether refusal 8 applies to them, and requires that
+// they are finite where it does not: the steps between them are finite then, and so are they. None of these is a public call.
 ghost use mathlib.Core.Path.{_≡_};
 ghost use mathlib.Core.Bool.{_||_};
 ghost use Prim.Native.Nat.{_≤_};
 ghost use Rattle.rules.specs.Refusals.{number-refused, some-number-refused, ends-refused, some-ends-refused};
-ghost use Rattle.grid_checks.specs.Given.{FiniteUnless};
-ghost use Rattle.grid.specs.Given.{sizes-of};
+ghost use Rattle.grid_checks.specs.Checked.{FiniteUnless};
+ghost use Rattle.grid.specs.GridOfCall.{sizes-of};
 use crate::ends;
 use rules::Axis;
 use rules::Condition;
@@ -17,7 +17,7 @@ pub fn number_refused(number: f64) -> bool
     !base_numbers::is_finite(number)
 }
 
-// Whether an infinity or NaN is among the knots. Not public: that they are finite where refusal 8 does not apply is required.
+// Whether an infinity or NaN is among the knots.
 pub fn some_knot_refused(knots_refused: bool, knots: &[f64]) -> bool
     requires { ⌜ FiniteUnless «knots_refused» (now knots) ⌝ }
     ensures { λ r. ⌜ r ≡ some-number-refused (now (knots .entry)) ⌝ }
@@ -29,7 +29,7 @@ pub fn some_knot_refused(knots_refused: bool, knots: &[f64]) -> bool
     }
 }
 
-// Whether an infinity or NaN is among the knots or the others, which are samples or coordinates. Not public, as above.
+// Whether an infinity or NaN is among the knots or the others, which are samples or coordinates.
 pub fn slices_refused(knots_refused: bool, knots: &[f64], others: &[f64]) -> bool
     requires { ⌜ FiniteUnless «knots_refused» (now knots) ⌝ }
     ensures { λ r. ⌜ r ≡ (some-number-refused (now (knots .entry)) || some-number-refused (now (others .entry))) ⌝ }
@@ -40,7 +40,7 @@ pub fn slices_refused(knots_refused: bool, knots: &[f64], others: &[f64]) -> boo
     base_numbers::any_not_finite(others)
 }
 
-// Whether an infinity or NaN is among knots and samples, or is the point of a curve. Not public, as above.
+// Whether an infinity or NaN is among knots and samples, or is the point of a curve.
 pub fn curve_refused(knots_refused: bool, knots: &[f64], samples: &[f64], point: f64) -> bool
     requires { ⌜ FiniteUnless «knots_refused» (now knots) ⌝ }
     ensures { λ r.
@@ -52,7 +52,7 @@ pub fn curve_refused(knots_refused: bool, knots: &[f64], samples: &[f64], point:
     number_refused(point)
 }
 
-// Whether an infinity or NaN is among the knots, the ends and the samples of an axis. Not public, as above.
+// Whether an infinity or NaN is among the knots, the ends and the samples of an axis.
 pub fn moments_refused(
     knots_refused: bool,
     knots: &[f64],
@@ -72,7 +72,7 @@ pub fn moments_refused(
     base_numbers::any_not_finite(samples)
 }
 
-// Whether an infinity or NaN is among the knots and the ends of a grid. Not public: few axes are required, and the same as above.
+// Whether an infinity or NaN is among the knots and the ends of a grid. It requires at most four axes besides.
 fn grid_refused(axes: usize, all: [Axis; 4], knots_refused: bool, knots: &[f64]) -> bool
     requires { ⌜ (axes ≤ 4) × FiniteUnless «knots_refused» (now knots) ⌝ }
     ensures { λ r. ⌜ r ≡ (some-number-refused (now (knots .entry)) || some-ends-refused (sizes-of axes all)) ⌝ }
@@ -83,7 +83,7 @@ fn grid_refused(axes: usize, all: [Axis; 4], knots_refused: bool, knots: &[f64])
     ends::some_ends_refused(axes, all)
 }
 
-// Whether an infinity or NaN is among the knots, the ends and the samples of a grid. Not public, as above.
+// Whether an infinity or NaN is among the knots, the ends and the samples of a grid. It requires at most four axes besides.
 pub fn build_refused(
     axes: usize,
     all: [Axis; 4],
@@ -103,7 +103,8 @@ pub fn build_refused(
     base_numbers::any_of_many_not_finite(samples)
 }
 
-// Whether an infinity or NaN is among the knots and the ends of a grid, is the new sample, or is in the tensor. Not public, as above.
+// Whether an infinity or NaN is among the knots and the ends of a grid, is the new sample, or is in the tensor. It requires at most four
+// axes besides.
 pub fn change_refused(
     axes: usize,
     all: [Axis; 4],

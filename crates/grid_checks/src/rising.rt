@@ -8,7 +8,7 @@ ghost use lib.Ieee.Scale.{finite};
 ghost use Rattle.rules.specs.Numbers.{_⊖_, any};
 ghost use Rattle.rules.specs.Sizes.{place-of, sum-below, knots-length};
 ghost use Rattle.rules.specs.Refusals.{knots-refused, some-knots-refused};
-ghost use Rattle.grid.specs.Given.{grid, sizes-of, points-of, InRange};
+ghost use Rattle.grid.specs.GridOfCall.{grid, sizes-of, points-of, InRange};
 ghost use Rattle.grid_checks.specs.Rising.{not-rising};
 ghost use Rattle.grid_checks.specs.Check.{knots-of-points-refused};
 use rules::Axis;
@@ -26,8 +26,8 @@ pub fn step_refused(knot: f64, next: f64) -> bool
     }
 }
 
-// Whether a knot does not rise to the next. The flag is kept to the last knot, so the compiler looks at several knots at a time. Not
-// public: a knot is required.
+// Whether a knot does not rise to the next. The flag is kept to the last knot, so the compiler looks at several knots at a time. Not a
+// public call: a knot is required.
 fn some_knot_not_rising(knots: &[f64]) -> bool
     requires { ⌜ 1 ≤ length (now knots) ⌝ }
     ensures { λ r. ⌜ r ≡ any (not-rising (now (knots .entry))) (length (now (knots .entry)) - 1) ⌝ }
@@ -72,7 +72,7 @@ pub fn knots_refused(knots: &[f64]) -> bool
     some_step_refused(knots)
 }
 
-// Whether the knots of an axis of so many points are. Not public: what refusals 1, 2 and 4 leave is required.
+// Whether the knots of an axis of so many points are. Not a public call: what refusals 1, 2 and 4 leave is required, and four points.
 pub fn knots_of_points_refused(axes: usize, points: &[usize], knots: &[f64]) -> bool
     requires { ⌜ InRange axes (place-of (now points)) × (length (now points) ≡ 4)
         × (length (now knots) ≡ sum-below (place-of (now points)) axes) ⌝ }
@@ -91,7 +91,7 @@ pub fn knots_of_points_refused(axes: usize, points: &[usize], knots: &[f64]) -> 
     false
 }
 
-// Whether the knots of an axis in use are. Not public, as above.
+// Whether the knots of an axis in use are. Not a public call: what refusals 1, 2 and 4 leave is required.
 pub fn some_knots_refused(axes: usize, all: [Axis; 4], knots: &[f64]) -> bool
     requires { ⌜ (InRange axes (points-of all)) × (length (now knots) ≡ knots-length (sizes-of axes all)) ⌝ }
     ensures { λ r. ⌜ r ≡ some-knots-refused (grid axes all (now (knots .entry))) ⌝ }

@@ -6,9 +6,9 @@ ghost use lib.Dec.{ltb};
 ghost use lib.ListN.{length};
 ghost use Rattle.rules.specs.Sizes.{most-axes, place-of};
 ghost use Rattle.rules.specs.Refusals.{points-refused, place-refused};
-ghost use Rattle.grid.specs.Given.{sizes-of};
+ghost use Rattle.grid.specs.GridOfCall.{sizes-of};
 ghost use Rattle.grid_checks.specs.Check.{points-check, sizes-check};
-ghost use Rattle.grid_checks.specs.Found.{SizesFound};
+ghost use Rattle.grid_checks.specs.SizesFound.{SizesFound};
 use rules::Axis;
 
 // Whether there is no axis, or more than four.
@@ -32,7 +32,7 @@ pub struct Sizes {
     pub numbers: usize,
 }
 
-// They are found in one pass over the axes. Not public: one to four axes and four points are required.
+// They are found in one pass over the axes. Not a public call: one to four axes and four points are required.
 pub fn sizes_of_points(axes: usize, points: &[usize]) -> Sizes
     requires { ⌜ (1 ≤ axes) × (axes ≤ 4) × (length (now points) ≡ 4) ⌝ }
     ensures { λ r. ⌜ SizesFound axes (place-of (now (points .entry))) r ⌝ }
@@ -67,7 +67,7 @@ pub fn sizes_of_points(axes: usize, points: &[usize]) -> Sizes
     }
 }
 
-// What axes of so many points meet: 2, 3, or 0. Not public, as above.
+// What axes of so many points meet: 2, 3, or 0. Not a public call: one to four axes and four points are required.
 pub fn points_refusal(axes: usize, points: &[usize]) -> usize
     requires { ⌜ (1 ≤ axes) × (axes ≤ 4) × (length (now points) ≡ 4) ⌝ }
     ensures { λ r. ⌜ r ≡ points-check axes (place-of (now (points .entry))) ⌝ }
@@ -87,7 +87,7 @@ pub fn sizes_refusal(axes: usize, all: [Axis; 4]) -> usize
     points_refusal(axes, &points)
 }
 
-// Whether a place is off the grid on an axis in use. Not public: few axes are required.
+// Whether a place is off the grid on an axis in use. Not a public call: at most four axes are required.
 pub fn place_refused(axes: usize, all: [Axis; 4], place: [usize; 4]) -> bool
     requires { ⌜ axes ≤ 4 ⌝ }
     ensures { λ r. ⌜ r ≡ place-refused (sizes-of axes all) (place-of place) ⌝ }

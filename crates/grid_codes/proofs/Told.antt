@@ -29,7 +29,8 @@ end-again NotAKnot = refl
 end-again (FirstDerivative value) = refl
 end-again (SecondDerivative value) = refl
 
-lower-not-periodic : (lower : End) (a b : End) → condition-of-kind (kind-of-end lower) a b ≡ Endpoints a b
+-- a condition of an end's own kind is not periodic
+pub lower-not-periodic : (lower : End) (a b : End) → condition-of-kind (kind-of-end lower) a b ≡ Endpoints a b
 unfolding condition-of-kind
 lower-not-periodic NotAKnot a b = refl
 lower-not-periodic (FirstDerivative value) a b = refl

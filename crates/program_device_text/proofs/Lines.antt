@@ -10,7 +10,7 @@ use lib.Seq.{take-suc, take-all}
 use Rattle.base_integers.specs.Sized.{Sized}
 use Rattle.base_integers.proofs.Signs.{Below, Above}
 use Rattle.base_text.specs.Lines.{word-line}
-use Rattle.base_text.specs.Answers.{Put}
+use Rattle.base_text.specs.PutBytes.{Put}
 use Rattle.base_text.proofs.Puts.{put-none, put-more, put-length}
 use Rattle.base_text.proofs.Decimals.{decimal-length, length-word-line}
 use Rattle.device_cursor.specs.DeviceCurve.{curve-refusal, curve-numbers, last-cursor, cursor-number}

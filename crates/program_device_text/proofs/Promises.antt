@@ -8,7 +8,7 @@ use lib.ListN.{length}
 use borrow.Author.Tests.{lt-ltb, le-ltb}
 use Rattle.rules.specs.Calls.{counted}
 use Rattle.base_text.specs.Lines.{refused-line}
-use Rattle.base_text.specs.Answers.{Put}
+use Rattle.base_text.specs.PutBytes.{Put}
 use Rattle.base_text.proofs.Puts.{put-written}
 use Rattle.base_text.proofs.Decimals.{decimal-length, length-word-line}
 use Rattle.device_cursor.specs.DeviceCurve.{whole-cells, all-in-range, cells, curve-refusal, curve-numbers}

@@ -2,7 +2,7 @@
 ghost use mathlib.Core.Path.{_≡_};
 ghost use Prim.Native.Nat.{_+_, _≤_};
 ghost use lib.ListN.{length};
-ghost use Rattle.base_text.specs.Answers.{Put};
+ghost use Rattle.base_text.specs.PutBytes.{Put};
 ghost use Rattle.device_cursor.specs.DeviceCurve.{curve-refusal, curve-numbers};
 ghost use Rattle.program_device_text.specs.DeviceText.{signed-line, signed-lines, device-text, device-text-length, DeviceTextPromise};
 
@@ -12,7 +12,7 @@ pub struct CurveTextAnswer {
     pub length: usize,
 }
 
-// The line of a number. Not public, as none of those below but the call itself: that there is room is required.
+// The line of a number. It requires that there is room.
 fn put_signed_line(number: i32, text: &mut [u8], at: usize) -> usize
     requires { ⌜ at + length (signed-line number) ≤ length (now text) ⌝ }
     ensures { λ r. ⌜ Put (signed-line number) (now (text .entry)) at (now (text .exit)) r ⌝ }
@@ -24,7 +24,7 @@ fn put_signed_line(number: i32, text: &mut [u8], at: usize) -> usize
     base_text::put_word_line(b"", digits, text, at)
 }
 
-// A line for each number of a curve that has been judged.
+// A line for each number of a curve that has been judged. It requires that the curve is not refused, and room for the longest text.
 fn put_numbers(curve: &[u8], text: &mut [u8]) -> usize
     requires { ⌜ (curve-refusal (now curve) ≡ 0) × (device-text-length ≤ length (now text)) ⌝ }
     ensures { λ r. ⌜ Put (signed-lines (curve-numbers (now (curve .entry)))) (now (text .entry)) 0 (now (text .exit)) r ⌝ }
@@ -40,7 +40,7 @@ fn put_numbers(curve: &[u8], text: &mut [u8]) -> usize
     end
 }
 
-// The text of a curve, which is judged once.
+// The text of a curve, which is judged once. It requires room for the longest.
 fn put_text(curve: &[u8], text: &mut [u8]) -> usize
     requires { ⌜ device-text-length ≤ length (now text) ⌝ }
     ensures { λ r. ⌜ Put (device-text (now (curve .entry))) (now (text .entry)) 0 (now (text .exit)) r ⌝ }

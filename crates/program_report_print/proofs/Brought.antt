@@ -7,7 +7,7 @@ use native.Mathlib.Omega.{arith}
 use lib.ListN.{length, take, drop, take-append-drop}
 use lib.Seq.{take-all, take-take}
 use Rattle.report.specs.Report.{report-of}
-use Rattle.program_report_print.specs.Within.{Whole, Told}
+use Rattle.program_report_print.specs.AroundReads.{Whole, Told}
 use Rattle.program_report_print.specs.declared.Outcome.{Outcome}
 
 module _ (before : List ℕ) (first : ℕ) (after : List ℕ) (outcome : Outcome) where

@@ -8,14 +8,14 @@ use lib.ListN.{length, take, drop, length-append, length-take, length-drop}
 use lib.Seq.{take-add, take-all, take-at, take-take, take-append-le, drop-append-le, drop-drop}
 use Rattle.report_front.specs.Front.{enough-bytes}
 use Rattle.report_totals.specs.Totals.{totals-of, most-sheets}
-use Rattle.report_totals.specs.Within.{Running}
+use Rattle.report_totals.specs.Counting.{Running}
 use Rattle.report_totals.specs.declared.Totals.{Totals}
 use Rattle.report_totals.proofs.Sheets.{running-none, sheets-most}
 use Rattle.program_streams.specs.declared.Input.{Input}
-use Rattle.report.specs.Within.{Stands, Fed}
+use Rattle.report.specs.Feeding.{Stands, Fed}
 use Rattle.report.specs.declared.Step.{Step}
 use Rattle.report.proofs.Steps.{stands-none, fed-last}
-use Rattle.program_report_print.specs.Within.{said, Lent, Refilled, Whole, Told}
+use Rattle.program_report_print.specs.AroundReads.{said, Lent, Refilled, Whole, Told}
 use Rattle.program_report_print.specs.declared.Outcome.{Outcome}
 
 -- the buffer after a read into its part behind the first `kept` bytes

@@ -3,7 +3,7 @@ ghost use mathlib.Core.Path.{_≡_};
 ghost use mathlib.Core.Bool.{true};
 ghost use Prim.Native.Nat.{_-_, _≤_};
 ghost use lib.ListN.{length, take, drop};
-ghost use Rattle.program_report_print.specs.Within.{said, Lent, Refilled, Told};
+ghost use Rattle.program_report_print.specs.AroundReads.{said, Lent, Refilled, Told};
 use program_streams::Input;
 use program_streams::read_input;
 use report::Step;

@@ -5,7 +5,7 @@ use mathlib.Core.List.{List, [], _∷_}
 use Prim.Native.Nat.{ℕ}
 use borrow.Author.Tests.{eq-eqb, ne-eqb}
 use Rattle.base_text.specs.Lines.{line-end, hex-digits, word-line}
-use Rattle.base_text.specs.Answers.{Put}
+use Rattle.base_text.specs.PutBytes.{Put}
 use Rattle.base_text.proofs.Puts.{put-none, put-more}
 use Rattle.report_totals.specs.declared.OrderTotals.{OrderTotals}
 use Rattle.program_report_text.specs.ReportText.{

@@ -5,7 +5,7 @@ use Prim.Native.Nat.{ℕ, suc, _+_, _*_, _<_, _≤_}
 use native.Mathlib.Numerals.{add-one}
 use native.Mathlib.Omega.{arith}
 use lib.ListN.{length}
-use Rattle.base_text.specs.Answers.{Put}
+use Rattle.base_text.specs.PutBytes.{Put}
 use Rattle.base_text.proofs.Puts.{put-none, put-more, put-length}
 use Rattle.program_report_text.specs.ReportText.{lines-below}
 use Rattle.program_report_text.proofs.Lengths.{lines-most}

@@ -2,7 +2,7 @@
 ghost use mathlib.Core.Path.{_≡_};
 ghost use Prim.Native.Nat.{_+_, _<_, _≤_};
 ghost use lib.ListN.{length};
-ghost use Rattle.base_text.specs.Answers.{Put};
+ghost use Rattle.base_text.specs.PutBytes.{Put};
 ghost use Rattle.program_report_text.specs.ReportText.{
   word-number,
   occurred-line,
@@ -31,7 +31,8 @@ pub struct ReportTextAnswer {
     pub length: usize,
 }
 
-// A word and a number after it. Not public, as none of those below but the last: that there is room is required.
+// A word and a number after it. This and all up to `put_report` are no public calls: each requires that there is room, and what is told a
+// refusal's number or an order requires that there is such a one.
 fn put_word_number(word: &[u8], number: u64, text: &mut [u8], at: usize) -> usize
     requires { ⌜ at + length (now word) + 20 ≤ length (now text) ⌝ }
     ensures { λ r. ⌜ Put (word-number (now (word .entry)) number) (now (text .entry)) at (now (text .exit)) r ⌝ }

@@ -15,16 +15,16 @@ use Rattle.rules.proofs.Refused.{or-else-passed, unchanged}
 use Rattle.grid_checks.proofs.Rows.{exact-3}
 use Rattle.sheet_read.specs.Fields.{sheet-grid, sheet-samples}
 use Rattle.sheet_read.specs.Faults.{sheet-refusal}
-use Rattle.sheet_read.proofs.Walks.{passed as no-test}
 use Rattle.sheet_build.specs.SheetTensor.{own-refusal, SheetPromise}
-use Rattle.sheet_build.specs.Within.{Enough}
+use Rattle.sheet_build.specs.LentEnough.{Enough}
 use Rattle.sheet_build.specs.declared.SheetAnswer.{SheetAnswer}
 use Rattle.sheet_build.proofs.Builds.{length-tensor}
 use Rattle.sheet_build.proofs.Few.{own-few}
 use Rattle.sheet_build.proofs.Enough.{reading-is, refusal-is}
 use Rattle.sheet_build.proofs.Alone.{read-alone, few-numbers, answered-alone, tensor-alone}
-use Rattle.base_text.specs.Answers.{Put}
+use Rattle.base_text.specs.PutBytes.{Put}
 use Rattle.base_text.proofs.Puts.{put-written}
+use Rattle.rules.proofs.Cases.{passed as no-test}
 use Rattle.program_sheet_text.specs.SheetText.{text-of, sheet-text, text-length, lent-refusal, text-refusal, text-answer, TextPromise}
 use Rattle.program_sheet_text.specs.declared.TextAnswer.{TextAnswer}
 use Rattle.program_tensor_text.proofs.Texts.{length-most as tensor-text-most}

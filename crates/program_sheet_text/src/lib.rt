@@ -2,7 +2,7 @@
 ghost use mathlib.Core.Path.{_≡_};
 ghost use Prim.Native.Nat.{_≤_};
 ghost use lib.ListN.{length};
-ghost use Rattle.base_text.specs.Answers.{Put};
+ghost use Rattle.base_text.specs.PutBytes.{Put};
 ghost use Rattle.program_sheet_text.specs.SheetText.{text-length, text-of, lent-refusal, TextPromise};
 use grid_codes::classes::is_built;
 
@@ -12,7 +12,8 @@ pub struct TextAnswer {
     pub length: usize,
 }
 
-// The text of a refusal, 0 for none, and of the numbers of a tensor. Not public: few numbers and room are required.
+// The text of a refusal, 0 for none, and of the numbers of a tensor. Not a public call: at most 4,096 numbers are required, and room for
+// the longest text.
 fn put_text(refusal: usize, numbers: &[f64], text: &mut [u8]) -> usize
     requires { ⌜ (length (now numbers) ≤ 4096) × (text-length ≤ length (now text)) ⌝ }
     ensures { λ r. ⌜ Put (text-of refusal (now (numbers .entry))) (now (text .entry)) 0 (now (text .exit)) r ⌝ }

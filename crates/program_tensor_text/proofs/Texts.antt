@@ -8,7 +8,7 @@ use lib.ListN.{length, getD, take, length-append}
 use lib.Seq.{length-take-le, take-suc, take-all}
 use lib.Ieee.{Float, nan, binary64, toBits}
 use Rattle.base_text.specs.Lines.{decimal}
-use Rattle.base_text.specs.Answers.{Put}
+use Rattle.base_text.specs.PutBytes.{Put}
 use Rattle.base_text.proofs.Puts.{put-none, put-more, put-length}
 use Rattle.base_text.proofs.HexDigits.{length-hex-digits}
 use Rattle.base_text.proofs.Decimals.{decimal-length, length-word-line}

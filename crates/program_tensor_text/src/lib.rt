@@ -1,10 +1,10 @@
-// The text of a tensor: how many numbers it has, and a line for each.
+// The text of a tensor: how many numbers it has, and a line for each. None of these is a public call: each requires that there is room.
 ghost use Prim.Native.Nat.{_+_, _*_, _≤_};
 ghost use lib.ListN.{length};
-ghost use Rattle.base_text.specs.Answers.{Put};
+ghost use Rattle.base_text.specs.PutBytes.{Put};
 ghost use Rattle.program_tensor_text.specs.TensorText.{number-line, number-lines, tensor-text};
 
-// The line of a number. Not public, as none of these: that there is room is required.
+// The line of a number.
 fn put_number_line(number: f64, text: &mut [u8], at: usize) -> usize
     requires { ⌜ at + 17 ≤ length (now text) ⌝ }
     ensures { λ r. ⌜ Put (number-line number) (now (text .entry)) at (now (text .exit)) r ⌝ }

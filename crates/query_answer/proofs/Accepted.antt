@@ -10,7 +10,7 @@ use Rattle.rules.specs.Refusals.{number-refused, some-number-refused, knots-ref
 use Rattle.base_numbers.proofs.Scan.{any-at, any-never}
 use Rattle.grid.proofs.Products.{sum-within}
 use Rattle.grid.proofs.Knots.{knots-of-axis, knot-at}
-use Rattle.axis_locate.specs.Answers.{Rising}
+use Rattle.axis_locate.specs.CellFound.{Rising}
 use Rattle.axis_locate.proofs.Accepted.{accepted-rise}
 
 module _ (g : Grid) (exact : length (g .flat-knots) ≡ knots-length g) (numbers : some-number-refused (g .flat-knots) ≡ false) (i : ℕ)

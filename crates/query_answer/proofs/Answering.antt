@@ -22,12 +22,12 @@ use Rattle.rules.specs.declared.Axis.{Axis}
 use Rattle.rules.specs.declared.QueryAnswer.{QueryAnswer}
 use Rattle.rules.proofs.Tables.{table-is}
 use Rattle.rules.proofs.Cells.{blend-ext, value-in-ext}
-use Rattle.grid.specs.Given.{grid}
+use Rattle.grid.specs.GridOfCall.{grid}
 use Rattle.query_blend.specs.Blend.{WeightsOn}
 use Rattle.query_cell.specs.Points.{CellAt, blended}
-use Rattle.query_answer.specs.Given.{AxesOf, QueryFits}
-use Rattle.query_answer.specs.Found.{cells-by, FoundOn, FoundAmong}
-use Rattle.query_answer.specs.Answers.{refused-with, answer-in, knots-refusal, value-by, refusal-by, AnswerAmong}
+use Rattle.query_answer.specs.PointsAndModes.{AxesOf, QueryFits}
+use Rattle.query_answer.specs.CellsFound.{cells-by, FoundOn, FoundAmong}
+use Rattle.query_answer.specs.AnswerByWay.{refused-with, answer-in, knots-refusal, value-by, refusal-by, AnswerAmong}
 use Rattle.query_answer.specs.declared.ways.Way.{Way}
 use Rattle.query_answer.specs.declared.ways.Way.the-variants.{Walked, Searched, Direct}
 use Rattle.query_answer.specs.declared.searched.Refusals.{Refusals}

@@ -14,7 +14,7 @@ use Rattle.rules.specs.Refusals.{step-refused, found-cell-refused}
 use Rattle.rules.proofs.EvenAxes.{direct-cell-inside}
 use Rattle.base_numbers.proofs.Scan.{neither}
 use Rattle.base_numbers.proofs.Finite.{finite-difference}
-use Rattle.axis_locate.specs.Answers.{Located}
+use Rattle.axis_locate.specs.CellFound.{Located}
 use Rattle.query_answer.specs.Ways.{direct-cell-in, CellOn}
 use Rattle.query_answer.specs.declared.ways.Way.{Way}
 use Rattle.query_answer.specs.declared.ways.Way.the-variants.{Walked, Searched, Direct}

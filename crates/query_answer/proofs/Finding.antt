@@ -21,14 +21,14 @@ use Rattle.rules.specs.Query.{fraction, cell-of, quick-cell-of, even-cell-of}
 use Rattle.rules.specs.declared.Axis.{Axis}
 use Rattle.rules.proofs.Sums.{sum-ext}
 use Rattle.grid_codes.specs.Modes.{mode-of-number}
-use Rattle.grid.specs.Given.{grid}
+use Rattle.grid.specs.GridOfCall.{grid}
 use Rattle.grid.proofs.Products.{sum-more, sum-within}
-use Rattle.axis_locate.specs.Answers.{Rising, Placed}
+use Rattle.axis_locate.specs.CellFound.{Rising, Placed}
 use Rattle.axis_locate.specs.declared.outside.PlacedPoint.{PlacedPoint}
 use Rattle.query_blend.specs.Blend.{WeightsOf, weights-in}
-use Rattle.query_answer.specs.Given.{AxesOf, SearchFits}
+use Rattle.query_answer.specs.PointsAndModes.{AxesOf, SearchFits}
 use Rattle.query_answer.specs.Ways.{cell-on, by-search, knots-refused-by, CellOn}
-use Rattle.query_answer.specs.Found.{WeightsStored, Unfound, cells-by, FoundOn, CellsPlaced, FoundAmong}
+use Rattle.query_answer.specs.CellsFound.{WeightsStored, Unfound, cells-by, FoundOn, CellsPlaced, FoundAmong}
 use Rattle.query_answer.specs.declared.ways.Way.{Way}
 use Rattle.query_answer.specs.declared.ways.Way.the-variants.{Walked, Searched, Direct}
 use Rattle.query_answer.specs.declared.searched.Refusals.{Refusals}

@@ -55,7 +55,7 @@ use Rattle.rules.proofs.WithoutModes.{
 }
 use Rattle.rules.proofs.Modes.{in-order}
 use Rattle.base_numbers.proofs.Scan.{any-at, any-never}
-use Rattle.grid.specs.Given.{InRange}
+use Rattle.grid.specs.GridOfCall.{InRange}
 use Rattle.grid.proofs.Knots.{knots-of-axis}
 use Rattle.grid_checks.proofs.Rows.{axes-few, in-range, exact-3}
 use Rattle.query_answer.proofs.Accepted.{axis-numbers}

@@ -9,7 +9,7 @@ use Rattle.rules.specs.declared.Axis.{Axis}
 use Rattle.rules.specs.declared.Mode.{Mode}
 use Rattle.rules.specs.declared.Mode.the-variants.{Extend, Hold, Refuse}
 use Rattle.grid_codes.specs.Modes.{mode-of-number}
-use Rattle.query_answer.specs.Given.{modes-of, ModesOf}
+use Rattle.query_answer.specs.PointsAndModes.{modes-of, ModesOf}
 
 -- a mode is that of its number
 mode-back : (mode : Mode) → mode ≡ mode-of-number (mode-number mode)

@@ -18,10 +18,10 @@ use Rattle.rules.specs.declared.Axis.{Axis}
 use Rattle.rules.proofs.Refused.{or-else-met}
 use Rattle.rules.proofs.Sums.{sum-ext, product-ext}
 use Rattle.base_numbers.proofs.Scan.{any-never}
-use Rattle.grid.specs.Given.{grid, points-of}
+use Rattle.grid.specs.GridOfCall.{grid, points-of}
 use Rattle.grid_checks.specs.Check.{query-sizes-rows, query-sizes-check}
 use Rattle.grid_checks.proofs.Rows.{rows-then, none-applies, axes-few, in-range, exact-3}
-use Rattle.query_answer.specs.Given.{AxesOf, ModesOf, QueryFits}
+use Rattle.query_answer.specs.PointsAndModes.{AxesOf, ModesOf, QueryFits}
 
 -- ---- points and modes that were taken out of axes
 

@@ -11,7 +11,7 @@ use Rattle.rules.specs.Steps.{h}
 use Rattle.rules.specs.Query.{fraction}
 use Rattle.query_blend.specs.Blend.{WeightsOf, weights-in}
 use Rattle.query_blend.specs.declared.Weights.{Weights}
-use Rattle.query_answer.specs.Found.{WeightsStored}
+use Rattle.query_answer.specs.CellsFound.{WeightsStored}
 
 module _ (s : List Float) (axis : ℕ) (w : Weights) where
   -- the weights with those of the axis in their places, one after the other

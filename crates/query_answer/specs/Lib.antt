@@ -1,4 +1,4 @@
-pub mod Given
+pub mod PointsAndModes
 pub mod Ways
-pub mod Found
-pub mod Answers
+pub mod CellsFound
+pub mod AnswerByWay

@@ -12,7 +12,7 @@ use Rattle.rules.specs.Refusals.{knots-refused, found-cell-refused}
 use Rattle.rules.specs.Locate.{locate}
 use Rattle.rules.specs.Search.{lower-index}
 use Rattle.rules.specs.Even.{direct-cell}
-use Rattle.axis_locate.specs.Answers.{Rising}
+use Rattle.axis_locate.specs.CellFound.{Rising}
 use Rattle.query_answer.specs.declared.ways.Way.{Way}
 use Rattle.query_answer.specs.declared.ways.Way.the-variants.{Walked, Searched, Direct}
 

@@ -1,9 +1,9 @@
 // What every query answers once its sizes and lengths are in order: its cell found on the axes, and 7, 8, 18 and 10 in this order. None of
-// these is public: callers see to all that is refused before.
+// these is a public call: `answer` requires what refusals 1 to 4 leave, with four points and four modes.
 ghost use mathlib.Core.Path.{_≡_};
 ghost use Rattle.rules.specs.Outside.{mode-number};
-ghost use Rattle.query_answer.specs.Given.{ModesOf, QueryFits};
-ghost use Rattle.query_answer.specs.Answers.{refused-with, answer-in, knots-refusal, AnswerAmong};
+ghost use Rattle.query_answer.specs.PointsAndModes.{ModesOf, QueryFits};
+ghost use Rattle.query_answer.specs.AnswerByWay.{refused-with, answer-in, knots-refusal, AnswerAmong};
 use rules::Axis;
 use rules::QueryAnswer;
 use ways::Way;

@@ -2,8 +2,8 @@
 ghost use mathlib.Core.Path.{_≡_};
 ghost use Prim.Native.Nat.{_+_, _<_};
 ghost use lib.ListN.{length};
-ghost use Rattle.query_answer.specs.Given.{SearchFits};
-ghost use Rattle.query_answer.specs.Found.{WeightsStored, Unfound, FoundAmong};
+ghost use Rattle.query_answer.specs.PointsAndModes.{SearchFits};
+ghost use Rattle.query_answer.specs.CellsFound.{WeightsStored, Unfound, FoundAmong};
 use crate::ways;
 use axis_locate::outside;
 use ways::Way;

@@ -43,7 +43,7 @@ pub fn hermite_weights(width: f64, t: f64) -> Weights
     }
 }
 
-// The weights of an axis, where those of the axes stand one after the other, four to an axis. Not public: that they are there is required.
+// The weights of an axis, where those of all axes stand side by side, four to an axis. Not a public call: that they are there is required.
 pub fn weights_of(weights: &[f64], axis: usize) -> Weights
     requires { ⌜ (axis < 4) × (length (now weights) ≡ 16) ⌝ }
     ensures { λ r. ⌜ r ≡ weights-in (now (weights .entry)) axis ⌝ }
@@ -63,8 +63,8 @@ fn evaluate_hermite_1d(weights: Weights, p0: f64, m0: f64, p1: f64, m1: f64) -> 
     weights.h00 * p0 + weights.h10 * m0 + weights.h01 * p1 + weights.h11 * m1
 }
 
-// The blend of two numbers side by side from `lower` on and two from `upper` on, each a value and its slope. Not public: that they are
-// there is required.
+// The blend of two numbers side by side from `lower` on and two from `upper` on, each a value and its slope. Not a public call: that they
+// are there is required.
 pub fn one_blended(numbers: &[f64], lower: usize, upper: usize, weights: Weights) -> f64
     requires { ⌜ (lower + 1 < length (now numbers)) × (upper + 1 < length (now numbers)) ⌝ }
     ensures { λ r. ⌜ r ≡ weighted-at weights (at (now (numbers .entry))) lower upper ⌝ }
@@ -100,8 +100,8 @@ fn store_four(cell: &mut [f64], e: usize, four: [f64; 4])
     cell[e + 3] = four[3];
 }
 
-// A run of neighbouring blends, four at a time, of pairs that stand from `lower` and from `upper` on.
-// Not public: that all of them are there is required, and that the run comes in fours.
+// A run of neighbouring blends, four at a time, of pairs that stand from `lower` and from `upper` on. Not a public call: that all of them
+// are there, among 4,096 numbers at most, is required, and that the run comes in fours.
 pub fn blend_run(run: &mut [f64], numbers: &[f64], lower: usize, upper: usize, weights: Weights)
     requires { ⌜ RunGiven (length (now run)) (now numbers) lower upper ⌝ }
     ensures { λ _. ⌜ RunBlended (length (now (run .entry))) (now (numbers .entry)) lower upper weights (now (run .exit)) ⌝ }
@@ -128,7 +128,8 @@ fn remove_by_fours(cell: &mut [f64], size: usize, weights: Weights)
     }
 }
 
-// The same where size is 1 too: then one number is left. Not public: that the cell has as many numbers is required.
+// The same where size is 1 too: then one number is left. Not a public call: a cell with as many numbers, and at most 256, is required, and
+// that size is 1 or comes in fours.
 pub fn remove_lowest(cell: &mut [f64], size: usize, weights: Weights)
     requires { ⌜ (4 * size ≤ length (now cell)) × (length (now cell) ≤ 256) × ByFours size ⌝ }
     ensures { λ _. ⌜ Blended (now (cell .entry)) (now (cell .exit)) size weights ⌝ }

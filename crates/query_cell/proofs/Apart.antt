@@ -8,7 +8,7 @@ use native.Mathlib.Numerals.{add-one}
 use Rattle.rules.specs.Sizes.{Place, moved, flat}
 use Rattle.rules.proofs.Places.{moved-own, flat-ext}
 use Rattle.grid.specs.Strides.{stride}
-use Rattle.grid.proofs.Strides.{stride-along, stride-first, stride-more}
+use Rattle.grid.proofs.Strides.{stride-along, stride-first, stride-more, stride-more-axes, stride-last}
 
 -- the index on axis i raised by k
 pub raised : (n : ℕ → ℕ) (d i k : ℕ) (p : Place) → i < d → flat n d (moved p i (p i + k)) ≡ flat n d p + k * stride n d i
@@ -21,13 +21,6 @@ raised n d i k p lt =
       add-mul (p i) k (stride n d i),
     )
 
--- the stride of the last axis
-pub stride-end : (n : ℕ → ℕ) (d : ℕ) → stride n (suc d) d ≡ 1
-stride-end n d = sym (rw add-one at (stride-first n d))
-
-stride-step : (n : ℕ → ℕ) (d i : ℕ) → i < d → stride n (suc d) i ≡ stride n d i * n d
-stride-step n d i lt = sym (rw add-one at (stride-more n i (stride n d i) d refl lt))
-
 -- .. and of the axis before another
 pub stride-before : (n : ℕ → ℕ) (d i : ℕ) → suc i < d → stride n d (suc i) * n (suc i) ≡ stride n d i
 stride-before n zero i lt = absurd (omega arith)
@@ -36,8 +29,8 @@ stride-before n (suc d) i lt =
     (λ e. last e)
     (λ less.
     rw (
-      stride-step n d (suc i) less,
-      stride-step n d i (omega arith),
+      stride-more-axes n d (suc i) less,
+      stride-more-axes n d i (omega arith),
       mul-right-comm (stride n d (suc i)) (n d) (n (suc i)),
       stride-before n d i less,
     )
@@ -45,4 +38,4 @@ stride-before n (suc d) i lt =
     (eq-or-lt-of-le (le-of-suc-le-suc lt))
   where
     last : suc i ≡ d → stride n (suc d) (suc i) * n (suc i) ≡ stride n (suc d) i
-    last e = rw (stride-step n d i (omega arith), ← e, stride-end n (suc i), stride-end n i) refl
+    last e = rw (stride-more-axes n d i (omega arith), ← e, stride-last n (suc i), stride-last n i) refl

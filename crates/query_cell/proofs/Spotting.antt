@@ -6,15 +6,16 @@ use native.Mathlib.Nat.{add-mul, mul-assoc, mul-comm, mul-right-comm, mul-le-mul
 use Rattle.rules.specs.Sizes.{Place, moved, flat, product-below}
 use Rattle.rules.proofs.Places.{OnGrid, moved-on-grid, flat-below}
 use Rattle.grid.specs.Strides.{stride}
+use Rattle.grid.proofs.Strides.{stride-last}
 use Rattle.query_cell.specs.Points.{CellAt, SpotsOf}
 use Rattle.query_cell.specs.declared.Spots.{Spots}
-use Rattle.query_cell.proofs.Apart.{raised, stride-end, stride-before}
+use Rattle.query_cell.proofs.Apart.{raised, stride-before}
 
 -- ---- from an axis to the one before it
 
 -- how far apart neighbours are on the last axis, and on the one before another
 last-apart : (n : ℕ → ℕ) (d masks : ℕ) → masks ≡ stride n (suc d) d * masks
-last-apart n d masks = rw (stride-end n d) (omega arith)
+last-apart n d masks = rw (stride-last n d) (omega arith)
 
 apart-before : (n : ℕ → ℕ) (d i masks apart : ℕ) → suc i < d → apart ≡ stride n d (suc i) * masks → apart * n (suc i) ≡ stride n d i * masks
 apart-before n d i masks apart lt is =

@@ -192,7 +192,8 @@ fn blend(
 }
 
 // The surface's value in a cell, with room for what is left of the largest without its first axis. What stands there at first is never
-// read: ones the compiler stores itself, and for zeros it calls the host's memset. Not public: callers see to all that is refused before.
+// read: ones the compiler stores itself, and for zeros it calls the host's memset. Not a public call: that there is such a cell is
+// required, and the lengths of all slices.
 pub fn value(axes: usize, points: &[usize], lower: &[usize], weights: &[f64], tensor: &[f64]) -> f64
     requires { ⌜ CellAt axes (place-of (now points)) (place-of (now lower))
         × ((length (now points) ≡ 4) × (length (now lower) ≡ 4) × (length (now weights) ≡ 16))

@@ -25,7 +25,7 @@ use Rattle.rules.proofs.Refused.{or-else-met, any-ext}
 use Rattle.rules.proofs.Sums.{sum-ext}
 use Rattle.rules.proofs.EvenIsQuery.{answers-as-query}
 use Rattle.base_numbers.proofs.Scan.{neither, any-never}
-use Rattle.grid.specs.Given.{grid, points-of}
+use Rattle.grid.specs.GridOfCall.{grid, points-of}
 use Rattle.grid_checks.specs.Check.{
   query-sizes-rows,
   query-sizes-check,
@@ -34,8 +34,8 @@ use Rattle.grid_checks.specs.Check.{
   knots-and-coordinates-check,
 }
 use Rattle.grid_checks.proofs.Rows.{rows-then, rows-below-10, none-applies}
-use Rattle.query_answer.specs.Given.{AxesOf, QueryFits}
-use Rattle.query_answer.specs.Answers.{refused-with, refusal-by, AnswerBy}
+use Rattle.query_answer.specs.PointsAndModes.{AxesOf, QueryFits}
+use Rattle.query_answer.specs.AnswerByWay.{refused-with, refusal-by, AnswerBy}
 use Rattle.query_answer.specs.declared.ways.Way.the-variants.{Direct}
 use Rattle.query_answer.proofs.Answering.{refused-is}
 use Rattle.query_answer.proofs.Promised.{past-4, sizes-refuse}

@@ -16,12 +16,12 @@ use Rattle.rules.specs.Even.{first-failing, uneven-refused, uneven-axis, uneven
 use Rattle.base_numbers.proofs.Scan.{any-none, any-more, any-found, any-end, any-at}
 use Rattle.rules.specs.declared.Axis.{Axis}
 use Rattle.rules.proofs.Sums.{sum-ext}
-use Rattle.grid.specs.Given.{grid, points-of, InRange}
+use Rattle.grid.specs.GridOfCall.{grid, points-of, InRange}
 use Rattle.grid.proofs.Products.{sum-none, sum-more, sum-within}
 use Rattle.grid.proofs.Knots as of-axis
 use Rattle.axis_even.proofs.First as first
-use Rattle.query_even.specs.Uneven.{FirstUneven}
-use Rattle.query_even.specs.Among.{PointsOf, FirstAmong}
+use Rattle.query_even.specs.Uneven.{FirstUneven, FirstAmong}
+use Rattle.query_answer.specs.PointsAndModes.{PointsOf}
 use Rattle.query_even.specs.declared.uneven.Uneven.{Uneven}
 
 module _ (g : Grid) where

@@ -1,2 +1,1 @@
 pub mod Uneven
-pub mod Among

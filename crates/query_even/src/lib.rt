@@ -1,9 +1,8 @@
 // The query of a tensor on even axes: a point located by one division on each axis, and the blend of the cell that is found.
 ghost use mathlib.Core.Path.{_≡_};
 ghost use Rattle.rules.specs.EvenCalls.{nothing-told, EvenQueryPromise};
-ghost use Rattle.grid.specs.Given.{grid};
-ghost use Rattle.query_answer.specs.Given.{QueryFits};
-ghost use Rattle.query_even.specs.Among.{EvenQueryAmong};
+ghost use Rattle.grid.specs.GridOfCall.{grid};
+ghost use Rattle.query_answer.specs.PointsAndModes.{QueryFits, OfAnyAxes};
 ghost use Rattle.query_even.specs.Uneven.{refused-uneven};
 use query_answer::ways::Way;
 use rules::Axis;
@@ -67,7 +66,8 @@ pub fn even_query(
     even_query_of_points(axes, &points, &modes, knots, tensor, coordinates)
 }
 
-// The same on axes of these points, with a mode's number for each, where 1 to 4 do not apply. Not public: that they do not is required.
+// The same on axes of these points, with a mode's number for each, where 1 to 4 do not apply. Not a public call: that they do not is
+// required, and four points and four modes.
 pub fn even_query_of_points(
     axes: usize,
     points: &[usize],
@@ -78,8 +78,8 @@ pub fn even_query_of_points(
 ) -> EvenAnswer
     requires { ⌜ QueryFits axes (now points) (now modes) (now knots) (now tensor) (now coordinates) ⌝ }
     ensures { λ r.
-        ⌜ EvenQueryAmong axes (now (points .entry)) (now (modes .entry)) (now (knots .entry)) (now (tensor .entry))
-        (now (coordinates .entry)) r ⌝ }
+        ⌜ OfAnyAxes axes (now (points .entry)) (now (modes .entry)) (now (knots .entry))
+        (λ g. EvenQueryPromise g (now (tensor .entry)) (now (coordinates .entry)) r) ⌝ }
 {
     let refusal = grid_checks::knots_and_coordinates_refusal(axes, points, knots, coordinates);
     if refusal != 0 {

@@ -2,8 +2,8 @@
 ghost use mathlib.Core.Path.{_≡_};
 ghost use lib.ListN.{length};
 ghost use Rattle.rules.specs.Sizes.{place-of, sum-below};
-ghost use Rattle.grid.specs.Given.{InRange};
-ghost use Rattle.query_even.specs.Among.{FirstAmong};
+ghost use Rattle.grid.specs.GridOfCall.{InRange};
+ghost use Rattle.query_even.specs.Uneven.{FirstAmong};
 
 // An axis that is not even, and its first interval that fails; both 0 where every axis is even.
 pub struct Uneven {

@@ -21,12 +21,12 @@ use Rattle.rules.proofs.Places.{One}
 use Rattle.rules.proofs.Refused.{any-ext}
 use Rattle.rules.proofs.Cells.{value-in-ext, labels-ext}
 use Rattle.base_numbers.proofs.Scan.{any-at}
-use Rattle.grid.specs.Given.{grid, points-of, InRange}
+use Rattle.grid.specs.GridOfCall.{grid, points-of, InRange}
 use Rattle.grid.proofs.Knots.{knots-of-axis}
 use Rattle.grid_checks.specs.Check.{query-sizes-check}
 use Rattle.grid_checks.proofs.FiniteKnots.{grid-finite}
-use Rattle.query_answer.specs.Given.{AxesOf, QueryFits}
-use Rattle.query_answer.specs.Answers.{refused-with, some-knots-refuse, value-by, refusal-by, AnswerBy}
+use Rattle.query_answer.specs.PointsAndModes.{AxesOf, QueryFits}
+use Rattle.query_answer.specs.AnswerByWay.{refused-with, some-knots-refuse, value-by, refusal-by, AnswerBy}
 use Rattle.query_answer.specs.declared.ways.Way.the-variants.{Walked}
 use Rattle.query_answer.proofs.Accepted.{rising-on-axis}
 use Rattle.query_answer.proofs.Answering.{refused-is, seven-or-eight}

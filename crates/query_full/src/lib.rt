@@ -1,8 +1,7 @@
 // The query of a tensor: a point located on each axis, and the blend of the cell around it.
 ghost use Rattle.rules.specs.Calls.{QueryPromise};
-ghost use Rattle.grid.specs.Given.{grid};
-ghost use Rattle.query_answer.specs.Given.{QueryFits};
-ghost use Rattle.query_full.specs.Among.{QueryAmong};
+ghost use Rattle.grid.specs.GridOfCall.{grid};
+ghost use Rattle.query_answer.specs.PointsAndModes.{QueryFits, OfAnyAxes};
 use query_answer::ways::Way;
 use rules::Axis;
 use rules::QueryAnswer;
@@ -34,7 +33,8 @@ pub fn query(
     query_of_points(axes, &points, &modes, knots, tensor, coordinates)
 }
 
-// The same on axes of these points, with a mode's number for each, where 1 to 4 do not apply. Not public: that they do not is required.
+// The same on axes of these points, with a mode's number for each, where 1 to 4 do not apply. Not a public call: that they do not is
+// required, and four points and four modes.
 pub fn query_of_points(
     axes: usize,
     points: &[usize],
@@ -45,8 +45,8 @@ pub fn query_of_points(
 ) -> QueryAnswer
     requires { ⌜ QueryFits axes (now points) (now modes) (now knots) (now tensor) (now coordinates) ⌝ }
     ensures { λ r.
-        ⌜ QueryAmong axes (now (points .entry)) (now (modes .entry)) (now (knots .entry)) (now (tensor .entry)) (now (coordinates .entry))
-        r ⌝ }
+        ⌜ OfAnyAxes axes (now (points .entry)) (now (modes .entry)) (now (knots .entry))
+        (λ g. QueryPromise g (now (tensor .entry)) (now (coordinates .entry)) r) ⌝ }
 {
     query_answer::answer(Way::Walked, axes, points, modes, knots, tensor, coordinates)
 }

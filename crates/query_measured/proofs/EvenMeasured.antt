@@ -26,7 +26,7 @@ use Rattle.base_floats.specs.Zeros.{Equal}
 use Rattle.base_floats.proofs.Equals.{equal-finite, equal-eq}
 use Rattle.axis_even.proofs.Cells.{HasEnd}
 use Rattle.axis_even.proofs.DirectCells.{EvenAxis, direct-cell-at-knot}
-use Rattle.tensor.proofs.Demand3.{exact}
+use Rattle.grid_checks.proofs.Rows.{length-fits}
 use Rattle.query_measured.specs.Measured.{Surface, AtPlace}
 use Rattle.query_measured.specs.EvenMeasured.{EvenGrid, EvenReads, EvenMeasuredIsRead}
 use Rattle.query_measured.proofs.Knots.{real}
@@ -99,9 +99,9 @@ module _
           S .axes-fine,
           S .points-fine,
           S .tensor-fine,
-          exact (length (g .flat-knots)) (knots-length g) (S .knots-exact),
-          exact (length tensor) (tensor-length g) (S .tensor-exact),
-          exact (length coordinates) (g .axes) (A .exact),
+          length-fits (length (g .flat-knots)) (knots-length g) (S .knots-exact),
+          length-fits (length tensor) (tensor-length g) (S .tensor-exact),
+          length-fits (length coordinates) (g .axes) (A .exact),
           S .knots-finite,
           coordinates-finite g tensor coordinates place S A,
           S .knots-rise,

@@ -13,7 +13,7 @@ use Rattle.rules.specs.Sizes.{Grid, points, knots, masks, Place, spot}
 use Rattle.rules.specs.Steps.{h}
 use Rattle.rules.specs.Query.{corner, cell, fraction, value-in}
 use Rattle.rules.proofs.Places.{flat-below, flat-ext}
-use Rattle.grid.specs.Given.{CellInside}
+use Rattle.grid.specs.GridOfCall.{CellInside}
 use Rattle.grid.proofs.Corners.{corner-on-grid}
 use Rattle.base_floats.specs.Place.{Real}
 use Rattle.base_floats.specs.Zeros.{Equal}

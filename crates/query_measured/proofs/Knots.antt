@@ -22,7 +22,7 @@ use Rattle.base_floats.proofs.Reals.{lt-is, le-is, eq-le}
 use Rattle.base_floats.proofs.Equals.{eq-equal}
 use Rattle.base_floats.proofs.Operations.{sub-equal, div-zero, div-self}
 use Rattle.base_floats.proofs.Differences.{sub-positive, sub-same}
-use Rattle.axis_locate.specs.Answers.{Rising}
+use Rattle.axis_locate.specs.CellFound.{Rising}
 use Rattle.axis_locate.proofs.Among.{Among, placed, locate-is}
 use Rattle.query_measured.proofs.Hermite.{AtEnd, at-lower, at-upper}
 

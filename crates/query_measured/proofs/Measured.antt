@@ -24,7 +24,7 @@ use Rattle.base_numbers.proofs.Scan.{any-never}
 use Rattle.base_floats.specs.Place.{Real}
 use Rattle.base_floats.specs.Zeros.{Equal}
 use Rattle.base_floats.proofs.Equals.{equal-finite, equal-eq, eq-finite}
-use Rattle.tensor.proofs.Demand3.{exact}
+use Rattle.grid_checks.proofs.Rows.{length-fits}
 use Rattle.query_quick.proofs.QuickIsFull.{quick-is-full}
 use Rattle.query_measured.specs.Measured.{Surface, AtPlace, Reads, MeasuredIsRead}
 use Rattle.query_measured.proofs.Knots.{cell-at-knot, inside-at-knot}
@@ -85,9 +85,9 @@ module _ (g : Grid) (tensor coordinates : List Float) (place : Place) (S : Surfa
         S .axes-fine,
         S .points-fine,
         S .tensor-fine,
-        exact (length (g .flat-knots)) (knots-length g) (S .knots-exact),
-        exact (length tensor) (tensor-length g) (S .tensor-exact),
-        exact (length coordinates) (g .axes) (A .exact),
+        length-fits (length (g .flat-knots)) (knots-length g) (S .knots-exact),
+        length-fits (length tensor) (tensor-length g) (S .tensor-exact),
+        length-fits (length coordinates) (g .axes) (A .exact),
         S .knots-finite,
         coordinates-finite,
         S .knots-rise,

@@ -12,7 +12,7 @@ use Rattle.rules.specs.Tensor.{sample, entry}
 use Rattle.rules.specs.Calls.{BuildPromise, QueryPromise, QuickQueryPromise}
 use Rattle.rules.proofs.ChangeIsBuild.{built-entry}
 use Rattle.base_floats.specs.Place.{AllFit}
-use Rattle.grid.specs.Given.{On}
+use Rattle.grid.specs.GridOfCall.{On}
 use Rattle.tensor.specs.Changes.{Step, Kept, tensor-after, samples-after}
 use Rattle.tensor.proofs.Demand3.{tensor-long, Stands, built-stands, steps-stand}
 use Rattle.sheet_build.specs.SheetTensor.{SheetPromise}

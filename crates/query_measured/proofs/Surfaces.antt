@@ -14,7 +14,7 @@ use Rattle.rules.specs.Sizes.{most-in-a-tensor, Grid, points, knots, tensor-len
 use Rattle.rules.specs.Refusals.{number-refused, knots-refused}
 use Rattle.base_numbers.proofs.Scan.{any-at}
 use Rattle.base_floats.specs.Place.{Real}
-use Rattle.grid.specs.Given.{InRange}
+use Rattle.grid.specs.GridOfCall.{InRange}
 use Rattle.grid_checks.proofs.Accepted.{knots-step}
 use Rattle.grid_checks.proofs.Rows.{axes-few, in-range}
 use Rattle.query_answer.proofs.Accepted.{rising-on-axis}

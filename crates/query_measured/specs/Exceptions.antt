@@ -15,7 +15,7 @@ use Rattle.rules.specs.declared.CurveAnswer.{CurveAnswer}
 use Rattle.rules.specs.declared.EvenAnswer.{EvenAnswer}
 use Rattle.rules.specs.declared.Mode.the-variants.{Extend}
 use Rattle.rules.specs.declared.QueryAnswer.{QueryAnswer}
-use Rattle.grid.specs.Given.{grid}
+use Rattle.grid.specs.GridOfCall.{grid}
 
 -- knots 0 1
 abbrev knots-01 : List Float

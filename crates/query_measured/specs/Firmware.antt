@@ -7,7 +7,7 @@ use Prim.Native.Nat.{ℕ, _<_}
 use lib.Ieee.{binary64, ofBits, eq}
 use Rattle.rules.specs.Numbers.{at}
 use Rattle.rules.specs.Sizes.{points, knots, Place, flat}
-use Rattle.grid.specs.Given.{On}
+use Rattle.grid.specs.GridOfCall.{On}
 use Rattle.sheet_patterns.specs.Patterns.{pattern, unused-refused}
 use Rattle.sheet_read.specs.Fields.{sheet-grid, sheet-samples}
 use Rattle.sheet_build.specs.SheetTensor.{own-refusal}

@@ -9,7 +9,7 @@ use Rattle.rules.specs.Numbers.{at}
 use Rattle.rules.specs.Sizes.{Grid, knots-length, knots, tensor-length, Place, spot}
 use Rattle.rules.specs.Refusals.{axes-refused, some-points-refused, tensor-refused, some-number-refused, some-knots-refused}
 use Rattle.rules.specs.declared.QueryAnswer.{QueryAnswer}
-use Rattle.grid.specs.Given.{On}
+use Rattle.grid.specs.GridOfCall.{On}
 use Rattle.base_floats.specs.Place.{AllFit}
 
 -- a grid of 1 to 4 axes whose sizes and lengths fit and whose knots pass 7 and 8, and a tensor of finite numbers, whatever they are; each

@@ -12,10 +12,10 @@ use Rattle.rules.specs.Query.{quick-cell-of, quick-query-in-modes}
 use Rattle.rules.specs.Calls.{answer-of, quick-labels, quick-query-refusal, quick-query-answer, QuickQueryPromise}
 use Rattle.rules.specs.declared.Axis.{Axis}
 use Rattle.rules.specs.declared.QueryAnswer.{QueryAnswer}
-use Rattle.grid.specs.Given.{grid, points-of}
+use Rattle.grid.specs.GridOfCall.{grid, points-of}
 use Rattle.grid_checks.specs.Check.{query-sizes-check}
-use Rattle.query_answer.specs.Given.{AxesOf, QueryFits}
-use Rattle.query_answer.specs.Answers.{refused-with, refusal-by, AnswerBy}
+use Rattle.query_answer.specs.PointsAndModes.{AxesOf, QueryFits}
+use Rattle.query_answer.specs.AnswerByWay.{refused-with, refusal-by, AnswerBy}
 use Rattle.query_answer.specs.declared.ways.Way.the-variants.{Searched}
 use Rattle.query_answer.proofs.Answering.{refused-is}
 use Rattle.query_answer.proofs.Promised.{from-7, sizes-refuse}

@@ -41,11 +41,11 @@ use Rattle.rules.proofs.Halving.{quick-cell-inside}
 use Rattle.base_numbers.proofs.Scan.{neither, any-at, any-never}
 use Rattle.base_floats.specs.Place.{AllFit}
 use Rattle.base_floats.proofs.Parts.{part-fits}
-use Rattle.grid.specs.Given.{InRange}
+use Rattle.grid.specs.GridOfCall.{InRange}
 use Rattle.grid_checks.specs.Check.{sizes-rows}
 use Rattle.grid_checks.specs.Tables.{Refusal, row, lowest}
 use Rattle.grid_checks.proofs.Rows.{rows-then, none-applies, axes-few, in-range, exact-3}
-use Rattle.axis_locate.specs.Answers.{Rising}
+use Rattle.axis_locate.specs.CellFound.{Rising}
 use Rattle.axis_locate.proofs.Among.{lower-index-is-locate}
 use Rattle.query_answer.proofs.Accepted.{rising-on-axis}
 

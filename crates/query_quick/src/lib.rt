@@ -1,9 +1,8 @@
 // The quick query of a tensor: a point located by the search alone, whatever the knots are, and the blend of the cell that is found. It
 // walks no axis.
 ghost use Rattle.rules.specs.Calls.{QuickQueryPromise};
-ghost use Rattle.grid.specs.Given.{grid};
-ghost use Rattle.query_answer.specs.Given.{QueryFits};
-ghost use Rattle.query_quick.specs.Among.{QuickQueryAmong};
+ghost use Rattle.grid.specs.GridOfCall.{grid};
+ghost use Rattle.query_answer.specs.PointsAndModes.{QueryFits, OfAnyAxes};
 use query_answer::ways::Way;
 use rules::Axis;
 use rules::QueryAnswer;
@@ -37,7 +36,8 @@ pub fn quick_query(
     quick_query_of_points(axes, &points, &modes, knots, tensor, coordinates)
 }
 
-// The same on axes of these points, with a mode's number for each, where 1 to 4 do not apply. Not public: that they do not is required.
+// The same on axes of these points, with a mode's number for each, where 1 to 4 do not apply. Not a public call: that they do not is
+// required, and four points and four modes.
 pub fn quick_query_of_points(
     axes: usize,
     points: &[usize],
@@ -48,8 +48,8 @@ pub fn quick_query_of_points(
 ) -> QueryAnswer
     requires { ⌜ QueryFits axes (now points) (now modes) (now knots) (now tensor) (now coordinates) ⌝ }
     ensures { λ r.
-        ⌜ QuickQueryAmong axes (now (points .entry)) (now (modes .entry)) (now (knots .entry)) (now (tensor .entry))
-        (now (coordinates .entry)) r ⌝ }
+        ⌜ OfAnyAxes axes (now (points .entry)) (now (modes .entry)) (now (knots .entry))
+        (λ g. QuickQueryPromise g (now (tensor .entry)) (now (coordinates .entry)) r) ⌝ }
 {
     query_answer::answer(
         Way::Searched,

@@ -27,7 +27,7 @@ use Rattle.report_front.proofs.Tails.{true-not-false, before-tail, either-case,
 use Rattle.report_front.proofs.Cuts as cuts
 use Rattle.report_totals.specs.Totals.{Entry, tensor-entries}
 use Rattle.report.specs.Report.{accepted-alone, sheet-at, front-sheet, stops}
-use Rattle.report.specs.Within.{Shown, Buffers}
+use Rattle.report.specs.Feeding.{Shown, Buffers}
 
 -- ---- a fault before the tail
 

@@ -10,7 +10,7 @@ use Rattle.report_totals.specs.Totals.{totals-of}
 use Rattle.report_totals.specs.declared.Totals.{Totals}
 use Rattle.report_totals.specs.declared.Report.{Report}
 use Rattle.report.specs.Report.{report-of}
-use Rattle.report.specs.Within.{Stands, Fed}
+use Rattle.report.specs.Feeding.{Stands, Fed}
 use Rattle.report.specs.declared.Step.{Step}
 use Rattle.report.proofs.Steps.{stands-none, fed-last}
 

@@ -14,12 +14,12 @@ use Rattle.sheet_build.specs.declared.SheetAnswer.{SheetAnswer}
 use Rattle.report_front.specs.Front.{front-size, rest-bytes}
 use Rattle.report_front.proofs.Tails.{true-not-false}
 use Rattle.report_totals.specs.Totals.{Sheet, tensor-entries, totals-of, most-sheets}
-use Rattle.report_totals.specs.Within.{Running, Adds}
+use Rattle.report_totals.specs.Counting.{Running, Adds}
 use Rattle.report_totals.specs.declared.Totals.{Totals}
 use Rattle.report_totals.specs.declared.Report.{Report}
 use Rattle.report_totals.proofs.Sheets.{running-none, running-next, sheets-are}
 use Rattle.report.specs.Report.{front-sheet, stops, after, stops-here, stream-of, report-of}
-use Rattle.report.specs.Within.{Stands, Shown, Buffers, Stepped, Fed}
+use Rattle.report.specs.Feeding.{Stands, Shown, Buffers, Stepped, Fed}
 use Rattle.report.specs.declared.Step.{Step}
 use Rattle.report.proofs.Fronts.{front-some, front-small, front-refusal, front-entries}
 use Rattle.report.proofs.Streams.{stream-end, stream-full, next-stops, next-goes-on, after-after, after-end, after-stop}

@@ -8,7 +8,7 @@ use lib.ListN.{length, length-append}
 use Rattle.report_front.specs.Front.{rest-bytes}
 use Rattle.report_totals.specs.Totals.{Sheet}
 use Rattle.report.specs.Report.{front-sheet, stops, Stream, ends-here, stops-here, after, stream-of}
-use Rattle.report.specs.Within.{Shown}
+use Rattle.report.specs.Feeding.{Shown}
 use Rattle.report.proofs.Fronts.{front-local, rest-local}
 
 pub stream-end : (n : ℕ) → stream-of n [] ≡ ends-here

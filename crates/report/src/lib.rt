@@ -1,9 +1,9 @@
 // The report over a stream of sheets: each sheet read and built, and what it holds counted.
 ghost use Prim.Native.Nat.{_≤_};
 ghost use lib.ListN.{length};
-ghost use Rattle.report_totals.specs.Within.{Running};
+ghost use Rattle.report_totals.specs.Counting.{Running};
 ghost use Rattle.report.specs.Report.{ReportPromise};
-ghost use Rattle.report.specs.Within.{Buffers, Stepped, Fed};
+ghost use Rattle.report.specs.Feeding.{Buffers, Stepped, Fed};
 use grid_codes::classes::is_unread;
 use report_front::size_of_front;
 use report_totals::Report;
@@ -12,15 +12,16 @@ use report_totals::none;
 use report_totals::with_sheet;
 use sheet_build::tensor_of_sheet;
 
-// Where a report has come to: its totals, the number of bytes that it took, and whether it ends before the input does.
+// Where a report has come to: its totals, how many of the bytes that it was given it has passed over, and whether it ends before the input
+// does. Where it does, no more is promised of `taken` than that it is not above the number of those bytes.
 pub struct Step {
     pub totals: Totals,
     pub taken: usize,
     pub stopped: bool,
 }
 
-// One step: the front sheet is read, built and counted, and the report stops in it where it was not read. Not public: it requires totals of
-// some stream, a byte at least, and the four buffers.
+// One step: the front sheet is read, built and counted, and the report stops in it where it was not read. Not a public call: it requires
+// totals of some stream, a byte at least, and the four buffers.
 fn take_sheet(
     totals: Totals,
     bytes: &[u8],
@@ -51,7 +52,8 @@ fn take_sheet(
     }
 }
 
-// Step after step, until fewer than `least` bytes are left or the report stops. Not public, as the step is not.
+// Step after step, until fewer than `least` bytes are left or the report stops. Not a public call: it requires totals of some stream, a
+// `least` that is not 0, and the four buffers.
 fn take_sheets(
     totals: Totals,
     bytes: &[u8],
@@ -88,8 +90,9 @@ fn take_sheets(
     }
 }
 
-// The same with the buffers on the stack, for a program that reads a stream in pieces. No public call: totals of some stream are required.
-// Before the input's end `least` is to be 65,536, since so many bytes show a sheet whatever follows them; at its end 1.
+// The same with the buffers on the stack, for a program that reads a stream in pieces. Not a public call: it requires totals of some
+// stream, and a `least` that is not 0. Before the input's end `least` is to be 65,536, since so many bytes show a sheet whatever follows
+// them; at its end 1.
 pub fn feed(totals: Totals, bytes: &[u8], least: usize) -> Step
     requires { ⌜ Running totals × (1 ≤ least) ⌝ }
     ensures { λ r. ⌜ Fed totals (now (bytes .entry)) least r ⌝ }

@@ -21,9 +21,10 @@ use Rattle.grid_codes.specs.Editions.{unknown-edition}
 use Rattle.grid_codes.specs.Classes.{length-known}
 use Rattle.sheet_read.specs.Fields.{edition, axes, axis-begin, sheet-grid, samples-begin, samples-end}
 use Rattle.sheet_read.specs.Faults.{axis-fault, axes-fault, tail-refused, sheet-refusal}
-use Rattle.sheet_read.proofs.Extents.{begin-most}
-use Rattle.sheet_read.proofs.Walks.{passed, faultless-axis}
+use Rattle.sheet_read.proofs.Extents.{begin-most, begin-first}
+use Rattle.sheet_read.proofs.Walks.{faultless-axis}
 use Rattle.sheet_read.proofs.Samples.{few-left}
+use Rattle.rules.proofs.Cases.{passed}
 use Rattle.report_front.specs.Front.{sheet-bytes, front-size, front-bytes, rest-bytes, enough-bytes}
 use Rattle.report_front.proofs.Agree.{
   Agree,
@@ -137,10 +138,6 @@ sound bytes none =
       faultless = f .0;
       room = samples-room bytes (samples-length (sheet-grid bytes)) (axes-room bytes (axes bytes) seven (f .0)) (w .0);
     }
-
-begin-first : (bytes : List ℕ) → axis-begin bytes 0 ≡ 7
-unfolding axis-begin
-begin-first bytes = refl
 
 module _ (bytes : List ℕ) where
   pub size-of-known : length-known (sheet-refusal bytes) ≡ true → front-size bytes ≡ sheet-bytes bytes

@@ -13,7 +13,7 @@ use grid_codes::editions::mode_width;
 use sheet_read::axes::walk_axes;
 use sheet_read::look::look;
 
-// How many bytes a sheet has. Not public: that its length is known is required.
+// How many bytes a sheet has. Not a public call: that its length is known is required.
 fn known_size(bytes: &[u8]) -> usize
     requires { ⌜ length-known (sheet-refusal (now bytes)) ≡ true ⌝ }
     ensures { λ r. ⌜ r ≡ sheet-bytes (now (bytes .entry)) ⌝ }

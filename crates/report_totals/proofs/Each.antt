@@ -19,7 +19,7 @@ use Rattle.report_totals.specs.Totals.{
   largest-total,
   totals-of,
 }
-use Rattle.report_totals.specs.Within.{order-totals, orders-of, Running}
+use Rattle.report_totals.specs.Counting.{order-totals, orders-of, Running}
 use Rattle.report_totals.specs.declared.OrderTotals.{OrderTotals}
 use Rattle.report_totals.specs.declared.Totals.{Totals}
 use Rattle.report_totals.proofs.Orders.{no-entries, order-most}

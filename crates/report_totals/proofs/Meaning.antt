@@ -14,7 +14,7 @@ use Rattle.rules.specs.Sizes.{sum-below, in-mask}
 use Rattle.rules.proofs.Mask.{in-mask-top, in-mask-below, in-mask-above}
 use Rattle.rules.proofs.Sums.{sum-ext}
 use Rattle.report_totals.specs.Totals.{Entry, magnitude, largest}
-use Rattle.report_totals.specs.Within.{one-if}
+use Rattle.report_totals.specs.Counting.{one-if}
 
 -- ---- the largest
 

@@ -16,7 +16,7 @@ use borrow.Author.Tests.{eq-eqb, ne-eqb}
 use Rattle.rules.specs.Numbers.{filter}
 use Rattle.rules.proofs.Tables.{length-table, at-table}
 use Rattle.report_totals.specs.Totals.{Entry, nonzero, of-order, tensor-entries}
-use Rattle.report_totals.specs.Within.{one-if, order-totals, orders-of, Counted, Room, Tallied}
+use Rattle.report_totals.specs.Counting.{one-if, order-totals, orders-of, Counted, Room, Tallied}
 use Rattle.report_totals.specs.declared.OrderTotals.{OrderTotals}
 use Rattle.report_totals.proofs.Lists.{filter-kept, filter-dropped, filter-most, largest-snoc, table-set}
 

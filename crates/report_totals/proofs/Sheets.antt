@@ -9,7 +9,7 @@ use borrow.Author.Tests.{eq-eqb, ne-eqb}
 use Rattle.rules.specs.Numbers.{filter}
 use Rattle.rules.proofs.Tables.{at-table}
 use Rattle.report_totals.specs.Totals.{Entry, Sheet, refused-total, all-entries, totals-of, most-sheets}
-use Rattle.report_totals.specs.Within.{order-totals, orders-of, Room, Tallied, Running, Adds}
+use Rattle.report_totals.specs.Counting.{order-totals, orders-of, Room, Tallied, Running, Adds}
 use Rattle.report_totals.specs.declared.OrderTotals.{OrderTotals}
 use Rattle.report_totals.specs.declared.Totals.{Totals}
 use Rattle.report_totals.proofs.Lists.{filter-kept, filter-dropped, filter-most, table-set}

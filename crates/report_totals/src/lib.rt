@@ -1,5 +1,5 @@
 // The totals of a report, a state by value: how many sheets there were, how many by refusal number, and per derivative order what the
-// accepted tensors hold. None of these functions is public: each requires that the totals are those of few enough sheets.
+// accepted tensors hold. None of these functions is a public call.
 ghost use mathlib.Core.Path.{_≡_};
 ghost use mathlib.Core.Bool.{not};
 ghost use mathlib.Core.List.{[]};
@@ -8,7 +8,7 @@ ghost use lib.ListN.{length};
 ghost use lib.Count.{ones};
 ghost use lib.Dec.{eqb};
 ghost use Rattle.report_totals.specs.Totals.{magnitude, tensor-entries, totals-of};
-ghost use Rattle.report_totals.specs.Within.{one-if, Counted, Room, Tallied, Running, Adds};
+ghost use Rattle.report_totals.specs.Counting.{one-if, Counted, Room, Tallied, Running, Adds};
 
 // What is counted of one derivative order: its entries, those of them that are not zero, and the pattern of the largest magnitude.
 pub struct OrderTotals {
@@ -98,7 +98,8 @@ fn tally(orders: [OrderTotals; 5], axes: usize, tensor: &[f64]) -> [OrderTotals;
     all
 }
 
-// The totals with one sheet more: the number of its refusal, 0 for none, and its tensor, which has no numbers where it is refused.
+// The totals with one sheet more: the number of its refusal, 0 for none, and its tensor, which has no numbers where it is refused. It
+// requires totals of no more sheets than a report has, such a number, at most four axes and at most 4,096 numbers.
 pub fn with_sheet(totals: Totals, refusal: usize, axes: usize, tensor: &[f64]) -> Totals
     requires { ⌜ (refusal < 24) × (axes ≤ 4) × (length (now tensor) ≤ 4096) × Running totals ⌝ }
     ensures { λ r. ⌜ Adds totals refusal (tensor-entries axes (now (tensor .entry))) r ⌝ }

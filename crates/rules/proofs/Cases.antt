@@ -1,6 +1,7 @@
--- A test's two arms, and what holds of both; and a test that fails everywhere.
+-- A test's two arms, and what holds of both; tests that hold or fail together; a number that is 0 or more.
 use mathlib.Core.Path.{_≡_, refl}
-use mathlib.Core.Bool.{Bool, true, false}
+use mathlib.Core.Bool.{Bool, true, false, cond, _&&_, _||_}
+use mathlib.Core.Logic.{_⊎_, inl, inr}
 use Prim.Native.Nat.{ℕ, zero, suc, _<_}
 use native.Mathlib.Omega.{arith}
 use Rattle.rules.specs.Numbers.{any}
@@ -27,3 +28,22 @@ pub any-never : (test : ℕ → Bool) (n : ℕ) → ((i : ℕ) → i < n → tes
 unfolding any
 any-never test zero fails = refl
 any-never test (suc n) fails = rw (any-never test n (λ i l. fails i (omega arith)), fails n (omega arith)) refl
+
+-- the first of two tests that both hold
+pub both-left : (a b : Bool) → a && b ≡ true → a ≡ true
+both-left true b e = refl
+both-left false b e = e
+
+-- two tests that fail
+pub neither-of : {a b : Bool} → a ≡ false → b ≡ false → (a || b) ≡ false
+neither-of e f = rw (e, f)
+
+-- a refusal that was passed, and what is left to be met
+pub passed : (test : Bool) (number later : ℕ) → cond test (suc number) later ≡ 0 → (test ≡ false) × (later ≡ 0)
+passed true number later e = absurd (omega (arith, e))
+passed false number later e = (refl, e)
+
+-- a number is 0 or more
+pub zero-or-more : (k : ℕ) → (k ≡ 0) ⊎ (0 < k)
+zero-or-more zero = inl refl
+zero-or-more (suc k) = inr (omega arith)

@@ -17,7 +17,7 @@ use Rattle.rules.specs.Numbers.{at}
 use Rattle.rules.specs.Sizes.{Grid, points, samples-length, tensor-length, masks, Place, moved, flat, unflat, spot, in-mask}
 use Rattle.rules.specs.Tensor.{entry, sample, tensor, place-at, mask-at}
 use Rattle.rules.specs.Change.{agree, can-differ, with-sample, changed-entry, changed-tensor}
-use Rattle.rules.proofs.Cases.{arms-ext, arms-one, not-both}
+use Rattle.rules.proofs.Cases.{arms-ext, arms-one, not-both, both-left}
 use Rattle.rules.proofs.Tables.{at-table, table-ext}
 use Rattle.rules.proofs.Places.{
   OnGrid,
@@ -33,10 +33,6 @@ use Rattle.rules.proofs.Places.{
 use Rattle.rules.proofs.Locality.{rest-below, rest-and-top, slope-along-ext, entry-low, entry-high, locality}
 
 -- ---- two places that agree
-
-both-left : (a b : Bool) → a && b ≡ true → a ≡ true
-both-left true b e = refl
-both-left false b e = e
 
 both-right : (a b : Bool) → a && b ≡ true → b ≡ true
 both-right true b e = e

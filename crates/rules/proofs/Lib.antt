@@ -1,4 +1,5 @@
 pub mod Cases
+pub mod Ends
 pub mod Tables
 pub mod Places
 pub mod Mask

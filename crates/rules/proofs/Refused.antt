@@ -5,7 +5,7 @@ use mathlib.Core.List.{List}
 use Prim.Native.Nat.{ℕ, zero, suc, _<_}
 use native.Mathlib.Omega.{arith}
 use Rattle.rules.specs.Numbers.{any}
-use Rattle.rules.specs.Calls.{or-else, stored}
+use Rattle.rules.specs.Calls.{or-else, stored, counted}
 
 pub or-else-met : (first later : ℕ) → (first ≡ 0 → ⊥) → or-else first later ≡ first
 or-else-met zero later met = absurd (met refl)
@@ -26,3 +26,8 @@ unfolding any
 any-ext test other zero same = refl
 any-ext test other (suc n) same =
     ap₂ (λ (a b : Bool). a || b) (any-ext test other n (λ i l. same i (omega arith))) (same n (omega arith))
+
+-- a refused call counts nothing
+pub none-counted : (refusal count : ℕ) → (refusal ≡ 0 → ⊥) → 0 ≡ counted refusal count
+none-counted zero count met = absurd (met refl)
+none-counted (suc refusal) count met = refl

@@ -3,7 +3,7 @@ use mathlib.Core.Path.{_≡_, refl, ap, _∙_}
 use mathlib.Core.Bool.{cond}
 use Prim.Native.Nat.{ℕ, zero, suc, _+_, _*_, _/_, _%_, _^_, _<_, _≤_}
 use native.Mathlib.Omega.{arith}
-use native.Mathlib.Nat.{add-zero, add-suc, add-comm, zero-mul, mul-zero, suc-mul, mul-one, mul-add, add-mul, two-pow-succ}
+use native.Mathlib.Nat.{add-zero, add-suc, add-comm, zero-mul, mul-zero, suc-mul, mul-one, mul-add, add-mul, two-pow-succ, le-refl}
 use lib.Arith.{digits-div, digits-mod}
 use Rattle.rules.specs.Sizes.{sum-below, product-below, in-mask}
 use Rattle.rules.specs.Change.{product-of-one-more}
@@ -37,6 +37,13 @@ pub sum-same : (c n : ℕ) → sum-below (λ k. c) n ≡ n * c
 unfolding sum-below
 sum-same c zero = rw zero-mul
 sum-same c (suc n) = rw (sum-same c n, suc-mul)
+
+-- of n numbers of which none is more than c
+pub sum-bound : (u : ℕ → ℕ) (c n : ℕ) → ((k : ℕ) → k < n → u k ≤ c) → sum-below u n ≤ n * c
+unfolding sum-below
+sum-bound u c zero most = rw zero-mul (le-refl 0)
+sum-bound u c (suc n) most =
+    rw suc-mul (let h = sum-bound u c n (λ k l. most k (omega arith)) in let l = most n (omega arith) in omega arith)
 
 -- a sum over the numbers below m * c, each by its quotient and its remainder
 pub sum-digits : (u v : ℕ → ℕ) (m c : ℕ) → sum-below (λ f. u (f % c) * v (f / c)) (m * c) ≡ sum-below u c * sum-below v m

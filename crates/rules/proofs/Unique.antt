@@ -28,7 +28,7 @@ use Rattle.rules.specs.declared.StepAnswer.{StepAnswer}
 use Rattle.rules.specs.declared.SteppedAnswer.{SteppedAnswer}
 
 -- two things that equal a third
-same : {A : Type 0} {a b c : A} → a ≡ c → b ≡ c → a ≡ b
+pub same : {A : Type 0} {a b c : A} → a ≡ c → b ≡ c → a ≡ b
 same p q = p ∙ sym q
 
 pub moments-unique :

@@ -15,7 +15,7 @@ use Rattle.sheet_read.specs.Faults.{sheet-refusal}
 use Rattle.sheet_read.specs.Read.{over}
 use Rattle.sheet_read.proofs.Parts.{parts, take-over}
 use Rattle.sheet_build.specs.SheetTensor.{answer-of, own-refusal, SheetPromise}
-use Rattle.sheet_build.specs.Within.{Enough}
+use Rattle.sheet_build.specs.LentEnough.{Enough}
 use Rattle.sheet_build.specs.declared.SheetAnswer.{SheetAnswer}
 use Rattle.sheet_build.proofs.Builds.{answered-refusal, length-tensor}
 use Rattle.sheet_build.proofs.Enough.{reading-is, refusal-is}

@@ -10,8 +10,9 @@ use Rattle.rules.specs.Sizes.{Grid, knots-length, samples-length, tensor-length
 use Rattle.rules.specs.Tensor.{tensor}
 use Rattle.rules.specs.Calls.{stored, counted, BuildPromise}
 use Rattle.rules.specs.declared.Axis.{Axis}
-use Rattle.grid.specs.Given.{grid, sizes-of}
+use Rattle.grid.specs.GridOfCall.{grid, sizes-of}
 use Rattle.sheet_read.specs.Read.{over}
+use Rattle.rules.proofs.Refused.{none-counted}
 use Rattle.sheet_build.specs.SheetTensor.{unread-answer, read-answer, answer-of, grid-in, samples-in, parts-refusal, PartsPromise}
 use Rattle.sheet_build.specs.declared.SheetAnswer.{SheetAnswer}
 
@@ -24,10 +25,6 @@ unread-is (suc reading) refusal edition g met = refl
 pub answered-refusal : (reading refusal edition : ℕ) (g : Grid) → answer-of reading refusal edition g .refusal ≡ refusal
 answered-refusal zero refusal edition g = refl
 answered-refusal (suc reading) refusal edition g = refl
-
-none-counted : (refusal count : ℕ) → (refusal ≡ 0 → ⊥) → 0 ≡ counted refusal count
-none-counted zero count met = absurd (met refl)
-none-counted (suc refusal) count met = refl
 
 pub length-tensor : (g : Grid) (samples : List Float) → length (tensor g samples) ≡ tensor-length g
 unfolding tensor

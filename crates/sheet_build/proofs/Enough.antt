@@ -14,7 +14,7 @@ use Rattle.sheet_read.specs.Faults.{sheet-refusal}
 use Rattle.sheet_read.specs.Read.{read-refusal}
 use Rattle.sheet_read.proofs.Parts.{parts}
 use Rattle.sheet_build.specs.SheetTensor.{parts-refusal, building-refusal, own-refusal, reading-refusal, sheet-tensor-refusal}
-use Rattle.sheet_build.specs.Within.{Enough}
+use Rattle.sheet_build.specs.LentEnough.{Enough}
 
 -- a build that is lent a tensor of its length and enough scratch
 pub lent-build : (bytes : List ℕ) (lent scratch : List Float) → length lent ≡ tensor-length (sheet-grid bytes)

@@ -18,9 +18,9 @@ use Rattle.sheet_read.specs.Fields.{edition, axes, sheet-grid, sheet-samples}
 use Rattle.sheet_read.specs.Faults.{sheet-refusal}
 use Rattle.sheet_read.specs.Read.{over, read-refusal, ReadPromise}
 use Rattle.sheet_read.specs.declared.ReadAnswer.{ReadAnswer}
-use Rattle.sheet_read.proofs.Walks.{passed as no-test}
 use Rattle.sheet_read.proofs.Parts.{Parts, parts, take-over}
 use Rattle.sheet_read.proofs.Promises.{answer-refusal, lengths-passed}
+use Rattle.rules.proofs.Cases.{passed as no-test}
 use Rattle.sheet_build.specs.SheetTensor.{
   unread-answer,
   answer-of,

@@ -1,2 +1,2 @@
 pub mod SheetTensor
-pub mod Within
+pub mod LentEnough

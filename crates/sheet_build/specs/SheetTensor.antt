@@ -12,7 +12,7 @@ use Rattle.rules.specs.Refusals.{length-refused}
 use Rattle.rules.specs.Tensor.{tensor}
 use Rattle.rules.specs.Calls.{or-else, stored, counted, scratch-after, build-refusal}
 use Rattle.rules.specs.declared.Axis.{Axis}
-use Rattle.grid.specs.Given.{grid, sizes-of, points-of, InRange}
+use Rattle.grid.specs.GridOfCall.{grid, sizes-of, points-of, InRange}
 use Rattle.sheet_read.specs.Fields.{edition, sheet-grid, sheet-samples}
 use Rattle.sheet_read.specs.Faults.{sheet-refusal}
 use Rattle.sheet_read.specs.Read.{over, read-refusal}

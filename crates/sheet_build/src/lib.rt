@@ -27,7 +27,8 @@ fn not_read(refusal: usize) -> SheetAnswer
     }
 }
 
-// The tensor of the parts that stand in the first places of the buffers. Not public: that they have such places is required.
+// The tensor of the parts that stand in the first places of the buffers. Not a public call: what refusals 1 and 2 leave is required, and
+// that the buffers have such places.
 fn build_parts(
     edition: usize,
     axes: usize,

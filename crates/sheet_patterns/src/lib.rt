@@ -1,4 +1,4 @@
-// Coordinates, a value and a refusal as 64-bit patterns: what firmware hands over and receives. None of these is public.
+// Coordinates, a value and a refusal as 64-bit patterns: what firmware hands over and receives. None of these is a public call.
 ghost use mathlib.Core.Path.{_≡_};
 ghost use mathlib.Core.Bool.{true};
 ghost use Prim.Native.Nat.{_≤_};

@@ -65,3 +65,8 @@ begin-most bytes zero = omega arith
 begin-most bytes (suc i) =
     let before = begin-most bytes i in
     let here = extent bytes (axis-begin bytes i) in omega arith
+
+-- the first axis begins behind the edition and the number of axes
+pub begin-first : (bytes : List ℕ) → axis-begin bytes 0 ≡ 7
+unfolding axis-begin
+begin-first bytes = refl

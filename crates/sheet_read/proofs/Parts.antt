@@ -17,7 +17,7 @@ use Rattle.base_numbers.proofs.Scan.{any-never}
 use Rattle.sheet_read.specs.Fields.{edition, axes, points-at, axis-begin, entries, knots-below, sheet-grid, sheet-samples}
 use Rattle.sheet_read.specs.Faults.{sheet-refusal}
 use Rattle.sheet_read.specs.Read.{over}
-use Rattle.sheet_read.specs.Within.{PartsRoom}
+use Rattle.sheet_read.specs.FoundSoFar.{PartsRoom}
 use Rattle.sheet_read.proofs.Extents.{extent}
 use Rattle.sheet_read.proofs.Walks.{each-faultless, faultless-axis}
 use Rattle.sheet_read.proofs.Stores.{knots-below-next, length-knots-at}

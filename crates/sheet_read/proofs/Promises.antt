@@ -12,13 +12,13 @@ use Rattle.rules.specs.Calls.{or-else}
 use Rattle.rules.specs.Sizes.{samples-length}
 use Rattle.rules.specs.declared.Axis.{Axis}
 use Rattle.base_bits.specs.Bits.{numbers}
+use Rattle.rules.proofs.Cases.{passed}
 use Rattle.sheet_read.specs.Fields.{edition, axes, entries, knots-below, sheet-grid, samples-begin, sheet-samples}
 use Rattle.sheet_read.specs.Faults.{sheet-refusal}
 use Rattle.sheet_read.specs.Read.{refused-answer, answer-of, over, buffers-refused, read-refusal, ReadPromise}
-use Rattle.base_bits.specs.Within.{Within}
+use Rattle.base_bits.specs.BitsThere.{Within}
 use Rattle.sheet_read.specs.declared.ReadAnswer.{ReadAnswer}
 use Rattle.sheet_read.proofs.Extents.{begin-most}
-use Rattle.sheet_read.proofs.Walks.{passed}
 use Rattle.sheet_read.proofs.Sheets.{Accepted, samples-room, samples-most}
 
 -- ---- answers

@@ -12,11 +12,11 @@ use lib.Pow.{pow-pos}
 use Rattle.rules.specs.Numbers.{any}
 use Rattle.rules.specs.Sizes.{product-below, samples-length, tensor-length}
 use Rattle.rules.specs.declared.Axis.{Axis}
-use Rattle.grid.specs.Given.{sizes-of, points-of}
+use Rattle.grid.specs.GridOfCall.{sizes-of, points-of}
 use Rattle.base_bits.specs.Bits.{bit, field, numbers-short}
 use Rattle.sheet_read.specs.Fields.{samples-begin, sheet-grid}
 use Rattle.sheet_read.specs.Faults.{tail-refused, samples-fault}
-use Rattle.sheet_read.specs.Within.{Ended}
+use Rattle.sheet_read.specs.FoundSoFar.{Ended}
 use Rattle.base_bits.proofs.Runs.{short-together}
 use Rattle.sheet_read.proofs.Extents.{begin-most}
 

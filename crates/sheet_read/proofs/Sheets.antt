@@ -14,15 +14,16 @@ use Rattle.rules.specs.Sizes.{unused-axis, product-below, samples-length}
 use Rattle.rules.specs.Refusals.{axes-refused, tensor-refused}
 use Rattle.rules.specs.Calls.{or-else}
 use Rattle.rules.specs.declared.Axis.{Axis}
-use Rattle.grid.specs.Given.{points-of, InRange}
+use Rattle.grid.specs.GridOfCall.{points-of, InRange}
 use Rattle.base_bits.specs.Bits.{short, numbers-short}
 use Rattle.grid_codes.specs.Editions.{unknown-edition}
+use Rattle.rules.proofs.Cases.{passed}
 use Rattle.sheet_read.specs.Fields.{edition, axes, points-at, axis-at, axis-begin, entries, sheet-grid, samples-begin, samples-end}
 use Rattle.sheet_read.specs.Faults.{axes-fault, tail-refused, samples-fault, sheet-refusal}
-use Rattle.sheet_read.specs.Within.{Axes, Ended, NoFault}
+use Rattle.sheet_read.specs.FoundSoFar.{Axes, Ended, NoFault}
 use Rattle.base_bits.proofs.Runs.{short-together}
 use Rattle.sheet_read.proofs.Extents.{extent}
-use Rattle.sheet_read.proofs.Walks.{passed, each-faultless, faultless-axis}
+use Rattle.sheet_read.proofs.Walks.{each-faultless, faultless-axis}
 use Rattle.sheet_read.proofs.Samples.{count-is, samples-least}
 
 -- ---- edition and axes

@@ -13,7 +13,7 @@ use Rattle.rules.proofs.Tables.{length-table}
 use Rattle.base_bits.specs.Bits.{numbers}
 use Rattle.sheet_read.specs.Fields.{points-at, knots-at, knots-begin, axis-end, axis-begin, knots-below}
 use Rattle.sheet_read.specs.Read.{over}
-use Rattle.sheet_read.specs.Within.{Whole, NoFault}
+use Rattle.sheet_read.specs.FoundSoFar.{Whole, NoFault}
 use Rattle.sheet_read.proofs.Extents.{extent}
 use Rattle.sheet_read.proofs.Walks.{each-faultless, whole, begin-next}
 

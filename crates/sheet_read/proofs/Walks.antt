@@ -17,6 +17,7 @@ use Rattle.rules.proofs.Refused.{or-else-met, or-else-passed}
 use Rattle.base_bits.specs.Bits.{short, numbers-short}
 use Rattle.grid_codes.specs.Kinds.{periodic-at-one-end}
 use Rattle.grid_codes.specs.Modes.{unknown-mode}
+use Rattle.rules.proofs.Cases.{passed}
 use Rattle.sheet_read.specs.Fields.{
   mode-bits,
   points-at,
@@ -31,16 +32,11 @@ use Rattle.sheet_read.specs.Fields.{
   entries,
 }
 use Rattle.sheet_read.specs.Faults.{axis-fault, axes-fault}
-use Rattle.sheet_read.specs.Within.{Whole, Walked}
+use Rattle.sheet_read.specs.FoundSoFar.{Whole, Walked}
 use Rattle.base_bits.proofs.Runs.{short-together}
 use Rattle.sheet_read.proofs.Extents.{extent, begin-most}
 
 -- ---- faults one after the other
-
--- a test that was passed, and what is left to be met
-pub passed : (test : Bool) (fault later : ℕ) → cond test (suc fault) later ≡ 0 → (test ≡ false) × (later ≡ 0)
-passed true fault later e = absurd (omega (arith, e))
-passed false fault later e = (refl, e)
 
 -- one axis more
 axes-fault-next : (bytes : List ℕ) (i : ℕ) → axes-fault bytes (suc i) ≡ or-else (axes-fault bytes i) (axis-fault bytes (axis-begin bytes i))

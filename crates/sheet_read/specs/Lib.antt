@@ -1,4 +1,4 @@
 pub mod Fields
 pub mod Faults
 pub mod Read
-pub mod Within
+pub mod FoundSoFar

@@ -1,13 +1,13 @@
-// The axes of a sheet, one after the other. None of these is public: each requires that the bits it reads are there, and is told how many
-// bits the mode of an axis has in the sheet's edition.
+// The axes of a sheet, one after the other. None of these is a public call: `fault` and `walk_axes` test whether the bits are there, all
+// others require it. All but `points` and `values` are told how many bits the mode of an axis has in the sheet's edition.
 ghost use mathlib.Core.Path.{_≡_};
 ghost use Prim.Native.Nat.{_≤_};
 ghost use lib.ListN.{length};
 ghost use Rattle.sheet_read.specs.Fields.{mode-bits, points-at, values-at, axis-at, knots-begin, axis-end, axis-begin, knots-below};
 ghost use Rattle.sheet_read.specs.Faults.{axis-fault};
 ghost use Rattle.sheet_read.specs.Read.{over};
-ghost use Rattle.base_bits.specs.Within.{Within};
-ghost use Rattle.sheet_read.specs.Within.{Whole, Walked, NoFault};
+ghost use Rattle.base_bits.specs.BitsThere.{Within};
+ghost use Rattle.sheet_read.specs.FoundSoFar.{Whole, Walked, NoFault};
 use base_bits::are_short;
 use base_bits::field_at;
 use base_bits::fill;

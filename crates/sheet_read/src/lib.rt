@@ -65,8 +65,8 @@ fn without_edition(answer: ReadAnswer) -> Edition1Answer
     }
 }
 
-// PUBLIC. Reads a sheet of edition 1, and of no other: it answers and stores what `read` does, and refuses by the same numbers, but 12 is
-// any edition other than 1. After 12 nothing of the sheet shows.
+// PUBLIC. Reads a sheet of edition 1, and of no other: it answers and stores what `read` does, and refuses by the same numbers without 22,
+// whose field edition 1 does not have; 12 is any edition other than 1. After 12 nothing of the sheet shows.
 pub fn read_edition_1(bytes: &[u8], knots: &mut [f64], samples: &mut [f64]) -> Edition1Answer
     ensures { λ r.
         ⌜ Edition1Promise (now (bytes .entry)) (now (knots .entry)) (now (samples .entry)) r (now (knots .exit)) (now (samples .exit)) ⌝ }

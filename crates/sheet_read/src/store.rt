@@ -1,8 +1,9 @@
-// The numbers of a sheet that was looked at and has no fault. Not public: that there are places for them is required.
+// The numbers of a sheet that was looked at and has no fault. Not a public call: such a sheet is required, its own edition and axes, and
+// places for the numbers.
 ghost use mathlib.Core.Path.{_≡_};
 ghost use Rattle.sheet_read.specs.Fields.{axes, knots-below, sheet-samples};
 ghost use Rattle.sheet_read.specs.Read.{over};
-ghost use Rattle.sheet_read.specs.Within.{PartsRoom};
+ghost use Rattle.sheet_read.specs.FoundSoFar.{PartsRoom};
 use crate::axes::store_knots;
 use base_bits::fill;
 use grid::samples_length;

@@ -18,19 +18,19 @@ use Rattle.rules.specs.Calls.{or-else, query-lengths-refused, query-refusal, qu
 use Rattle.rules.specs.declared.Axis.{Axis}
 use Rattle.rules.specs.declared.QueryAnswer.{QueryAnswer}
 use Rattle.rules.proofs.Refused.{or-else-met}
-use Rattle.grid.specs.Given.{grid, sizes-of}
+use Rattle.grid.specs.GridOfCall.{grid, sizes-of}
 use Rattle.sheet_patterns.specs.Patterns.{coordinates, unused-refused, refusal-pattern, answer-pattern}
 use Rattle.sheet_patterns.proofs.Refusals.{refused-with}
 use Rattle.sheet_read.specs.Fields.{edition, axes, entries, sheet-grid}
 use Rattle.sheet_read.specs.Faults.{sheet-refusal}
 use Rattle.sheet_read.specs.Read.{answer-of}
 use Rattle.sheet_read.specs.declared.ReadAnswer.{ReadAnswer}
-use Rattle.sheet_read.proofs.Walks.{passed}
 use Rattle.sheet_read.proofs.Promises.{answer-refusal}
 use Rattle.sheet_build.specs.SheetTensor.{building-refusal}
 use Rattle.sheet_build.proofs.Few.{at-most, sheet-few, build-few}
+use Rattle.rules.proofs.Cases.{passed}
 use Rattle.sheet_surface.specs.SheetSurface.{built, asked, surface-refusal, surface, SurfacePromise}
-use Rattle.sheet_surface.specs.Within.{ReadSheet, SmallSheet, Built}
+use Rattle.sheet_surface.specs.OnTheStack.{ReadSheet, SmallSheet, Built}
 use Rattle.sheet_surface.proofs.Small.{axes-are, grid-is, tensor-is, range}
 
 -- ---- the query

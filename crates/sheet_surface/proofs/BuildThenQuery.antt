@@ -12,7 +12,7 @@ use Rattle.sheet_patterns.specs.Patterns.{coordinates, unused-refused, answer-p
 use Rattle.sheet_read.specs.Fields.{edition, sheet-grid}
 use Rattle.sheet_read.specs.Faults.{sheet-refusal}
 use Rattle.sheet_build.specs.SheetTensor.{building-refusal, own-refusal, SheetPromise}
-use Rattle.sheet_build.specs.Within.{Enough}
+use Rattle.sheet_build.specs.LentEnough.{Enough}
 use Rattle.sheet_build.specs.declared.SheetAnswer.{SheetAnswer}
 use Rattle.sheet_build.proofs.Alone.{answered-alone}
 use Rattle.sheet_build.proofs.Demand3.{grid-made, tensor-made, answer-is, grid-is, tensor-is}

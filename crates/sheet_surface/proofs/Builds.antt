@@ -9,11 +9,11 @@ use lib.Ieee.{Float}
 use Rattle.rules.specs.Sizes.{samples-length}
 use Rattle.rules.specs.Calls.{BuildPromise}
 use Rattle.rules.specs.declared.Axis.{Axis}
-use Rattle.grid.specs.Given.{grid, sizes-of}
+use Rattle.grid.specs.GridOfCall.{grid, sizes-of}
 use Rattle.sheet_read.specs.Fields.{axes, knots-below, sheet-grid, sheet-samples}
 use Rattle.sheet_read.specs.Read.{over}
 use Rattle.sheet_build.proofs.Enough.{lent-build}
-use Rattle.sheet_surface.specs.Within.{SmallSheet, Room, Built}
+use Rattle.sheet_surface.specs.OnTheStack.{SmallSheet, Room, Built}
 use Rattle.sheet_surface.proofs.Small.{grid-is, samples-are, samples-stored, knots-stored}
 
 module _

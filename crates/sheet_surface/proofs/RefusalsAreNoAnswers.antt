@@ -13,10 +13,10 @@ use Rattle.sheet_patterns.specs.Patterns.{coordinates, unused-refused, refusal-
 use Rattle.sheet_patterns.proofs.Refusals.{no-number, refusals-apart}
 use Rattle.sheet_read.specs.Fields.{sheet-grid}
 use Rattle.sheet_read.specs.Faults.{sheet-refusal}
-use Rattle.sheet_read.proofs.Walks.{passed}
 use Rattle.sheet_read.proofs.Parts.{parts}
 use Rattle.sheet_build.specs.SheetTensor.{building-refusal}
 use Rattle.sheet_build.proofs.Few.{at-most, or-else-few, sheet-few, build-few}
+use Rattle.rules.proofs.Cases.{passed}
 use Rattle.sheet_surface.specs.SheetSurface.{stack-refused, built, asked, surface-refusal, surface}
 use Rattle.sheet_surface.proofs.Values.{value-fits}
 use Rattle.sheet_surface.proofs.Answers.{asked-few, asked-finite}

@@ -10,12 +10,12 @@ use lib.Ieee.{Float}
 use Rattle.rules.specs.Sizes.{Grid, points, knots-length, samples-length, tensor-length, sum-below, product-below}
 use Rattle.rules.specs.declared.Axis.{Axis}
 use Rattle.grid_checks.proofs.Rows.{axes-few, in-range}
-use Rattle.grid.specs.Given.{grid, sizes-of, points-of, InRange}
+use Rattle.grid.specs.GridOfCall.{grid, sizes-of, points-of, InRange}
 use Rattle.sheet_read.specs.Fields.{sheet-grid, sheet-samples, knots-below, axes}
 use Rattle.sheet_read.specs.Read.{over}
-use Rattle.sheet_read.specs.Within.{PartsRoom}
+use Rattle.sheet_read.specs.FoundSoFar.{PartsRoom}
 use Rattle.sheet_read.proofs.Parts.{Parts, parts, take-over}
-use Rattle.sheet_surface.specs.Within.{ReadSheet, SmallSheet, Room}
+use Rattle.sheet_surface.specs.OnTheStack.{ReadSheet, SmallSheet, Room}
 
 -- ---- sums and products of sizes that are 2 or more
 

@@ -1,2 +1,2 @@
 pub mod SheetSurface
-pub mod Within
+pub mod OnTheStack

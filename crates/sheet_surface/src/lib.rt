@@ -6,7 +6,7 @@ ghost use Rattle.rules.specs.Calls.{or-else};
 ghost use Rattle.sheet_patterns.specs.Patterns.{answer-pattern};
 ghost use Rattle.sheet_build.specs.SheetTensor.{building-refusal};
 ghost use Rattle.sheet_surface.specs.SheetSurface.{asked, SurfacePromise};
-ghost use Rattle.sheet_surface.specs.Within.{SmallSheet, Room, Built};
+ghost use Rattle.sheet_surface.specs.OnTheStack.{SmallSheet, Room, Built};
 use rules::Axis;
 use sheet_patterns::answer_pattern;
 use sheet_patterns::coordinates_of;

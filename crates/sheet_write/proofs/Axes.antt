@@ -41,6 +41,7 @@ use Rattle.sheet_read.proofs.Walks.{begin-next, each-faultless, faultless-axis}
 use Rattle.sheet_read.proofs.Stores.{knots-below-next, length-knots-at}
 use Rattle.sheet_read.proofs.Sheets.{Accepted, entry-at}
 use Rattle.sheet_read.proofs.Parts.{knots-sum}
+use Rattle.sheet_read.proofs.Extents.{begin-first}
 use Rattle.sheet_write.specs.SheetOf.{axis-fields, axes-fields}
 use Rattle.sheet_write.specs.RoundTrip.{PartsHeld, entry, in-use}
 use Rattle.sheet_write.proofs.Ends.{EndsNoNan}
@@ -72,10 +73,6 @@ module _ (width : ℕ) (g : Grid) where
       (eq-or-lt-of-le l)
 
 -- ---- from fields to the axes
-
-begin-first : (bytes : List ℕ) → axis-begin bytes 0 ≡ 7
-unfolding axis-begin
-begin-first bytes = refl
 
 knots-first : (bytes : List ℕ) → knots-below bytes 0 ≡ []
 unfolding knots-below

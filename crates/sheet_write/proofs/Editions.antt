@@ -14,12 +14,11 @@ use Rattle.rules.specs.Outside.{mode-number}
 use Rattle.rules.specs.Sizes.{unused-axis, Grid}
 use Rattle.rules.specs.declared.Mode.{Mode}
 use Rattle.rules.specs.declared.Mode.the-variants.{Extend, Hold, Refuse}
-use Rattle.rules.proofs.Cases.{not-both}
+use Rattle.rules.proofs.Cases.{not-both, passed}
 use Rattle.grid_codes.specs.Editions.{unknown-edition, mode-width, mode-refused}
 use Rattle.grid_codes.proofs.Among.{above}
 use Rattle.sheet_read.specs.Fields.{edition as edition-said, axes, axis-at, axis-begin, entries, sheet-grid}
 use Rattle.sheet_read.specs.Faults.{sheet-refusal}
-use Rattle.sheet_read.proofs.Walks.{passed}
 use Rattle.sheet_read.proofs.Sheets.{accepted, entry-at}
 use Rattle.sheet_read.proofs.Edition1.{extends}
 use Rattle.sheet_write.specs.Write.{some-mode-refused, edition-refusal}

@@ -29,6 +29,7 @@ use Rattle.base_bits.specs.Bits.{number, field}
 use Rattle.base_bits.specs.Written.{bits-in}
 use Rattle.base_bits.proofs.Rows.{Stand, Sized, stand-first, stand-second, stand-append, bits-in-append, sized-append}
 use Rattle.base_bits.proofs.Numbers.{number-stands}
+use Rattle.grid_codes.proofs.Told.{lower-not-periodic}
 use Rattle.sheet_write.specs.SheetOf.{end-fields, ends-fields}
 use Rattle.sheet_write.specs.RoundTrip.{EndHeld, EndsHeld}
 
@@ -49,12 +50,6 @@ end-read bytes at NotAKnot held s = refl
 end-read bytes at (FirstDerivative value) held s = ap FirstDerivative (ap (ofBits binary64) (s .0) ∙ ofBits-toBits binary64 value held)
 end-read bytes at (SecondDerivative value) held s = ap SecondDerivative (ap (ofBits binary64) (s .0) ∙ ofBits-toBits binary64 value held)
 
-no-kind-3 : (e : End) (lower upper : End) → condition-of-kind (kind-of-end e) lower upper ≡ Endpoints lower upper
-unfolding condition-of-kind
-no-kind-3 NotAKnot lower upper = refl
-no-kind-3 (FirstDerivative value) lower upper = refl
-no-kind-3 (SecondDerivative value) lower upper = refl
-
 -- the condition of kinds lower and upper, whose numbers stand from bit `at` on
 abbrev pub found : List ℕ → ℕ → ℕ → ℕ → Condition
 found bytes at lower upper =
@@ -73,7 +68,7 @@ condition-read bytes at (Endpoints lower upper) held s =
       end-read bytes at lower (held .0) (stand-first bytes at (end-fields lower) (end-fields upper) s),
       end-read bytes _ upper (held .1) second,
     )
-    (no-kind-3 lower lower upper)
+    (lower-not-periodic lower lower upper)
 condition-read bytes at Periodic held s = periodic-read bytes at
 
 -- ---- both ends together

@@ -15,9 +15,10 @@ use Rattle.grid_codes.specs.Kinds.{lower-kind-of, upper-kind-of}
 use Rattle.base_bits.specs.Written.{bits-in, bytes-for}
 use Rattle.grid_codes.specs.Editions.{mode-width}
 use Rattle.sheet_read.proofs.Extents.{value-most, width-most}
+use Rattle.rules.proofs.Sums.{sum-bound}
 use Rattle.sheet_write.specs.SheetOf.{axes-fields, part-fields, sheet-of}
 use Rattle.sheet_write.specs.Write.{no-sheet-refusal}
-use Rattle.sheet_write.specs.Within.{values, values-below, parts-bits}
+use Rattle.sheet_write.specs.PartsWithRoom.{values, values-below, parts-bits}
 use Rattle.sheet_write.proofs.Lengths.{axis-bits, axes-next, axes-none, part-bits, sheet-length}
 use Rattle.sheet_write.proofs.Parts.{Known, known}
 use Rattle.sheet_write.specs.RoundTrip.{entry}
@@ -47,14 +48,6 @@ module _ (g : Grid) (samples : List Float) (k : Known g samples) where
 
 pub values-most : (c : Condition) → values c ≤ 2
 values-most c = let a = value-most (lower-kind-of c) in let b = value-most (upper-kind-of c) in omega arith
-
-sum-most : (n : ℕ → ℕ) (most i : ℕ) → ((j : ℕ) → j < i → n j ≤ most) → sum-below n i ≤ i * most
-unfolding sum-below
-sum-most n most zero each = omega arith
-sum-most n most (suc i) each =
-    let before = sum-most n most i (λ j l. each j (omega arith)) in
-    let here = each i (omega arith) in
-    rw (suc-mul i most) (omega arith)
 
 -- two sizes of a product that is not above 1,024
 two-sum : (a b : ℕ) → a ≤ 256 → b ≤ 256 → a * b ≤ 1024 → a + b ≤ 260
@@ -105,7 +98,7 @@ pub bits-most : (edition : ℕ) (g : Grid) (samples : List Float) → Known g sa
 unfolding parts-bits
 bits-most edition g samples k =
     let range = k .grid-given .in-range in
-    let v = sum-most (λ i. values (condition g i)) 2 (g .axes) (λ i l. values-most (condition g i)) in
+    let v = sum-bound (λ i. values (condition g i)) 2 (g .axes) (λ i l. values-most (condition g i)) in
     let a =
     all-most (mode-width edition) (points g) (g .axes) (width-most edition) (range .some-axes) (range .few-axes) (range .some-points)
     (range .few-points) (k .grid-given .small) in

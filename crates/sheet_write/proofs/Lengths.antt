@@ -12,7 +12,7 @@ use Rattle.base_bits.specs.Written.{bits-in, number-fields, filler, bytes-for}
 use Rattle.base_bits.proofs.Rows.{bits-in-append, packed-length}
 use Rattle.base_bits.proofs.Numbers.{numbers-bits}
 use Rattle.sheet_write.specs.SheetOf.{ends-fields, axis-fields, axes-fields, part-fields, sheet-fields, sheet-of}
-use Rattle.sheet_write.specs.Within.{values}
+use Rattle.sheet_write.specs.PartsWithRoom.{values}
 use Rattle.sheet_write.proofs.Ends.{ends-bits}
 
 pub axis-bits : (width : ℕ) (axis : Axis) (x : List Float)

@@ -20,7 +20,7 @@ use Rattle.rules.specs.declared.End.the-variants.{NotAKnot, FirstDerivative, Se
 use Rattle.rules.specs.declared.Condition.{Condition}
 use Rattle.rules.specs.declared.Condition.the-variants.{Endpoints, Periodic}
 use Rattle.grid_checks.specs.Check.{build-check}
-use Rattle.grid_checks.specs.Given.{BuildGiven}
+use Rattle.grid_checks.specs.Checked.{BuildGiven}
 use Rattle.grid_checks.proofs.Accepted.{build-given}
 use Rattle.base_bits.proofs.Numbers.{NoNan, each-at, each-take, each-drop}
 use Rattle.sheet_write.specs.Write.{no-sheet-refusal}

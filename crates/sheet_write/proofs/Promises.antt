@@ -9,8 +9,8 @@ use lib.Ieee.{Float}
 use Rattle.rules.specs.Sizes.{Grid}
 use Rattle.rules.specs.Calls.{counted}
 use Rattle.rules.specs.declared.Axis.{Axis}
-use Rattle.grid.specs.Given.{grid, sizes-of}
-use Rattle.rules.proofs.Refused.{or-else-met, unchanged}
+use Rattle.grid.specs.GridOfCall.{grid, sizes-of}
+use Rattle.rules.proofs.Refused.{or-else-met, unchanged, none-counted}
 use Rattle.base_bits.specs.Written.{bits-in, with-fields, bytes-for}
 use Rattle.base_bits.proofs.Writes.{Bytes}
 use Rattle.base_bits.proofs.Rows.{over-any}
@@ -18,15 +18,10 @@ use Rattle.sheet_read.specs.Read.{over}
 use Rattle.sheet_read.proofs.Extents.{width-most}
 use Rattle.sheet_write.specs.SheetOf.{part-fields, sheet-fields, sheet-of}
 use Rattle.sheet_write.specs.Write.{no-sheet-refusal, edition-refusal, write-refusal, write-answer, WritePromise}
-use Rattle.sheet_write.specs.Within.{SheetGiven, parts-bits}
+use Rattle.sheet_write.specs.PartsWithRoom.{SheetGiven, parts-bits}
 use Rattle.sheet_write.proofs.Lengths.{sheet-bits, sheet-length}
 use Rattle.sheet_write.proofs.Parts.{Known, known}
 use Rattle.sheet_write.proofs.Largest.{part-count, bits-most}
-
--- what is not counted
-none-counted : (refusal count : ℕ) → (refusal ≡ 0 → ⊥) → 0 ≡ counted refusal count
-none-counted zero count met = absurd (met refl)
-none-counted (suc refusal) count met = refl
 
 -- the edition is judged by the axes alone
 pub edition-of-axes : (edition axes : ℕ) (all : List Axis) (knots : List Float)

@@ -17,12 +17,12 @@ use Rattle.rules.specs.declared.Axis.{Axis}
 use Rattle.grid.proofs.Products.{sum-within, sum-more}
 use Rattle.grid_codes.specs.Kinds.{lower-kind-of, upper-kind-of}
 use Rattle.grid_codes.specs.Editions.{mode-width}
-use Rattle.base_bits.specs.Within.{Within}
+use Rattle.base_bits.specs.BitsThere.{Within}
 use Rattle.base_bits.specs.Written.{with-field, Field, number-field, number-fields, bits-in, with-fields, filler}
 use Rattle.base_bits.proofs.Rows.{bits-in-append, with-fields-append, fields-length}
 use Rattle.sheet_read.proofs.Extents.{width-most}
 use Rattle.sheet_write.specs.SheetOf.{ends-fields, axis-fields, axes-fields, part-fields, sheet-fields}
-use Rattle.sheet_write.specs.Within.{HeadGiven, with-head, AxisGiven, AxesGiven, SheetGiven}
+use Rattle.sheet_write.specs.PartsWithRoom.{HeadGiven, with-head, AxisGiven, AxesGiven, SheetGiven}
 use Rattle.sheet_write.specs.RoundTrip.{entry}
 use Rattle.sheet_write.proofs.Ends.{ends-bits}
 use Rattle.sheet_write.proofs.Lengths.{axis-bits, axes-next, part-bits}

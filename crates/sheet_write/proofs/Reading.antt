@@ -35,7 +35,7 @@ use Rattle.sheet_read.specs.Fields.{
 use Rattle.sheet_read.specs.Faults.{axis-fault}
 use Rattle.sheet_read.proofs.Stores.{length-knots-at}
 use Rattle.sheet_write.specs.SheetOf.{ends-fields, axis-fields}
-use Rattle.sheet_write.specs.Within.{values}
+use Rattle.sheet_write.specs.PartsWithRoom.{values}
 use Rattle.sheet_write.specs.RoundTrip.{EndsHeld}
 use Rattle.sheet_write.proofs.Ends.{ends-bits, condition-read, kinds-agree, EndsNoNan, KindsBack, kinds-back}
 use Rattle.sheet_write.proofs.Lengths.{axis-bits}

@@ -11,7 +11,7 @@ use lib.Ieee.{Float}
 use Rattle.rules.specs.Sizes.{unused-axis, Grid, knots-length, samples-length}
 use Rattle.rules.specs.declared.Axis.{Axis}
 use Rattle.rules.proofs.Tables.{at-table}
-use Rattle.grid.specs.Given.{grid, sizes-of}
+use Rattle.grid.specs.GridOfCall.{grid, sizes-of}
 use Rattle.base_bits.proofs.Writes.{Bytes}
 use Rattle.base_bits.proofs.Rows.{packed-bytes}
 use Rattle.sheet_read.specs.Fields.{edition as edition-said, axes, entries, knots-below, sheet-grid, sheet-samples}

@@ -1,4 +1,4 @@
 pub mod SheetOf
 pub mod Write
-pub mod Within
+pub mod PartsWithRoom
 pub mod RoundTrip

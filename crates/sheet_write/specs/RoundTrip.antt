@@ -23,7 +23,7 @@ use Rattle.rules.specs.declared.End.the-variants.{NotAKnot, FirstDerivative, Se
 use Rattle.rules.specs.declared.Condition.{Condition}
 use Rattle.rules.specs.declared.Condition.the-variants.{Endpoints, Periodic}
 use Rattle.rules.specs.declared.Axis.{Axis}
-use Rattle.grid.specs.Given.{grid, sizes-of}
+use Rattle.grid.specs.GridOfCall.{grid, sizes-of}
 use Rattle.base_bits.proofs.Writes.{Bytes}
 use Rattle.base_bits.proofs.Numbers.{Held}
 use Rattle.sheet_read.specs.Fields.{edition as edition-said, axes, entries, knots-below, sheet-grid, sheet-samples}

@@ -1,9 +1,10 @@
-// How many bits the fields of a sheet have. None of these is public: each requires what refusals 1 and 2 leave, or a part of it.
+// How many bits the fields of a sheet have. None of these is a public call: `part_bits` requires what refusals 1 and 2 leave, `all_values`
+// at most four axes.
 ghost use mathlib.Core.Path.{_≡_};
 ghost use Prim.Native.Nat.{_≤_};
 ghost use Rattle.rules.specs.Sizes.{knots-length};
-ghost use Rattle.grid.specs.Given.{sizes-of, points-of, condition-of, InRange};
-ghost use Rattle.sheet_write.specs.Within.{values, values-below, parts-bits};
+ghost use Rattle.grid.specs.GridOfCall.{sizes-of, points-of, condition-of, InRange};
+ghost use Rattle.sheet_write.specs.PartsWithRoom.{values, values-below, parts-bits};
 use grid::knots_length;
 use grid::samples_length;
 use grid_codes::editions::mode_width;

@@ -1,14 +1,15 @@
-// The fields of a sheet, one after the other, each function with the bit that it begins at; those that answer give the bit after their
-// last field. None of these is public: each requires that its bits are there and that its numbers are finite.
+// The fields of a sheet, one after the other, each function with the bit that it begins at; those that answer give the bit after their last
+// field. None of these is a public call: each requires that its bits are there, and all but `put_head`, which writes no float, that their
+// numbers are finite.
 ghost use mathlib.Core.Path.{_≡_};
 ghost use mathlib.Core.Bool.{false};
 ghost use Prim.Native.Nat.{_+_};
 ghost use Rattle.rules.specs.Refusals.{end-refused, ends-refused};
-ghost use Rattle.grid.specs.Given.{grid};
-ghost use Rattle.base_bits.specs.Within.{Within};
+ghost use Rattle.grid.specs.GridOfCall.{grid};
+ghost use Rattle.base_bits.specs.BitsThere.{Within};
 ghost use Rattle.base_bits.specs.Written.{bits-in, with-fields};
 ghost use Rattle.sheet_write.specs.SheetOf.{end-fields, ends-fields, axis-fields, axes-fields, sheet-fields};
-ghost use Rattle.sheet_write.specs.Within.{HeadGiven, with-head, AxisGiven, AxesGiven, SheetGiven};
+ghost use Rattle.sheet_write.specs.PartsWithRoom.{HeadGiven, with-head, AxisGiven, AxesGiven, SheetGiven};
 use base_bits::writing::put_field;
 use base_bits::writing::put_number;
 use base_bits::writing::put_numbers;

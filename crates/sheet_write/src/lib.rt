@@ -1,6 +1,6 @@
 // The writer of packed sheets.
 ghost use mathlib.Core.Path.{_≡_};
-ghost use Rattle.grid.specs.Given.{grid, sizes-of};
+ghost use Rattle.grid.specs.GridOfCall.{grid, sizes-of};
 ghost use Prim.Native.Nat.{_≤_};
 ghost use Rattle.sheet_write.specs.Write.{no-sheet-refusal, some-mode-refused, edition-refusal, WritePromise};
 use crate::counts::part_bits;

@@ -32,10 +32,10 @@ use Rattle.rules.specs.declared.AxisAnswer.{AxisAnswer}
 use Rattle.rules.specs.declared.StepAnswer.{StepAnswer}
 use Rattle.rules.proofs.Refused.{or-else-passed}
 use Rattle.grid_checks.proofs.ThenOutcome.{ThenOutcome, then-outcome, refused, outcome-bad, outcome-good}
-use Rattle.step_checks.specs.Check.{exact-check, point-rows, point-check}
-use Rattle.step_checks.specs.Given.{PointGiven}
+use Rattle.step_checks.specs.StepChecks.{exact-check, point-rows, point-check}
+use Rattle.step_checks.specs.StepsChecked.{PointGiven}
 use Rattle.step_checks.proofs.Accepted.{exact-given, point-given}
-use Rattle.step_axis.specs.Within.{AxisLocated, Stepped}
+use Rattle.step_axis.specs.AmongKnots.{AxisLocated, Stepped}
 
 -- an answer of its two parts
 abbrev exact-of : ℕ → ExactIndex → ExactAnswer

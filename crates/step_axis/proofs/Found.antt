@@ -15,9 +15,9 @@ use Rattle.rules.specs.declared.StepDirection.the-variants.{Lower, Upper}
 use Rattle.rules.specs.declared.ExactIndex.{ExactIndex}
 use Rattle.rules.specs.declared.ExactIndex.the-variants.{Found, NotFound}
 use Rattle.rules.specs.declared.AxisLocation.the-variants.{Exact, Between}
-use Rattle.axis_locate.specs.Answers.{Located}
-use Rattle.step_checks.specs.Given.{PointGiven}
-use Rattle.step_axis.specs.Within.{AxisLocated, Stepped}
+use Rattle.axis_locate.specs.CellFound.{Located}
+use Rattle.step_checks.specs.StepsChecked.{PointGiven}
+use Rattle.step_axis.specs.AmongKnots.{AxisLocated, Stepped}
 
 -- ---- which of two knots equals the point
 

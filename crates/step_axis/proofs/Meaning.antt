@@ -16,8 +16,8 @@ use Rattle.rules.specs.declared.StepDirection.the-variants.{Lower, Upper}
 use Rattle.rules.specs.declared.ExactIndex.the-variants.{Found, NotFound}
 use Rattle.rules.proofs.Cases.{not-both}
 use Rattle.base_floats.specs.Place.{Real, AllFit}
-use Rattle.axis_locate.specs.Answers.{Rising}
-use Rattle.step_checks.specs.Check.{point-check}
+use Rattle.axis_locate.specs.CellFound.{Rising}
+use Rattle.step_checks.specs.StepChecks.{point-check}
 use Rattle.step_checks.proofs.Accepted.{point-given}
 use Rattle.step_axis.specs.Meaning.{not-below-all, not-above-all, Downward, Upward, BetweenKnots, Says}
 use Rattle.step_axis.proofs.Answers.{step-check, axis-checked}

@@ -12,7 +12,7 @@ use Rattle.rules.specs.Locate.{locate}
 use Rattle.rules.specs.Step.{lower-step, upper-step}
 use Rattle.base_floats.specs.Place.{place, Real, AllFit}
 use Rattle.base_floats.proofs.Reals.{lt-is, le-is, eq-is}
-use Rattle.axis_locate.specs.Answers.{Rising}
+use Rattle.axis_locate.specs.CellFound.{Rising}
 use Rattle.axis_locate.proofs.Among.{Among, placed, locate-is}
 
 -- ---- the tests of two finite numbers

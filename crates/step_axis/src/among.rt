@@ -1,12 +1,13 @@
-// A point among knots that were accepted. None of these is public: each requires what the refusals leave.
+// A point among knots that were accepted. None of these is a public call: all but `location_refused` require what the refusals leave, or a
+// part of it.
 ghost use mathlib.Core.Path.{_≡_};
 ghost use Prim.Native.Nat.{_+_, _<_};
 ghost use lib.ListN.{length};
 ghost use Rattle.rules.specs.Refusals.{location-refused};
 ghost use Rattle.rules.specs.Step.{exact-index};
 ghost use Rattle.rules.specs.declared.StepDirection as StepDirection;
-ghost use Rattle.step_checks.specs.Given.{PointGiven};
-ghost use Rattle.step_axis.specs.Within.{AxisLocated, Stepped};
+ghost use Rattle.step_checks.specs.StepsChecked.{PointGiven};
+ghost use Rattle.step_axis.specs.AmongKnots.{AxisLocated, Stepped};
 use rules::AxisLocation;
 use rules::ExactIndex;
 use rules::StepDirection;

@@ -26,7 +26,7 @@ pub fn exact_index(points: usize, knots: &[f64], lower: usize, point: f64) -> Ex
 }
 
 // PUBLIC. Where a point lies: on a knot, or in a cell at a fraction of its width, as the Rust's `locate_axis`. Refuses 2 4 7 8, and 10 for
-// a fraction that is infinite; then it is on knot 0.
+// a fraction that is infinite or NaN; then it is on knot 0.
 pub fn locate_axis(points: usize, knots: &[f64], point: f64) -> AxisAnswer
     ensures { λ r. ⌜ AxisPromise points (now (knots .entry)) point r ⌝ }
 {

@@ -13,13 +13,13 @@ use Rattle.rules.specs.Sizes.{Grid, points, knots-length, knots, samples-length
 use Rattle.rules.specs.Refusals.{points-refused, number-refused, some-number-refused, knots-refused}
 use Rattle.base_numbers.proofs.Scan.{neither, any-at}
 use Rattle.grid.proofs.Knots.{knots-of-axis}
-use Rattle.grid_checks.specs.Given.{GridGiven}
+use Rattle.grid_checks.specs.Checked.{GridGiven}
 use Rattle.grid_checks.proofs.Rows.{none-applies, exact, exact-3}
 use Rattle.grid_checks.proofs.Accepted.{grid-known}
 use Rattle.grid_checks.proofs.FiniteKnots.{axis-finite}
 use Rattle.axis_locate.proofs.Accepted.{accepted-rise}
-use Rattle.step_checks.specs.Check.{point-rows, point-check, exact-rows, exact-check, stepped-rows, stepped-check}
-use Rattle.step_checks.specs.Given.{PointGiven, ExactGiven, SteppedGiven}
+use Rattle.step_checks.specs.StepChecks.{point-rows, point-check, exact-rows, exact-check, stepped-rows, stepped-check}
+use Rattle.step_checks.specs.StepsChecked.{PointGiven, ExactGiven, SteppedGiven}
 
 -- ---- the calls on one axis
 

@@ -8,7 +8,7 @@ use lib.Ieee.{Float}
 use Rattle.rules.specs.Refusals.{points-refused}
 use Rattle.grid_checks.specs.Tables.{lowest}
 use Rattle.grid_checks.proofs.Rows.{none-applies, rows-stop, rows-pass, exact}
-use Rattle.step_checks.specs.Check.{axis-rows, axis-check, numbers-rows, numbers-check}
+use Rattle.step_checks.specs.StepChecks.{axis-rows, axis-check, numbers-rows, numbers-check}
 
 module _ (n : ℕ) (x : List Float) {number : ℕ} (e : number ≡ axis-check n (length x)) where
   pub axis-stop : (later : ℕ) → (number ≡ 0 → ⊥) → number ≡ lowest (axis-rows n (length x)) later

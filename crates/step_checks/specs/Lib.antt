@@ -1,2 +1,2 @@
-pub mod Check
-pub mod Given
+pub mod StepChecks
+pub mod StepsChecked

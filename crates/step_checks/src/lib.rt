@@ -1,12 +1,12 @@
 // The refusals of steps as code: for each public call the first number that it meets before it works, and 0 where there is none. The pass
-// over the knots for refusal 8 is made before they are looked at for refusal 7, as in `checks`.
+// over the knots for refusal 8 is made before they are looked at for refusal 7, as in `grid_checks`.
 ghost use mathlib.Core.Path.{_≡_};
 ghost use mathlib.Core.Bool.{false, _||_};
 ghost use lib.ListN.{length};
 ghost use Rattle.rules.specs.Sizes.{knots-length, samples-length};
 ghost use Rattle.rules.specs.Refusals.{points-refused, length-refused};
-ghost use Rattle.grid.specs.Given.{grid, sizes-of, points-of, InRange};
-ghost use Rattle.step_checks.specs.Check.{axis-check, numbers-check, point-check, exact-check, stepped-check};
+ghost use Rattle.grid.specs.GridOfCall.{grid, sizes-of, points-of, InRange};
+ghost use Rattle.step_checks.specs.StepChecks.{axis-check, numbers-check, point-check, exact-check, stepped-check};
 use grid_checks::lengths;
 use grid_checks::numbers;
 use grid_checks::rising;
@@ -26,7 +26,7 @@ fn axis_refusal(points: usize, knots: usize) -> usize
     0
 }
 
-// What the knots and a point meet: 7, 8, or 0. Not public: what refusals 2 and 4 leave is required.
+// What the knots and a point meet: 7, 8, or 0. Not a public call: what refusals 2 and 4 leave is required.
 fn numbers_refusal(knots: &[f64], point: f64) -> usize
     requires { ⌜ points-refused (length (now knots)) ≡ false ⌝ }
     ensures { λ r. ⌜ r ≡ numbers-check (length (now (knots .entry))) (now (knots .entry)) point ⌝ }
@@ -69,7 +69,8 @@ pub fn exact_refusal(points: usize, knots: &[f64], lower: usize, point: f64) -> 
     numbers_refusal(knots, point)
 }
 
-// Whether knots, samples or coordinates are not as long as a stepped surface asks for. Not public: what refusals 1 and 2 leave is required.
+// Whether knots, samples or coordinates are not as long as a stepped surface asks for. Not a public call: it requires what refusals 1 and 2
+// leave, one to four axes of 2 to 256 points.
 pub fn stepped_lengths_refused(
     axes: usize,
     all: [Axis; 4],

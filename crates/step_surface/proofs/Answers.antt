@@ -19,9 +19,9 @@ use Rattle.rules.specs.declared.StepDirection.{StepDirection}
 use Rattle.rules.specs.declared.SteppedAnswer.{SteppedAnswer}
 use Rattle.rules.proofs.Places.{OnGrid, flat-below, flat-ext}
 use Rattle.rules.proofs.Tables.{table-is}
-use Rattle.grid.specs.Given.{SizesGiven}
-use Rattle.step_checks.specs.Check.{stepped-check}
-use Rattle.step_checks.specs.Given.{AxesGiven, SteppedGiven}
+use Rattle.grid.specs.GridOfCall.{SizesGiven}
+use Rattle.step_checks.specs.StepChecks.{stepped-check}
+use Rattle.step_checks.specs.StepsChecked.{AxesGiven, SteppedGiven}
 use Rattle.step_checks.proofs.Accepted.{stepped-given}
 use Rattle.step_surface.specs.Indices.{OnAxes}
 

@@ -15,7 +15,7 @@ use Rattle.rules.specs.declared.StepDirection.{StepDirection}
 use Rattle.rules.specs.declared.StepDirection.the-variants.{Lower, Upper}
 use Rattle.rules.specs.declared.SteppedAnswer.{SteppedAnswer}
 use Rattle.rules.proofs.Places.{flat-below, flat-one}
-use Rattle.grid.specs.Given.{InRange, On}
+use Rattle.grid.specs.GridOfCall.{InRange, On}
 use Rattle.step_checks.proofs.Accepted.{stepped-given}
 use Rattle.step_surface.specs.OneSample.{AllButOne, OneSample}
 use Rattle.step_surface.proofs.Answers.{stepped-checked}

@@ -19,7 +19,7 @@ use Rattle.rules.proofs.Tables.{length-table, at-table}
 use Rattle.rules.proofs.Places.{flat-ext}
 use Rattle.base_floats.specs.Place.{AllFit}
 use Rattle.base_floats.proofs.Parts.{part-fits}
-use Rattle.step_checks.specs.Given.{PointGiven}
+use Rattle.step_checks.specs.StepsChecked.{PointGiven}
 use Rattle.step_checks.proofs.Accepted.{stepped-given}
 use Rattle.step_axis.proofs.Meaning.{downward, upward}
 use Rattle.step_surface.specs.SteppedMeaning.{InDirection, SteppedMeaning}

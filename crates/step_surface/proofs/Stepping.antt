@@ -14,8 +14,8 @@ use Rattle.rules.specs.Step.{step-index}
 use Rattle.rules.specs.StepCalls.{direction}
 use Rattle.rules.specs.declared.StepDirection.{StepDirection}
 use Rattle.grid.proofs.Products.{sum-none, sum-more, sum-within}
-use Rattle.step_checks.specs.Given.{PointGiven, AxesGiven}
-use Rattle.step_axis.specs.Within.{Stepped}
+use Rattle.step_checks.specs.StepsChecked.{PointGiven, AxesGiven}
+use Rattle.step_axis.specs.AmongKnots.{Stepped}
 use Rattle.step_surface.specs.Indices.{OnAxes}
 
 -- the indices of the first i axes stand, and the knots of the next begin at `begin`

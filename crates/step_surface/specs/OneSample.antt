@@ -11,7 +11,7 @@ use Rattle.rules.specs.Refusals.{some-number-refused}
 use Rattle.rules.specs.Step.{stepped-place}
 use Rattle.rules.specs.StepCalls.{direction, stepped-answer}
 use Rattle.rules.specs.declared.StepDirection.{StepDirection}
-use Rattle.grid.specs.Given.{On}
+use Rattle.grid.specs.GridOfCall.{On}
 
 -- two lists of finite samples, one for each place, that agree but at the changed place
 pub record AllButOne (g : Grid) (changed : Place) (samples others : List Float) : Type 0 where

@@ -8,7 +8,7 @@ use Rattle.rules.specs.Sizes.{Grid, points, knots, place-of, flat}
 use Rattle.rules.specs.StepCalls.{direction}
 use Rattle.rules.specs.declared.StepDirection.{StepDirection}
 use Rattle.rules.specs.declared.StepDirection.the-variants.{Lower, Upper}
-use Rattle.grid.specs.Given.{On}
+use Rattle.grid.specs.GridOfCall.{On}
 use Rattle.step_axis.specs.Meaning.{Downward, Upward}
 
 -- what an index says of n knots and a point in a direction

@@ -1,13 +1,13 @@
 // The stepped surface: a point steps to a knot on each axis, and the sample there is the answer.
 ghost use Rattle.rules.specs.StepCalls.{SteppedPromise};
-ghost use Rattle.grid.specs.Given.{grid};
-ghost use Rattle.step_checks.specs.Given.{AxesGiven};
+ghost use Rattle.grid.specs.GridOfCall.{grid};
+ghost use Rattle.step_checks.specs.StepsChecked.{AxesGiven};
 ghost use Rattle.step_surface.specs.Indices.{OnAxes};
 use rules::Axis;
 use rules::StepDirection;
 use rules::SteppedAnswer;
 
-// The index of the step on each axis in use, and 0 past them. Not public: what the refusals leave is required.
+// The index of the step on each axis in use, and 0 past them. Not a public call: what the refusals leave is required.
 fn step_indices(
     axes: usize,
     all: [Axis; 4],

@@ -14,11 +14,11 @@ use Rattle.rules.specs.Sizes.{Grid, masks, samples-length, tensor-length, Place
 use Rattle.rules.specs.Tensor.{tensor}
 use Rattle.rules.specs.Calls.{BuildPromise}
 use Rattle.grid_checks.specs.Check.{build-check}
-use Rattle.grid_checks.specs.Given.{BuildGiven}
+use Rattle.grid_checks.specs.Checked.{BuildGiven}
 use Rattle.grid_checks.proofs.ThenOutcome.{refused, build-outcome}
-use Rattle.tensor_lane.specs.Lanes.{Lies, Stored}
+use Rattle.tensor_lane.specs.LaneInScratch.{Lies, Stored}
 use Rattle.tensor_passes.specs.Passes.{WorkGiven, Refreshed}
-use Rattle.grid.specs.Given.{On}
+use Rattle.grid.specs.GridOfCall.{On}
 use Rattle.tensor_passes.proofs.MaskTurns.{given-again}
 use Rattle.tensor.specs.Working.{outcome-in, Finished}
 use Rattle.tensor.proofs.Outcome.{built, samples-stored}

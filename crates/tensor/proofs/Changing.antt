@@ -18,7 +18,7 @@ use Rattle.rules.specs.declared.ChangeAnswer.{ChangeAnswer}
 use Rattle.rules.proofs.Places.{flat-below}
 use Rattle.rules.proofs.LaneCount.{lane-count}
 use Rattle.grid_checks.specs.Check.{change-check}
-use Rattle.grid_checks.specs.Given.{ChangeGiven}
+use Rattle.grid_checks.specs.Checked.{ChangeGiven}
 use Rattle.grid_checks.proofs.ThenOutcome.{refused, change-outcome}
 use Rattle.tensor_passes.specs.Passes.{lanes-solved-below, WorkGiven, Refreshed}
 use Rattle.tensor_passes.proofs.Count.{change-count}

@@ -31,7 +31,7 @@ use Rattle.rules.specs.Tensor.{sample, tensor}
 use Rattle.rules.specs.Change.{agree, changed-tensor, change-lanes, lane-sum}
 use Rattle.rules.specs.Calls.{stored, counted, build-refusal, BuildPromise, change-refusal, change-answer}
 use Rattle.rules.specs.declared.ChangeAnswer.{ChangeAnswer}
-use Rattle.rules.proofs.Cases.{not-both}
+use Rattle.rules.proofs.Cases.{not-both, passed, neither-of}
 use Rattle.rules.proofs.Places.{OnGrid, flat-below}
 use Rattle.rules.proofs.Tables.{length-table}
 use Rattle.rules.proofs.ChangeIsBuild.{kept, built-entry, set-is-with-sample, change-is-build}
@@ -39,6 +39,7 @@ use Rattle.rules.proofs.LaneCount.{lane-count}
 use Rattle.rules.proofs.Refused.{any-ext}
 use Rattle.base_numbers.proofs.Scan.{neither, any-found, any-at}
 use Rattle.tensor_starts.proofs.Agreement.{agree-at}
+use Rattle.grid_checks.proofs.Rows.{exact, length-fits}
 use Rattle.tensor.specs.Changes.{Step, Kept, tensor-after, standing, samples-after}
 
 -- ---- what the statements speak of
@@ -104,28 +105,11 @@ past : (b : Bool) (number : ℕ) {later answer : ℕ} → b ≡ false → later 
 past true number e below = not-both true refl e
 past false number e below = below
 
-peel : (b : Bool) (number later : ℕ) → cond b (suc number) later ≡ 0 → (b ≡ false) × (later ≡ 0)
-peel true number later e = let z : ⊥ = omega arith in absurd z
-peel false number later e = (refl, e)
-
-neither-of : {a b : Bool} → a ≡ false → b ≡ false → (a || b) ≡ false
-neither-of e f = rw (e, f)
-
 none-of-three : (a b c : Bool) → a ≡ false → b ≡ false → c ≡ false → (a || b || c) ≡ false
 none-of-three a b c e f h = rw (e, f, h)
 
 third-alone : (a b c : Bool) → a ≡ false → b ≡ false → (a || b || c) ≡ c
 third-alone a b c e f = rw (e, f)
-
-pub exact : (given size : ℕ) → given ≡ size → length-refused given size ≡ false
-exact given size e = ap not (eq-eqb given size e)
-
-not-exact : (given size : ℕ) → length-refused given size ≡ false → given ≡ size
-not-exact given size e = go (eqb given size) refl e
-  where
-    go : (b : Bool) → eqb given size ≡ b → not b ≡ false → given ≡ size
-    go true h f = eqb-true given size h
-    go false h f = not-both true refl f
 
 -- ---- samples that a build accepts, given the right lengths and the stated room
 
@@ -145,19 +129,19 @@ pub record Sound (g : Grid) (samples : List Float) : Type 0 where
 accepted-is-sound : (g : Grid) (samples out scratch : List Float) → build-refusal g samples out scratch ≡ 0 → Sound g samples
 unfolding build-refusal
 accepted-is-sound g samples out scratch e =
-    let r1 = peel (axes-refused g) 0 _ e in
-    let r2 = peel (some-points-refused g) 1 _ (r1 .1) in
-    let r3 = peel (tensor-refused g) 2 _ (r2 .1) in
+    let r1 = passed (axes-refused g) 0 _ e in
+    let r2 = passed (some-points-refused g) 1 _ (r1 .1) in
+    let r3 = passed (tensor-refused g) 2 _ (r2 .1) in
     let r4 =
-    peel
+    passed
     (length-refused (length (g .flat-knots)) (knots-length g) || length-refused (length samples) (samples-length g)
     || length-refused (length out) (tensor-length g))
     3 _ (r3 .1) in
-    let r5 = peel (ltb (length scratch) (scratch-length g)) 4 _ (r4 .1) in
-    let r7 = peel (some-number-refused (g .flat-knots) || some-ends-refused g || some-number-refused samples) 6 _ (r5 .1) in
-    let r8 = peel (some-knots-refused g) 7 _ (r7 .1) in
-    let r9 = peel (some-fewness-refused g) 8 _ (r8 .1) in
-    let r10 = peel (outcome-refused (tensor g samples)) 9 0 (r9 .1) in
+    let r5 = passed (ltb (length scratch) (scratch-length g)) 4 _ (r4 .1) in
+    let r7 = passed (some-number-refused (g .flat-knots) || some-ends-refused g || some-number-refused samples) 6 _ (r5 .1) in
+    let r8 = passed (some-knots-refused g) 7 _ (r7 .1) in
+    let r9 = passed (some-fewness-refused g) 8 _ (r8 .1) in
+    let r10 = passed (outcome-refused (tensor g samples)) 9 0 (r9 .1) in
     let lengths =
     neither (length-refused (length (g .flat-knots)) (knots-length g) || length-refused (length samples) (samples-length g))
     (length-refused (length out) (tensor-length g)) (r4 .0) in
@@ -170,8 +154,8 @@ accepted-is-sound g samples out scratch e =
       axes-fine = r1 .0;
       points-fine = r2 .0;
       tensor-fine = r3 .0;
-      knots-exact = not-exact (length (g .flat-knots)) (knots-length g) (two .0);
-      samples-exact = not-exact (length samples) (samples-length g) (two .1);
+      knots-exact = exact (length (g .flat-knots)) (knots-length g) (two .0);
+      samples-exact = exact (length samples) (samples-length g) (two .1);
       knots-finite = both .0;
       ends-finite = both .1;
       samples-finite = numbers .1;
@@ -194,7 +178,7 @@ module _ (g : Grid) (samples : List Float) (sound : Sound g samples) where
       (length-refused (length (g .flat-knots)) (knots-length g) || length-refused (length others) (samples-length
       g) || length-refused (length out) (tensor-length g))
       4
-      (none-of-three _ _ _ (exact _ _ (sound .knots-exact)) (exact _ _ long) (exact _ _ (fitting .0)))
+      (none-of-three _ _ _ (length-fits _ _ (sound .knots-exact)) (length-fits _ _ long) (length-fits _ _ (fitting .0)))
       (past (ltb (length scratch) (scratch-length g)) 5 (le-ltb (length scratch) (scratch-length g) (fitting .1))
       (ap₂ (λ (b : Bool) (n : ℕ). cond b 7 n)
       (third-alone (some-number-refused (g .flat-knots)) (some-ends-refused g) (some-number-refused others) (sound .knots-finite)
@@ -213,7 +197,7 @@ module _ (g : Grid) (samples : List Float) (sound : Sound g samples) where
       (past (some-points-refused g) 2 (sound .points-fine)
       (past (tensor-refused g) 3 (sound .tensor-fine)
       (past (length-refused (length (g .flat-knots)) (knots-length g) || length-refused (length (tensor g samples)) (tensor-length g)) 4
-      (neither-of (exact _ _ (sound .knots-exact)) (exact _ _ long))
+      (neither-of (length-fits _ _ (sound .knots-exact)) (length-fits _ _ long))
       (past (ltb (length scratch) (scratch-length g)) 5 (le-ltb (length scratch) (scratch-length g) room)
       (ap (λ (n : ℕ). cond (place-refused g place) 6 n)
       (ap₂ (λ (b : Bool) (n : ℕ). cond b 7 n) numbers
@@ -303,16 +287,16 @@ pub change-accepted : (g : Grid) (t scratch : List Float) (place : Place) (v : F
     → Accepted g t place v
 unfolding change-refusal
 change-accepted g t scratch place v e =
-    let r1 = peel (axes-refused g) 0 _ e in
-    let r2 = peel (some-points-refused g) 1 _ (r1 .1) in
-    let r3 = peel (tensor-refused g) 2 _ (r2 .1) in
-    let r4 = peel (length-refused (length (g .flat-knots)) (knots-length g) || length-refused (length t) (tensor-length g)) 3 _ (r3 .1) in
-    let r5 = peel (ltb (length scratch) (scratch-length g)) 4 _ (r4 .1) in
-    let r6 = peel (place-refused g place) 5 _ (r5 .1) in
-    let r7 = peel (some-number-refused (g .flat-knots) || some-ends-refused g || number-refused v || some-number-refused t) 6 _ (r6 .1) in
-    let r8 = peel (some-knots-refused g) 7 _ (r7 .1) in
-    let r9 = peel (some-fewness-refused g) 8 _ (r8 .1) in
-    let r10 = peel (outcome-refused (changed-tensor g place v t)) 9 0 (r9 .1) in
+    let r1 = passed (axes-refused g) 0 _ e in
+    let r2 = passed (some-points-refused g) 1 _ (r1 .1) in
+    let r3 = passed (tensor-refused g) 2 _ (r2 .1) in
+    let r4 = passed (length-refused (length (g .flat-knots)) (knots-length g) || length-refused (length t) (tensor-length g)) 3 _ (r3 .1) in
+    let r5 = passed (ltb (length scratch) (scratch-length g)) 4 _ (r4 .1) in
+    let r6 = passed (place-refused g place) 5 _ (r5 .1) in
+    let r7 = passed (some-number-refused (g .flat-knots) || some-ends-refused g || number-refused v || some-number-refused t) 6 _ (r6 .1) in
+    let r8 = passed (some-knots-refused g) 7 _ (r7 .1) in
+    let r9 = passed (some-fewness-refused g) 8 _ (r8 .1) in
+    let r10 = passed (outcome-refused (changed-tensor g place v t)) 9 0 (r9 .1) in
     let numbers =
     neither (some-number-refused (g .flat-knots) || some-ends-refused g || number-refused v) (some-number-refused t) (r7 .0) in
     record {

@@ -23,7 +23,7 @@ use Rattle.tensor_lane.proofs.Parts.{part-is-table}
 use Rattle.tensor_starts.specs.Starts.{free}
 use Rattle.tensor_starts.proofs.Agreement.{agree-at, agree-all}
 use Rattle.tensor_passes.specs.Passes.{solves, working, WorkGiven, refreshed, Refreshed}
-use Rattle.grid.specs.Given.{On}
+use Rattle.grid.specs.GridOfCall.{On}
 use Rattle.tensor_passes.proofs.Pass.{digits-one}
 
 module _ (g : Grid) where

@@ -9,7 +9,7 @@ use Rattle.rules.specs.Numbers.{zeros}
 use Rattle.rules.specs.Sizes.{Grid}
 use Rattle.rules.specs.Refusals.{outcome-refused}
 use Rattle.rules.specs.Calls.{stored, scratch-after}
-use Rattle.grid_checks.specs.Given.{GridGiven, SolveGiven}
+use Rattle.grid_checks.specs.Checked.{GridGiven, SolveGiven}
 use Rattle.grid_checks.proofs.ThenOutcome.{ThenOutcome, outcome}
 use Rattle.tensor_passes.specs.Passes.{WorkGiven}
 use Rattle.tensor.specs.Working.{outcome-in, Finished}

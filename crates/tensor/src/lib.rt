@@ -1,7 +1,7 @@
 // The tensor: every lane of a build, or those of a change that can differ, solved in the scratch behind its rows.
 ghost use Rattle.rules.specs.Sizes.{place-of};
 ghost use Rattle.rules.specs.Calls.{BuildPromise, ChangePromise};
-ghost use Rattle.grid.specs.Given.{grid};
+ghost use Rattle.grid.specs.GridOfCall.{grid};
 use rules::Axis;
 use rules::ChangeAnswer;
 

@@ -1,9 +1,9 @@
-// The working tensor in the scratch: what is stored there before the passes, and what is done with it after them. None of these is public.
+// The working tensor in the scratch: what is stored there before the passes, and what is done after them. None of these is a public call.
 ghost use Prim.Native.Nat.{_+_, _<_, _≤_};
 ghost use lib.ListN.{length};
 ghost use Rattle.rules.specs.Numbers.{at};
 ghost use Rattle.grid_scratch.specs.Layout.{tensor-begin};
-ghost use Rattle.tensor_lane.specs.Lanes.{Lies, Stored};
+ghost use Rattle.tensor_lane.specs.LaneInScratch.{Lies, Stored};
 ghost use Rattle.tensor.specs.Working.{Loaded, Finished};
 use grid_scratch::TENSOR;
 

@@ -9,7 +9,7 @@ use lib.ListN.{length}
 use lib.Ieee.{Float}
 use Rattle.rules.specs.Numbers.{at, _⊖_, _⊗_}
 use Rattle.tensor_fours.specs.Fours.{Lanewise, in-row, RowSet}
-use Rattle.tensor_plan.specs.Ends.{Room}
+use Rattle.tensor_plan.specs.PlanOfEnds.{Room}
 use Rattle.tensor_four_lanes.specs.Sweeps.{Back}
 use Rattle.tensor_fours.proofs.Fours.{lane, number, row-other, row-there}
 

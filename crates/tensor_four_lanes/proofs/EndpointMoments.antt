@@ -17,19 +17,12 @@ use Rattle.rules.specs.declared.End.the-variants.{NotAKnot, FirstDerivative, Se
 use Rattle.rules.specs.declared.Condition.the-variants.{Endpoints}
 use Rattle.grid_scratch.specs.Layout.{Outside}
 use Rattle.tensor_fours.specs.Fours.{Lanewise, in-row, RowSet}
-use Rattle.tensor_plan.specs.Ends.{EndsGiven}
+use Rattle.tensor_plan.specs.PlanOfEnds.{EndsGiven}
 use Rattle.tensor_plan.specs.declared.EndsPlan.{EndsPlan}
+use Rattle.rules.proofs.Cases.{zero-or-more}
+use Rattle.rules.proofs.Ends.{dropped-most}
 use Rattle.tensor_four_lanes.specs.Groups.{lower-moment, upper-moment, samples, EndsGroup, InnerSolved, MomentsSolved}
 use Rattle.tensor_fours.proofs.Fours.{row-other, row-there}
-
-zero-or-more : (k : ℕ) → (k ≡ 0) ⊎ (0 < k)
-zero-or-more zero = inl refl
-zero-or-more (suc k) = inr (omega arith)
-
-dropped-most : (end : End) → dropped end ≤ 1
-dropped-most NotAKnot = omega arith
-dropped-most (FirstDerivative v) = omega arith
-dropped-most (SecondDerivative v) = omega arith
 
 -- row j stands at knot (dropped lower) + j
 abbrev OwnMoments : List Float → List Float → List Float → End → End → ℕ → Type 0

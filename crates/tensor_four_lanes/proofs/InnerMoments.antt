@@ -19,7 +19,7 @@ use Rattle.rules.specs.declared.End.the-variants.{NotAKnot, FirstDerivative, Se
 use Rattle.rules.proofs.Tables.{at-table}
 use Rattle.grid_scratch.specs.Layout.{Outside}
 use Rattle.tensor_fours.specs.Fours.{Lanewise, in-row, place, RowSet}
-use Rattle.tensor_plan.specs.Ends.{of-ends, EndsPlanned, EndsGiven}
+use Rattle.tensor_plan.specs.PlanOfEnds.{of-ends, EndsPlanned, EndsGiven}
 use Rattle.tensor_plan.specs.declared.EndsPlan.{EndsPlan}
 use Rattle.tensor_four_lanes.specs.Groups.{lower-right, upper-right, samples, SlopesOf, EndsGroup, InnerSolved}
 use Rattle.tensor_four_lanes.specs.Sweeps.{step-slope, Sloped, Forward, Back}

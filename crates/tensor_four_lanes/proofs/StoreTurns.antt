@@ -10,7 +10,7 @@ use borrow.Author.Count.{below-more}
 use Rattle.rules.specs.Numbers.{at, _⊕_, _⊖_, _⊗_, _⊘_, two, six}
 use Rattle.grid_scratch.specs.Layout.{Outside}
 use Rattle.tensor_fours.specs.Fours.{Lanewise, Four, in-row, place, RowSet, Stored}
-use Rattle.tensor_plan.specs.Ends.{Room}
+use Rattle.tensor_plan.specs.PlanOfEnds.{Room}
 use Rattle.tensor_four_lanes.specs.Sweeps.{Lanes, inner-slope, last-slope, slope-at, Laid}
 use Rattle.tensor_fours.proofs.Fours.{lane, each, number}
 use borrow.Author.Tests.{lt-ltb, le-ltb}

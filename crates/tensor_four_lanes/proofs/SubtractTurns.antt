@@ -7,7 +7,7 @@ use lib.Ieee.{Float}
 use borrow.Author.Count.{below-more}
 use Rattle.rules.specs.Numbers.{at, _⊖_, _⊗_}
 use Rattle.tensor_fours.specs.Fours.{Lanewise, in-row, RowSet}
-use Rattle.tensor_plan.specs.Ends.{Room}
+use Rattle.tensor_plan.specs.PlanOfEnds.{Room}
 use Rattle.tensor_four_lanes.specs.Groups.{Subtracted}
 use Rattle.tensor_fours.proofs.Fours.{number, row-other, row-there}
 

@@ -15,7 +15,7 @@ use Rattle.rules.specs.declared.End.the-variants.{NotAKnot, FirstDerivative, Se
 use Rattle.rules.specs.declared.Condition.{Condition}
 use Rattle.grid_scratch.specs.Layout.{plan-row-length, second-row, four-slopes, four-moments, four-blocks, row, Outside}
 use Rattle.tensor_fours.specs.Fours.{in-row, place}
-use Rattle.tensor_plan.specs.Ends.{EndsGiven, EndsPlanned}
+use Rattle.tensor_plan.specs.PlanOfEnds.{EndsGiven, EndsPlanned}
 use Rattle.tensor_plan.specs.Cycle.{CyclePlanned}
 use Rattle.tensor_plan.specs.Plans.{PlanGiven, PlanStands}
 use Rattle.tensor_plan.specs.declared.EndsPlan.{EndsPlan}

@@ -11,7 +11,7 @@ use lib.Ieee.{Float}
 use Rattle.rules.specs.Numbers.{at, _⊕_, _⊖_, _⊗_, _⊘_, two, six}
 use Rattle.grid_scratch.specs.Layout.{divisors-row, helpers-row, four-slopes, four-moments, four-blocks, tensor-begin, row, Outside}
 use Rattle.tensor_fours.specs.Fours.{Four, in-row, place}
-use Rattle.tensor_plan.specs.Ends.{Room}
+use Rattle.tensor_plan.specs.PlanOfEnds.{Room}
 
 -- lane l's numbers at knots 0 to n stand in the working tensor, `step` apart, the first o behind the lane's place
 pub record Lanes (w : List Float) (n : ℕ) (p : List ℕ) (o step : ℕ) : Type 0 where
@@ -64,7 +64,7 @@ abbrev pub slope-at : List Float → ℕ → ℕ → ℕ → Float
 slope-at w n k l = cond (ltb k n) (inner-slope w k l) (last-slope w n l)
 
 -- n numbers of each lane stored, number k of lane l o + k * step behind its place. Lanes may be one and the same, so it is said by a G,
--- what belongs at each place, as in fours' Stored; the plan and all else in the working tensor is kept
+-- what belongs at each place, as in tensor_fours' Stored; the plan and all else in the working tensor is kept
 pub record Laid (w w′ : List Float) (p : List ℕ) (o step n : ℕ) (numbers : ℕ → ℕ → Float) : Type 0 where
   pub same-length : length w′ ≡ length w
   pub there : (G : ℕ → Float)

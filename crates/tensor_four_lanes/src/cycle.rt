@@ -1,8 +1,8 @@
-// Four lanes of a periodic axis of two intervals or more. Not public.
+// Four lanes of a periodic axis of two intervals or more. None of these is a public call.
 ghost use Prim.Native.Nat.{_-_};
 ghost use lib.ListN.{length};
 ghost use Rattle.rules.specs.declared.Condition.the-variants.{Periodic};
-ghost use Rattle.tensor_plan.specs.Ends.{Room};
+ghost use Rattle.tensor_plan.specs.PlanOfEnds.{Room};
 ghost use Rattle.tensor_four_lanes.specs.Sweeps.{Lanes, Laid};
 ghost use Rattle.tensor_four_lanes.specs.Groups.{MomentsSolved, four-slope, CycleGroup, Subtracted};
 use crate::sweeps::back;

@@ -1,11 +1,11 @@
-// Four lanes under two ends. Not public.
+// Four lanes under two ends. None of these is a public call.
 ghost use Prim.Native.Nat.{_+_, _≤_};
 ghost use lib.ListN.{length};
 ghost use Rattle.rules.specs.Ends.{dropped};
 ghost use Rattle.rules.specs.Sizes.{scratch-of-rows};
 ghost use Rattle.rules.specs.declared.Condition.the-variants.{Endpoints};
 ghost use Rattle.tensor_fours.specs.Fours.{Lanewise};
-ghost use Rattle.tensor_plan.specs.Ends.{Room};
+ghost use Rattle.tensor_plan.specs.PlanOfEnds.{Room};
 ghost use Rattle.tensor_four_lanes.specs.Sweeps.{Laid};
 ghost use Rattle.tensor_four_lanes.specs.Groups.{
   lower-right,

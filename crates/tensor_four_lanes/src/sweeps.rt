@@ -1,8 +1,8 @@
-// The sweeps over four lanes, row after row. Not public.
+// The sweeps over four lanes, row after row. None of these is a public call.
 ghost use Prim.Native.Nat.{_+_, _<_, _≤_};
 ghost use Rattle.rules.specs.Numbers.{at, _⊕_, _⊖_, _⊗_, _⊘_, two, six};
 ghost use Rattle.tensor_fours.specs.Fours.{Lanewise};
-ghost use Rattle.tensor_plan.specs.Ends.{Room};
+ghost use Rattle.tensor_plan.specs.PlanOfEnds.{Room};
 ghost use Rattle.tensor_four_lanes.specs.Sweeps.{Lanes, Sloped, Forward, Back, inner-slope, slope-at, Laid};
 use grid_scratch::DIVISORS;
 use grid_scratch::FOUR_MOMENTS;

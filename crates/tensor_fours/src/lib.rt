@@ -1,5 +1,5 @@
-// Four numbers side by side, one of each of four lanes, by value: so the compiler keeps them in one register. No function here is public:
-// those on the scratch require that their row or their places lie in it.
+// Four numbers side by side, one of each of four lanes, by value: so the compiler keeps them in one register. None of these is a public
+// call: those on the scratch require that their row or their places lie in it.
 ghost use Prim.Native.Nat.{_+_, _*_, _<_, _≤_};
 ghost use lib.ListN.{length};
 ghost use Rattle.rules.specs.Numbers.{at, _⊕_, _⊖_, _⊗_, _⊘_};

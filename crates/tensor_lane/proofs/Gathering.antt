@@ -8,7 +8,7 @@ use lib.Seq.{getD-set-same, getD-set-other}
 use lib.Ieee.{Float, nan}
 use borrow.Author.Count.{below-more}
 use Rattle.rules.specs.Numbers.{at}
-use Rattle.tensor_lane.specs.Lanes.{Lies, Gathered}
+use Rattle.tensor_lane.specs.LaneInScratch.{Lies, Gathered}
 
 pub record Turn (w₀ w : List Float) (n from step k : ℕ) : Type 0 where
   pub lies : Lies w₀ n from step

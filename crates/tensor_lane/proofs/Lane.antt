@@ -9,8 +9,8 @@ use Rattle.rules.specs.Numbers.{at, table}
 use Rattle.rules.specs.Moments.{moments}
 use Rattle.rules.specs.Curve.{knot-slope, lane-slope}
 use Rattle.rules.specs.declared.Condition.{Condition}
-use Rattle.axis_moments.specs.Lanes.{MomentsSolved}
-use Rattle.tensor_lane.specs.Lanes.{Lies, Gathered, slope-of-rows, Stored, LaneGiven, LaneSolved}
+use Rattle.axis_moments.specs.SolvedMoments.{MomentsSolved}
+use Rattle.tensor_lane.specs.LaneInScratch.{Lies, Gathered, slope-of-rows, Stored, LaneGiven, LaneSolved}
 use Rattle.tensor_lane.proofs.Parts.{part-is-table}
 
 -- a lane lies as well in a list of the same length

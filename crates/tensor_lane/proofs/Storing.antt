@@ -10,7 +10,7 @@ use lib.Ieee.{Float, nan}
 use borrow.Author.Count.{below-more}
 use Rattle.rules.specs.Numbers.{at}
 use Rattle.rules.specs.Curve.{knot-slope}
-use Rattle.tensor_lane.specs.Lanes.{Lies, Stored, slope-of-rows}
+use Rattle.tensor_lane.specs.LaneInScratch.{Lies, Stored, slope-of-rows}
 use Rattle.tensor_lane.proofs.Parts.{part-ext}
 
 pub record Turn (w₀ w : List Float) (numbers : ℕ → Float) (n to step k : ℕ) : Type 0 where

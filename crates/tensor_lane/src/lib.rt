@@ -4,7 +4,7 @@ ghost use Prim.Native.Nat.{_<_, _≤_};
 ghost use lib.ListN.{length};
 ghost use Rattle.rules.specs.Sizes.{scratch-of-rows};
 ghost use Rattle.grid_scratch.specs.Layout.{row-length};
-ghost use Rattle.tensor_lane.specs.Lanes.{Lies, Gathered, slope-of-rows, Stored, LaneGiven, LaneSolved};
+ghost use Rattle.tensor_lane.specs.LaneInScratch.{Lies, Gathered, slope-of-rows, Stored, LaneGiven, LaneSolved};
 use axis_moments::curve::knot_slope;
 use grid_scratch::MOMENTS;
 use rules::Condition;
@@ -43,8 +43,8 @@ fn store_slopes(w: &mut [f64], x: &[f64], to: usize, step: usize)
     }
 }
 
-// The lane of numbers at `from`, from + step, .. is solved, and its knot slopes go to `to`, to + step, ..
-// Not public: it requires 2 to 256 knots, the fewest points of the condition, and both lanes behind the rows of the scratch.
+// The lane of numbers at `from`, from + step, .. is solved, and its knot slopes go to `to`, to + step and so on. It requires 2 to 256
+// knots, the fewest points of the condition, and both lanes behind the rows of the scratch.
 pub fn solve_lane(
     w: &mut [f64],
     x: &[f64],

@@ -10,9 +10,9 @@ use lib.Pow.{pow-pos}
 use lib.Ieee.{Float}
 use Rattle.rules.specs.Sizes.{Grid, points, Place}
 use Rattle.grid.proofs.Products.{sum-none, sum-more}
+use Rattle.rules.proofs.Sums.{sum-bound}
 use Rattle.tensor_passes.specs.Passes.{lanes-on-axis, lanes-solved-below, WorkGiven, PassGiven, AxisPassed, Refreshed}
-use Rattle.grid.specs.Given.{On}
-use Rattle.tensor_passes.proofs.Count.{sum-bound}
+use Rattle.grid.specs.GridOfCall.{On}
 use Rattle.tensor_passes.proofs.MaskTurns.{given-again, axis-fits}
 use Rattle.tensor_passes.proofs.Refresh.{no-axis, one-axis-more}
 

@@ -8,19 +8,13 @@ use Prim.Native.Nat.{ℕ, zero, suc, _+_, _-_, _*_, _^_, _<_, _≤_}
 use Rattle.rules.specs.Sizes.{sum-below, product-below, in-mask}
 use Rattle.rules.specs.Change.{product-of-one-more, lane-sum}
 use Rattle.rules.proofs.Mask.{in-mask-below, in-mask-above}
-use Rattle.rules.proofs.Sums.{sum-ext, product-ext, product-stops, points-product, sum-of-points-products}
+use Rattle.rules.proofs.Sums.{sum-ext, product-ext, product-stops, points-product, sum-of-points-products, sum-bound}
 use Rattle.tensor_starts.specs.Starts.{free, varies, lane-points}
 use Rattle.tensor_starts.proofs.Agreement.{varies-own, varies-other}
 use Rattle.tensor_starts.proofs.Axes.{lanes-most}
 use Rattle.tensor_passes.specs.Passes.{lanes-solved, lanes-on-axis, lanes-solved-below}
 
 -- ---- bounds
-
-pub sum-bound : (u : ℕ → ℕ) (c n : ℕ) → ((k : ℕ) → k < n → u k ≤ c) → sum-below u n ≤ n * c
-unfolding sum-below
-sum-bound u c zero most = rw zero-mul (le-refl 0)
-sum-bound u c (suc n) most =
-    rw suc-mul (let h = sum-bound u c n (λ k l. most k (omega arith)) in let l = most n (omega arith) in omega arith)
 
 -- ---- the closed sum
 

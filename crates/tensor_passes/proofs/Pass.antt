@@ -38,9 +38,9 @@ use Rattle.rules.proofs.Tables.{table-ext}
 use Rattle.rules.proofs.Places.{One, moved-on, moved-off, moved-on-grid, moved-own, flat-below, flat-ext, flat-one}
 use Rattle.grid.proofs.Strides.{stride-some, stride-along, stride-fits}
 use Rattle.grid.proofs.Products.{sum-within}
-use Rattle.tensor_lane.specs.Lanes.{Lies, LaneGiven}
+use Rattle.tensor_lane.specs.LaneInScratch.{Lies, LaneGiven}
 use Rattle.tensor_starts.specs.Starts.{free, varies, lane-points, lane-place}
-use Rattle.grid.specs.Given.{SizesGiven, On}
+use Rattle.grid.specs.GridOfCall.{SizesGiven, On}
 use Rattle.tensor_starts.proofs.Starts.{across, lane-number, number-below, start-on-grid, number-of-start, start-of-number}
 use Rattle.tensor_starts.proofs.Agreement.{agree-at, agree-all, varies-own, varies-other, varies-not-own, free-own}
 use Rattle.tensor_starts.specs.Walks.{lane-start, LanesGiven, Walks}

@@ -16,7 +16,7 @@ use Rattle.rules.proofs.Cases.{arms, arms-one, not-both}
 use Rattle.rules.proofs.Places.{moved-on-grid}
 use Rattle.rules.proofs.Locality.{slope-along-ext}
 use Rattle.tensor_passes.specs.Passes.{solves, working, Passed, AxisPassed, refreshed, Refreshed}
-use Rattle.grid.specs.Given.{On}
+use Rattle.grid.specs.GridOfCall.{On}
 use Rattle.tensor_passes.proofs.Pass.{target-below}
 
 module _ (g : Grid) (whole : Bool) (place : Place) where

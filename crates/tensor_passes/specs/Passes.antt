@@ -25,7 +25,7 @@ use Rattle.rules.specs.Sizes.{
 use Rattle.rules.specs.Refusals.{fewness-refused}
 use Rattle.rules.specs.Tensor.{slope-along}
 use Rattle.rules.specs.Change.{agree}
-use Rattle.grid.specs.Given.{InRange, On}
+use Rattle.grid.specs.GridOfCall.{InRange, On}
 use Rattle.grid_scratch.specs.Layout.{tensor-begin, row}
 use Rattle.tensor_starts.specs.Starts.{free, varies, lane-points}
 

@@ -8,7 +8,7 @@ ghost use lib.ListN.{length};
 ghost use Rattle.rules.specs.Ends.{condition-at, fewest-points};
 ghost use Rattle.rules.specs.Sizes.{scratch-of-rows, place-of};
 ghost use Rattle.grid_scratch.specs.Layout.{plan-row-length};
-ghost use Rattle.grid.specs.Given.{grid, points-of, On};
+ghost use Rattle.grid.specs.GridOfCall.{grid, points-of, On};
 ghost use Rattle.tensor_plan.specs.Plans.{fewest-planned};
 ghost use Rattle.tensor_walks.specs.ByFour.{PlanKept};
 ghost use Rattle.tensor_passes.specs.Planned.{Planned, PlannedFor};
@@ -152,8 +152,8 @@ fn solve_along(
     solve_masks(w, axes, all, knots, place, whole, axis, plan)
 }
 
-// The passes along each axis, in rising order. It answers how many lanes they solved.
-// Not public: it requires a grid that was not refused, a scratch with room for its tensor, and a place on the grid.
+// The passes along each axis, in rising order. It answers how many lanes they solved. It requires a grid that was not refused, a scratch
+// with room for its tensor, and a place on the grid.
 pub fn solve_axes(
     w: &mut [f64],
     axes: usize,

@@ -9,7 +9,7 @@ use lib.ListN.{length, set, length-set}
 use lib.Seq.{getD-set-same, getD-set-other}
 use lib.Ieee.{Float, nan}
 use Rattle.rules.specs.Numbers.{at, _⊕_, _⊖_, _⊗_, _⊘_, two}
-use Rattle.tensor_plan.specs.Ends.{Room, Divided}
+use Rattle.tensor_plan.specs.PlanOfEnds.{Room, Divided}
 
 -- the list once the pair in hand is stored
 module _ (w : List Float) (k : ℕ) (d c : Float) where

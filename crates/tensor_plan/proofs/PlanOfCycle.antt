@@ -16,7 +16,7 @@ use Rattle.rules.specs.Solve.{cp, dp, before-last, thomas, gamma, diag-mod, u-v
 use Rattle.rules.specs.Moments.{periodic-diag}
 use Rattle.grid_scratch.specs.Layout.{Outside}
 use Rattle.tensor_plan.specs.Cycle.{of-cycle, of-open, SecondForth, SecondBack, CycleGiven, CyclePlanMade}
-use Rattle.tensor_plan.specs.Ends.{Stepped, Divided}
+use Rattle.tensor_plan.specs.PlanOfEnds.{Stepped, Divided}
 
 module _ (x : List Float) where
   abbrev n : ℕ

@@ -17,7 +17,7 @@ use Rattle.rules.specs.Moments.{lower-row, upper-row, sub, diag, sup}
 use Rattle.rules.specs.declared.End.{End}
 use Rattle.axis_rows.specs.declared.EndRow.{EndRow}
 use Rattle.axis_rows.specs.Rows.{lower-end-row, upper-end-row}
-use Rattle.tensor_plan.specs.Ends.{of-ends, Stepped, Divided, EndsPlanned, EndsGiven, EndsPlanMade}
+use Rattle.tensor_plan.specs.PlanOfEnds.{of-ends, Stepped, Divided, EndsPlanned, EndsGiven, EndsPlanMade}
 use Rattle.tensor_plan.specs.declared.EndsPlan.{EndsPlan}
 use Rattle.tensor_plan.proofs.EndRows as EndRows
 

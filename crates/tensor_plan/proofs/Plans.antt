@@ -10,7 +10,7 @@ use Rattle.rules.specs.declared.End.{End}
 use Rattle.rules.specs.declared.Condition.{Condition}
 use Rattle.rules.specs.declared.Condition.the-variants.{Endpoints, Periodic}
 use Rattle.grid_scratch.specs.Layout.{plan-end}
-use Rattle.tensor_plan.specs.Ends.{EndsGiven, EndsPlanMade}
+use Rattle.tensor_plan.specs.PlanOfEnds.{EndsGiven, EndsPlanMade}
 use Rattle.tensor_plan.specs.Cycle.{CycleGiven, CyclePlanMade}
 use Rattle.tensor_plan.specs.Plans.{fewest-planned, PlanGiven, PlanStands, AxisPlanned}
 use Rattle.tensor_plan.specs.declared.AxisPlan.{AxisPlan}

@@ -10,7 +10,7 @@ use lib.Seq.{getD-set-same, getD-set-other}
 use lib.Ieee.{Float, nan}
 use Rattle.rules.specs.Numbers.{at, _⊖_, _⊗_, _⊘_, plus-zero}
 use Rattle.tensor_plan.specs.Cycle.{SecondForth, SecondBack}
-use Rattle.tensor_plan.specs.Ends.{Room}
+use Rattle.tensor_plan.specs.PlanOfEnds.{Room}
 
 -- on the way forth: with the z in hand stored at k, the rows below k + 1 have theirs
 pub record ForthTurn (w₀ w : List Float) (l : ℕ) (z₀ z : Float) (k : ℕ) : Type 0 where

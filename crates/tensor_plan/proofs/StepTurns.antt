@@ -9,7 +9,7 @@ use lib.Ieee.{Float, nan}
 use borrow.Author.Count.{below-more}
 use Rattle.rules.specs.Numbers.{at, _⊖_}
 use Rattle.rules.specs.Steps.{h}
-use Rattle.tensor_plan.specs.Ends.{Stepped}
+use Rattle.tensor_plan.specs.PlanOfEnds.{Stepped}
 
 pub record Turn (w₀ w x : List Float) (k : ℕ) : Type 0 where
   pub room : 2048 ≤ length w₀

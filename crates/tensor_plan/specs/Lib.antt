@@ -1,3 +1,3 @@
-pub mod Ends
+pub mod PlanOfEnds
 pub mod Cycle
 pub mod Plans

@@ -10,7 +10,7 @@ use Rattle.rules.specs.Sizes.{scratch-of-rows}
 use Rattle.rules.specs.declared.Condition.{Condition}
 use Rattle.rules.specs.declared.Condition.the-variants.{Endpoints, Periodic}
 use Rattle.grid_scratch.specs.Layout.{plan-row-length, plan-end}
-use Rattle.tensor_plan.specs.Ends.{EndsPlanned}
+use Rattle.tensor_plan.specs.PlanOfEnds.{EndsPlanned}
 use Rattle.tensor_plan.specs.Cycle.{CyclePlanned}
 use Rattle.tensor_plan.specs.declared.AxisPlan.{AxisPlan}
 

@@ -1,7 +1,7 @@
 // The plan of a periodic axis of two intervals or more: the matrix without its corners, and z, the second solve of `cyclic_thomas`, whose
-// right side has no sample in it. Not public.
+// right side has no sample in it. None of these is a public call.
 ghost use Prim.Native.Nat.{_<_};
-ghost use Rattle.tensor_plan.specs.Ends.{Room};
+ghost use Rattle.tensor_plan.specs.PlanOfEnds.{Room};
 ghost use Rattle.tensor_plan.specs.Cycle.{SecondForth, SecondBack, CycleGiven, CyclePlanMade};
 use crate::CyclePlan;
 use crate::ends::divisors;

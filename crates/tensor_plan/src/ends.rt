@@ -1,10 +1,10 @@
-// The plan under two ends. Not public.
+// The plan under two ends. None of these is a public call.
 ghost use Prim.Native.Nat.{_<_, _≤_};
 ghost use lib.ListN.{length};
 ghost use Rattle.rules.specs.Numbers.{_⊘_};
 ghost use Rattle.rules.specs.Sizes.{scratch-of-rows};
 ghost use Rattle.grid_scratch.specs.Layout.{plan-row-length};
-ghost use Rattle.tensor_plan.specs.Ends.{Room, Stepped, Divided, EndsGiven, EndsPlanMade};
+ghost use Rattle.tensor_plan.specs.PlanOfEnds.{Room, Stepped, Divided, EndsGiven, EndsPlanMade};
 use crate::EndsPlan;
 use grid_scratch::DIVISORS;
 use grid_scratch::HELPERS;

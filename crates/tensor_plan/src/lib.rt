@@ -1,5 +1,6 @@
 // The plan of an axis: what its lanes share, since it comes of knots and kinds of ends alone. It is made once and serves every mask, whose
-// conditions differ in their numbers only. Not public: it requires a scratch of 2,048 numbers, at most 128 points, and 3 if periodic.
+// conditions differ in their numbers only. Not a public call: it requires a scratch of 2,048 numbers, at most 128 points, and at least 3 if
+// periodic, else 2 and one more for each end that is NotAKnot.
 ghost use mathlib.Core.Path.{_≡_};
 ghost use mathlib.Core.Bool.{false};
 ghost use Rattle.tensor_plan.specs.Plans.{PlanGiven, AxisPlanned};

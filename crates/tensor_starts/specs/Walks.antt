@@ -4,7 +4,7 @@ use mathlib.Core.Path.{_≡_}
 use mathlib.Core.Bool.{Bool, cond}
 use Prim.Native.Nat.{ℕ, _+_, _*_, _/_, _%_, _^_, _<_, _≤_}
 use Rattle.rules.specs.Sizes.{most-in-a-tensor, Place, product-below, flat}
-use Rattle.grid.specs.Given.{InRange}
+use Rattle.grid.specs.GridOfCall.{InRange}
 use Rattle.tensor_starts.specs.Starts.{lane-points, lane-place}
 use Rattle.tensor_starts.specs.declared.Walk.{Walk}
 use Rattle.tensor_starts.specs.declared.Cursor.{Cursor}

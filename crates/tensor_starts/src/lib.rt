@@ -3,7 +3,7 @@
 ghost use mathlib.Core.Path.{_≡_};
 ghost use Prim.Native.Nat.{_<_, _≤_};
 ghost use Rattle.rules.specs.Sizes.{place-of, moved};
-ghost use Rattle.grid.specs.Given.{points-of};
+ghost use Rattle.grid.specs.GridOfCall.{points-of};
 ghost use Rattle.tensor_starts.specs.Starts.{varies};
 ghost use Rattle.tensor_starts.specs.Walks.{Small, on-one-more, LanesGiven, Walks};
 use rules::Axis;
@@ -86,8 +86,8 @@ fn on_one_more(walk: Walk, n: usize, through: bool, index: usize) -> Walk
     }
 }
 
-// The walk over the numbers at a mask where the lanes along `axis` start. All masks of a place lie side by side, as one axis more would.
-// Not public: it requires axes whose places are no more than a tensor's numbers, a place on them, and one of their masks.
+// The walk over the numbers at a mask where the lanes along `axis` start. All masks of a place lie side by side, as one axis more would. It
+// requires axes whose places are no more than a tensor's numbers, a place on them, and one of their masks.
 pub fn walk_over(
     axes: usize,
     all: [Axis; 4],

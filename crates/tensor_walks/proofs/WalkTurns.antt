@@ -5,7 +5,7 @@ use mathlib.Core.List.{List}
 use Prim.Native.Nat.{ℕ, _+_, _<_, _≤_}
 use lib.Ieee.{Float}
 use Rattle.rules.specs.declared.Condition.{Condition}
-use Rattle.tensor_lane.specs.Lanes.{LaneGiven, LaneSolved}
+use Rattle.tensor_lane.specs.LaneInScratch.{LaneGiven, LaneSolved}
 use Rattle.tensor_starts.specs.Walks.{lane-start, Stands, Small}
 use Rattle.tensor_starts.specs.declared.Walk.{Walk}
 use Rattle.tensor_starts.specs.declared.Cursor.{Cursor}

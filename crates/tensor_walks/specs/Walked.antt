@@ -10,7 +10,7 @@ use Rattle.rules.specs.Numbers.{at, table}
 use Rattle.rules.specs.Curve.{lane-slope}
 use Rattle.rules.specs.declared.Condition.{Condition}
 use Rattle.grid_scratch.specs.Layout.{tensor-begin}
-use Rattle.tensor_lane.specs.Lanes.{LaneGiven}
+use Rattle.tensor_lane.specs.LaneInScratch.{LaneGiven}
 use Rattle.tensor_starts.specs.Walks.{lane-start, Small}
 use Rattle.tensor_starts.specs.declared.Walk.{Walk}
 

@@ -1,4 +1,4 @@
-// The lanes of a walk four at a time, by the plan of their axis. Not public.
+// The lanes of a walk four at a time, by the plan of their axis. None of these is a public call.
 ghost use Prim.Native.Nat.{_<_, _≤_};
 ghost use Rattle.tensor_starts.specs.Walks.{Small, Stands};
 ghost use Rattle.tensor_walks.specs.Walked.{WalkGiven, WalkSolved};

@@ -1,5 +1,6 @@
-// All lanes of a walk over the working tensor solved: four at a time where their axis has a plan, else one after the other. Not public: it
-// requires that the lanes lie in the working tensor, and that no slope goes where another goes or where a number of theirs stands.
+// All lanes of a walk over the working tensor solved: four at a time where their axis has a plan, else one after the other. Not a public
+// call: it requires that the lanes lie in the working tensor, that no slope goes where another goes or where a number of theirs stands, and
+// that a plan that was made stands in its rows.
 ghost use mathlib.Core.Path.{_≡_};
 ghost use mathlib.Core.Bool.{true};
 ghost use Rattle.tensor_walks.specs.Walked.{WalkGiven, WalkSolved};

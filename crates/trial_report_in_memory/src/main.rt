@@ -1,4 +1,4 @@
-// The report of a stream that is all in memory, by the public call: the stream of `report_of_refusals`, which the report program reads.
+// The report of a stream in memory, by the public call: the stream of `trial_report_of_refusals`, which the report program reads.
 fn main() {
     let mut buffer = [0u8; 65536];
     let input = program_streams::read_input(&mut buffer);

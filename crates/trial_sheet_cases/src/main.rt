@@ -11,7 +11,7 @@ fn wide(byte: u8) -> usize
     byte as usize
 }
 
-// The length that stands at a place of the list. Not public: that its two bytes are there is required.
+// The length that stands at a place of the list. It requires that its two bytes are there.
 fn length_at(list: &[u8], at: usize) -> usize
     requires { ⌜ at + 2 ≤ length (now list) ⌝ }
 {

@@ -3,7 +3,7 @@ use native.Mathlib.Omega.{arith}
 use mathlib.Core.Path.{sym, ap}
 use borrow.Author.Needs.{needs}
 use Rattle.rules.specs.Ends.{dropped}
-use Rattle.axis_moments.specs.Lanes.{lower-moment}
+use Rattle.axis_moments.specs.SolvedMoments.{lower-moment}
 use Rattle.axis_moments.proofs.Stores.{one-stored, none-stored}
 use Rattle.axis_moments.proofs.drop_lower.Statement.{statement}
 use Rattle.axis_moments.proofs.drop_lower.Tie as tie

@@ -5,7 +5,7 @@ use Prim.Native.Nat.{_+_, _-_}
 use lib.ListN.{length}
 use borrow.Author.Needs.{needs}
 use Rattle.rules.specs.Ends.{dropped}
-use Rattle.axis_moments.specs.Lanes.{upper-moment}
+use Rattle.axis_moments.specs.SolvedMoments.{upper-moment}
 use Rattle.axis_moments.proofs.Stores.{one-stored, none-stored}
 use Rattle.axis_moments.proofs.drop_upper.Statement.{statement}
 use Rattle.axis_moments.proofs.drop_upper.Tie as tie

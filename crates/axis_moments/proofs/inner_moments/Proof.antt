@@ -3,7 +3,8 @@
 use native.Mathlib.Omega.{arith}
 use native.Mathlib.Nat.{sub-zero}
 use borrow.Author.Needs.{needs}
-use Rattle.axis_moments.proofs.RowsOfBothEnds.{dropped-most, lower-drops, upper-drops, rows-solved}
+use Rattle.rules.proofs.Ends.{dropped-most}
+use Rattle.axis_moments.proofs.RowsOfBothEnds.{lower-drops, upper-drops, rows-solved}
 use Rattle.axis_moments.proofs.inner_moments.Statement.{statement}
 use Rattle.axis_moments.proofs.inner_moments.Tie as tie
 use Rattle.axis_moments.proofs.inner_moments.Reads as reads

@@ -1,4 +1,5 @@
--- The measure is the number: each call has one digit fewer.
+-- A number below 10 is one digit (`decimal-short`); of any other the digits of its tenth and the last one behind them are its own
+-- (`decimal-long`). The measure is the number: each call has one digit fewer.
 use Prim.Native.Nat.{ℕ, _<_}
 use mathlib.Core.Path.{ap}
 use mathlib.Core.List.{List}

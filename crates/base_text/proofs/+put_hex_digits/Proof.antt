@@ -1,4 +1,5 @@
--- The measure is the count of digits.
+-- No digits leave the text as it is (`no-digits`); else those of the number over 16 and the last one behind them are the digits
+-- (`one-digit-more`). The measure is the count of digits.
 use Prim.Native.Nat.{ℕ, _-_, _/_, _<_}
 use native.Mathlib.Omega.{arith}
 use Rattle.base_text.proofs.Puts.{put-length}

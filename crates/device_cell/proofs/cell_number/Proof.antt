@@ -9,7 +9,7 @@ use mir.Val.{SFits, toZ, ofZ}
 use mir.ValLaws.{toZ-ofZ}
 use Rattle.base_integers.proofs.Sizes.{sized-fits}
 use Rattle.device_cell.specs.DeviceCell.{nearest, cell-number}
-use Rattle.device_cell.specs.Within.{weights-at, weighted}
+use Rattle.device_cell.specs.CellWeights.{weights-at, weighted}
 use Rattle.device_cell.proofs.Weighed.{exact-is}
 use Rattle.device_cell.proofs.Reach.{room, sum-sized, number-sized}
 use borrow.Author.Needs.{needs}

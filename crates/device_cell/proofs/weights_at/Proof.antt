@@ -3,7 +3,7 @@
 use native.Mathlib.Omega.{arith}
 use mir.Syntax.{w64}
 use mir.ValLaws.{toZ-pos}
-use Rattle.device_cell.specs.Within.{weight-p0, weight-p1, weight-d0, weight-d1}
+use Rattle.device_cell.specs.CellWeights.{weight-p0, weight-p1, weight-d0, weight-d1}
 use Rattle.device_cell.proofs.Weighed.{Weighed, weighed}
 use borrow.Author.Needs.{needs}
 use Rattle.device_cell.proofs.weights_at.Statement.{statement}

@@ -3,7 +3,7 @@ use native.Mathlib.Omega.{arith}
 use mathlib.Core.Path.{_≡_, sym}
 use Prim.Native.Nat.{_*_, _-_, _≤_}
 use Rattle.rules.specs.Sizes.{sum-below}
-use Rattle.grid.specs.Given.{points-of}
+use Rattle.grid.specs.GridOfCall.{points-of}
 use Rattle.grid.proofs.Products.{sum-none, sum-more}
 use borrow.Author.Needs.{needs}
 use Rattle.grid.proofs.knots_before.Statement.{statement}

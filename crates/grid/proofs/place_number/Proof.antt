@@ -5,7 +5,7 @@ use native.Mathlib.Omega.{arith}
 use mathlib.Core.Path.{_≡_}
 use Prim.Native.Nat.{_-_, _≤_}
 use Rattle.rules.specs.Sizes.{place-of, flat}
-use Rattle.grid.specs.Given.{points-of}
+use Rattle.grid.specs.GridOfCall.{points-of}
 use Rattle.grid.proofs.Placing.{number-none, number-more, number-fits}
 use Rattle.grid.proofs.place_number.Statement.{statement}
 use Rattle.grid.proofs.place_number.Tie as tie

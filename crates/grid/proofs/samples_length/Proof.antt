@@ -2,7 +2,7 @@
 use mathlib.Core.Path.{ap, subst, sym, _∙_}
 use Prim.Native.Nat.{ℕ}
 use Rattle.rules.specs.Sizes.{product-below}
-use Rattle.grid.specs.Given.{InRange}
+use Rattle.grid.specs.GridOfCall.{InRange}
 use borrow.Author.Needs.{needs}
 use Rattle.grid.proofs.samples_length.Statement.{statement}
 use Rattle.grid.proofs.samples_length.Tie as tie

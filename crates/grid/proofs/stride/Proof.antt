@@ -5,7 +5,7 @@ use native.Mathlib.Omega.{arith}
 use mathlib.Core.Path.{_≡_}
 use Prim.Native.Nat.{_+_, _-_, _<_, _≤_}
 use Rattle.grid.specs.Strides.{stride}
-use Rattle.grid.specs.Given.{points-of}
+use Rattle.grid.specs.GridOfCall.{points-of}
 use Rattle.grid.proofs.Products.{fits-small}
 use Rattle.grid.proofs.Strides.{stride-first, stride-more, stride-fits}
 use Rattle.grid.proofs.stride.Statement.{statement}

@@ -4,8 +4,8 @@ use mathlib.Core.Path.{_≡_, refl, sym, _∙_}
 use mathlib.Core.List.{List}
 use lib.ListN.{length}
 use Rattle.rules.specs.Sizes.{knots-length, tensor-length, place-of}
-use Rattle.grid_checks.specs.Given.{FiniteUnless}
-use Rattle.grid.specs.Given.{grid, sizes-of, points-of, InRange}
+use Rattle.grid_checks.specs.Checked.{FiniteUnless}
+use Rattle.grid.specs.GridOfCall.{grid, sizes-of, points-of, InRange}
 use Rattle.grid_checks.specs.Check.{change-rows, change-check}
 use Rattle.grid_checks.specs.Tables.{Refusal}
 use Rattle.grid_checks.proofs.Rows.{stop, pass, Past, sizes-passed, sizes-stop, sizes-pass, exact-2}

@@ -6,7 +6,7 @@ use mathlib.Core.List.{List}
 use lib.ListN.{length}
 use borrow.Author.Tests.{lt-ltb, le-ltb}
 use Rattle.rules.specs.Refusals.{points-refused}
-use Rattle.grid_checks.specs.Given.{FiniteUnless}
+use Rattle.grid_checks.specs.Checked.{FiniteUnless}
 use Rattle.grid_checks.specs.Check.{moments-rows, moments-check}
 use Rattle.grid_checks.specs.Tables.{Refusal}
 use Rattle.grid_checks.proofs.Rows.{stop, pass, Past, exact-3, knots-row}

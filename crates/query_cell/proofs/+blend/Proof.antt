@@ -1,4 +1,5 @@
--- The measure is the number of axes that are left.
+-- With no axis left the cell is one number (`none-left`); else the blend of what is left without the lowest axis is that of the cell
+-- (`one-fewer`). The measure is the number of axes that are left.
 use Prim.Native.Nat.{ℕ, _<_}
 use native.Mathlib.Omega.{arith}
 use borrow.Author.Needs.{needs}

@@ -5,7 +5,7 @@ use mathlib.Core.Path.{refl}
 use native.Mathlib.Omega.{arith}
 use Prim.Native.Nat.{_-_}
 use lib.ListN.{length, drop, length-drop}
-use Rattle.report.specs.Within.{Stepped}
+use Rattle.report.specs.Feeding.{Stepped}
 use Rattle.report.proofs.Steps.{Alike, alike-buffers, Turn, turn-first, turn-part, turn-next, turn-stops, turn-last}
 use Rattle.report.proofs.take_sheets.Statement.{statement}
 use Rattle.report.proofs.take_sheets.Tie as tie

@@ -5,7 +5,7 @@ use mathlib.Core.Path.{_≡_, ap, _∙_}
 use Prim.Native.Nat.{ℕ, _+_, _*_, _/_}
 use Rattle.grid_codes.specs.Editions.{mode-width}
 use Rattle.sheet_read.specs.Fields.{samples-end}
-use Rattle.sheet_read.specs.Within.{Ended}
+use Rattle.sheet_read.specs.FoundSoFar.{Ended}
 use Rattle.sheet_read.proofs.Sheets.{in-range}
 use Rattle.sheet_read.proofs.Samples.{count-is, begin-small}
 use Rattle.report_front.specs.Front.{sheet-bytes}

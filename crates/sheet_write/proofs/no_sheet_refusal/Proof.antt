@@ -1,6 +1,6 @@
 -- 1, 2 and 3 end it by the sizes alone; behind them stand the build's tests, told a tensor and a scratch of just their lengths, so
 -- that 5 cannot come (`as-the-build`).
-use Rattle.grid.specs.Given.{grid}
+use Rattle.grid.specs.GridOfCall.{grid}
 use Rattle.grid_checks.proofs.Rows.{sizes-passed, sizes-stop}
 use Rattle.sheet_write.specs.Write.{no-sheet-refusal}
 use Rattle.sheet_write.proofs.Parts.{as-the-build}

@@ -2,7 +2,7 @@
 -- and the sheet in its first bytes. `few` bounds its bits by 82,467, so its length is counted without overflow.
 use mathlib.Core.Path.{_≡_, sym, _∙_}
 use native.Mathlib.Omega.{arith}
-use Rattle.grid.specs.Given.{grid}
+use Rattle.grid.specs.GridOfCall.{grid}
 use Rattle.sheet_write.specs.Write.{edition-refusal}
 use Rattle.sheet_write.proofs.Promises.{edition-of-axes, parts-refused, given, edition-refused, few, buffer-refused, room, written}
 use borrow.Author.Needs.{needs}

@@ -4,7 +4,7 @@ use native.Mathlib.Omega.{arith}
 use borrow.Author.Tests.{ltb-false, lt-ltb, le-ltb}
 use Rattle.base_numbers.proofs.Scan.{neither}
 use Rattle.grid_checks.proofs.Rows.{stop, pass}
-use Rattle.step_checks.specs.Check.{exact-check}
+use Rattle.step_checks.specs.StepChecks.{exact-check}
 use Rattle.step_checks.proofs.Rows.{axis-stop, axis-pass, axis-fits, knots-fit, numbers-of-points}
 use borrow.Author.Needs.{needs}
 use Rattle.step_checks.proofs.exact_refusal.Statement.{statement}

@@ -2,7 +2,7 @@
 use mathlib.Core.Path.{refl}
 use Rattle.grid_checks.proofs.Rows.{first, second, stop, pass}
 use Rattle.grid_checks.proofs.FiniteKnots.{axis-finite}
-use Rattle.step_checks.specs.Check.{numbers-check}
+use Rattle.step_checks.specs.StepChecks.{numbers-check}
 use borrow.Author.Needs.{needs}
 use Rattle.step_checks.proofs.numbers_refusal.Statement.{statement}
 use Rattle.step_checks.proofs.numbers_refusal.Tie as tie

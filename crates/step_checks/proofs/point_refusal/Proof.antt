@@ -1,5 +1,5 @@
 -- 2 or 4 where the axis has one; else there are as many knots as points, and what their numbers meet is the answer.
-use Rattle.step_checks.specs.Check.{point-check}
+use Rattle.step_checks.specs.StepChecks.{point-check}
 use Rattle.step_checks.proofs.Rows.{axis-stop, axis-pass, knots-fit, numbers-of-points}
 use borrow.Author.Needs.{needs}
 use Rattle.step_checks.proofs.point_refusal.Statement.{statement}

@@ -4,11 +4,11 @@ use mathlib.Core.Path.{_≡_, refl, sym, _∙_}
 use mathlib.Core.List.{List}
 use lib.ListN.{length}
 use Rattle.rules.specs.Sizes.{knots-length, samples-length}
-use Rattle.grid.specs.Given.{grid, sizes-of, points-of, InRange}
+use Rattle.grid.specs.GridOfCall.{grid, sizes-of, points-of, InRange}
 use Rattle.grid_checks.specs.Tables.{Refusal}
 use Rattle.grid_checks.proofs.Rows.{first, second, stop, pass, Past, sizes-passed, sizes-stop, sizes-pass, exact-3}
 use Rattle.grid_checks.proofs.FiniteKnots.{grid-finite}
-use Rattle.step_checks.specs.Check.{stepped-rows, stepped-check}
+use Rattle.step_checks.specs.StepChecks.{stepped-rows, stepped-check}
 use borrow.Author.Needs.{needs}
 use Rattle.step_checks.proofs.stepped_refusal.Statement.{statement}
 use Rattle.step_checks.proofs.stepped_refusal.Tie as tie

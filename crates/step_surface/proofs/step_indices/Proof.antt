@@ -2,7 +2,7 @@
 -- axis `i` begin. The measure is the axes left.
 use native.Mathlib.Omega.{arith}
 use Prim.Native.Nat.{_-_}
-use Rattle.grid.specs.Given.{grid}
+use Rattle.grid.specs.GridOfCall.{grid}
 use Rattle.step_surface.proofs.Stepping.{Turn, turn-first, end-within, part-given, turn-next, turn-last}
 use borrow.Author.Needs.{needs}
 use Rattle.step_surface.proofs.step_indices.Statement.{statement}

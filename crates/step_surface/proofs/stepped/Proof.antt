@@ -1,7 +1,7 @@
 -- The promise of the stepped surface: +0.0 and indices 0 beside 1 2 3 4 7 8, else the sample at the place of the steps, whose
 -- number lies among the samples.
 use native.Mathlib.Omega.{arith}
-use Rattle.grid.specs.Given.{grid}
+use Rattle.grid.specs.GridOfCall.{grid}
 use Rattle.step_surface.proofs.Answers.{check-refuses, axes-accepted, place-given, place-within, place-answered}
 use borrow.Author.Needs.{needs}
 use Rattle.step_surface.proofs.stepped.Statement.{statement}

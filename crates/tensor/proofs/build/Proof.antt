@@ -5,8 +5,8 @@ use native.Mathlib.Omega.{arith}
 use mathlib.Core.Path.{_≡_, sym, _∙_}
 use lib.ListN.{length}
 use lib.Pow.{pow-pos}
-use Rattle.grid_checks.specs.Given.{BuildGiven}
-use Rattle.grid.specs.Given.{grid}
+use Rattle.grid_checks.specs.Checked.{BuildGiven}
+use Rattle.grid.specs.GridOfCall.{grid}
 use Rattle.grid_checks.specs.Check.{build-check}
 use Rattle.grid_checks.proofs.Accepted.{build-given}
 use Rattle.tensor_passes.proofs.MaskTurns.{given-again}

@@ -5,8 +5,8 @@ use native.Mathlib.Omega.{arith}
 use mathlib.Core.Path.{_≡_, sym, _∙_}
 use lib.ListN.{length}
 use Rattle.rules.specs.Sizes.{place-of}
-use Rattle.grid_checks.specs.Given.{ChangeGiven}
-use Rattle.grid.specs.Given.{grid}
+use Rattle.grid_checks.specs.Checked.{ChangeGiven}
+use Rattle.grid.specs.GridOfCall.{grid}
 use Rattle.grid_checks.specs.Check.{change-check}
 use Rattle.grid_checks.proofs.Accepted.{change-given}
 use Rattle.tensor_passes.proofs.Pass.{sizes-given}

@@ -5,7 +5,7 @@ use native.Mathlib.Omega.{arith}
 use mathlib.Core.Path.{_∙_}
 use Prim.Native.Nat.{_+_, _-_, _*_, _<_}
 use lib.ListN.{length}
-use Rattle.tensor_lane.specs.Lanes.{slope-of-rows}
+use Rattle.tensor_lane.specs.LaneInScratch.{slope-of-rows}
 use Rattle.tensor_lane.proofs.Storing.{Turn, turn-first, turn-next, turn-last, slope-kept}
 use Rattle.tensor_lane.proofs.store_slopes.Statement.{statement}
 use Rattle.tensor_lane.proofs.store_slopes.Tie as tie

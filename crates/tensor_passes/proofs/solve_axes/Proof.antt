@@ -4,7 +4,7 @@ use borrow.Author.Needs.{needs}
 use native.Mathlib.Omega.{arith}
 use Prim.Native.Nat.{_-_}
 use Rattle.rules.specs.Sizes.{place-of}
-use Rattle.grid.specs.Given.{grid}
+use Rattle.grid.specs.GridOfCall.{grid}
 use Rattle.tensor_passes.proofs.AxisTurns.{Turn, turn-first, pass-given, count-fits, turn-next, turn-last}
 use Rattle.tensor_passes.proofs.solve_axes.Statement.{statement}
 use Rattle.tensor_passes.proofs.solve_axes.Tie as tie

@@ -5,7 +5,7 @@ use native.Mathlib.Omega.{arith}
 use mathlib.Core.Path.{_≡_}
 use Prim.Native.Nat.{_-_, _^_}
 use Rattle.rules.specs.Sizes.{place-of}
-use Rattle.grid.specs.Given.{grid}
+use Rattle.grid.specs.GridOfCall.{grid}
 use Rattle.tensor_passes.proofs.MaskTurns.{Turn, turn-first, pass-given, count-fits, turn-next, turn-last}
 use Rattle.tensor_passes.proofs.solve_masks.Statement.{statement}
 use Rattle.tensor_passes.proofs.solve_masks.Tie as tie

@@ -3,7 +3,7 @@
 use native.Mathlib.Omega.{arith}
 use Prim.Native.Nat.{_-_, _≤_}
 use Rattle.rules.specs.Sizes.{place-of, moved}
-use Rattle.grid.specs.Given.{points-of}
+use Rattle.grid.specs.GridOfCall.{points-of}
 use Rattle.tensor_starts.specs.Starts.{varies}
 use Rattle.tensor_starts.proofs.Agreement.{varies-not-own}
 use Rattle.tensor_starts.proofs.Axes.{Walked, walked-first, turn-given, turn-next, end-given, end-walks}

@@ -2,7 +2,7 @@
 -- for knots and tensor, whichever of the three tests meets it; and 13 last.
 use mathlib.Core.Path.{refl, sym, _∙_}
 use mathlib.Core.List.{List}
-use Rattle.grid.specs.Given.{points-of, InRange}
+use Rattle.grid.specs.GridOfCall.{points-of, InRange}
 use Rattle.grid_checks.specs.Tables.{Refusal}
 use Rattle.grid_checks.proofs.Rows.{first, second, stop, pass, Past}
 use Rattle.c_axes.specs.Axes.{axes-without-ends}

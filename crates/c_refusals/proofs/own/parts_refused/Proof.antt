@@ -3,7 +3,7 @@ use mathlib.Core.Path.{refl}
 use mathlib.Core.Bool.{or-false}
 use borrow.Author.Tests.{eq-eqb}
 use Rattle.rules.specs.Sizes.{tensor-length}
-use Rattle.grid.specs.Given.{sizes-of}
+use Rattle.grid.specs.GridOfCall.{sizes-of}
 use borrow.Author.Needs.{needs}
 use Rattle.c_refusals.proofs.own.parts_refused.Statement.{statement}
 use Rattle.c_refusals.proofs.own.parts_refused.Tie as tie

@@ -2,7 +2,7 @@
 -- the tests below them require: four points, axes in range, four directions.
 use mathlib.Core.Path.{refl, sym, _∙_}
 use mathlib.Core.List.{List}
-use Rattle.grid.specs.Given.{points-of, InRange}
+use Rattle.grid.specs.GridOfCall.{points-of, InRange}
 use Rattle.grid_checks.specs.Tables.{Refusal}
 use Rattle.grid_checks.proofs.Rows.{first, second, stop, pass, Past}
 use Rattle.c_axes.specs.Axes.{axes-without-ends}

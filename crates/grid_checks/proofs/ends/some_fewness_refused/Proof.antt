@@ -6,7 +6,7 @@ use native.Mathlib.Omega.{arith}
 use Rattle.rules.specs.Numbers.{any}
 use Rattle.rules.specs.Refusals.{fewness-refused}
 use Rattle.base_numbers.proofs.Scan.{any-none, any-more, any-found, any-end}
-use Rattle.grid.specs.Given.{points-of, condition-of}
+use Rattle.grid.specs.GridOfCall.{points-of, condition-of}
 use borrow.Author.Needs.{needs}
 use Rattle.grid_checks.proofs.ends.some_fewness_refused.Statement.{statement}
 use Rattle.grid_checks.proofs.ends.some_fewness_refused.Tie as tie

@@ -9,7 +9,7 @@ use lib.Dec.{leb}
 use Rattle.rules.specs.Numbers.{any}
 use Rattle.rules.specs.Sizes.{place-of}
 use Rattle.base_numbers.proofs.Scan.{any-none, any-more, any-found, any-end}
-use Rattle.grid.specs.Given.{points-of}
+use Rattle.grid.specs.GridOfCall.{points-of}
 use borrow.Author.Needs.{needs}
 use Rattle.grid_checks.proofs.sizes.place_refused.Statement.{statement}
 use Rattle.grid_checks.proofs.sizes.place_refused.Tie as tie

@@ -4,7 +4,7 @@ use mathlib.Core.Path.{refl}
 use Prim.Native.Nat.{_+_, _-_, _≤_}
 use native.Mathlib.Omega.{arith}
 use lib.ListN.{length}
-use Rattle.sheet_read.specs.Within.{Whole}
+use Rattle.sheet_read.specs.FoundSoFar.{Whole}
 use Rattle.sheet_read.proofs.Extents.{Extent, extent}
 use Rattle.sheet_read.proofs.Stores.{Turn, turn-first, turn-whole, turn-room, turn-small, part-length, turn-next, turn-last}
 use borrow.Author.Needs.{needs}

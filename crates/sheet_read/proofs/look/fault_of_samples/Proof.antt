@@ -5,7 +5,7 @@ use mathlib.Core.Bool.{true, false}
 use Prim.Native.Nat.{_≤_}
 use native.Mathlib.Omega.{arith}
 use Rattle.rules.specs.Sizes.{tensor-length}
-use Rattle.grid.specs.Given.{sizes-of}
+use Rattle.grid.specs.GridOfCall.{sizes-of}
 use Rattle.base_bits.specs.Bits.{numbers-short}
 use Rattle.sheet_read.proofs.Samples.{begin-small, samples-least, too-large, samples-few, no-samples, samples-room, after-samples}
 use borrow.Author.Needs.{needs}

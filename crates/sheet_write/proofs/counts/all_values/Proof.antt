@@ -2,9 +2,9 @@
 use mathlib.Core.Path.{_≡_, sym}
 use Prim.Native.Nat.{_*_, _-_, _≤_}
 use native.Mathlib.Omega.{arith}
-use Rattle.grid.specs.Given.{condition-of}
+use Rattle.grid.specs.GridOfCall.{condition-of}
 use Rattle.grid.proofs.Products.{sum-none, sum-more}
-use Rattle.sheet_write.specs.Within.{values, values-below}
+use Rattle.sheet_write.specs.PartsWithRoom.{values, values-below}
 use borrow.Author.Needs.{needs}
 use Rattle.sheet_write.proofs.counts.all_values.Statement.{statement}
 use Rattle.sheet_write.proofs.counts.all_values.Tie as tie

@@ -4,7 +4,7 @@ use Prim.Native.Nat.{_*_, _≤_}
 use native.Mathlib.Nat.{mul-le-mul}
 use native.Mathlib.Omega.{arith}
 use Rattle.sheet_read.proofs.Extents.{width-most}
-use Rattle.sheet_write.specs.Within.{parts-bits}
+use Rattle.sheet_write.specs.PartsWithRoom.{parts-bits}
 use borrow.Author.Needs.{needs}
 use Rattle.sheet_write.proofs.counts.part_bits.Statement.{statement}
 use Rattle.sheet_write.proofs.counts.part_bits.Tie as tie

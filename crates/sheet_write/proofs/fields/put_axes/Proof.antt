@@ -3,7 +3,7 @@
 use Prim.Native.Nat.{_+_, _-_, _≤_}
 use native.Mathlib.Omega.{arith}
 use lib.ListN.{length}
-use Rattle.grid.specs.Given.{grid, points-of}
+use Rattle.grid.specs.GridOfCall.{grid, points-of}
 use Rattle.sheet_write.proofs.Puts.{Turn, turn-first, turn-room, turn-given, turn-next, turn-last}
 use borrow.Author.Needs.{needs}
 use Rattle.sheet_write.proofs.fields.put_axes.Statement.{statement}

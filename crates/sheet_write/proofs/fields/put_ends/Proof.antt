@@ -3,7 +3,7 @@ use mathlib.Core.Path.{_≡_, ap, sym, _∙_}
 use mathlib.Core.Bool.{false}
 use Rattle.base_numbers.proofs.Scan.{neither}
 use Rattle.rules.specs.Refusals.{end-refused, ends-refused}
-use Rattle.base_bits.specs.Within.{Within}
+use Rattle.base_bits.specs.BitsThere.{Within}
 use Rattle.base_bits.specs.Written.{bits-in}
 use Rattle.sheet_write.specs.SheetOf.{end-fields, ends-fields}
 use Rattle.sheet_write.proofs.Puts.{none-put, both-put, first-within, second-within}

@@ -2,7 +2,7 @@
 -- `ends` says where each part ends, and so that there is room for it.
 use mathlib.Core.Path.{refl}
 use native.Mathlib.Omega.{arith}
-use Rattle.grid.specs.Given.{grid}
+use Rattle.grid.specs.GridOfCall.{grid}
 use Rattle.sheet_write.proofs.Puts.{ends, axes-given, axes-end-is, axes-put-is, last-within, sheet-put}
 use borrow.Author.Needs.{needs}
 use Rattle.sheet_write.proofs.fields.put_sheet.Statement.{statement}

@@ -1,5 +1,5 @@
--- What the functions that are not public require and ensure: a sheet without a fault whose tensor is short enough, places for its numbers,
--- and what stands in them.
+-- What the functions that are no public calls require and ensure: a sheet without a fault whose tensor is short enough, places for its
+-- numbers, and what stands in them.
 use mathlib.Core.Path.{_≡_}
 use mathlib.Core.List.{List}
 use Prim.Native.Nat.{ℕ, _≤_}

@@ -5,10 +5,10 @@ use mathlib.Core.List.{List, [], _++_}
 use Prim.Native.Nat.{ℕ, _+_, _-_, _≤_, _<_}
 use lib.ListN.{length, drop}
 use lib.Ieee.{Float}
-use Rattle.sheet_build.specs.Within.{Enough}
+use Rattle.sheet_build.specs.LentEnough.{Enough}
 use Rattle.report_front.specs.Front.{enough-bytes}
 use Rattle.report_totals.specs.Totals.{most-sheets}
-use Rattle.report_totals.specs.Within.{Running}
+use Rattle.report_totals.specs.Counting.{Running}
 use Rattle.report_totals.specs.declared.Totals.{Totals}
 use Rattle.report_totals.specs.declared.Report.{Report}
 use Rattle.report.specs.Report.{after, stream-of, report-of}

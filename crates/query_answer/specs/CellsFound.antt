@@ -12,11 +12,9 @@ use Rattle.rules.specs.Steps.{h}
 use Rattle.rules.specs.Refusals.{number-refused}
 use Rattle.rules.specs.Outside.{mode-at, side, placed-on, outside-refused}
 use Rattle.rules.specs.Query.{fraction, cell-of, quick-cell-of, even-cell-of}
-use Rattle.rules.specs.declared.Axis.{Axis}
-use Rattle.grid.specs.Given.{grid}
 use Rattle.query_blend.specs.Blend.{WeightsOf, weights-in}
-use Rattle.axis_locate.specs.Answers.{Rising}
-use Rattle.query_answer.specs.Given.{AxesOf}
+use Rattle.axis_locate.specs.CellFound.{Rising}
+use Rattle.query_answer.specs.PointsAndModes.{OfAnyAxes}
 use Rattle.query_answer.specs.Ways.{by-search, knots-refused-by}
 use Rattle.query_answer.specs.declared.ways.Way.{Way}
 use Rattle.query_answer.specs.declared.ways.Way.the-variants.{Walked, Searched, Direct}
@@ -75,4 +73,4 @@ pub record CellsPlaced (points : List ℕ) (i : ℕ) (lower : List ℕ) (weights
 pub record FoundAmong (way : Way) (axes : ℕ) (points modes : List ℕ) (x coordinates : List Float) (lower : List ℕ) (weights : List Float)
     (r : Refusals) : Type 0 where
   pub placed : CellsPlaced points axes lower weights
-  pub on : (all : List Axis) → AxesOf axes points modes all → FoundOn way (grid axes all x) coordinates axes lower weights r
+  pub on : OfAnyAxes axes points modes x (λ g. FoundOn way g coordinates axes lower weights r)

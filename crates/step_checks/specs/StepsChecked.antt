@@ -18,8 +18,8 @@ use Rattle.rules.specs.Sizes.{
   samples-length,
   tensor-length,
 }
-use Rattle.grid.specs.Given.{InRange}
-use Rattle.axis_locate.specs.Answers.{Rising}
+use Rattle.grid.specs.GridOfCall.{InRange}
+use Rattle.axis_locate.specs.CellFound.{Rising}
 
 -- of n knots and a point
 pub record PointGiven (n : ℕ) (x : List Float) (point : Float) : Type 0 where

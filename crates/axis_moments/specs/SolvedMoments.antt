@@ -1,4 +1,4 @@
--- What the steps of `compute_m` leave in the scratch, once the rows are there: the moments, in their row.
+-- What the steps of `compute_m` leave in the scratch: the moments, in their row.
 use mathlib.Core.Path.{_≡_}
 use mathlib.Core.Logic.{_≢_}
 use mathlib.Core.List.{List}

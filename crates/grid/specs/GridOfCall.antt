@@ -1,4 +1,4 @@
--- The chapter Given of docs/RULES.md: the grid that a call was given, and what is known of its sizes and places once the refusals have
+-- The chapter GridOfCall of docs/RULES.md: the grid that a call was given, and what is known of its sizes and places once the refusals have
 -- looked at them.
 use Prim.Native.Nat.{ℕ, _+_, _<_, _≤_}
 use mathlib.Core.List.{List, []}

@@ -22,7 +22,7 @@ use Rattle.rules.specs.Sizes.{
 }
 use Rattle.rules.specs.Refusals.{number-refused, some-number-refused, ends-refused, knots-refused, fewness-refused}
 use Rattle.rules.specs.declared.Condition.{Condition}
-use Rattle.grid.specs.Given.{InRange}
+use Rattle.grid.specs.GridOfCall.{InRange}
 
 -- what the pass over the knots for refusal 8 says of refusal 7: where it finds nothing, they are all finite
 abbrev pub FiniteUnless : Bool → List Float → Type 0

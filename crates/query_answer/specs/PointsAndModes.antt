@@ -5,11 +5,11 @@ use mathlib.Core.List.{List}
 use Prim.Native.Nat.{ℕ, _*_, _^_, _<_, _≤_}
 use lib.ListN.{length, getD}
 use lib.Ieee.{Float}
-use Rattle.rules.specs.Sizes.{most-axes, most-in-a-tensor, unused-axis, sum-below, product-below, place-of}
+use Rattle.rules.specs.Sizes.{most-axes, most-in-a-tensor, unused-axis, sum-below, product-below, place-of, Grid}
 use Rattle.rules.specs.declared.Axis.{Axis}
 use Rattle.rules.specs.declared.Mode.{Mode}
 use Rattle.grid_codes.specs.Modes.{mode-of-number}
-use Rattle.grid.specs.Given.{points-of, InRange}
+use Rattle.grid.specs.GridOfCall.{grid, points-of, InRange}
 
 -- the mode of axis i of the four
 abbrev pub modes-of : List Axis → ℕ → Mode
@@ -20,10 +20,18 @@ pub record ModesOf (all : List Axis) (modes : List ℕ) : Type 0 where
   pub four : length modes ≡ most-axes
   pub number : (i : ℕ) → i < most-axes → modes-of all i ≡ mode-of-number (place-of modes i)
 
--- axes whose points, and whose modes' numbers, these are, as far as they are in use
+-- axes whose points these are, as far as they are in use
+abbrev pub PointsOf : ℕ → List ℕ → List Axis → Type 0
+PointsOf axes points all = (i : ℕ) → i < axes → points-of all i ≡ place-of points i
+
+-- and whose modes' numbers are these
 pub record AxesOf (axes : ℕ) (points modes : List ℕ) (all : List Axis) : Type 0 where
-  pub points-are : (i : ℕ) → i < axes → points-of all i ≡ place-of points i
+  pub points-are : PointsOf axes points all
   pub modes-are : (i : ℕ) → i < axes → modes-of all i ≡ mode-of-number (place-of modes i)
+
+-- what holds of the grid of any axes that have these points and modes
+abbrev pub OfAnyAxes : ℕ → List ℕ → List ℕ → List Float → (Grid → Type 0) → Type 0
+OfAnyAxes axes points modes x Holds = (all : List Axis) → AxesOf axes points modes all → Holds (grid axes all x)
 
 -- what refusals 1, 2 and 4 leave of axes and of a point: the knots may be any
 pub record SearchFits (axes : ℕ) (points modes : List ℕ) (knots coordinates : List Float) : Type 0 where

@@ -1,4 +1,4 @@
--- What the functions that are not public require: parts that have a sheet, with numbers that are finite, and room for their fields.
+-- What the functions that are no public calls require: parts that have a sheet, with numbers that are finite, and room for their fields.
 use mathlib.Core.Path.{_≡_}
 use mathlib.Core.Bool.{false}
 use mathlib.Core.List.{List}
@@ -20,10 +20,10 @@ use Rattle.rules.specs.Outside.{mode-number}
 use Rattle.rules.specs.Refusals.{some-number-refused, ends-refused}
 use Rattle.rules.specs.declared.Axis.{Axis}
 use Rattle.rules.specs.declared.Condition.{Condition}
-use Rattle.grid.specs.Given.{sizes-of, condition-of}
+use Rattle.grid.specs.GridOfCall.{sizes-of, condition-of}
 use Rattle.grid_codes.specs.Kinds.{values-of-kind, lower-kind-of, upper-kind-of}
 use Rattle.grid_codes.specs.Editions.{mode-width}
-use Rattle.base_bits.specs.Within.{Within}
+use Rattle.base_bits.specs.BitsThere.{Within}
 use Rattle.base_bits.specs.Written.{with-field, bits-in}
 use Rattle.sheet_write.specs.SheetOf.{axis-fields, axes-fields, sheet-fields}
 

@@ -12,13 +12,11 @@ use Rattle.rules.specs.Refusals.{some-number-refused, answer-refused}
 use Rattle.rules.specs.Outside.{placed-on, some-outside-refused}
 use Rattle.rules.specs.Query.{value-in, cell-of}
 use Rattle.rules.specs.Calls.{labels-of, answer-of}
-use Rattle.rules.specs.declared.Axis.{Axis}
 use Rattle.rules.specs.declared.QueryAnswer.{QueryAnswer}
-use Rattle.grid.specs.Given.{grid}
-use Rattle.axis_locate.specs.Answers.{Rising}
-use Rattle.query_answer.specs.Given.{AxesOf}
+use Rattle.axis_locate.specs.CellFound.{Rising}
+use Rattle.query_answer.specs.PointsAndModes.{OfAnyAxes}
 use Rattle.query_answer.specs.Ways.{by-search}
-use Rattle.query_answer.specs.Found.{cells-by, knots-refuse}
+use Rattle.query_answer.specs.CellsFound.{cells-by, knots-refuse}
 use Rattle.query_answer.specs.declared.ways.Way.{Way}
 use Rattle.query_answer.specs.declared.ways.Way.the-variants.{Walked, Searched, Direct}
 
@@ -62,4 +60,4 @@ module _ (way : Way) (g : Grid) (tensor coordinates : List Float) where
 -- so of any axes that have these points and modes
 abbrev pub AnswerAmong : Way → ℕ → List ℕ → List ℕ → List Float → List Float → List Float → QueryAnswer → Type 0
 AnswerAmong way axes points modes x tensor coordinates r =
-    (all : List Axis) → AxesOf axes points modes all → AnswerBy way (grid axes all x) tensor coordinates r
+    OfAnyAxes axes points modes x (λ g. AnswerBy way g tensor coordinates r)

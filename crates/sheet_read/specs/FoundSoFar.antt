@@ -1,5 +1,5 @@
--- What the functions that are not public require and ensure: that the bits they read are there, that places are small numbers, and what was
--- found so far.
+-- What the functions that are no public calls require and ensure: that the bits they read are there, that places are small numbers, and
+-- what was found so far.
 use mathlib.Core.Path.{_≡_}
 use mathlib.Core.List.{List}
 use Prim.Native.Nat.{ℕ, _*_, _≤_}
@@ -7,7 +7,7 @@ use lib.ListN.{length}
 use lib.Ieee.{Float}
 use Rattle.rules.specs.Sizes.{most-axes, samples-length}
 use Rattle.rules.specs.declared.Axis.{Axis}
-use Rattle.grid.specs.Given.{points-of, InRange}
+use Rattle.grid.specs.GridOfCall.{points-of, InRange}
 use Rattle.sheet_read.specs.Fields.{edition, axes, axis-end, axis-begin, entries, knots-below, sheet-grid}
 use Rattle.sheet_read.specs.Faults.{axes-fault, sheet-refusal}
 use Rattle.sheet_read.specs.declared.axes.Walk.{Walk}
