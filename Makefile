@@ -1,4 +1,4 @@
-.PHONY: run test differential report-largest deliberate-errors sheet-by-hand streams-fail rules-page oracle-test expected archive bench examples picture
+.PHONY: run test differential report-largest deliberate-errors sheet-by-hand streams-fail docs-check rules-page oracle-test expected archive bench examples picture
 
 # Prints the tensor of the example sheet, which docs/RULES.md takes apart bit by bit.
 run:
@@ -50,6 +50,12 @@ streams-fail:
 rules-page:
 	python3 tests/rules_page.py
 	python3 tests/forms_page.py
+
+# Holds the documents against the code, the page of rules among them: every proof begins with a sentence, no line is too long, and no law is
+# said twice.
+docs-check: rules-page
+	python3 tests/proofs_speak.py
+	python3 tests/said_once.py
 
 # The Rust side's own tests: the unchanged files, the worked examples, the generator, what is kept beside the programs.
 oracle-test:

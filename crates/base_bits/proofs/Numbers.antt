@@ -90,7 +90,8 @@ numbers-stand bytes at n fine =
 
 -- ---- one after the other
 
-with-last : (bytes : List ℕ) (at : ℕ) (f : Field) → with-fields bytes at (f ∷ []) ≡ with-field bytes at (f .width) (f .value)
+-- one field is put as a field
+pub with-last : (bytes : List ℕ) (at : ℕ) (f : Field) → with-fields bytes at (f ∷ []) ≡ with-field bytes at (f .width) (f .value)
 unfolding with-fields
 with-last bytes at f = refl
 

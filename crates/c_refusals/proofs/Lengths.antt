@@ -76,8 +76,8 @@ module _ (axes : ℕ) (points kinds : List ℕ) (values knots samples tensor : L
       let ends =
       eight-lengths kinds values
       (neither (eight-ends-refused kinds values)
-      (length-refused (length knots) (knots-length g) || length-refused (length samples) (samples-length g) || length-refused (length
-      tensor) (tensor-length g))
+      (length-refused (length knots) (knots-length g) || length-refused (length samples) (samples-length g)
+      || length-refused (length tensor) (tensor-length g))
       (rows .1 .1 .1 .1 .0) .0) in
       (exact (length points) 4 (rows .1 .0), ends .0, ends .1)
 

@@ -59,7 +59,8 @@ pub record SlopesGiven (n : ℕ) (x y : List Float) (moments-given slopes-given 
 
 -- ---- the calls on a grid
 
--- what each of them knows of its grid and of the tensor's length
+-- what each of them knows of its grid and of the tensor's length: the record of an accepted grid. Others say less or more of one, and say
+-- how: WorkGiven of the passes, AxesGiven of steps, QueryFits of the answer, Surface at measured points, Sound of the third promise
 pub record GridGiven (g : Grid) (tensor-given : ℕ) : Type 0 where
   pub in-range : InRange (g .axes) (points g)
   pub small : tensor-length g ≤ most-in-a-tensor

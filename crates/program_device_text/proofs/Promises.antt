@@ -13,6 +13,7 @@ use Rattle.base_text.proofs.Puts.{put-written}
 use Rattle.base_text.proofs.Decimals.{decimal-length, length-word-line}
 use Rattle.device_cursor.specs.DeviceCurve.{whole-cells, all-in-range, cells, curve-refusal, curve-numbers}
 use Rattle.device_cursor.proofs.Judged.{Whole, length-known}
+use Rattle.rules.proofs.Refused.{counted-most}
 use Rattle.program_device_text.specs.DeviceText.{
   signed-lines,
   curve-text-of,
@@ -95,8 +96,4 @@ pub length-most : (curve text : List ℕ) (given : CurveTextAnswer) (later : Lis
     → given .length ≤ device-text-length
 unfolding device-text-answer
 length-most curve text given later p =
-    rw (p .answer) (most (device-text-refusal (length text)) (text-fits curve))
-  where
-    most : (r : ℕ) {count bound : ℕ} → count ≤ bound → counted r count ≤ bound
-    most zero h = h
-    most (suc r) h = omega arith
+    rw (p .answer) (counted-most (device-text-refusal (length text)) (text-fits curve))

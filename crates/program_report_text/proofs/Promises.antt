@@ -9,6 +9,7 @@ use Rattle.rules.specs.Calls.{counted}
 use Rattle.base_text.specs.PutBytes.{Put}
 use Rattle.base_text.proofs.Puts.{put-written}
 use Rattle.report_totals.specs.declared.Report.{Report}
+use Rattle.rules.proofs.Refused.{counted-most}
 use Rattle.program_report_text.specs.ReportText.{
   report-text,
   report-length,
@@ -39,8 +40,4 @@ pub length-most : (report : Report) (text : List ℕ) (given : ReportTextAnswer)
     → given .length ≤ report-length
 unfolding report-text-answer
 length-most report text given later p =
-    rw (p .answer) (most (report-text-refusal (length text)) (text-fits report))
-  where
-    most : (refusal : ℕ) {count bound : ℕ} → count ≤ bound → counted refusal count ≤ bound
-    most zero h = h
-    most (suc refusal) h = omega arith
+    rw (p .answer) (counted-most (report-text-refusal (length text)) (text-fits report))

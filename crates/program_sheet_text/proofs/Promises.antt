@@ -11,7 +11,7 @@ use lib.Ieee.{Float}
 use Rattle.rules.specs.Sizes.{Grid}
 use Rattle.rules.specs.Tensor.{tensor}
 use Rattle.rules.specs.Calls.{or-else, counted}
-use Rattle.rules.proofs.Refused.{or-else-passed, unchanged}
+use Rattle.rules.proofs.Refused.{or-else-passed, unchanged, counted-most}
 use Rattle.grid_checks.proofs.Rows.{exact-3}
 use Rattle.sheet_read.specs.Fields.{sheet-grid, sheet-samples}
 use Rattle.sheet_read.specs.Faults.{sheet-refusal}
@@ -136,10 +136,6 @@ module _ (bytes : List ℕ) where
           }
 
 -- ---- what a caller knows of the answer
-
-counted-most : (refusal : ℕ) {count most : ℕ} → count ≤ most → counted refusal count ≤ most
-counted-most zero h = h
-counted-most (suc refusal) h = omega arith
 
 -- the text has no more bytes than the length that is asked for
 pub length-most :

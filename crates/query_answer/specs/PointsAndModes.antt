@@ -41,7 +41,8 @@ pub record SearchFits (axes : ℕ) (points modes : List ℕ) (knots coordinates 
   pub knots-exact : length knots ≡ sum-below (place-of points) axes
   pub coordinates-exact : length coordinates ≡ axes
 
--- and what they and refusal 3 leave of a query
+-- and what they and refusal 3 leave of a query: GridGiven before the knots were looked at, of points that are plain numbers, since a call
+-- for C has no axes
 pub record QueryFits (axes : ℕ) (points modes : List ℕ) (knots tensor coordinates : List Float) : Type 0 where
   pub search-fits : SearchFits axes points modes knots coordinates
   pub small : product-below (place-of points) axes * 2 ^ axes ≤ most-in-a-tensor

@@ -200,9 +200,8 @@ pub fn value(axes: usize, points: &[usize], lower: &[usize], weights: &[f64], te
         × (length (now tensor) ≡ product-below (place-of (now points)) axes * 2 ^ axes) ⌝ }
     ensures { λ r.
         ⌜
-        ((widths ts : ℕ
-        → Float) → WeightsOn axes 0 widths ts (now (weights .entry)) → r ≡ blended axes (place-of (now (points .entry))) (place-of
-        (now (lower .entry))) widths ts (now (tensor .entry)))
+        ((widths ts : ℕ → Float) → WeightsOn axes 0 widths ts (now (weights .entry))
+        → r ≡ blended axes (place-of (now (points .entry))) (place-of (now (lower .entry))) widths ts (now (tensor .entry)))
         ⌝ }
 {
     let mut cell = [1.0; 64];

@@ -28,7 +28,7 @@ module _ (g : Grid) where
   abbrev is-uneven : ℕ → Bool
   is-uneven i = uneven-refused (knots g i) (points g i)
 
-  -- the first i axes are even, and the knots of the next begin at `begin`
+  -- the first i axes are even, and the knots of the next begin at `begin`; of the grid what the walk needs, its sizes and its knots' length
   pub record Turn (begin i : ℕ) : Type 0 where
     pub in-range : InRange (g .axes) (points g)
     pub knots-exact : length (g .flat-knots) ≡ knots-length g

@@ -106,8 +106,8 @@ module _ (axes : ℕ) (points-in modes-in : List ℕ) (x tensor coordinates : Li
         by .rising refl i l
         (rising-on-axis g exact knots-finite i l (any-at (λ j. knots-refused (knots g j) (points g j)) axes rise i l))
         (not-false _
-        (any-at (λ j.
-        number-refused (at coordinates j)) (length coordinates) numbers i (omega (arith, fits .search-fits .coordinates-exact))))
+        (any-at (λ j. number-refused (at coordinates j)) (length coordinates) numbers i
+        (omega (arith, fits .search-fits .coordinates-exact))))
 
     same-value : value-by Walked g tensor coordinates ≡ query-in-modes g tensor (at coordinates)
     unfolding query-in-modes

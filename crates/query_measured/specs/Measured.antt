@@ -13,7 +13,7 @@ use Rattle.grid.specs.GridOfCall.{On}
 use Rattle.base_floats.specs.Place.{AllFit}
 
 -- a grid of 1 to 4 axes whose sizes and lengths fit and whose knots pass 7 and 8, and a tensor of finite numbers, whatever they are; each
--- an f64, as in every slice
+-- an f64, as in every slice. Said by the rules' refusals, so that it is read beside the page and not beside a check
 pub record Surface (g : Grid) (tensor : List Float) : Type 0 where
   pub axes-fine : axes-refused g ≡ false
   pub points-fine : some-points-refused g ≡ false

@@ -2,7 +2,7 @@
 use mathlib.Core.Path.{_≡_, refl, ap₂}
 use mathlib.Core.Bool.{Bool, _||_}
 use mathlib.Core.List.{List}
-use Prim.Native.Nat.{ℕ, zero, suc, _<_}
+use Prim.Native.Nat.{ℕ, zero, suc, _<_, _≤_}
 use native.Mathlib.Omega.{arith}
 use Rattle.rules.specs.Numbers.{any}
 use Rattle.rules.specs.Calls.{or-else, stored, counted}
@@ -31,3 +31,8 @@ any-ext test other (suc n) same =
 pub none-counted : (refusal count : ℕ) → (refusal ≡ 0 → ⊥) → 0 ≡ counted refusal count
 none-counted zero count met = absurd (met refl)
 none-counted (suc refusal) count met = refl
+
+-- what is counted is no more than the count
+pub counted-most : (refusal : ℕ) {count most : ℕ} → count ≤ most → counted refusal count ≤ most
+counted-most zero h = h
+counted-most (suc refusal) h = omega arith

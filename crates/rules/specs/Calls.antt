@@ -133,8 +133,8 @@ module _ (n : ℕ) (knots samples moments-in slopes-out : List Float) where
   slopes-refusal =
       cond (points-refused n) 2
       (cond
-      (length-refused (length knots) n || length-refused (length samples) n || length-refused (length
-      moments-in) n || length-refused (length slopes-out) n)
+      (length-refused (length knots) n || length-refused (length samples) n || length-refused (length moments-in) n
+      || length-refused (length slopes-out) n)
       4
       (cond (some-number-refused knots || some-number-refused samples) 7
       (cond (knots-refused knots n) 8
@@ -156,8 +156,8 @@ module _ (g : Grid) (samples tensor-out scratch-lent : List Float) where
       (cond (some-points-refused g) 2
       (cond (tensor-refused g) 3
       (cond
-      (length-refused (length (g .flat-knots)) (knots-length g) || length-refused (length samples) (samples-length
-      g) || length-refused (length tensor-out) (tensor-length g))
+      (length-refused (length (g .flat-knots)) (knots-length g) || length-refused (length samples) (samples-length g)
+      || length-refused (length tensor-out) (tensor-length g))
       4
       (cond (scratch-refused (length scratch-lent) (scratch-length g)) 5
       (cond (some-number-refused (g .flat-knots) || some-ends-refused g || some-number-refused samples) 7

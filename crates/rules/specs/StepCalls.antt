@@ -121,8 +121,8 @@ module _ (g : Grid) (directions : List StepDirection) (samples coordinates : Lis
       (cond (some-points-refused g) 2
       (cond (tensor-refused g) 3
       (cond
-      (length-refused (length (g .flat-knots)) (knots-length g) || length-refused (length samples) (samples-length
-      g) || length-refused (length coordinates) (g .axes))
+      (length-refused (length (g .flat-knots)) (knots-length g) || length-refused (length samples) (samples-length g)
+      || length-refused (length coordinates) (g .axes))
       4
       (cond (some-number-refused (g .flat-knots) || some-number-refused samples || some-number-refused coordinates) 7
       (cond (some-knots-refused g) 8 0)))))

@@ -68,8 +68,8 @@ few-of-build g samples lent scratch =
     (at-most (some-points-refused g) (omega arith)
     (at-most (tensor-refused g) (omega arith)
     (at-most
-    (length-refused (length (g .flat-knots)) (knots-length g) || length-refused (length samples) (samples-length
-    g) || length-refused (length lent) (tensor-length g))
+    (length-refused (length (g .flat-knots)) (knots-length g) || length-refused (length samples) (samples-length g)
+    || length-refused (length lent) (tensor-length g))
     (omega arith)
     (at-most (scratch-refused (length scratch) (scratch-length g)) (omega arith)
     (at-most (some-number-refused (g .flat-knots) || some-ends-refused g || some-number-refused samples) (omega arith)

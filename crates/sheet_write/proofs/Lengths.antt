@@ -40,7 +40,8 @@ part-bits edition g samples =
     let a = bits-in-append (axes-fields (mode-width edition) g (g .axes)) (number-fields samples) in
     let b = numbers-bits samples in omega arith
 
-last-bits : (n : ℕ) → bits-in (filler n ∷ []) ≡ (8 - n % 8) % 8
+-- the bits that fill the last byte
+pub last-bits : (n : ℕ) → bits-in (filler n ∷ []) ≡ (8 - n % 8) % 8
 unfolding bits-in
 last-bits n = omega arith
 

@@ -21,11 +21,12 @@ use Rattle.base_bits.specs.BitsThere.{Within}
 use Rattle.base_bits.specs.Written.{with-field, Field, number-field, number-fields, bits-in, with-fields, filler}
 use Rattle.base_bits.proofs.Rows.{bits-in-append, with-fields-append, fields-length}
 use Rattle.sheet_read.proofs.Extents.{width-most}
+use Rattle.base_bits.proofs.Numbers.{with-last}
 use Rattle.sheet_write.specs.SheetOf.{ends-fields, axis-fields, axes-fields, part-fields, sheet-fields}
 use Rattle.sheet_write.specs.PartsWithRoom.{HeadGiven, with-head, AxisGiven, AxesGiven, SheetGiven}
 use Rattle.sheet_write.specs.RoundTrip.{entry}
 use Rattle.sheet_write.proofs.Ends.{ends-bits}
-use Rattle.sheet_write.proofs.Lengths.{axis-bits, axes-next, part-bits}
+use Rattle.sheet_write.proofs.Lengths.{axis-bits, axes-next, part-bits, last-bits}
 use Rattle.sheet_write.proofs.Axes.{axes-append, first-bits}
 
 -- ---- room
@@ -194,10 +195,6 @@ turn-last b width g bytes p from i t ge = let e : i ≡ g .axes = omega (arith, 
 -- ---- all of a sheet
 
 module _ (b : List ℕ) (edition : ℕ) (g : Grid) (samples : List Float) where
-  last-bits : (n : ℕ) → bits-in (filler n ∷ []) ≡ (8 - n % 8) % 8
-  unfolding bits-in
-  last-bits n = omega arith
-
   -- where the axes end, where the samples end, and the last byte
   pub record Ends : Type 0 where
     pub axes-end : 7 + bits-in (axes-fields (mode-width edition) g (g .axes)) + 64 * length samples
@@ -246,10 +243,6 @@ module _ (b : List ℕ) (edition : ℕ) (g : Grid) (samples : List Float) where
       rw here
       (part-within b d 0 (bits-in (sheet-fields edition g samples)) (bits-in (part-fields edition g samples)) _ w same
       (let e = ends .last in omega arith))
-
-  with-last : (d : List ℕ) (p : ℕ) (f : Field) → with-fields d p (f ∷ []) ≡ with-field d p (f .width) (f .value)
-  unfolding with-fields
-  with-last d p f = refl
 
   parts-put :
       (b1 b2 b3 b4 : List ℕ) (next : ℕ)

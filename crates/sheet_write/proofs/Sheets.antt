@@ -82,8 +82,8 @@ module _ (edition : ℕ) (g : Grid) (samples : List Float) (k : Known g samples)
               mode-fits edition (entry g i .mode) (t .known) (t .modes i l),
               sized-append (ends-fields c) (number-fields x) (ends-sized c (held .ends-held i l))
                   (numbers-sized x
-                  (each-take _ (points g i) (drop (sum-below (points g) i) (g .flat-knots)) (each-drop _ (sum-below (points g) i)
-                  (g .flat-knots) (held .knots-held)))),
+                  (each-take _ (points g i) (drop (sum-below (points g) i) (g .flat-knots))
+                  (each-drop _ (sum-below (points g) i) (g .flat-knots) (held .knots-held)))),
             ),
           ),
         ),

@@ -33,7 +33,7 @@ pub record ExactGiven (n : ℕ) (x : List Float) (lower : ℕ) (point : Float) :
   pub point-given : PointGiven n x point
   pub next-knot : lower + 1 < n
 
--- of a grid and coordinates
+-- of a grid and coordinates: GridGiven without a tensor, and with knots that are Rising on each axis, as a step wants them
 pub record AxesGiven (g : Grid) (coordinates : List Float) : Type 0 where
   pub in-range : InRange (g .axes) (points g)
   pub small : tensor-length g ≤ most-in-a-tensor

@@ -73,8 +73,8 @@ module _ (g : Grid) (samples tensor-out scratch : List Float) where
             ap (λ (n : ℕ). take n (drop 2048 w′)) (known .grid-given .tensor-exact)
             ∙ built g w w′ (given-again w′ long build-given-passes) place samples
             (samples-stored g w samples
-            (λ f lt. subst (λ (k : ℕ).
-            at w (2048 + f * k) ≡ at samples f) m-is (begun .values f (omega (arith, known .samples-exact)))))
+            (λ f lt.
+            subst (λ (k : ℕ). at w (2048 + f * k) ≡ at samples f) m-is (begun .values f (omega (arith, known .samples-exact)))))
             after
 
         pub build-done : BuildPromise g samples tensor-out scratch r tensor-later scratch-later

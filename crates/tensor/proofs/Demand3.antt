@@ -111,7 +111,8 @@ none-of-three a b c e f h = rw (e, f, h)
 third-alone : (a b c : Bool) → a ≡ false → b ≡ false → (a || b || c) ≡ c
 third-alone a b c e f = rw (e, f)
 
--- ---- samples that a build accepts, given the right lengths and the stated room
+-- ---- samples that a build accepts, given the right lengths and the stated room: said by the rules' refusals, the outcome's among them,
+-- and not by a check, which knows no outcome
 
 pub record Sound (g : Grid) (samples : List Float) : Type 0 where
   pub axes-fine : axes-refused g ≡ false
@@ -175,8 +176,8 @@ module _ (g : Grid) (samples : List Float) (sound : Sound g samples) where
       (past (some-points-refused g) 2 (sound .points-fine)
       (past (tensor-refused g) 3 (sound .tensor-fine)
       (past
-      (length-refused (length (g .flat-knots)) (knots-length g) || length-refused (length others) (samples-length
-      g) || length-refused (length out) (tensor-length g))
+      (length-refused (length (g .flat-knots)) (knots-length g) || length-refused (length others) (samples-length g)
+      || length-refused (length out) (tensor-length g))
       4
       (none-of-three _ _ _ (length-fits _ _ (sound .knots-exact)) (length-fits _ _ long) (length-fits _ _ (fitting .0)))
       (past (ltb (length scratch) (scratch-length g)) 5 (le-ltb (length scratch) (scratch-length g) (fitting .1))

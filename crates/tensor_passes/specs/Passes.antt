@@ -47,7 +47,8 @@ lanes-solved n axes whole i mask = product-below (lane-points n (varies whole (m
 abbrev pub working : Grid → List Float → Place → ℕ → Float
 working g w p mask = row w tensor-begin (spot g p mask)
 
--- a grid that was not refused, and a scratch with room for its tensor
+-- a grid that was not refused, and a scratch with room for its tensor: GridGiven without finite and rising knots, which no pass asks for,
+-- and with a scratch for a tensor
 pub record WorkGiven (g : Grid) (w : List Float) : Type 0 where
   pub in-range : InRange (g .axes) (points g)
   pub small : tensor-length g ≤ most-in-a-tensor

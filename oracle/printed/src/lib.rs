@@ -19,9 +19,10 @@ pub use host::{firmware, host};
 /// is no such program.
 pub fn printed(program: &str, input: &[u8]) -> Option<String> {
     let text = match program {
-        "sheet_tensor" | "trial_sheet_empty" | "trial_sheet_largest" | "trial_sheet_one_byte_more" => {
-            sheets::tensor(input)
-        }
+        "sheet_tensor"
+        | "trial_sheet_empty"
+        | "trial_sheet_largest"
+        | "trial_sheet_one_byte_more" => sheets::tensor(input),
         "trial_sheet_cases" => sheets::tensors(input),
         "trial_one_axis" => one_axis::examples(),
         "trial_one_axis_refusals" => refusals::refusals(),
@@ -31,7 +32,10 @@ pub fn printed(program: &str, input: &[u8]) -> Option<String> {
         "trial_either_order" => either_order::either_order(),
         "device_curve" => reading::device_text(input),
         "trial_cursor_walk" => cursor::walks(),
-        "sheet_report" | "trial_report_empty" | "trial_report_ends_inside" | "trial_report_of_refusals"
+        "sheet_report"
+        | "trial_report_empty"
+        | "trial_report_ends_inside"
+        | "trial_report_of_refusals"
         | "trial_report_in_memory" => reading::Report::of(input).to_string(),
         "trial_replay" => replay(input),
         _ => return None,

@@ -58,8 +58,8 @@ add-at c =
     let at-loop-test = b .before .before .before .before .before .before in
     let next = turn-next _ _ _ _ _ (head b .loop .inv .0) (at-loop-test .loop-test .taken) _ (stepped b) (c .if1 .left) in
     let most = next .most in
-    let good = head at-loop-test .good in
-    let fits = head at-loop-test .fits in omega arith
+    let good = head b .before .before .before .before .before .before .good in
+    let fits = head b .before .before .before .before .before .before .fits in omega arith
 
 loop-less : tie.Need-loop-less Inv-loop μ-loop
 loop-less c =

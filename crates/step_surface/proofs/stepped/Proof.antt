@@ -25,16 +25,12 @@ place-number-requires c κs =
 
 mul-value : tie.Need-mul-value
 mul-value c =
-    let at-step-indices = c .before in
-    let at-if1 = at-step-indices .before in
-    let at-stepped-refusal = at-if1 .before in
-    let start = at-stepped-refusal .before .before .before .before in
-    omega (
-      arith,
-      place-within (grid (start .args .axes) (start .args .all) (start .args .knots .now)) _ (start .args .samples .now) _
-          (at-stepped-refusal .stepped-refusal .ensures) (at-if1 .if1 .left) _ (at-step-indices .step-indices .ensures)
-          (c .place-number .ensures),
-    )
+    let start = c .before .before .before .before .before .before .before in
+    let within =
+    place-within (grid (start .args .axes) (start .args .all) (start .args .knots .now)) _ (start .args .samples .now) _
+    (c .before .before .before .stepped-refusal .ensures) (c .before .before .if1 .left) _ (c .before .step-indices .ensures)
+    (c .place-number .ensures) in
+    omega (arith, within)
 
 shared-slice-read-value : tie.Need-shared-slice-read-value
 shared-slice-read-value c =

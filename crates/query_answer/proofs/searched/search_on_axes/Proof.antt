@@ -61,9 +61,9 @@ place-on-axis-requires c κs =
 
 mul-cell-on-axis : tie.Need-mul-cell-on-axis Inv-loop μ-loop
 mul-cell-on-axis c =
-    let at-loop-test = c .before .before .before .before .before in
-    let at-loop = at-loop-test .before in
-    omega (arith, end-within _ _ _ _ _ _ _ _ _ _ _ (at-loop .loop .inv) (at-loop-test .loop-test .taken))
+    let turn = c .before .before .before .before .before .before .loop .inv in
+    let inside = c .before .before .before .before .before .loop-test .taken in
+    omega (arith, end-within _ _ _ _ _ _ _ _ _ _ _ turn inside)
 
 sub-cell-on-axis : tie.Need-sub-cell-on-axis Inv-loop μ-loop
 sub-cell-on-axis c =
@@ -97,9 +97,9 @@ slice-write-lower c =
 
 mul-store-weights : tie.Need-mul-store-weights Inv-loop μ-loop
 mul-store-weights c =
-    let at-loop-test = c .before .before .before .before .before .before .before .before in
-    let at-loop = at-loop-test .before in
-    omega (arith, end-within _ _ _ _ _ _ _ _ _ _ _ (at-loop .loop .inv) (at-loop-test .loop-test .taken))
+    let turn = c .before .before .before .before .before .before .before .before .before .loop .inv in
+    let inside = c .before .before .before .before .before .before .before .before .loop-test .taken in
+    omega (arith, end-within _ _ _ _ _ _ _ _ _ _ _ turn inside)
 
 sub-store-weights : tie.Need-sub-store-weights Inv-loop μ-loop
 sub-store-weights c =
@@ -131,9 +131,11 @@ store-weights-requires c κs =
 
 mul-knots-refused : tie.Need-mul-knots-refused Inv-loop μ-loop
 mul-knots-refused c =
-    let at-loop-test = c .before .before .before .before .before .before .before .before .before .before .before .before .before in
-    let at-loop = at-loop-test .before in
-    omega (arith, end-within _ _ _ _ _ _ _ _ _ _ _ (at-loop .loop .inv) (at-loop-test .loop-test .taken))
+    let within =
+    end-within _ _ _ _ _ _ _ _ _ _ _
+    (c .before .before .before .before .before .before .before .before .before .before .before .before .before .before .loop .inv)
+    (c .before .before .before .before .before .before .before .before .before .before .before .before .before .loop-test .taken) in
+    omega (arith, within)
 
 sub-knots-refused : tie.Need-sub-knots-refused Inv-loop μ-loop
 sub-knots-refused c =

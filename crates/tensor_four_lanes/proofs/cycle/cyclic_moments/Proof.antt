@@ -96,9 +96,8 @@ subtract-requires c κs =
     record {
       room = omega (
         arith,
-        at-back .back .ensures .same-length ∙ at-forward .forward .ensures .same-length
-            ∙ at-set-row .set-row .ensures .same-length ∙ at-slopes2 .slopes2 .ensures .same-length
-            ∙ at-slopes .slopes .ensures .same-length,
+        at-back .back .ensures .same-length ∙ at-forward .forward .ensures .same-length ∙ at-set-row .set-row .ensures .same-length
+            ∙ at-slopes2 .slopes2 .ensures .same-length ∙ at-slopes .slopes .ensures .same-length,
         pre,
       );
       few = omega (
