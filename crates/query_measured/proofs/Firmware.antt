@@ -22,7 +22,8 @@ use Rattle.query_measured.specs.Measured.{AtPlace, Reads}
 use Rattle.query_measured.specs.Firmware.{PatternsAtPlace, FirmwareReads}
 use Rattle.query_measured.proofs.Measured.{measured-is-read}
 use Rattle.query_measured.proofs.Samples.{sample-standing}
-use Rattle.query_measured.proofs.SheetFits.{sheet-knots-fit, sheet-samples-fit, tensor-fits}
+use Rattle.tensor_verify.proofs.Fits.{tensor-fits}
+use Rattle.query_measured.proofs.SheetFits.{sheet-knots-fit, sheet-samples-fit}
 
 module _ (bytes patterns : List ℕ) (place : Place) (A : PatternsAtPlace bytes patterns place) where
   abbrev g : Grid
