@@ -101,15 +101,14 @@ KeepsBitsElsewhere =
 
 -- ---- rows of refusals
 
--- a row that does not apply is passed
-pub past : (b : Bool) (number : ℕ) {later answer : ℕ} → b ≡ false → later ≡ answer → cond b number later ≡ answer
+past : (b : Bool) (number : ℕ) {later answer : ℕ} → b ≡ false → later ≡ answer → cond b number later ≡ answer
 past true number e below = not-both true refl e
 past false number e below = below
 
 none-of-three : (a b c : Bool) → a ≡ false → b ≡ false → c ≡ false → (a || b || c) ≡ false
 none-of-three a b c e f h = rw (e, f, h)
 
-pub third-alone : (a b c : Bool) → a ≡ false → b ≡ false → (a || b || c) ≡ c
+third-alone : (a b c : Bool) → a ≡ false → b ≡ false → (a || b || c) ≡ c
 third-alone a b c e f = rw (e, f)
 
 -- ---- samples that a build accepts, given the right lengths and the stated room: said by the rules' refusals, the outcome's among them,

@@ -49,7 +49,7 @@ use Rattle.rules.proofs.Places.{OnGrid, flat-below, flat-unflat, unflat-on-grid
 use Rattle.rules.proofs.ChangeIsBuild.{built-entry, change-is-build}
 use Rattle.base_numbers.proofs.Scan.{neither, any-at, any-never}
 use Rattle.base_floats.specs.Place.{AllFit}
-use Rattle.grid_checks.proofs.Rows.{exact, length-fits}
+use Rattle.grid_checks.proofs.Rows.{pass, exact, length-fits}
 use Rattle.tensor_passes.proofs.Pass.{digits-one}
 use Rattle.tensor.specs.Changes.{Step, Kept, tensor-after, samples-after}
 use Rattle.tensor.proofs.Demand3.{
@@ -58,8 +58,6 @@ use Rattle.tensor.proofs.Demand3.{
   built-stands,
   steps-stand,
   tensor-long,
-  past,
-  third-alone,
   BitsOfFreshBuild,
   RefusalOfFreshBuild,
   BitsKeptElsewhere,
@@ -125,20 +123,19 @@ module _ (g : Grid) (samples t scratch : List Float) (stands : Stands g samples 
   unfolding verify-refusal
   not-refused =
       let sound = stands .sound in
-      past (axes-refused g) 1 (sound .axes-fine)
-      (past (some-points-refused g) 2 (sound .points-fine)
-      (past (tensor-refused g) 3 (sound .tensor-fine)
-      (past (length-refused (length (g .flat-knots)) (knots-length g) || length-refused (length t) (tensor-length g)) 4
-      (neither-of (length-fits _ _ (sound .knots-exact)) (length-fits _ _ (ap length (stands .is) ∙ tensor-long g samples sound)))
-      (past (ltb (length scratch) (scratch-length g)) 5 (le-ltb (length scratch) (scratch-length g) room)
-      (past (some-number-refused (g .flat-knots) || some-ends-refused g || some-number-refused t) 7
-      (third-alone (some-number-refused (g .flat-knots)) (some-ends-refused g) (some-number-refused t) (sound .knots-finite)
-      (sound .ends-finite)
-      ∙ ap outcome-refused (stands .is) ∙ sound .outcome-finite)
-      (past (some-knots-refused g) 8 (sound .knots-rise)
-      (past (some-fewness-refused g) 9 (sound .enough-points)
-      (past (outcome-refused (fresh g t)) 10
-      (ap outcome-refused (fresh-stands ∙ stands .is) ∙ sound .outcome-finite) refl))))))))
+      let lengths =
+      neither-of (length-fits _ _ (sound .knots-exact)) (length-fits _ _ (ap length (stands .is) ∙ tensor-long g samples sound)) in
+      let numbers =
+      neither-of (neither-of (sound .knots-finite) (sound .ends-finite)) (ap outcome-refused (stands .is) ∙ sound .outcome-finite) in
+      let outcome = ap outcome-refused (fresh-stands ∙ stands .is) ∙ sound .outcome-finite in
+      sym
+      (pass 1 (sym (sound .axes-fine)) refl
+      (pass 2 (sym (sound .points-fine)) refl
+      (pass 3 (sym (sound .tensor-fine)) refl
+      (pass 4 (sym lengths) refl
+      (pass 5 (sym (le-ltb (length scratch) (scratch-length g) room)) refl
+      (pass 7 (sym numbers) refl
+      (pass 8 (sym (sound .knots-rise)) refl (pass 9 (sym (sound .enough-points)) refl (pass 10 (sym outcome) refl refl)))))))))
 
   pub built-is-whole : (verify-answer g t scratch .refusal ≡ 0) × (verify-answer g t scratch .whole ≡ true)
   unfolding verify-answer found
