@@ -141,7 +141,7 @@ fn four_axes() -> String {
     .lines()
 }
 
-/// What the program change_examples prints.
+/// What the program trial_change prints.
 pub fn changes() -> String {
     [one_axis(), two_axes(), three_axes(), four_axes()].concat()
 }

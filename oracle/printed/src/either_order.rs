@@ -35,7 +35,7 @@ fn steep() -> String {
     .concat()
 }
 
-/// What the program either_order_examples prints.
+/// What the program trial_either_order prints.
 pub fn either_order() -> String {
     [square(), steep()].concat()
 }

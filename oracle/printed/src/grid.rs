@@ -95,6 +95,19 @@ impl Grid {
         (refusal, lanes[0])
     }
 
+    /// The refusal of a tensor that is verified, and what is told of it.
+    pub fn verify(&self, tensor: &[f64], scratch: &mut [f64]) -> (usize, reading::Found) {
+        reading::verify(
+            self.axes,
+            &self.points,
+            &self.kinds,
+            &self.values,
+            &self.knots,
+            tensor,
+            scratch,
+        )
+    }
+
     /// The refusal of a query in the modes of the axes, its value and its labels.
     pub fn query(&self, modes: [u8; 4], tensor: &[f64], coordinates: &[f64]) -> Answer {
         self.ask(reading::query, modes, tensor, coordinates)

@@ -12,6 +12,7 @@ mod queries;
 mod refusals;
 mod sheets;
 mod surface;
+mod verified;
 
 pub use host::{firmware, host};
 
@@ -27,6 +28,7 @@ pub fn printed(program: &str, input: &[u8]) -> Option<String> {
         "trial_one_axis" => one_axis::examples(),
         "trial_one_axis_refusals" => refusals::refusals(),
         "trial_tensor" => surface::examples(),
+        "trial_verify" => verified::verified(),
         "trial_query" => queries::examples(),
         "trial_change" => changes::changes(),
         "trial_either_order" => either_order::either_order(),

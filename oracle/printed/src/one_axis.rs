@@ -137,7 +137,7 @@ fn cell(name: &str, point: f64) -> String {
     format!("{name} on knots 0 1 2: cell {cell}\n")
 }
 
-/// What the program one_axis_examples prints.
+/// What the program trial_one_axis prints.
 pub fn examples() -> String {
     [
         natural(),

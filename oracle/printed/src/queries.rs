@@ -153,7 +153,7 @@ fn out_of_reach() -> String {
     surface.full_and_even("knots -1e308 0 1e308 at 1e308", &[1e308])
 }
 
-/// What the program query_examples prints.
+/// What the program trial_query prints.
 pub fn examples() -> String {
     [
         quick_modes(),

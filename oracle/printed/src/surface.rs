@@ -111,7 +111,7 @@ fn of_axes(name: &str, axes: usize) -> String {
     build(name, &grid, &[0.0; 32], 16).0
 }
 
-/// What the program surface_examples prints.
+/// What the program trial_tensor prints.
 pub fn examples() -> String {
     [
         square(),

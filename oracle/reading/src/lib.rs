@@ -18,6 +18,7 @@ mod sheet;
 mod step;
 mod surface;
 mod tensor;
+mod verify;
 mod write;
 
 pub use curve::{curve, moments, slopes};
@@ -35,4 +36,5 @@ pub use tensor::{
     build, change, closed_sum_of_lanes, lanes_of_build, lanes_of_change, solve_lane, solve_lanes,
     Lane,
 };
+pub use verify::{verify, Found};
 pub use write::write;

@@ -73,7 +73,7 @@ pub fn change(
 }
 
 /// 4 for the ends of four axes, the knots and the tensor.
-fn check_lengths(
+pub(crate) fn check_lengths(
     shape: &Shape,
     kinds: &[u8],
     values: &[f64],
@@ -86,7 +86,7 @@ fn check_lengths(
 }
 
 /// 5.
-fn check_scratch(shape: &Shape, scratch: &[f64]) -> Result<(), Refusal> {
+pub(crate) fn check_scratch(shape: &Shape, scratch: &[f64]) -> Result<(), Refusal> {
     require(scratch.len() >= shape.tensor_length() + CURVE_SCRATCH, 5)
 }
 
@@ -131,7 +131,12 @@ fn on_the_grid(shape: &Shape, place: &[usize]) -> bool {
 }
 
 /// The tensor as ninterp builds it, finite or not.
-fn tensor_of(shape: &Shape, conditions: &[Condition], knots: &[f64], samples: &[f64]) -> Vec<f64> {
+pub(crate) fn tensor_of(
+    shape: &Shape,
+    conditions: &[Condition],
+    knots: &[f64],
+    samples: &[f64],
+) -> Vec<f64> {
     let grid = ArrayD::from_shape_vec(IxDyn(shape.points()), samples.to_vec())
         .expect("there is a sample for every place");
     let knots = views(&shape.knots_by_axis(knots));
