@@ -1,4 +1,4 @@
-.PHONY: run test differential report-largest deliberate-errors sheet-by-hand streams-fail docs-check rules-page oracle-test expected archive bench examples picture
+.PHONY: run test differential report-largest deliberate-errors further-edits sheet-by-hand streams-fail docs-check rules-page oracle-test expected archive bench examples picture
 
 # Prints the tensor of the example sheet, which docs/RULES.md takes apart bit by bit.
 run:
@@ -33,6 +33,10 @@ report-largest:
 # Runs copies of the code, each with one deliberate error, on the oracle's fixed list of answers; fails where an error is not found.
 deliberate-errors:
 	python3 tests/deliberate_errors/run.py
+
+# Tries the edits of tests/further_edits, which the gate leaves out for their time; fails where one is not refused.
+further-edits:
+	python3 tests/further_edits/run.py
 
 # Packs a sheet by docs/RULES.md alone and runs it. The oracle's tests hold the same sheet and the same lines against the Rust.
 sheet-by-hand:

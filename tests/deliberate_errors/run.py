@@ -17,7 +17,8 @@ from pathlib import Path
 HERE = Path(__file__).resolve().parent
 ROOT = HERE.parent.parent
 
-# CRATE/NAME of each error. It is an edit in crates/CRATE/must-fail or, where none there says it, in CRATE beside this file.
+# CRATE/NAME of each error. It is an edit in crates/CRATE/must-fail or in tests/further_edits/CRATE or, where none there says it, in CRATE
+# beside this file.
 ERRORS = [
     "tensor_passes/cross_pass_keeps_its_number",
     "tensor_starts/lanes_through_the_point_alone",
@@ -65,9 +66,8 @@ COUNTS = re.compile(r'the native program at -O[03] .*\n.* found "(\d+) cases, (\
 def apply(error, copy):
     """Makes an edit in a copy: each old text, which must stand in its file once, gives way to the new one."""
     crate, name = error.split("/")
-    edit = ROOT / "crates" / crate / "must-fail" / f"{name}.edit"
-    if not edit.exists():
-        edit = HERE / crate / f"{name}.edit"
+    folders = [ROOT / "crates" / crate / "must-fail", HERE.parent / "further_edits" / crate, HERE / crate]
+    edit = next(path for folder in folders if (path := folder / f"{name}.edit").exists())
     for line in edit.read_text().splitlines():
         word, _, text = line.partition(":")
         text = text.removeprefix(" ")
