@@ -1,5 +1,5 @@
 //! Links the archive, and the limit where the folder of its C is at hand: that of LIMIT_SRC, by default the one beside the
-//! repository. Where there is none, the benchmark is built without the limit's lines.
+//! repository. Where there is none, or another machine than x86-64 is built for, the benchmark is built without the limit's lines.
 
 #[path = "../archive.rs"]
 mod archive;
@@ -14,7 +14,8 @@ fn main() {
     println!("cargo::rustc-check-cfg=cfg(limit)");
     let source = limit_folder().join("limit.c");
     println!("cargo::rerun-if-changed={}", source.display());
-    if source.is_file() {
+    let machine = env::var("CARGO_CFG_TARGET_ARCH").expect("cargo sets CARGO_CFG_TARGET_ARCH");
+    if source.is_file() && machine == "x86_64" {
         link_limit(&source);
         println!("cargo::rustc-cfg=limit");
     }
