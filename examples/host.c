@@ -1,5 +1,5 @@
-/* A host in C: it loads the sheet of a gain surface, asks for a gain, changes one sample, asks again and writes the sheet back.
- * Nothing is allocated: every slice that a call is lent stands here. */
+/* A host in C: it loads the sheet of a gain surface, asks for a gain, finds a tensor that a loader left stale, changes the sample as it should
+ * have been, asks again and writes the sheet back. Nothing is allocated: every slice that a call is lent stands here. */
 #include "hullashlar.h"
 
 #include <math.h>
@@ -90,6 +90,22 @@ static size_t change(const struct sheet *sheet, const size_t place[HULLASHLAR_AX
     return lanes;
 }
 
+/* Whether the tensor is that of its own samples, and else where it first is not. */
+static void verify(const struct sheet *sheet)
+{
+    size_t place[HULLASHLAR_AXES];
+    size_t found[HULLASHLAR_FOUND];
+    accept("verify", hullashlar_verify(sheet->axes, sheet->points, HULLASHLAR_AXES, sheet->kinds, HULLASHLAR_ENDS,
+                                       sheet->values, HULLASHLAR_ENDS, sheet->knots, knots_length(sheet), tensor,
+                                       tensor_length(sheet), scratch, HULLASHLAR_MOST_SCRATCH, place, HULLASHLAR_AXES,
+                                       found, HULLASHLAR_FOUND));
+    if (found[0] == 1)
+        printf("the tensor is whole\n");
+    else
+        printf("the tensor is stale: %zu of its numbers differ, the first at %zu, %zu with mask %zu\n", found[2], place[0],
+               place[1], found[1]);
+}
+
 static size_t query(const struct sheet *sheet, const double *coordinates, double *value, size_t labels[HULLASHLAR_AXES])
 {
     /* The sheet says what becomes of a point outside what was measured: the gain is that of the nearest end. */
@@ -123,10 +139,22 @@ static void print_gain(const struct sheet *sheet, const double *coordinates)
            cell[1]);
 }
 
+static size_t sample_number(const struct sheet *sheet, const size_t place[HULLASHLAR_AXES])
+{
+    return place[0] * sheet->points[1] + place[1];
+}
+
+/* What a loader does that knows nothing of derivatives: the new sample is written where it stands in the tensor, at mask 0. */
+static void overwrite(const struct sheet *sheet, const size_t place[HULLASHLAR_AXES], double sample)
+{
+    tensor[sample_number(sheet, place) << sheet->axes] = sample;
+    printf("sample at %zu, %zu overwritten by %.1f\n", place[0], place[1], sample);
+}
+
 /* The gain between measured points moves with the sample, and no number of the tensor is an old one. */
 static void change_and_compare(struct sheet *sheet, const size_t place[HULLASHLAR_AXES], double sample)
 {
-    double *changed = &sheet->samples[place[0] * sheet->points[1] + place[1]];
+    double *changed = &sheet->samples[sample_number(sheet, place)];
     size_t lanes = change(sheet, place, sample);
     printf("sample at %zu, %zu: %.1f in place of %.1f, %zu lanes solved again\n", place[0], place[1], sample, *changed,
            lanes);
@@ -154,8 +182,12 @@ int main(int count, char **arguments)
     printf("sheet of %zu axes, %zu and %zu points; tensor of %zu numbers\n", sheet.axes, sheet.points[0],
            sheet.points[1], numbers);
     print_gain(&sheet, point);
+    overwrite(&sheet, place, 15.0);
+    print_gain(&sheet, point);
+    verify(&sheet);
     change_and_compare(&sheet, place, 15.0);
     print_gain(&sheet, point);
+    verify(&sheet);
     printf("gain at a level that is no number: refused %zu\n", query(&sheet, no_point, &gain, cell));
     write_back(arguments[2], &sheet);
     return 0;

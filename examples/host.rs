@@ -1,9 +1,10 @@
 //! A host in Rust: it loads the sheet of a gain surface, asks for a gain,
-//! changes one sample, asks again and writes the sheet back.
+//! finds a tensor that a loader left stale, changes the sample as it should
+//! have been, asks again and writes the sheet back.
 
 mod hullashlar;
 
-use hullashlar::{Axes, Refusal, Sheet, BUFFER, LONGEST_SHEET, LONGEST_TENSOR, SCRATCH};
+use hullashlar::{Axes, Refusal, Sheet, Stale, BUFFER, LONGEST_SHEET, LONGEST_TENSOR, SCRATCH};
 use std::process::ExitCode;
 use std::{env, fs};
 
@@ -60,8 +61,28 @@ impl Surface {
             place,
             sample,
         )?;
-        self.samples[place[0] * self.axes.points[1] + place[1]] = sample;
+        self.samples[self.sample_number(place)] = sample;
         Ok(lanes)
+    }
+
+    fn sample_number(&self, place: [usize; 4]) -> usize {
+        place[0] * self.axes.points[1] + place[1]
+    }
+
+    /// What a loader does that knows nothing of derivatives: the new sample is written where it
+    /// stands in the tensor, at mask 0.
+    fn overwrite(&mut self, place: [usize; 4], sample: f64) {
+        self.tensor[self.sample_number(place) << self.axes.count] = sample;
+    }
+
+    /// What of the tensor is not that of its own samples.
+    fn verify(&mut self) -> Result<Option<Stale>, Refusal> {
+        hullashlar::verify(
+            &self.axes,
+            &self.knots[..self.axes.knots_length()],
+            &self.tensor[..self.axes.tensor_length()],
+            &mut self.scratch,
+        )
     }
 
     /// The gain at a frequency and a level, and the cell it lies in. The sheet says what becomes of
@@ -125,8 +146,14 @@ fn show(sheet: &[u8]) -> Result<Vec<u8>, Refusal> {
     );
     let point = [1.5, 60.0];
     print_gain(&surface, point)?;
-    change_and_compare(&mut surface, [2, 2], 15.0)?;
+    let (row, column, sample) = (2, 2, 15.0);
+    surface.overwrite([row, column, 0, 0], sample);
+    println!("sample at {row}, {column} overwritten by {sample:.1}");
     print_gain(&surface, point)?;
+    print_verified(&mut surface)?;
+    change_and_compare(&mut surface, [row, column], sample)?;
+    print_gain(&surface, point)?;
+    print_verified(&mut surface)?;
     let refusal = surface.gain([1.5, f64::NAN]).err().unwrap_or(0);
     println!("gain at a level that is no number: refused {refusal}");
     surface.sheet()
@@ -138,6 +165,21 @@ fn print_gain(surface: &Surface, point: [f64; 2]) -> Result<(), Refusal> {
         "gain at {:.1} kHz and {:.1} dB: {gain:.6} dB, in cell {}, {}",
         point[0], point[1], cell[0], cell[1]
     );
+    Ok(())
+}
+
+fn print_verified(surface: &mut Surface) -> Result<(), Refusal> {
+    match surface.verify()? {
+        None => println!("the tensor is whole"),
+        Some(Stale {
+            place,
+            mask,
+            numbers,
+        }) => println!(
+            "the tensor is stale: {numbers} of its numbers differ, the first at {}, {} with mask {mask}",
+            place[0], place[1]
+        ),
+    }
     Ok(())
 }
 

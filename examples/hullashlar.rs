@@ -192,6 +192,42 @@ pub fn change(
     outcome(refusal, lanes[0])
 }
 
+/// Where a tensor first differs from the build of its own samples, and how many numbers do.
+#[derive(Debug, Clone, Copy, PartialEq, Eq)]
+pub struct Stale {
+    pub place: [usize; 4],
+    pub mask: usize,
+    pub numbers: usize,
+}
+
+/// What of a tensor is not what a build of its own samples gives, bit for bit; nothing of a whole one.
+#[rustfmt::skip]
+pub fn verify(
+    axes: &Axes,
+    knots: &[f64],
+    tensor: &[f64],
+    scratch: &mut [f64],
+) -> Result<Option<Stale>, Refusal> {
+    let mut place = [0; 4];
+    let mut found = [0; 3];
+    // SAFETY: each pointer goes with the length of a live slice, and no two slices overlap.
+    let refusal = unsafe {
+        hullashlar_verify(
+            axes.count,
+            axes.points.as_ptr(), axes.points.len(),
+            axes.kinds.as_ptr(), axes.kinds.len(),
+            axes.values.as_ptr(), axes.values.len(),
+            knots.as_ptr(), knots.len(),
+            tensor.as_ptr(), tensor.len(),
+            scratch.as_mut_ptr(), scratch.len(),
+            place.as_mut_ptr(), place.len(),
+            found.as_mut_ptr(), found.len(),
+        )
+    };
+    let [whole, mask, numbers] = found;
+    outcome(refusal, (whole == 0).then_some(Stale { place, mask, numbers }))
+}
+
 /// The tensor's value at a point, outside the knots of an axis as its mode says, and for each axis the cell that was
 /// evaluated.
 #[rustfmt::skip]

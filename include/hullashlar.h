@@ -1,6 +1,7 @@
-/* Hullashlar for C: its nineteen calls over numbers and plain slices. docs/RULES.md says what each computes and when it
- * refuses, in its chapters Calls, EvenCalls, StepCalls, Read, SheetTensor, Write, SheetSurface, DeviceCell, DeviceCurve,
- * OwnRefusals, CurveExports, TensorExports, QueryExports, SheetExports, StepExports and DeviceExports.
+/* Hullashlar for C: its twenty calls over numbers and plain slices. docs/RULES.md says what each computes and when it
+ * refuses, in its chapters Calls, Verify, EvenCalls, StepCalls, Read, SheetTensor, Write, SheetSurface, DeviceCell,
+ * DeviceCurve, OwnRefusals, CurveExports, TensorExports, VerifyExports, QueryExports, SheetExports, StepExports and
+ * DeviceExports.
  *
  * The machine. The archive, target/staticlib/libhullashlar.a, is code for x86-64, with SSE2 and the System V calling
  * convention. Of its host it wants memcpy and memset, and nothing else. It computes under the caller's MXCSR, which
@@ -41,9 +42,9 @@
  *   - Whole numbers: 4 for the slots; then 19 and 20 of a cell, and 20, 19, 20 of a cursor.
  *
  * Outputs. After a refusal every output is as it was but the slots of the answer: value, labels, lanes, uneven, found,
- * location, fraction, index and indices, and of a sheet axes, points, kinds, values, modes, edition and length. These
- * are then 0 or +0.0, but for uneven after 21, where all slots of the call have their lengths; where one has another
- * length, none of them is written. Where a sheet is read and only its build is refused, its knots, samples, axes,
+ * a place that is found, location, fraction, index and indices, and of a sheet axes, points, kinds, values, modes,
+ * edition and length. These are then 0 or +0.0, but for uneven after 21, where all slots of the call have their lengths;
+ * where one has another length, none of them is written. Where a sheet is read and only its build is refused, its knots, samples, axes,
  * points, kinds, values, modes and edition are handed over, as after a read, and the length alone is 0.
  * Of the device, a cursor is as it was after a refusal, and a value 0.
  * All of scratch is +0.0 after success and after 10, and else as it was.
@@ -70,7 +71,8 @@ enum hullashlar_refusal {
     HULLASHLAR_REFUSED_LENGTH = 4,   /* a slice of another length than it must have */
     HULLASHLAR_REFUSED_SCRATCH = 5,  /* too little scratch */
     HULLASHLAR_REFUSED_PLACE = 6,    /* no place of the grid; a lower index with no knot after it */
-    HULLASHLAR_REFUSED_NUMBER = 7,   /* infinite or NaN: a knot, sample, end value or coordinate, or a change's tensor */
+    HULLASHLAR_REFUSED_NUMBER = 7,   /* infinite or NaN: a knot, sample, end value or coordinate, or in the tensor
+                                        of a change or a verification */
     HULLASHLAR_REFUSED_KNOTS = 8,    /* a knot is not above the one before it, or too far above for a double */
     HULLASHLAR_REFUSED_FEWNESS = 9,  /* fewer points than NotAKnot needs: 3, or 4 where both ends are so */
     HULLASHLAR_REFUSED_OUTCOME = 10, /* what came out is infinite or NaN */
@@ -114,6 +116,7 @@ enum hullashlar_direction {
 enum hullashlar_size {
     HULLASHLAR_AXES = 4,             /* the most axes; so long are points, modes, directions, place, labels, indices */
     HULLASHLAR_ENDS = 8,             /* the length of kinds and values */
+    HULLASHLAR_FOUND = 3,            /* the length of what hullashlar_verify finds */
     HULLASHLAR_AXIS_ENDS = 2,        /* the same in a call on one axis */
     HULLASHLAR_POINTS = 256,         /* the most points on an axis */
     HULLASHLAR_TENSOR = 4096,        /* the most numbers in a tensor */
@@ -182,6 +185,27 @@ size_t hullashlar_change(size_t axes,
                          const size_t *place, size_t place_length,
                          double sample,
                          size_t *lanes, size_t lanes_length);
+
+/* Whether a tensor, whoever wrote it, is whole: whether each of its numbers has the bits that a build from its own
+ * samples, the numbers at mask 0, gives. Bits decide, so -0.0 is another number than +0.0. Of a whole tensor all that
+ * hullashlar_change says of a built one holds from then on. Where it is not whole, place has the indices of the first
+ * number that differs. Changing the sample there to itself renews the numbers of its lanes; the sure repair is
+ * hullashlar_build from the samples.
+ * found[0] is 1 for a whole tensor and else 0, found[1] the mask of the number at place, found[2] how many numbers
+ * differ; of a whole tensor place and the last two are 0.
+ * Lengths: points and place 4; kinds and values 8; knots as many as the points of all axes together; tensor 2^axes for
+ * each place of the grid; scratch at least 2,048 longer than the tensor; found 3.
+ * Written: scratch, place, found. Refuses by 1, 2, 3, 4, 13, 5, 7, 8, 9, 10: 7 for any number of the tensor, 10 where
+ * the build would be refused so. */
+size_t hullashlar_verify(size_t axes,
+                         const size_t *points, size_t points_length,
+                         const uint8_t *kinds, size_t kinds_length,
+                         const double *values, size_t values_length,
+                         const double *knots, size_t knots_length,
+                         const double *tensor, size_t tensor_length,
+                         double *scratch, size_t scratch_length,
+                         size_t *place, size_t place_length,
+                         size_t *found, size_t found_length);
 
 /* The surface's value at the coordinates, outside the knots of an axis as its mode says, and a label for each axis: the
  * number of the cell that was evaluated, which on a knot between two cells is the lower one. On knots that are accepted

@@ -48,6 +48,17 @@ extern "C" {
         sample: f64,
         lanes: *mut usize, lanes_length: usize,
     ) -> usize;
+    pub fn hullashlar_verify(
+        axes: usize,
+        points: *const usize, points_length: usize,
+        kinds: *const u8, kinds_length: usize,
+        values: *const f64, values_length: usize,
+        knots: *const f64, knots_length: usize,
+        tensor: *const f64, tensor_length: usize,
+        scratch: *mut f64, scratch_length: usize,
+        place: *mut usize, place_length: usize,
+        found: *mut usize, found_length: usize,
+    ) -> usize;
     pub fn hullashlar_query(
         axes: usize,
         points: *const usize, points_length: usize,

@@ -1,4 +1,4 @@
--- Slices of one, of two, of four and of eight numbers, stored to the last: what stands in them.
+-- Slices of one, of two, of three, of four and of eight numbers, stored to the last: what stands in them.
 use mathlib.Core.Path.{_≡_, refl, ap}
 use mathlib.Core.List.{List, [], _∷_}
 use native.Mathlib.Omega.{arith}
@@ -15,6 +15,13 @@ module _ {A : Type 0} where
   two-stored (x ∷ []) a b e = absurd (omega arith)
   two-stored (x ∷ y ∷ []) a b e = refl
   two-stored (x ∷ y ∷ z ∷ l) a b e = absurd (omega arith)
+
+  pub three-stored : (l : List A) (a b c : A) → length l ≡ 3 → set (set (set l 0 a) 1 b) 2 c ≡ a ∷ b ∷ c ∷ []
+  three-stored [] a b c e = absurd (omega arith)
+  three-stored (x ∷ []) a b c e = absurd (omega arith)
+  three-stored (x ∷ y ∷ []) a b c e = absurd (omega arith)
+  three-stored (x ∷ y ∷ z ∷ []) a b c e = refl
+  three-stored (x ∷ y ∷ z ∷ w ∷ l) a b c e = absurd (omega arith)
 
   pub four-stored : (l : List A) (a b c d : A) → length l ≡ 4 → set (set (set (set l 0 a) 1 b) 2 c) 3 d ≡ a ∷ b ∷ c ∷ d ∷ []
   four-stored [] a b c d e = absurd (omega arith)

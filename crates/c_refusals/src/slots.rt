@@ -24,8 +24,8 @@ pub fn store_count(slot: &mut [usize], count: usize)
     slot[0] = count;
 }
 
-// Four labels go to their slice. Not a public call: its length is required.
-fn store_labels(labels: &mut [usize], found: [usize; 4])
+// Four labels, or four indices, go to their slice. Not a public call: its length is required.
+pub fn store_labels(labels: &mut [usize], found: [usize; 4])
     requires { ⌜ length (now labels) ≡ 4 ⌝ }
     ensures { λ _. ⌜ now (labels .exit) ≡ found ⌝ }
 {

@@ -154,7 +154,7 @@ module _ (axes : ℕ) (points-in kinds : List ℕ) (values knots : List Float) w
         go zero e = rw (its-refusal e) (steps-stand g samples t stands (as-step t step ∷ []) (as-change e, tt))
         go (suc r) e = rw (called .0 .answer, called .0 .output, e) stands
 
-  steps-made : (samples t : List Float) → Made samples t → (steps : List HostStep) → Called t steps
+  pub steps-made : (samples t : List Float) → Made samples t → (steps : List HostStep) → Called t steps
       → Made (samples-after-calls samples steps) (tensor-after-calls t steps)
   steps-made samples t made [] called = made
   steps-made samples t made (step ∷ steps) called =

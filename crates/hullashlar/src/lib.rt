@@ -1,4 +1,4 @@
-// The nineteen calls for C, over numbers and plain slices. Each but the firmware's returns its refusal's number, 0 for none: the host's own
+// The twenty calls for C, over numbers and plain slices. Each but the firmware's returns its refusal's number, 0 for none: the host's own
 // first, as c_refusals::own and the crates of exports have them, and then the call's.
 ghost use mathlib.Core.List.{[], _∷_};
 ghost use Rattle.rules.specs.Calls.{SlopesPromise};
@@ -6,6 +6,7 @@ ghost use Rattle.sheet_surface.specs.SheetSurface.{SurfacePromise};
 ghost use Rattle.c_step.specs.StepExports.{ExactExport, AxisExport, StepExport, SteppedExport};
 ghost use Rattle.c_curve.specs.CurveExports.{MomentsExport, CurveExport};
 ghost use Rattle.c_tensor.specs.TensorExports.{BuildExport, ChangeExport};
+ghost use Rattle.c_verify.specs.VerifyExports.{VerifyExport};
 ghost use Rattle.c_query.specs.QueryExports.{QueryExport, QuickQueryExport, EvenQueryExport};
 ghost use Rattle.c_sheet.specs.SheetExports.{ReadExport, ReadEdition1Export, SheetTensorExport, WriteExport};
 ghost use Rattle.c_device.specs.DeviceExports.{CellExport, NextExport};
@@ -112,6 +113,38 @@ pub extern "C" fn hullashlar_change(
         place,
         sample,
         lanes,
+    )
+}
+
+// Whether every number of the tensor is the one that a build of its own samples gives, bit for bit. Of the first that differs the place goes
+// to a slot of four; 1 for a whole tensor or 0, the mask of that number and how many differ go to a slot of three. Refuses 1 2 3 4 5 7 8 9
+// 10, and then all are 0; and 4 and 13 of its own.
+#[no_mangle]
+pub extern "C" fn hullashlar_verify(
+    axes: usize,
+    points: &[usize],
+    kinds: &[u8],
+    values: &[f64],
+    knots: &[f64],
+    tensor: &[f64],
+    scratch: &mut [f64],
+    place: &mut [usize],
+    found: &mut [usize],
+) -> usize
+    ensures { λ r.
+        ⌜ VerifyExport axes (now (points .entry)) (now (kinds .entry)) (now (values .entry)) (now (knots .entry)) (now (tensor .entry))
+        (now (scratch .entry)) (now (place .entry)) (now (found .entry)) r (now (scratch .exit)) (now (place .exit)) (now (found .exit)) ⌝ }
+{
+    c_verify::verify(
+        axes,
+        points,
+        kinds,
+        values,
+        knots,
+        tensor,
+        scratch,
+        place,
+        found,
     )
 }
 

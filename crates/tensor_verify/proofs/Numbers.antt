@@ -1,4 +1,4 @@
--- Numbers held against others: the count of those that differ, one number more at a time.
+-- Numbers held against others: the count of those that differ, one number more at a time; where it is 0, none is the first.
 use mathlib.Core.Path.{_≡_, refl, sym, ap, ap₂, _∙_, subst}
 use mathlib.Core.Logic.{⊎-elim}
 use mathlib.Core.Bool.{Bool, true, false, cond}
@@ -13,6 +13,7 @@ use lib.Ieee.Scale.{finite}
 use borrow.Author.Tests.{not-false}
 use Rattle.rules.specs.Numbers.{at}
 use Rattle.rules.specs.Refusals.{number-refused}
+use Rattle.rules.specs.Even.{first-that}
 use Rattle.base_numbers.proofs.Scan.{any-at}
 use Rattle.tensor_verify.specs.Verify.{count-that}
 use Rattle.tensor_verify.specs.Compared.{Comparable}
@@ -59,6 +60,17 @@ module _ (test : ℕ → Bool) where
       go true e z below = absurd (omega (arith, z))
       go false e z below =
           ⊎-elim (λ same. ap test same ∙ e) (λ before. below before (omega (arith, z))) (eq-or-lt-of-le (le-of-suc-le-suc l))
+
+  -- .. and then none is the first
+  pub none-first : (n : ℕ) → count-that test n ≡ 0 → first-that test n 0 ≡ 0
+  unfolding first-that
+  none-first n none = go n 0 (λ i l. counted-none n none i (omega (arith, l)))
+    where
+      go : (d k : ℕ) → ((i : ℕ) → i < k + d → test i ≡ false) → first-that test d k ≡ 0
+      go zero k fails = refl
+      go (suc d) k fails =
+          ap (λ (t : Bool). elim t [ true ↦ k | false ↦ first-that test d (suc k) ]) (fails k (omega arith))
+          ∙ go d (suc k) (λ i l. fails i (omega (arith, l)))
 
 module _ (ours others : List Float) (given : Comparable ours others) where
   pub ours-finite : (i : ℕ) → i < length ours → finite (at ours i) ≡ true

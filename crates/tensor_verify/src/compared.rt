@@ -39,7 +39,7 @@ pub fn count_differing(ours: &[f64], others: &[f64]) -> usize
 }
 
 // The first that differs, and 0 where none does.
-pub fn first_differing(ours: &[f64], others: &[f64]) -> usize
+fn first_differing(ours: &[f64], others: &[f64]) -> usize
     requires { ⌜ Comparable (now ours) (now others) ⌝ }
     ensures { λ r. ⌜ r ≡ first-that (differs-at (now (ours .entry)) (now (others .entry))) (length (now (ours .entry))) 0 ⌝ }
 {
@@ -51,4 +51,15 @@ pub fn first_differing(ours: &[f64], others: &[f64]) -> usize
         i += 1;
     }
     0
+}
+
+// The same where it is known how many differ: in a whole tensor none is looked for. Not a public call: the count is required.
+pub fn first_of_counted(count: usize, ours: &[f64], others: &[f64]) -> usize
+    requires { ⌜ Comparable (now ours) (now others) × (count ≡ count-that (differs-at (now ours) (now others)) (length (now ours))) ⌝ }
+    ensures { λ r. ⌜ r ≡ first-that (differs-at (now (ours .entry)) (now (others .entry))) (length (now (ours .entry))) 0 ⌝ }
+{
+    if count == 0 {
+        return 0;
+    }
+    first_differing(ours, others)
 }

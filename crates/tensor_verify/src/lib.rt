@@ -24,7 +24,7 @@ pub struct VerifyAnswer {
 }
 
 // The answer of a refusal.
-fn refused(refusal: usize) -> VerifyAnswer
+pub fn refused(refusal: usize) -> VerifyAnswer
     ensures { λ r. ⌜ r ≡ refused-with refusal ⌝ }
 {
     VerifyAnswer {
@@ -46,7 +46,7 @@ fn held_against(axes: usize, all: [Axis; 4], tensor: &[f64], fresh: &[f64]) -> V
         return refused(10);
     }
     let differing = compared::count_differing(tensor, fresh);
-    let first = compared::first_differing(tensor, fresh);
+    let first = compared::first_of_counted(differing, tensor, fresh);
     let masks = grid::masks(axes);
     let place = places::place_of_number(axes, all, first / masks);
     VerifyAnswer {

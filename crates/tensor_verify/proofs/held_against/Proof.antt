@@ -17,11 +17,13 @@ count-differing-requires c κs =
     let start = c .before .before .before .before in
     comparable _ _ (start .pre .1) (start .pre .2) (sym (c .before .any-of-many-not-finite .ensures) ∙ c .if1 .left)
 
-first-differing-requires : tie.Need-first-differing-requires
-first-differing-requires c κs =
+first-of-counted-requires : tie.Need-first-of-counted-requires
+first-of-counted-requires c κs =
     let tested = c .before in
-    let start = tested .before .before .before .before in
-    comparable _ _ (start .pre .1) (start .pre .2) (sym (tested .before .any-of-many-not-finite .ensures) ∙ tested .if1 .left)
+    let start = tested .before .before .before .before in (
+      comparable _ _ (start .pre .1) (start .pre .2) (sym (tested .before .any-of-many-not-finite .ensures) ∙ tested .if1 .left),
+      c .count-differing .ensures,
+    )
 
 div-place-of-number : tie.Need-div-place-of-number
 div-place-of-number c = rw (c .masks .ensures .0) (pow-pos _)
@@ -36,7 +38,7 @@ returns-2 c =
     let counted = first .before in
     let tested = counted .before in
     told-found _ _ _ _ _ _ _ _ (sym (tested .before .any-of-many-not-finite .ensures) ∙ tested .if1 .left)
-    (counted .count-differing .ensures) (first .first-differing .ensures) (masks .masks .ensures .0) (c .place-of-number .ensures)
+    (counted .count-differing .ensures) (first .first-of-counted .ensures) (masks .masks .ensures .0) (c .place-of-number .ensures)
 
 pub held-against-spec : {M : Type 1} → statement M
 held-against-spec =
@@ -46,7 +48,7 @@ held-against-spec =
     (λ c κs. search needs)
     returns
     count-differing-requires
-    first-differing-requires
+    first-of-counted-requires
     (λ c κs. search needs)
     div-place-of-number
     (λ c κs. search needs)
