@@ -116,8 +116,8 @@ enum hullashlar_direction {
 enum hullashlar_size {
     HULLASHLAR_AXES = 4,             /* the most axes; so long are points, modes, directions, place, labels, indices */
     HULLASHLAR_ENDS = 8,             /* the length of kinds and values */
-    HULLASHLAR_FOUND = 3,            /* the length of what hullashlar_verify finds */
     HULLASHLAR_AXIS_ENDS = 2,        /* the same in a call on one axis */
+    HULLASHLAR_FOUND = 3,            /* the length of what hullashlar_verify finds */
     HULLASHLAR_POINTS = 256,         /* the most points on an axis */
     HULLASHLAR_TENSOR = 4096,        /* the most numbers in a tensor */
     HULLASHLAR_SCRATCH = 2048,       /* the scratch that is needed beside the tensor's length */

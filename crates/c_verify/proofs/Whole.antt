@@ -36,7 +36,7 @@ use Rattle.c_tensor.proofs.Demand3.{
   host-refusal-of-fresh-build,
   host-bits-kept-elsewhere,
 }
-use Rattle.c_verify.specs.VerifyExports.{found-slots-refused, verify-own-refusal, verify-told, VerifyExport}
+use Rattle.c_verify.specs.VerifyExports.{verify-slots-refused, verify-own-refusal, verify-told, VerifyExport}
 use Rattle.c_verify.proofs.OwnRows.{own-of-change, own-slots, own-fine}
 
 -- the first of the numbers found: 1 for a whole tensor
@@ -74,8 +74,9 @@ module _ (axes : ℕ) (points kinds : List ℕ) (values knots : List Float) wher
 
     is-whole : told .whole ≡ true
     is-whole =
+        let slots = own-slots axes points kinds values knots t place found accepted in
         one-or-none (told .whole)
-        (sym (ap says-whole (rw (accepted, own-slots axes points kinds values knots t place found accepted) at (called .answer-stored .numbers)))
+        (sym (ap says-whole (rw (accepted, slots) at (called .answer-stored .numbers)))
         ∙ whole)
 
     pub verified-made : Made axes points kinds values knots (samples-in g t) t
@@ -102,7 +103,7 @@ module _ (axes : ℕ) (points kinds : List ℕ) (values knots : List Float) wher
       → (r ≡ 0) × (says-whole f ≡ 1)
   unfolding tensor
   made-is-whole samples t made scratch place found room four three called =
-      let fits : found-slots-refused place found ≡ false =
+      let fits : verify-slots-refused place found ≡ false =
       neither-of (length-fits (length place) 4 four) (length-fits (length found) 3 three) in
       let long : length t ≡ tensor-length g = ap length (made .stands .is) ∙ length-table (tensor-length g) _ in
       let own : verify-own-refusal axes points kinds values knots t place found ≡ 0 =
@@ -123,5 +124,5 @@ module _ (axes : ℕ) (points kinds : List ℕ) (values knots : List Float) wher
       → (r ≡ 0) × (says-whole f ≡ 1)
   whole-after-calls samples out cleared t lent built steps called =
       made-is-whole (samples-after-calls axes points kinds values knots samples steps) (tensor-after-calls t steps)
-      (steps-made axes points kinds values knots samples t (build-made axes points kinds values knots samples out lent t cleared built) steps
-      called)
+      (steps-made axes points kinds values knots samples t
+      (build-made axes points kinds values knots samples out lent t cleared built) steps called)

@@ -23,13 +23,13 @@ abbrev pub found-numbers : VerifyAnswer → List ℕ
 found-numbers a = cond (a .whole) 1 0 ∷ a .mask ∷ a .differing ∷ []
 
 -- 4 for the slots of the place and of these
-abbrev pub found-slots-refused : List ℕ → List ℕ → Bool
-found-slots-refused place found = length-refused (length place) most-axes || length-refused (length found) 3
+abbrev pub verify-slots-refused : List ℕ → List ℕ → Bool
+verify-slots-refused place found = length-refused (length place) most-axes || length-refused (length found) 3
 
 -- what is found in these slots, which are both left as they were where one is another slice
 pub record FoundStored (place-lent found-lent : List ℕ) (told : VerifyAnswer) (place-later found-later : List ℕ) : Type 0 where
-  pub place : place-later ≡ cond (found-slots-refused place-lent found-lent) place-lent (told .place)
-  pub numbers : found-later ≡ cond (found-slots-refused place-lent found-lent) found-lent (found-numbers told)
+  pub place : place-later ≡ cond (verify-slots-refused place-lent found-lent) place-lent (told .place)
+  pub numbers : found-later ≡ cond (verify-slots-refused place-lent found-lent) found-lent (found-numbers told)
 
 -- ---- the call
 
@@ -40,7 +40,7 @@ module _ (axes : ℕ) (points kinds : List ℕ) (values knots tensor : List Floa
     verify-own-rows =
         axes-rows axes points ++ (
         row 4 (
-        eight-ends-refused kinds values || found-slots-refused place-lent found-lent
+        eight-ends-refused kinds values || verify-slots-refused place-lent found-lent
         || (
         length-refused (length knots) (knots-length (sizes-given axes points))
         || length-refused (length tensor) (tensor-length (sizes-given axes points))

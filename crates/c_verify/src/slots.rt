@@ -1,14 +1,14 @@
 // The slots of what a look at a tensor found: written where both have their lengths, and else left as they were.
 ghost use mathlib.Core.Path.{_≡_};
 ghost use mathlib.Core.Bool.{cond};
-ghost use Rattle.c_verify.specs.VerifyExports.{found-slots-refused, FoundStored};
+ghost use Rattle.c_verify.specs.VerifyExports.{verify-slots-refused, FoundStored};
 use c_refusals::slots::store_labels;
 use grid_checks::lengths;
 use tensor_verify::VerifyAnswer;
 
 // Whether the slot of the place is not four numbers, or that of what else was found not three.
 pub fn slots_refused(place: &[usize], found: &[usize]) -> bool
-    ensures { λ r. ⌜ r ≡ found-slots-refused (now (place .entry)) (now (found .entry)) ⌝ }
+    ensures { λ r. ⌜ r ≡ verify-slots-refused (now (place .entry)) (now (found .entry)) ⌝ }
 {
     if lengths::length_refused(place.len(), 4) {
         return true;

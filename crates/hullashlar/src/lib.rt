@@ -116,9 +116,9 @@ pub extern "C" fn hullashlar_change(
     )
 }
 
-// Whether every number of the tensor is the one that a build of its own samples gives, bit for bit. Of the first that differs the place goes
-// to a slot of four; 1 for a whole tensor or 0, the mask of that number and how many differ go to a slot of three. Refuses 1 2 3 4 5 7 8 9
-// 10, and then all are 0; and 4 and 13 of its own.
+// Whether every number of the tensor is the one that a build of its own samples gives, bit for bit. Of the first that differs the place
+// goes to a slot of four; 1 for a whole tensor or 0, the mask of that number and how many differ go to a slot of three. Refuses 1 2 3 4 5 7
+// 8 9 10, and then all are 0; and 4 and 13 of its own.
 #[no_mangle]
 pub extern "C" fn hullashlar_verify(
     axes: usize,

@@ -26,6 +26,7 @@ use trial_replay_tensors::change;
 use trial_replay_tensors::even_query;
 use trial_replay_tensors::query;
 use trial_replay_tensors::quick_query;
+use trial_replay_verify::verify;
 
 // The case at a place: the number of its call, and its arguments. A number that no call has is no case, and differs.
 fn case_at(list: &[u8], place: usize) -> Replayed {
@@ -50,6 +51,7 @@ fn case_at(list: &[u8], place: usize) -> Replayed {
         16 => cursor_next(list, begin),
         17 => read_edition_1(list, begin),
         18 => surface(list, begin),
+        19 => verify(list, begin),
         _ => Replayed {
             same: false,
             next: begin,

@@ -26,8 +26,8 @@ returns-2 c =
     let at-verify = at-store-found .before .before .before .before .before in
     let at-axes-given = at-verify .before .before in
     let at-if1 = at-axes-given .before in
-    verify-called _ _ _ _ _ _ _ _ _ (at-if1 .before .verify-own-refusal .ensures) (at-if1 .if1 .left) _ (at-axes-given .axes-given .ensures) _
-    _ _ (at-verify .verify .ensures) (at-store-found .store-found2 .ensures)
+    verify-called _ _ _ _ _ _ _ _ _ (at-if1 .before .verify-own-refusal .ensures) (at-if1 .if1 .left) _
+    (at-axes-given .axes-given .ensures) _ _ _ (at-verify .verify .ensures) (at-store-found .store-found2 .ensures)
 
 pub verify-spec : {M : Type 1} → statement M
 verify-spec =

@@ -5,7 +5,7 @@ use native.Mathlib.Omega.{arith}
 use lib.ListN.{length, take}
 use lib.Seq.{length-take-le}
 use Rattle.c_refusals.proofs.Rows.{axes-stop}
-use Rattle.c_verify.specs.VerifyExports.{found-slots-refused, verify-own-refusal}
+use Rattle.c_verify.specs.VerifyExports.{verify-slots-refused, verify-own-refusal}
 use Rattle.c_verify.proofs.FoundSlots.{found-lengths}
 use Rattle.c_verify.proofs.OwnRows.{slots-met, own-of-change}
 use borrow.Author.Needs.{needs}
@@ -15,7 +15,7 @@ use Rattle.c_verify.proofs.own.verify_own_refusal.Tie as tie
 abbrev start : tie.Else2 → tie.Start
 start c = c .before .before .before .before .before .before .before .before .before .before .before
 
-fit : (c : tie.Else2) → found-slots-refused (start c .args .place .now) (start c .args .found .now) ≡ false
+fit : (c : tie.Else2) → verify-slots-refused (start c .args .place .now) (start c .args .found .now) ≡ false
 fit c = sym (c .before .slots-refused .ensures) ∙ c .if2 .left
 
 returns : tie.Need-returns

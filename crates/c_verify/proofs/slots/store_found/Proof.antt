@@ -4,7 +4,7 @@ use mathlib.Core.Path.{_≡_, sym, _∙_}
 use mathlib.Core.Bool.{false}
 use native.Mathlib.Omega.{arith}
 use lib.ListN.{length, length-set}
-use Rattle.c_verify.specs.VerifyExports.{found-slots-refused}
+use Rattle.c_verify.specs.VerifyExports.{verify-slots-refused}
 use Rattle.c_verify.proofs.FoundSlots.{found-lengths, other-slots, both-stored}
 use borrow.Author.Needs.{needs}
 use Rattle.c_verify.proofs.slots.store_found.Statement.{statement}
@@ -13,7 +13,7 @@ use Rattle.c_verify.proofs.slots.store_found.Tie as tie
 abbrev start : tie.Else1 → tie.Start
 start c = c .before .before .before .before .before .before
 
-fit : (c : tie.Else1) → found-slots-refused (start c .args .place .now) (start c .args .found .now) ≡ false
+fit : (c : tie.Else1) → verify-slots-refused (start c .args .place .now) (start c .args .found .now) ≡ false
 fit c = sym (c .before .slots-refused .ensures) ∙ c .if1 .left
 
 lengths : (c : tie.Else1) → (length (start c .args .place .now) ≡ 4) × (length (start c .args .found .now) ≡ 3)
