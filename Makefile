@@ -1,9 +1,19 @@
-.PHONY: run test differential report-largest deliberate-errors further-edits sheet-by-hand streams-fail docs-check rules-page oracle-test expected archive bench examples picture
+.PHONY: run test differential report-largest deliberate-errors further-edits sheet-by-hand streams-fail docs-check rules-page oracle-test expected archive archive-here bench examples picture
+
+# On another machine than x86-64, what links the archive takes one that is made for it, and our programs run on the kit's emulator.
+MACHINE := $(shell uname -m)
+ARCHIVES = target/staticlib
+ifneq ($(MACHINE),x86_64)
+ARCHIVES = target/firmware/$(MACHINE)
+TOOLS := $(dir $(shell readlink -f $$(command -v rt)))../on/$(MACHINE)/toolchain
+export HULLASHLAR_RUNNER = $(TOOLS)/bin/qemu-x86_64 $(TOOLS)/lib/ld-linux-x86-64.so.2 --library-path $(TOOLS)/lib
+endif
+export HULLASHLAR_ARCHIVE_DIR = $(CURDIR)/$(ARCHIVES)
 
 # Prints the tensor of the example sheet, which docs/RULES.md takes apart bit by bit.
 run:
 	rt check sheet_tensor
-	target/bin/sheet_tensor < crates/sheet_tensor/stdin
+	$(HULLASHLAR_RUNNER) target/bin/sheet_tensor < crates/sheet_tensor/stdin
 
 test:
 	.ci/run
@@ -20,7 +30,7 @@ SEED = 20240917
 
 # Holds the exported calls against the Rust, bit for bit, and what the device's program and the report print; fails where there is a
 # difference, or nothing was compared of a kind.
-differential: archive
+differential: archive-here
 	rt check device_curve sheet_report
 	cd oracle && cargo run --offline --release -p differential -- --seed $(SEED) $(CASES)
 
@@ -69,23 +79,29 @@ oracle-test:
 archive:
 	rt staticlib hullashlar
 
+# The same, and on another machine than x86-64 the archive that the proved module gives for it.
+archive-here: archive
+ifneq ($(MACHINE),x86_64)
+	python3 firmware/make_archives.py $(MACHINE)
+endif
+
 # Measures the exported calls beside the Rust's functions, and beside the limit where the folder of its C is at hand (LIMIT_SRC, by default
 # ../shared/limit), adds up their stack from the archive's code, and measures the report on long streams; prints the tables of docs/BENCH.md;
 # wants valgrind and objdump.
-bench: archive
+bench: archive-here
 	cd oracle && cargo run --offline --release -p bench
 	python3 tests/stack_frames.py
 	rt check sheet_report
 	python3 tests/report_speed.py
 
 # The example hosts on one sheet, each held against the output that is kept beside it, and those that write the sheet back against the changed sheet.
-examples: archive
+examples: archive-here
 	mkdir -p target/examples
 	python3 examples/gain_sheet.py | cmp - examples/gain.sheet
 	python3 examples/gain_sheet.py changed | cmp - examples/changed.sheet
-	gcc -std=c11 -Wall -Wextra -Werror -O2 -Iinclude examples/host.c target/staticlib/libhullashlar.a -o target/examples/host_in_c
-	gcc -std=c11 -Wall -Wextra -Werror -O2 -Iinclude examples/firmware.c target/staticlib/libhullashlar.a -o target/examples/firmware
-	rustc --edition 2021 -O examples/host.rs -L native=target/staticlib -l static=hullashlar -o target/examples/host_in_rust
+	gcc -std=c11 -Wall -Wextra -Werror -O2 -Iinclude examples/host.c $(ARCHIVES)/libhullashlar.a -o target/examples/host_in_c
+	gcc -std=c11 -Wall -Wextra -Werror -O2 -Iinclude examples/firmware.c $(ARCHIVES)/libhullashlar.a -o target/examples/firmware
+	rustc --edition 2021 -O examples/host.rs -L native=$(ARCHIVES) -l static=hullashlar -o target/examples/host_in_rust
 	target/examples/host_in_c examples/gain.sheet target/examples/c.sheet | diff examples/expected.txt -
 	target/examples/host_in_rust examples/gain.sheet target/examples/rust.sheet | diff examples/expected.txt -
 	target/examples/firmware examples/gain.sheet | diff examples/firmware_expected.txt -

@@ -189,8 +189,8 @@ size_t hullashlar_change(size_t axes,
 /* Whether a tensor, whoever wrote it, is whole: whether each of its numbers has the bits that a build from its own
  * samples, the numbers at mask 0, gives. Bits decide, so -0.0 is another number than +0.0. Of a whole tensor all that
  * hullashlar_change says of a built one holds from then on. Where it is not whole, place has the indices of the first
- * number that differs. Changing the sample there to itself renews the numbers of its lanes; the sure repair is
- * hullashlar_build from the samples.
+ * number that differs. Where all that happened is that one sample was overwritten, hullashlar_change with that sample
+ * makes the tensor whole; a number damaged otherwise it may keep, and carry on. The sure repair is hullashlar_build.
  * found[0] is 1 for a whole tensor and else 0, found[1] the mask of the number at place, found[2] how many numbers
  * differ; of a whole tensor place and the last two are 0.
  * Lengths: points and place 4; kinds and values 8; knots as many as the points of all axes together; tensor 2^axes for

@@ -1,5 +1,5 @@
 //! Links the archive, and the limit where the folder of its C is at hand: that of LIMIT_SRC, by default the one beside the
-//! repository. Where there is none, or another machine than x86-64 is built for, the benchmark is built without the limit's lines.
+//! repository, which is for x86-64 alone. Where there is none, the benchmark is built without the limit's lines.
 
 #[path = "../archive.rs"]
 mod archive;
@@ -15,8 +15,9 @@ fn main() {
     let source = limit_folder().join("limit.c");
     println!("cargo::rerun-if-changed={}", source.display());
     let machine = env::var("CARGO_CFG_TARGET_ARCH").expect("cargo sets CARGO_CFG_TARGET_ARCH");
-    if source.is_file() && machine == "x86_64" {
-        link_limit(&source);
+    let is_for_it = machine == "x86_64" || env::var_os("LIMIT_SRC").is_some();
+    if source.is_file() && is_for_it {
+        link_limit(&source, &machine);
         println!("cargo::rustc-cfg=limit");
     }
 }
@@ -27,18 +28,16 @@ fn limit_folder() -> PathBuf {
     env::var_os("LIMIT_SRC").map_or(beside, PathBuf::from)
 }
 
-/// The flags are those that the limit's own page asks for.
-fn link_limit(source: &Path) {
+/// The flags are those that the limit's own page asks for; the least of the machine's kind is what the archive is for too.
+fn link_limit(source: &Path, machine: &str) {
     let folder = PathBuf::from(env::var_os("OUT_DIR").expect("cargo sets OUT_DIR"));
     let object = folder.join("limit.o");
+    let least = match machine {
+        "x86_64" => "-march=x86-64",
+        _ => "-march=armv8-a",
+    };
     run(Command::new("gcc")
-        .args([
-            "-std=c11",
-            "-O3",
-            "-march=x86-64",
-            "-ffp-contract=off",
-            "-c",
-        ])
+        .args(["-std=c11", "-O3", least, "-ffp-contract=off", "-c"])
         .arg(source)
         .arg("-o")
         .arg(&object));

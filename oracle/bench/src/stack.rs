@@ -270,6 +270,23 @@ fn depth(mut call: &mut dyn FnMut()) -> usize {
 }
 
 /// Makes a call with the stack pointer at the given top.
+#[cfg(target_arch = "aarch64")]
+unsafe fn call_on(top: usize, call: &mut &mut dyn FnMut()) {
+    asm!(
+        "mov {before}, sp",
+        "mov sp, {top}",
+        "bl {enter}",
+        "mov sp, {before}",
+        top = in(reg) top,
+        before = out(reg) _,
+        enter = sym enter,
+        in("x0") call,
+        clobber_abi("C"),
+    );
+}
+
+/// Makes a call with the stack pointer at the given top.
+#[cfg(target_arch = "x86_64")]
 unsafe fn call_on(top: usize, call: &mut &mut dyn FnMut()) {
     asm!(
         "xchg rsp, r12",

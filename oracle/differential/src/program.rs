@@ -1,5 +1,6 @@
 //! Our programs, run on what is given to them on standard input.
 
+use std::env;
 use std::io::{self, PipeWriter, Write};
 use std::os::fd::AsRawFd;
 use std::os::raw::c_int;
@@ -17,7 +18,7 @@ pub fn printed(name: &str, input: &[u8], piece: usize) -> Vec<u8> {
     if piece > 0 {
         keep_apart(&writer);
     }
-    let program = Command::new(Path::new(PROGRAMS).join(name))
+    let program = command(&Path::new(PROGRAMS).join(name))
         .stdin(reader)
         .stdout(Stdio::piped())
         .spawn()
@@ -28,6 +29,21 @@ pub fn printed(name: &str, input: &[u8], piece: usize) -> Vec<u8> {
     let printed = program.wait_with_output().expect("the program ends").stdout;
     writing.join().expect("the input was given");
     printed
+}
+
+/// A program as a command: behind the words of HULLASHLAR_RUNNER where these are set, as where
+/// programs for x86-64 are emulated.
+fn command(program: &Path) -> Command {
+    let runner = env::var("HULLASHLAR_RUNNER").unwrap_or_default();
+    let mut words = runner.split_whitespace();
+    match words.next() {
+        Some(first) => {
+            let mut command = Command::new(first);
+            command.args(words).arg(program);
+            command
+        }
+        None => Command::new(program),
+    }
 }
 
 fn write(mut writer: PipeWriter, input: &[u8], piece: usize) -> io::Result<()> {
@@ -45,7 +61,7 @@ extern "C" {
 /// The command that sets the flags of a file, and two of these.
 const F_SETFL: c_int = 4;
 const O_WRONLY: c_int = 1;
-const O_DIRECT: c_int = 0o40_000;
+const O_DIRECT: c_int = if cfg!(target_arch = "x86_64") { 0o40_000 } else { 0o200_000 };
 
 /// Makes a pipe one of packets: no read gets more than what one write gave.
 fn keep_apart(writer: &PipeWriter) {
