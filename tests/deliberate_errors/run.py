@@ -5,8 +5,10 @@ of a stream, whose kept output is the oracle's too.
 
 A copy with an error in it cannot be proved, so it is run by `rt try`, which takes every crate as source and compiles
 it, without optimisation and with it. The interpreter that `rt try` begins with is too slow for the list, and its last
-run, with the compiler's assumptions checked, may be on a busy machine: what these two say is passed over."""
+run, with the compiler's assumptions checked, may be on a busy machine: what these two say is passed over. On another machine
+than x86-64, where programs are emulated, the run without optimisation does not end in time either."""
 
+import platform
 import re
 import shutil
 import subprocess
@@ -44,6 +46,7 @@ ERRORS = [
     "query_answer/mode_of_the_first_axis_for_all",
     "sheet_patterns/minus_zero_unused",
     "sheet_surface/tensor_of_512_refused",
+    "tensor_verify/values_in_place_of_bits",
 ]
 
 # The errors that the report of a stream of many sheets is to find.
@@ -54,6 +57,9 @@ REPORT_ERRORS = [
     "report_totals/largest_with_its_sign",
     "grid_codes/report_goes_on_after_14",
 ]
+
+# How many compiled runs are to say something.
+FEWEST_RUNS = 2 if platform.machine() == "x86_64" else 1
 
 # What `rt try` says of a compiled run: that it wrote what is expected or not.
 RUN = re.compile(r"^(.*)the native program at -O[03] ", re.M)
@@ -107,8 +113,8 @@ def replay(error=None):
     """How many cases the list has, and how many of them a copy with this error answers as the list says."""
     said = tried("trial_replay", error)
     counts = COUNTS.findall(said)
-    if len(counts) != 2 or counts[0] != counts[1]:
-        sys.exit(f"{error or 'unchanged'}: not the same counts from two compiled runs:\n{said}")
+    if len(counts) < FEWEST_RUNS or counts[0] != counts[-1]:
+        sys.exit(f"{error or 'unchanged'}: not the same counts from compiled runs:\n{said}")
     return map(int, counts[0])
 
 

@@ -22,12 +22,12 @@ use Rattle.c_axes.specs.Axes.{grid-given}
 use Rattle.c_tensor.specs.TensorExports.{BuildExport}
 use Rattle.c_tensor.proofs.Accepted.{change-accepted}
 use Rattle.c_tensor.proofs.Demand3.{
-  HostStep,
+  HostChange,
   Called,
   tensor-after-calls,
   samples-after-calls,
   Made,
-  steps-made,
+  changes-made,
   build-made,
   HostBitsOfFreshBuild,
   HostRefusalOfFreshBuild,
@@ -117,12 +117,12 @@ module _ (axes : ℕ) (points kinds : List ℕ) (values knots : List Float) wher
   -- after an accepted build and any list of calls
   pub whole-after-calls :
       (samples out cleared t lent : List Float) → BuildExport axes points kinds values knots samples out lent 0 t cleared
-      → (steps : List HostStep) → Called axes points kinds values knots t steps
+      → (changes : List HostChange) → Called axes points kinds values knots t changes
       → (scratch : List Float) (place found : List ℕ) → scratch-length g ≤ length scratch → length place ≡ 4 → length found ≡ 3
       → {r : ℕ} {s : List Float} {p f : List ℕ}
-      → VerifyExport axes points kinds values knots (tensor-after-calls t steps) scratch place found r s p f
+      → VerifyExport axes points kinds values knots (tensor-after-calls t changes) scratch place found r s p f
       → (r ≡ 0) × (says-whole f ≡ 1)
-  whole-after-calls samples out cleared t lent built steps called =
-      made-is-whole (samples-after-calls axes points kinds values knots samples steps) (tensor-after-calls t steps)
-      (steps-made axes points kinds values knots samples t
-      (build-made axes points kinds values knots samples out lent t cleared built) steps called)
+  whole-after-calls samples out cleared t lent built changes called =
+      made-is-whole (samples-after-calls axes points kinds values knots samples changes) (tensor-after-calls t changes)
+      (changes-made axes points kinds values knots samples t
+      (build-made axes points kinds values knots samples out lent t cleared built) changes called)

@@ -13,10 +13,10 @@ use Rattle.query_measured.proofs.Samples.{sample-standing}
 use Rattle.query_measured.proofs.EvenMeasured.{even-measured-is-read}
 
 pub even-reads-its-samples : EvenReadsItsSamples
-even-reads-its-samples g samples out scratch t cleared built steps kept knots-fit tensor-fit even coordinates place given at-place promise =
-    sample-standing g samples out scratch t cleared built steps kept knots-fit tensor-fit place (at-place .on-grid)
+even-reads-its-samples g samples out scratch t cleared built changes kept knots-fit tensor-fit even coordinates place given on-it promise =
+    sample-standing g samples out scratch t cleared built changes kept knots-fit tensor-fit place (on-it .on-grid)
     (λ (number : Float). EvenReads g place number given)
-    (λ S. even-measured-is-read g (tensor-after t steps) coordinates place given S even at-place promise)
+    (λ S. even-measured-is-read g (tensor-after t changes) coordinates place given S even on-it promise)
 
 -- ---- and of what a caller finds where `tensor_of_sheet` accepted a sheet
 

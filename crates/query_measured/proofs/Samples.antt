@@ -13,8 +13,8 @@ use Rattle.rules.specs.Calls.{BuildPromise, QueryPromise, QuickQueryPromise}
 use Rattle.rules.proofs.ChangeIsBuild.{built-entry}
 use Rattle.base_floats.specs.Place.{AllFit}
 use Rattle.grid.specs.GridOfCall.{On}
-use Rattle.tensor.specs.Changes.{Step, Kept, tensor-after, samples-after}
-use Rattle.tensor.proofs.Demand3.{tensor-long, Stands, built-stands, steps-stand}
+use Rattle.tensor.specs.Changes.{OneChange, Kept, tensor-after, samples-after}
+use Rattle.tensor.proofs.Demand3.{tensor-long, Stands, built-stands, changes-stand}
 use Rattle.sheet_build.specs.SheetTensor.{SheetPromise}
 use Rattle.sheet_build.specs.declared.SheetAnswer.{SheetAnswer}
 use Rattle.sheet_build.proofs.Demand3.{grid-made, samples-made, tensor-made, sheet-is-built}
@@ -48,23 +48,23 @@ module _ (g : Grid) (samples t : List Float) (stands : Stands g samples t) where
 -- what holds of every surface with the tensor's number at a place holds, from an accepted build on, with the sample now standing there
 pub sample-standing :
     (g : Grid) (samples out scratch t cleared : List Float) → BuildPromise g samples out scratch 0 t cleared
-    → (steps : List Step) → Kept g t steps → AllFit (g .flat-knots) → AllFit (tensor-after t steps)
+    → (changes : List OneChange) → Kept g t changes → AllFit (g .flat-knots) → AllFit (tensor-after t changes)
     → (place : Place) → On g place → (Holds : Float → Type 0)
-    → (Surface g (tensor-after t steps) → Holds (at (tensor-after t steps) (spot g place 0)))
-    → Holds (at (samples-after g samples steps) (flat (points g) (g .axes) place))
-sample-standing g samples out scratch t cleared built steps kept knots-fit tensor-fit place on Holds holds =
-    let stands = steps-stand g samples t (built-stands g samples out scratch t cleared built) steps kept in
+    → (Surface g (tensor-after t changes) → Holds (at (tensor-after t changes) (spot g place 0)))
+    → Holds (at (samples-after g samples changes) (flat (points g) (g .axes) place))
+sample-standing g samples out scratch t cleared built changes kept knots-fit tensor-fit place on Holds holds =
+    let stands = changes-stand g samples t (built-stands g samples out scratch t cleared built) changes kept in
     subst Holds
-    (sample-at g (samples-after g samples steps) (tensor-after t steps) stands place on)
-    (holds (surface g (samples-after g samples steps) (tensor-after t steps) stands knots-fit tensor-fit))
+    (sample-at g (samples-after g samples changes) (tensor-after t changes) stands place on)
+    (holds (surface g (samples-after g samples changes) (tensor-after t changes) stands knots-fit tensor-fit))
 
 -- whatever query reads what was measured, reads the samples
 reads-standing : (Promised : Promise) → MeasuredIsRead Promised → ReadsItsSamples Promised
-reads-standing Promised is-read g samples out scratch t cleared built steps kept knots-fit tensor-fit coordinates place given at-place
+reads-standing Promised is-read g samples out scratch t cleared built changes kept knots-fit tensor-fit coordinates place given at-place
     promise =
-    sample-standing g samples out scratch t cleared built steps kept knots-fit tensor-fit place (at-place .on-grid)
+    sample-standing g samples out scratch t cleared built changes kept knots-fit tensor-fit place (at-place .on-grid)
     (λ (number : Float). Reads g place number given)
-    (λ S. is-read g (tensor-after t steps) coordinates place given S at-place promise)
+    (λ S. is-read g (tensor-after t changes) coordinates place given S at-place promise)
 
 -- ---- the theorem
 

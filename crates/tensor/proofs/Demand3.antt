@@ -40,7 +40,7 @@ use Rattle.rules.proofs.Refused.{any-ext}
 use Rattle.base_numbers.proofs.Scan.{neither, any-found, any-at}
 use Rattle.tensor_starts.proofs.Agreement.{agree-at}
 use Rattle.grid_checks.proofs.Rows.{exact, length-fits}
-use Rattle.tensor.specs.Changes.{Step, Kept, tensor-after, standing, samples-after}
+use Rattle.tensor.specs.Changes.{OneChange, Kept, tensor-after, standing, samples-after}
 
 -- ---- what the statements speak of
 
@@ -53,37 +53,38 @@ Fitting g t scratch = (length t ≡ tensor-length g) × (scratch-length g ≤ le
 -- 1: a fresh build from the samples that then stand is not refused, and gives the bits that the tensor has
 abbrev pub BitsOfFreshBuild : Grid → List Float → List Float → Type 0
 BitsOfFreshBuild g samples t =
-    (steps : List Step) → Kept g t steps
+    (changes : List OneChange) → Kept g t changes
     → (out′ scratch′ fresh cleared′ : List Float) (refusal : ℕ) → Fitting g out′ scratch′
-    → BuildPromise g (samples-after g samples steps) out′ scratch′ refusal fresh cleared′
-    → (refusal ≡ 0) × (fresh ≡ tensor-after t steps)
+    → BuildPromise g (samples-after g samples changes) out′ scratch′ refusal fresh cleared′
+    → (refusal ≡ 0) × (fresh ≡ tensor-after t changes)
 
 -- 2: one more change, with the stated room, is refused by 6 where its place is off the grid, and else just as a fresh build from the
 -- samples with the new one is
 abbrev pub RefusalOfFreshBuild : Grid → List Float → List Float → Type 0
 RefusalOfFreshBuild g samples t =
-    (steps : List Step) → Kept g t steps
-    → (step : Step) → scratch-length g ≤ length (step .scratch) → Kept g (tensor-after t steps) (step ∷ [])
+    (changes : List OneChange) → Kept g t changes
+    → (change : OneChange) → scratch-length g ≤ length (change .scratch) → Kept g (tensor-after t changes) (change ∷ [])
     → (out′ scratch′ fresh cleared′ : List Float) (refusal : ℕ) → Fitting g out′ scratch′
-    → BuildPromise g (set (samples-after g samples steps) (flat (points g) (g .axes) (step .place)) (step .sample)) out′ scratch′ refusal
+    → BuildPromise g (set (samples-after g samples changes) (flat (points g) (g .axes) (change .place)) (change .sample)) out′ scratch′
+    refusal
     fresh cleared′
-    → step .answer .refusal ≡ cond (place-refused g (step .place)) 6 refusal
+    → change .answer .refusal ≡ cond (place-refused g (change .place)) 6 refusal
 
 -- 3: one more change leaves the number at a place and a mask where, on some axis outside the mask, the place has another index than the
 -- changed one
 abbrev pub BitsKeptElsewhere : Grid → List Float → Type 0
 BitsKeptElsewhere g t =
-    (steps : List Step) → Kept g t steps
-    → (step : Step) → Kept g (tensor-after t steps) (step ∷ [])
+    (changes : List OneChange) → Kept g t changes
+    → (change : OneChange) → Kept g (tensor-after t changes) (change ∷ [])
     → (p : Place) (mask j : ℕ) → OnGrid (points g) (g .axes) p → mask < masks g
-    → j < g .axes → in-mask mask j ≡ false → p j ≢ step .place j
-    → at (step .tensor-later) (spot g p mask) ≡ at (tensor-after t steps) (spot g p mask)
+    → j < g .axes → in-mask mask j ≡ false → p j ≢ change .place j
+    → at (change .tensor-later) (spot g p mask) ≡ at (tensor-after t changes) (spot g p mask)
 
 -- 4: on any tensor the count that an accepted change answers is the length of its list of lanes, and the closed sum
 abbrev pub CountsItsLanes : Type 0
 CountsItsLanes =
-    (g : Grid) (t : List Float) (step : Step) → Kept g t (step ∷ []) → step .answer .refusal ≡ 0
-    → (step .answer .lanes ≡ length (change-lanes g (step .place))) × (step .answer .lanes ≡ lane-sum (points g) (g .axes))
+    (g : Grid) (t : List Float) (change : OneChange) → Kept g t (change ∷ []) → change .answer .refusal ≡ 0
+    → (change .answer .lanes ≡ length (change-lanes g (change .place))) × (change .answer .lanes ≡ lane-sum (points g) (g .axes))
 
 -- each of a tensor that an accepted build made
 abbrev pub HasBitsOfFreshBuild : Type 0
@@ -307,10 +308,10 @@ change-accepted g t scratch place v e =
     }
 
 pub refusal-is :
-    (g : Grid) (t : List Float) (step : Step) → Kept g t (step ∷ [])
-    → step .answer .refusal ≡ change-refusal g t (step .scratch) (step .place) (step .sample)
+    (g : Grid) (t : List Float) (change : OneChange) → Kept g t (change ∷ [])
+    → change .answer .refusal ≡ change-refusal g t (change .scratch) (change .place) (change .sample)
 unfolding change-answer
-refusal-is g t step promised = ap (λ (a : ChangeAnswer). a .refusal) (promised .0 .answer)
+refusal-is g t change promised = ap (λ (a : ChangeAnswer). a .refusal) (promised .0 .answer)
 
 -- ---- a tensor that stands as built
 
@@ -326,25 +327,25 @@ built-stands g samples out scratch t cleared p = record {
   is = p .output ∙ ap (λ (r : ℕ). stored r out (tensor g samples)) (sym (p .answer));
 }
 
-module _ (g : Grid) (samples t : List Float) (step : Step) (stands : Stands g samples t) (promised : Kept g t (step ∷ [])) where
+module _ (g : Grid) (samples t : List Float) (change : OneChange) (stands : Stands g samples t) (promised : Kept g t (change ∷ [])) where
   abbrev place : Place
-  place = step .place
+  place = change .place
 
   abbrev v : Float
-  v = step .sample
+  v = change .sample
 
   abbrev refusal : ℕ
-  refusal = change-refusal g t (step .scratch) place v
+  refusal = change-refusal g t (change .scratch) place v
 
   -- after one more change
-  step-stands : Stands g (standing g (step .answer .refusal) samples place v) (step .tensor-later)
-  step-stands =
-      subst (λ (r : ℕ). Stands g (standing g r samples place v) (step .tensor-later)) (sym (refusal-is g t step promised))
+  change-stands : Stands g (standing g (change .answer .refusal) samples place v) (change .tensor-later)
+  change-stands =
+      subst (λ (r : ℕ). Stands g (standing g r samples place v) (change .tensor-later)) (sym (refusal-is g t change promised))
       (subst (λ (l : List Float). Stands g (standing g refusal samples place v) l) (sym (promised .0 .output)) (go refusal refl))
     where
       go : (r : ℕ) → refusal ≡ r → Stands g (standing g r samples place v) (stored r t (changed-tensor g place v t))
       go zero e =
-          let accepted = change-accepted g t (step .scratch) place v e in
+          let accepted = change-accepted g t (change .scratch) place v e in
           let same : changed-tensor g place v t ≡ tensor g (set samples (flat (points g) (g .axes) place) v) =
           ap (changed-tensor g place v) (stands .is) ∙ changed-is-built g samples (stands .sound) place v (accepted .on-the-grid) in
           record {
@@ -356,19 +357,19 @@ module _ (g : Grid) (samples t : List Float) (step : Step) (stands : Stands g sa
       go (suc r) e = stands
 
 -- after a list of changes
-pub steps-stand : (g : Grid) (samples t : List Float) → Stands g samples t → (steps : List Step) → Kept g t steps
-    → Stands g (samples-after g samples steps) (tensor-after t steps)
-steps-stand g samples t stands [] promised = stands
-steps-stand g samples t stands (step ∷ steps) promised =
-    steps-stand g (standing g (step .answer .refusal) samples (step .place) (step .sample)) (step .tensor-later)
-    (step-stands g samples t step stands (promised .0, tt)) steps (promised .1)
+pub changes-stand : (g : Grid) (samples t : List Float) → Stands g samples t → (changes : List OneChange) → Kept g t changes
+    → Stands g (samples-after g samples changes) (tensor-after t changes)
+changes-stand g samples t stands [] promised = stands
+changes-stand g samples t stands (change ∷ changes) promised =
+    changes-stand g (standing g (change .answer .refusal) samples (change .place) (change .sample)) (change .tensor-later)
+    (change-stands g samples t change stands (promised .0, tt)) changes (promised .1)
 
 -- ---- the proofs, of any tensor that stands as built
 
 pub bits-of-fresh-build : (g : Grid) (samples t : List Float) → Stands g samples t → BitsOfFreshBuild g samples t
-bits-of-fresh-build g samples t first steps promised out′ scratch′ fresh cleared′ refusal fitting again =
-    let now = samples-after g samples steps in
-    let stands = steps-stand g samples t first steps promised in
+bits-of-fresh-build g samples t first changes promised out′ scratch′ fresh cleared′ refusal fitting again =
+    let now = samples-after g samples changes in
+    let stands = changes-stand g samples t first changes promised in
     let sound = stands .sound in
     let none : build-refusal g now out′ scratch′ ≡ 0 =
     build-number g now sound now out′ scratch′ (sound .samples-exact) fitting
@@ -376,26 +377,26 @@ bits-of-fresh-build g samples t first steps promised out′ scratch′ fresh cle
     (again .answer ∙ none, again .output ∙ ap (λ (r : ℕ). stored r out′ (tensor g now)) none ∙ sym (stands .is))
 
 pub refusal-of-fresh-build : (g : Grid) (samples t : List Float) → Stands g samples t → RefusalOfFreshBuild g samples t
-refusal-of-fresh-build g samples t first steps promised step room next out′ scratch′ fresh cleared′ refusal fitting again =
-    refusal-is g (tensor-after t steps) step next
-    ∙ ap (λ (l : List Float). change-refusal g l (step .scratch) p v) (stands .is)
-    ∙ change-number g now sound (step .scratch) p v (tensor-long g now sound) room
+refusal-of-fresh-build g samples t first changes promised change room next out′ scratch′ fresh cleared′ refusal fitting again =
+    refusal-is g (tensor-after t changes) change next
+    ∙ ap (λ (l : List Float). change-refusal g l (change .scratch) p v) (stands .is)
+    ∙ change-number g now sound (change .scratch) p v (tensor-long g now sound) room
     ∙ go (place-refused g p) refl
   where
     now : List Float
-    now = samples-after g samples steps
+    now = samples-after g samples changes
 
-    stands : Stands g now (tensor-after t steps)
-    stands = steps-stand g samples t first steps promised
+    stands : Stands g now (tensor-after t changes)
+    stands = changes-stand g samples t first changes promised
 
     sound : Sound g now
     sound = stands .sound
 
     p : Place
-    p = step .place
+    p = change .place
 
     v : Float
-    v = step .sample
+    v = change .sample
 
     go : (b : Bool) → place-refused g p ≡ b
         → cond b 6 (cond (number-refused v) 7 (cond (outcome-refused (changed-tensor g p v (tensor g now))) 10 0)) ≡ cond b 6 refusal
@@ -408,26 +409,26 @@ refusal-of-fresh-build g samples t first steps promised step room next out′ sc
         ∙ sym (build-number g now sound after out′ scratch′ (changed-long g now sound p v on) fitting) ∙ sym (again .answer)
 
 pub bits-kept-elsewhere : (g : Grid) (samples t : List Float) → Stands g samples t → BitsKeptElsewhere g t
-bits-kept-elsewhere g samples t first steps promised step next q mask j on small below off other =
+bits-kept-elsewhere g samples t first changes promised change next q mask j on small below off other =
     ap (λ (l : List Float). at l (spot g q mask)) (next .0 .output) ∙ go refused refl
   where
     now : List Float
-    now = samples-after g samples steps
+    now = samples-after g samples changes
 
     before : List Float
-    before = tensor-after t steps
+    before = tensor-after t changes
 
     stands : Stands g now before
-    stands = steps-stand g samples t first steps promised
+    stands = changes-stand g samples t first changes promised
 
     p : Place
-    p = step .place
+    p = change .place
 
     v : Float
-    v = step .sample
+    v = change .sample
 
     refused : ℕ
-    refused = change-refusal g before (step .scratch) p v
+    refused = change-refusal g before (change .scratch) p v
 
     differs : (b : Bool) → agree (in-mask mask) (g .axes) q p ≡ b → agree (in-mask mask) (g .axes) q p ≡ false
     differs true e = absurd (other (agree-at (in-mask mask) q p (g .axes) e j below off))
@@ -435,7 +436,7 @@ bits-kept-elsewhere g samples t first steps promised step next q mask j on small
 
     go : (r : ℕ) → refused ≡ r → at (stored r before (changed-tensor g p v before)) (spot g q mask) ≡ at before (spot g q mask)
     go zero e =
-        let accepted = change-accepted g before (step .scratch) p v e in
+        let accepted = change-accepted g before (change .scratch) p v e in
         let sound = stands .sound in
         let after : List Float = set now (flat (points g) (g .axes) p) v in
         ap (λ (l : List Float). at l (spot g q mask))
@@ -449,12 +450,12 @@ bits-kept-elsewhere g samples t first steps promised step next q mask j on small
 
 pub counts-its-lanes : CountsItsLanes
 unfolding change-answer
-counts-its-lanes g t step promised none =
-    let p : Place = step .place in
-    let refused : change-refusal g t (step .scratch) p (step .sample) ≡ 0 = sym (refusal-is g t step promised) ∙ none in
-    let listed : step .answer .lanes ≡ length (change-lanes g p) =
+counts-its-lanes g t change promised none =
+    let p : Place = change .place in
+    let refused : change-refusal g t (change .scratch) p (change .sample) ≡ 0 = sym (refusal-is g t change promised) ∙ none in
+    let listed : change .answer .lanes ≡ length (change-lanes g p) =
     ap (λ (a : ChangeAnswer). a .lanes) (promised .0 .answer) ∙ ap (λ (r : ℕ). counted r (length (change-lanes g p))) refused in
-    (listed, listed ∙ lane-count g p (change-accepted g t (step .scratch) p (step .sample) refused .on-the-grid))
+    (listed, listed ∙ lane-count g p (change-accepted g t (change .scratch) p (change .sample) refused .on-the-grid))
 
 -- ---- and of one that an accepted build made
 

@@ -51,12 +51,12 @@ use Rattle.base_numbers.proofs.Scan.{neither, any-at, any-never}
 use Rattle.base_floats.specs.Place.{AllFit}
 use Rattle.grid_checks.proofs.Rows.{pass, exact, length-fits}
 use Rattle.tensor_passes.proofs.Pass.{digits-one}
-use Rattle.tensor.specs.Changes.{Step, Kept, tensor-after, samples-after}
+use Rattle.tensor.specs.Changes.{OneChange, Kept, tensor-after, samples-after}
 use Rattle.tensor.proofs.Demand3.{
   Sound,
   Stands,
   built-stands,
-  steps-stand,
+  changes-stand,
   tensor-long,
   BitsOfFreshBuild,
   RefusalOfFreshBuild,
@@ -144,11 +144,11 @@ module _ (g : Grid) (samples t scratch : List Float) (stands : Stands g samples 
 -- after an accepted build and any list of changes
 pub whole-after-changes :
     (g : Grid) (samples out scratch t cleared : List Float) → BuildPromise g samples out scratch 0 t cleared
-    → (steps : List Step) → Kept g t steps → (lent : List Float) → scratch-length g ≤ length lent
-    → (verify-answer g (tensor-after t steps) lent .refusal ≡ 0) × (verify-answer g (tensor-after t steps) lent .whole ≡ true)
-whole-after-changes g samples out scratch t cleared built steps kept lent room =
-    built-is-whole g (samples-after g samples steps) (tensor-after t steps) lent
-    (steps-stand g samples t (built-stands g samples out scratch t cleared built) steps kept) room
+    → (changes : List OneChange) → Kept g t changes → (lent : List Float) → scratch-length g ≤ length lent
+    → (verify-answer g (tensor-after t changes) lent .refusal ≡ 0) × (verify-answer g (tensor-after t changes) lent .whole ≡ true)
+whole-after-changes g samples out scratch t cleared built changes kept lent room =
+    built-is-whole g (samples-after g samples changes) (tensor-after t changes) lent
+    (changes-stand g samples t (built-stands g samples out scratch t cleared built) changes kept) room
 
 -- ---- and what is whole stands as built
 

@@ -273,13 +273,13 @@ fn depth(mut call: &mut dyn FnMut()) -> usize {
 #[cfg(target_arch = "aarch64")]
 unsafe fn call_on(top: usize, call: &mut &mut dyn FnMut()) {
     asm!(
-        "mov {before}, sp",
-        "mov sp, {top}",
+        "mov x21, sp",
+        "mov sp, x20",
         "bl {enter}",
-        "mov sp, {before}",
-        top = in(reg) top,
-        before = out(reg) _,
+        "mov sp, x21",
         enter = sym enter,
+        in("x20") top,
+        out("x21") _,
         in("x0") call,
         clobber_abi("C"),
     );
