@@ -19,7 +19,7 @@ test:
 	.ci/run
 
 # How many cases of each kind are compared with the Rust; of a kind that is not named here there are 10,000.
-CASES = --moments 60000 --curve 60000 --slopes 60000 --build 50000 --change 50000 \
+CASES = --moments 60000 --curve 60000 --slopes 60000 --build 50000 --change 50000 --verify 100000 \
     --change_list 20000 --either_order 60000 --query 400000 --quick_query 200000 --quick_beside_full 530000 \
     --even_query 240000 --at_every_place 5000 \
     --read 240000 --read_edition_1 60000 --sheet_tensor 120000 --short_sheet 65793 \

@@ -12,15 +12,20 @@ fn main() {
     archive::link();
     println!("cargo::rerun-if-env-changed=LIMIT_SRC");
     println!("cargo::rustc-check-cfg=cfg(limit)");
-    let source = limit_folder().join("limit.c");
-    println!("cargo::rerun-if-changed={}", source.display());
+    let sources = LIMIT.map(|file| limit_folder().join(file));
+    for source in &sources {
+        println!("cargo::rerun-if-changed={}", source.display());
+    }
     let machine = env::var("CARGO_CFG_TARGET_ARCH").expect("cargo sets CARGO_CFG_TARGET_ARCH");
     let is_for_it = machine == "x86_64" || env::var_os("LIMIT_SRC").is_some();
-    if source.is_file() && is_for_it {
-        link_limit(&source, &machine);
+    if sources.iter().all(|source| source.is_file()) && is_for_it {
+        link_limit(&sources, &machine);
         println!("cargo::rustc-cfg=limit");
     }
 }
+
+/// The files of the limit whose calls are measured: builds, changes and queries, and verifications.
+const LIMIT: [&str; 2] = ["limit.c", "limit_tensor.c"];
 
 fn limit_folder() -> PathBuf {
     let manifest = env::var("CARGO_MANIFEST_DIR").expect("cargo sets CARGO_MANIFEST_DIR");
@@ -29,22 +34,24 @@ fn limit_folder() -> PathBuf {
 }
 
 /// The flags are those that the limit's own page asks for; the least of the machine's kind is what the archive is for too.
-fn link_limit(source: &Path, machine: &str) {
+fn link_limit(sources: &[PathBuf], machine: &str) {
     let folder = PathBuf::from(env::var_os("OUT_DIR").expect("cargo sets OUT_DIR"));
-    let object = folder.join("limit.o");
     let least = match machine {
         "x86_64" => "-march=x86-64",
         _ => "-march=armv8-a",
     };
-    run(Command::new("gcc")
-        .args(["-std=c11", "-O3", least, "-ffp-contract=off", "-c"])
-        .arg(source)
-        .arg("-o")
-        .arg(&object));
-    run(Command::new("ar")
-        .arg("crs")
-        .arg(folder.join("liblimit.a"))
-        .arg(&object));
+    let mut archive = Command::new("ar");
+    archive.arg("crs").arg(folder.join("liblimit.a"));
+    for (number, source) in sources.iter().enumerate() {
+        let object = folder.join(format!("limit_{number}.o"));
+        run(Command::new("gcc")
+            .args(["-std=c11", "-O3", least, "-ffp-contract=off", "-c"])
+            .arg(source)
+            .arg("-o")
+            .arg(&object));
+        archive.arg(object);
+    }
+    run(&mut archive);
     println!("cargo::rustc-link-search=native={}", folder.display());
     println!("cargo::rustc-link-lib=static=limit");
 }

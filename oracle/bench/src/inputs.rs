@@ -99,7 +99,12 @@ impl Surface {
 
     /// The samples in the Rust's form.
     pub fn grid(&self) -> ArrayD<f64> {
-        ArrayD::from_shape_vec(IxDyn(self.points()), self.samples.clone())
+        self.grid_of(self.samples.clone())
+    }
+
+    /// Other samples in the same form.
+    pub fn grid_of(&self, samples: Vec<f64>) -> ArrayD<f64> {
+        ArrayD::from_shape_vec(IxDyn(self.points()), samples)
             .expect("there is a sample for every place")
     }
 
@@ -117,7 +122,7 @@ impl Surface {
         )
     }
 
-    /// Scratch as long as a build or a change wants it.
+    /// Scratch as long as a build, a change or a verification wants it.
     pub fn scratch(&self) -> Vec<f64> {
         vec![0.0; self.axes.tensor_length() + SCRATCH]
     }

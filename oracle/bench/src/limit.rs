@@ -1,16 +1,17 @@
-//! The lines of the limit: build, change and query in hand-written C that ends in the same bits. It is no part of the repository;
-//! `build.rs` says where it is looked for.
+//! The lines of the limit: build, change, verification and query in hand-written C that ends in the same bits. It is no part of the
+//! repository; `build.rs` says where it is looked for.
 
 mod calls;
 
 use crate::inputs::Inputs;
-use crate::lines::{our_build, our_change, our_query, our_quick_query, Line, Work};
+use crate::lines::{our_build, our_change, our_query, our_quick_query, our_verify, Line, Work};
 
 /// Every call that the limit has, on the grids that a goal is set for.
 pub fn lines(inputs: &Inputs) -> Vec<Line<'_>> {
     let mut lines = Vec::new();
     lines.extend(builds(inputs));
     lines.extend(changes(inputs));
+    lines.extend(verifications(inputs));
     lines.extend(queries(inputs));
     lines.extend(quick_queries(inputs));
     lines
@@ -42,6 +43,18 @@ fn changes(inputs: &Inputs) -> [Line<'_>; 3] {
         change("change, middle of 4×4×4×4", &inputs.four_axes),
         change("change, middle of 6×6×6", &inputs.three_axes),
         change("change, middle of 16×16", &inputs.two_axes),
+    ]
+}
+
+/// The limit tells the first number that differs, ours also how many do; of these tensors none does.
+fn verifications(inputs: &Inputs) -> [Line<'_>; 5] {
+    let verify = |name, surface| line(name, our_verify(surface), calls::verify(surface));
+    [
+        verify("verify, 4×4×4×4 natural", &inputs.four_axes),
+        verify("verify, 6×6×6 not-a-knot", &inputs.three_axes),
+        verify("verify, 16×16 natural", &inputs.two_axes),
+        verify("verify, 16×16 periodic", &inputs.two_axes_periodic),
+        verify("verify, one axis of 256 natural", &inputs.line_of_256),
     ]
 }
 

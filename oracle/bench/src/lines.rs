@@ -26,6 +26,7 @@ const OUR_QUERY: &str = "our query";
 const OUR_TWO_CALLS: &str = "our sheet's tensor, and then our query";
 const OUR_BUILD: &str = "our fresh build";
 const RUST_BUILD: &str = "the Rust's fresh build";
+const RUST_COMPARED: &str = "the Rust's fresh build, and its numbers compared";
 const THE_ORACLE: &str = "the oracle's reader";
 const ORACLE_WRITER: &str = "the oracle's writer";
 const OUR_READER: &str = "our reading of it";
@@ -44,6 +45,7 @@ pub fn lines(inputs: &Inputs) -> Vec<Line<'_>> {
     lines.extend(quick_queries(inputs));
     lines.extend(even_queries(inputs));
     lines.extend(changes(inputs));
+    lines.extend(verifications(inputs));
     lines.extend([
         moments(&inputs.line_of_256),
         slopes(&inputs.line_of_256),
@@ -223,6 +225,55 @@ pub fn our_change(surface: &Surface) -> Work<'_> {
     Box::new(move || {
         let Surface { axes, knots, .. } = surface;
         hullashlar::change(axes, knots, &mut tensor, &mut scratch, place, CHANGED).expect(ACCEPTED);
+        tensor[tensor.len() - 1]
+    })
+}
+
+/// Whole tensors, of which every number is compared: each beside the Rust, and two beside our build.
+fn verifications(inputs: &Inputs) -> [Line<'_>; 7] {
+    let beside = |name, held_against, surface, other| Line {
+        name,
+        held_against,
+        ours: our_verify(surface),
+        other,
+    };
+    let line = |name, surface| beside(name, RUST_COMPARED, surface, rust_verify(surface));
+    let build = |name, surface| beside(name, OUR_BUILD, surface, our_build(surface));
+    let of_16 = "verify, 16×16 natural";
+    let of_4 = "verify, 4×4×4×4 natural";
+    [
+        line(of_16, &inputs.two_axes),
+        line("verify, 16×16 periodic", &inputs.two_axes_periodic),
+        line("verify, 6×6×6 not-a-knot", &inputs.three_axes),
+        line(of_4, &inputs.four_axes),
+        line("verify, one axis of 256 natural", &inputs.line_of_256),
+        build(of_16, &inputs.two_axes),
+        build(of_4, &inputs.four_axes),
+    ]
+}
+
+pub fn our_verify(surface: &Surface) -> Work<'_> {
+    let tensor: Vec<f64> = surface.tensor().iter().copied().collect();
+    let mut scratch = surface.scratch();
+    Box::new(move || {
+        let Surface { axes, knots, .. } = surface;
+        let stale = hullashlar::verify(axes, knots, &tensor, &mut scratch).expect(ACCEPTED);
+        assert!(stale.is_none(), "{ACCEPTED}");
+        tensor[tensor.len() - 1]
+    })
+}
+
+fn rust_verify(surface: &Surface) -> Work<'_> {
+    let knots = surface.knots_by_axis();
+    let conditions = surface.conditions();
+    let tensor: Vec<f64> = surface.tensor().iter().copied().collect();
+    Box::new(move || {
+        let samples = tensor.iter().step_by(1 << surface.axes.count);
+        let grid = surface.grid_of(samples.copied().collect());
+        let fresh = compute_corner_cache(&knots, grid.view(), &conditions);
+        let mut pairs = tensor.iter().zip(fresh.iter());
+        let whole = pairs.all(|(number, fresh)| number.to_bits() == fresh.to_bits());
+        assert!(whole, "{ACCEPTED}");
         tensor[tensor.len() - 1]
     })
 }

@@ -13,13 +13,14 @@ pub struct Stack {
 }
 
 /// The stack of every exported call.
-pub fn stacks() -> [Stack; 19] {
+pub fn stacks() -> [Stack; 20] {
     let shapes = shapes();
     let all: Vec<&Shape> = shapes.iter().collect();
     let lines = lines(&shapes);
     [
         deepest("hullashlar_build", &all, build),
         deepest("hullashlar_change", &all, change),
+        deepest("hullashlar_verify", &all, verify),
         deepest("hullashlar_query", &all, query),
         deepest("hullashlar_quick_query", &all, quick_query),
         deepest("hullashlar_even_query", &all, even_query),
@@ -72,6 +73,21 @@ fn change(shape: &Shape) -> usize {
     most(places.map(|place| {
         bytes_of(|| hullashlar::change(axes, knots, &mut tensor, &mut scratch, place, 9.25).is_ok())
     }))
+}
+
+/// A whole tensor, and one whose last number is off.
+fn verify(shape: &Shape) -> usize {
+    let whole = shape.tensor();
+    let mut stale = whole.clone();
+    let last = stale.len() - 1;
+    stale[last] += 1.0;
+    let mut scratch = shape.scratch();
+    let Shape { axes, knots, .. } = shape;
+    most(
+        [whole, stale].into_iter().map(|tensor| {
+            bytes_of(|| hullashlar::verify(axes, knots, &tensor, &mut scratch).is_ok())
+        }),
+    )
 }
 
 /// A query of every point in every mode.

@@ -29,6 +29,7 @@ pub enum Call {
     ReadEdition1,
     Surface,
     ReportText,
+    Verify,
 }
 
 impl Call {
@@ -101,6 +102,9 @@ impl Call {
             Call::DeviceText => &["curve", "text", "length"],
             Call::Surface => &["bytes", "c0", "c1", "c2", "c3"],
             Call::ReportText => &["stream", "piece", "text", "length"],
+            Call::Verify => &[
+                "axes", "points", "kinds", "values", "knots", "tensor", "scratch", "place", "found",
+            ],
         }
     }
 
@@ -131,6 +135,7 @@ impl Call {
             Call::CursorNext => &["cursor", "value"],
             Call::DeviceText | Call::ReportText => &["text", "length"],
             Call::Surface => &[],
+            Call::Verify => &["scratch", "place", "found"],
         }
     }
 
@@ -328,7 +333,7 @@ impl Case {
     pub fn periodic_axes(&self, points: usize) -> u64 {
         let on_axes = match self.call {
             Call::Moments => vec![self.argument("points").number()],
-            Call::Build | Call::Change => {
+            Call::Build | Call::Change | Call::Verify => {
                 let axes = self.argument("axes").number();
                 self.argument("points").numbers()[..axes].to_vec()
             }

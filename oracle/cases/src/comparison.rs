@@ -135,7 +135,7 @@ impl Run<'_> {
                 counts.passed_over[number] += 1;
             }
         }
-        self.report.reached.count(given, refusal);
+        self.report.reached.count(given, &expected, refusal);
         let mut found = given.clone();
         let Some(answer) = self.subject.run(&mut found) else {
             return (refusal, expected, true);
@@ -182,8 +182,9 @@ impl Run<'_> {
     }
 
     /// A list of changes from a built tensor, shorter on a large one. After each
-    /// change the tensor is the fresh build of the samples that then stand. Spoiled
-    /// changes stand between them; what they are lent is thrown away.
+    /// change the tensor is the fresh build of the samples that then stand, and what
+    /// stands at the end is verified. Spoiled changes stand between them; what they
+    /// are lent is thrown away.
     fn change_list(&mut self, random: &mut Random) {
         let grid = Grid::generate(random);
         let mut samples: Vec<f64> = (0..grid.samples()).map(|_| ordinary(random)).collect();
@@ -211,6 +212,18 @@ impl Run<'_> {
                 tensor = found.argument("tensor").floats().to_vec();
             }
         }
+        self.hold_whole(&lending::verify(random, &grid, &tensor));
+    }
+
+    /// Verifies a tensor that is whole, and is to be called so.
+    fn hold_whole(&mut self, given: &Case) {
+        let (refusal, found, _) = self.compare(given);
+        let mut expected = found.clone();
+        expected.argument_mut("place").numbers_mut().fill(0);
+        let slots = expected.argument_mut("found").numbers_mut();
+        slots.copy_from_slice(&[1, 0, 0]);
+        let title = "held against a whole tensor";
+        self.hold(title, given, (0, &expected), (refusal, &found));
     }
 
     /// Whether a change gave what the fresh build of the changed samples gives.
@@ -221,12 +234,23 @@ impl Run<'_> {
             let slots = expected.argument_mut("tensor").floats_mut();
             slots.copy_from_slice(&tensor);
         }
-        let same = refusal == found.0 && same_arguments(&expected, found.1);
+        let title = "held against a fresh build";
+        self.hold(title, given, (refusal, &expected), found)
+    }
+
+    /// Holds what a call left against something else than the reading; whether it is the same.
+    fn hold(
+        &mut self,
+        what: &str,
+        given: &Case,
+        expected: (usize, &Case),
+        found: (usize, &Case),
+    ) -> bool {
+        let same = expected.0 == found.0 && same_arguments(expected.1, found.1);
         if !same {
-            let title = format!("{}, held against a fresh build", self.title);
-            self.report.difference(self.kind, || {
-                describe(&title, given, (refusal, &expected), found)
-            });
+            let title = format!("{}, {what}", self.title);
+            self.report
+                .difference(self.kind, || describe(&title, given, expected, found));
         }
         same
     }
@@ -241,9 +265,7 @@ fn fresh_build(random: &mut Random, grid: &Grid, samples: &[f64]) -> (usize, Vec
 
 /// The number of the sample that a change is about.
 fn sample_number(grid: &Grid, change: &Case) -> usize {
-    let place = change.argument("place").numbers();
-    let axes = grid.points[..grid.axes].iter().zip(place);
-    axes.fold(0, |number, (points, index)| number * points + index)
+    grid.number(change.argument("place").numbers())
 }
 
 /// Whether two cases stand the same after a call, guards and inputs too.

@@ -39,6 +39,11 @@ pub fn examples() -> Vec<Case> {
     cases.extend(written_in_edition_2(random));
     cases.extend(largest_sheets(random));
     cases.extend(surfaces(random));
+    cases.extend(overwritten(random));
+    cases.extend(out_of_reach(random));
+    cases.extend(other_zeros(random));
+    cases.extend(last_numbers(random));
+    cases.extend(not_verified(random));
     cases
 }
 
@@ -312,6 +317,86 @@ fn surfaces(random: &mut Random) -> Vec<Case> {
         longest,
         too_long,
     ]
+}
+
+/// What a case leaves in its tensor, to be held against the build of its samples.
+fn verified(random: &mut Random, grid: &Grid, left: &Case) -> Case {
+    lending::verify(random, grid, &left_in(left, "tensor"))
+}
+
+/// A hill as it was built, with its middle sample overwritten, and with that changed to itself.
+fn overwritten(random: &mut Random) -> Vec<Case> {
+    let hill = grid(&[&[0.0, 1.0, 2.0], &[0.0, 1.0, 2.0]], [SECOND; 2]);
+    let samples = [0.0, 1.0, 0.0, 1.0, 3.0, 1.0, 0.0, 1.0, 0.0];
+    let build = lending::build(random, &hill, &samples);
+    let mut tensor = left_in(&build, "tensor");
+    tensor[16] = 5.0;
+    let change = lending::change(random, &hill, &tensor, [1, 1, 0, 0], 5.0);
+    vec![
+        verified(random, &hill, &build),
+        lending::verify(random, &hill, &tensor),
+        verified(random, &hill, &change),
+    ]
+}
+
+/// A slope damaged where the change of another sample does not reach it, before that and after.
+fn out_of_reach(random: &mut Random) -> Vec<Case> {
+    let square = grid(&[&[0.0, 1.0], &[0.0, 1.0]], [SECOND; 2]);
+    let build = lending::build(random, &square, &[0.0, 0.0, 0.0, 1.0]);
+    let mut tensor = left_in(&build, "tensor");
+    tensor[1] = 9.0;
+    let change = lending::change(random, &square, &tensor, [1, 1, 0, 0], 1.0);
+    let damaged = lending::verify(random, &square, &tensor);
+    vec![damaged, verified(random, &square, &change)]
+}
+
+/// A slope of minus zero where plus zero belongs, one where it belongs itself, and plus zero there.
+fn other_zeros(random: &mut Random) -> Vec<Case> {
+    let flat = line(&[0.0, 1.0, 2.0], [SECOND; 2]);
+    let signed = line(&[0.0, 1.0], [PERIODIC; 2]);
+    vec![
+        lending::verify(random, &flat, &[1.0, 0.0, 1.0, -0.0, 1.0, 0.0]),
+        lending::verify(random, &signed, &[0.0, -0.0, -0.0, 0.0]),
+        lending::verify(random, &signed, &[0.0, 0.0, -0.0, 0.0]),
+    ]
+}
+
+/// On one to four axes a last number that is off by one unit.
+fn last_numbers(random: &mut Random) -> Vec<Case> {
+    let knots: [&[f64]; 4] = [&[0.0, 1.0]; 4];
+    let mut last_off = |axes: usize| {
+        let grid = grid(&knots[..axes], [SECOND; 2]);
+        let samples: Vec<f64> = (0..grid.samples()).map(|at| (at * at) as f64).collect();
+        let mut tensor = left_in(&lending::build(random, &grid, &samples), "tensor");
+        let last = tensor.len() - 1;
+        tensor[last] = tensor[last].next_up();
+        lending::verify(random, &grid, &tensor)
+    };
+    [1, 2, 3, 4].map(&mut last_off).into()
+}
+
+/// A slope that is no number, knots that do not rise, too few points, samples whose build
+/// overflows, and slots of other lengths, one beside nothing else and one beside a slope that is no
+/// number.
+fn not_verified(random: &mut Random) -> Vec<Case> {
+    let knots = [0.0, 1.0, 2.0];
+    let natural = line(&knots, [SECOND; 2]);
+    let falling = line(&[0.0, 1.0, 1.0], [SECOND; 2]);
+    let too_few = line(&knots, [NOT_A_KNOT; 2]);
+    let no_number = [0.0, 0.0, 0.0, f64::NAN, 0.0, 0.0];
+    let steep = [1.7e308, 0.0, -1.7e308, 0.0, 1.7e308, 0.0];
+    let mut cases = vec![
+        lending::verify(random, &natural, &no_number),
+        lending::verify(random, &falling, &[0.0; 6]),
+        lending::verify(random, &too_few, &[0.0; 6]),
+        lending::verify(random, &natural, &steep),
+    ];
+    let mut short_place = lending::verify(random, &natural, &[0.0; 6]);
+    short_place.argument_mut("place").resize(3);
+    let mut long_found = cases[0].clone();
+    long_found.argument_mut("found").resize(4);
+    cases.extend([short_place, long_found]);
+    cases
 }
 
 /// NotAKnot with one point too few, and with just enough.

@@ -64,6 +64,21 @@ const OF_TENSOR: &[Fault] = &[
     overflow,
 ];
 
+/// The faults of a verification: those of a change but for its place, which is a slot here.
+const OF_VERIFY: &[Fault] = &[
+    axes_off,
+    points_off,
+    shape_too_large,
+    length_off,
+    scratch_short,
+    number_not_finite,
+    knots_not_rising,
+    step_overflowing,
+    too_few_points,
+    kind_off,
+    overflow,
+];
+
 /// The faults of a query that looks at all knots.
 const OF_QUERY: &[Fault] = &[
     axes_off,
@@ -143,6 +158,7 @@ fn faults_of(call: Call) -> &'static [Fault] {
         Call::Moments => OF_MOMENTS,
         Call::Curve | Call::Slopes => OF_CURVE,
         Call::Build | Call::Change => OF_TENSOR,
+        Call::Verify => OF_VERIFY,
         Call::Query => OF_QUERY,
         Call::QuickQuery => OF_QUICK_QUERY,
         Call::EvenQuery => OF_QUERY,

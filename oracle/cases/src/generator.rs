@@ -11,6 +11,7 @@ use crate::numbers::list;
 use crate::overflow::take_an_end_to_the_edge;
 use crate::random::Random;
 use crate::sheet::{damaged_sheet, good_sheet, length_of, swept_sheet};
+use crate::verification;
 use reading::{CURVE_SCRATCH, EDITIONS, EXTEND, LONGEST_TENSOR};
 
 /// The kinds of cases: the worked examples, one kind for each call, lists
@@ -47,10 +48,11 @@ pub enum Kind {
     ReadEdition1,
     Surface,
     Report,
+    Verify,
 }
 
 /// Every kind, in the order of the report.
-pub const KINDS: [Kind; 28] = [
+pub const KINDS: [Kind; 29] = [
     Kind::Example,
     Kind::Moments,
     Kind::Curve,
@@ -79,6 +81,7 @@ pub const KINDS: [Kind; 28] = [
     Kind::ReadEdition1,
     Kind::Surface,
     Kind::Report,
+    Kind::Verify,
 ];
 
 impl Kind {
@@ -113,6 +116,7 @@ impl Kind {
             Kind::ReadEdition1 => "read_edition_1",
             Kind::Surface => "surface",
             Kind::Report => "report",
+            Kind::Verify => "verify",
         }
     }
 
@@ -162,6 +166,9 @@ const FAULTY_BESIDE_DAMAGE: usize = 60;
 /// Axes that are not even are refused without another fault.
 const FAULTY_EVEN: usize = 18;
 
+/// Of the tensors to be verified some have samples that cannot be built.
+const FAULTY_TO_VERIFY: usize = 28;
+
 /// The case of a kind that is a single call, by its number.
 pub fn single(kind: Kind, number: usize, random: &mut Random) -> Case {
     match kind {
@@ -184,6 +191,7 @@ pub fn single(kind: Kind, number: usize, random: &mut Random) -> Case {
         Kind::CursorNext => device::cursor_next(random),
         Kind::ReadEdition1 => read_edition_1(random, number),
         Kind::Surface => surface(random, number),
+        Kind::Verify => verify(random),
         Kind::Example
         | Kind::ChangeList
         | Kind::ShortSheet
@@ -242,6 +250,12 @@ pub fn change_of(random: &mut Random, grid: &Grid, tensor: &[f64]) -> Case {
     let place = grid.place(random);
     let sample = list(random, 1)[0];
     lending::change(random, grid, tensor, place, sample)
+}
+
+/// A tensor that is whole, stale or damaged, to be held against the build of its samples.
+fn verify(random: &mut Random) -> Case {
+    let case = verification::verify(random);
+    altered(random, case, FAULTY_TO_VERIFY)
 }
 
 /// A query of a generated tensor.
@@ -423,11 +437,16 @@ pub fn room(random: &mut Random, length: usize) -> usize {
     }
 }
 
-fn altered_at_times(random: &mut Random, mut case: Case) -> Case {
+fn altered_at_times(random: &mut Random, case: Case) -> Case {
+    altered(random, case, FAULTY)
+}
+
+/// A case that so many times in a hundred gets a fault.
+fn altered(random: &mut Random, mut case: Case, faulty: usize) -> Case {
     let share = random.below(100);
-    if share < FAULTY {
+    if share < faulty {
         spoil(random, &mut case);
-    } else if share < FAULTY + AT_THE_EDGE {
+    } else if share < faulty + AT_THE_EDGE {
         take_an_end_to_the_edge(random, &mut case);
     }
     case
@@ -475,19 +494,10 @@ fn solved_curve(random: &mut Random) -> (Grid, Vec<f64>, Vec<f64>) {
 
 /// A tensor that was built where the samples allow it, or any numbers at all.
 fn tensor(random: &mut Random, grid: &Grid) -> Vec<f64> {
-    let mut tensor = list(random, grid.tensor());
+    let tensor = list(random, grid.tensor());
     if random.percent(60) {
         let samples = list(random, grid.samples());
-        reading::build(
-            grid.axes,
-            &grid.points,
-            &grid.kinds,
-            &grid.values,
-            &grid.knots,
-            &samples,
-            &mut tensor,
-            &mut vec![0.0; grid.tensor() + CURVE_SCRATCH],
-        );
+        return grid.built_over(tensor, &samples);
     }
     tensor
 }

@@ -3,7 +3,7 @@
 use crate::numbers::{edge, far_below_zero, huge, not_finite, ordinary, subnormal};
 use crate::overflow::largest_upper_knot;
 use crate::random::Random;
-use reading::{EXTEND, HOLD, LONGEST_TENSOR, REFUSE};
+use reading::{CURVE_SCRATCH, EXTEND, HOLD, LONGEST_TENSOR, REFUSE};
 
 /// Shapes whose tensor has 4,096 numbers or an axis of 256 points.
 const LARGE: [&[usize]; 12] = [
@@ -119,6 +119,21 @@ impl Grid {
         self.samples() << self.axes
     }
 
+    /// The tensor of samples, or what stood in its place where their build is refused.
+    pub fn built_over(&self, mut tensor: Vec<f64>, samples: &[f64]) -> Vec<f64> {
+        reading::build(
+            self.axes,
+            &self.points,
+            &self.kinds,
+            &self.values,
+            &self.knots,
+            samples,
+            &mut tensor,
+            &mut vec![0.0; self.tensor() + CURVE_SCRATCH],
+        );
+        tensor
+    }
+
     /// A coordinate for every axis: in a cell, on a knot or beyond the grid.
     pub fn coordinates(&self, random: &mut Random) -> Vec<f64> {
         let mut rest = self.knots.as_slice();
@@ -149,6 +164,12 @@ impl Grid {
             *index = random.below(*points);
         }
         place
+    }
+
+    /// The number of the sample at a place, last axis fastest.
+    pub fn number(&self, place: &[usize]) -> usize {
+        let axes = self.points[..self.axes].iter().zip(place);
+        axes.fold(0, |number, (points, index)| number * points + index)
     }
 }
 

@@ -17,7 +17,7 @@ fn room(random: &mut Random, length: usize) -> Argument {
     Argument::of_floats(&fill(random, length, true))
 }
 
-/// Room for a label on each of four axes, or for the points of them.
+/// Room for a label on each of four axes, for the points of them, or for a place.
 fn room_of_axes() -> Argument {
     Argument::of_numbers(&[71, 72, 73, 74])
 }
@@ -90,7 +90,25 @@ pub fn change(
     place: [usize; 4],
     sample: f64,
 ) -> Case {
-    let arguments = vec![
+    let mut arguments = tensor_arguments(random, grid, tensor);
+    arguments.extend([
+        Argument::of_numbers(&place),
+        Argument::Float(sample),
+        Argument::of_numbers(&[77]),
+    ]);
+    Case::new(Call::Change, arguments)
+}
+
+/// A tensor on a grid to be held against the build of its samples.
+pub fn verify(random: &mut Random, grid: &Grid, tensor: &[f64]) -> Case {
+    let mut arguments = tensor_arguments(random, grid, tensor);
+    arguments.extend([room_of_axes(), Argument::of_numbers(&[75, 76, 77])]);
+    Case::new(Call::Verify, arguments)
+}
+
+/// What a change and a verification are both given.
+fn tensor_arguments(random: &mut Random, grid: &Grid, tensor: &[f64]) -> Vec<Argument> {
+    vec![
         Argument::Number(grid.axes),
         Argument::of_numbers(&grid.points),
         Argument::of_bytes(&grid.kinds),
@@ -98,11 +116,7 @@ pub fn change(
         Argument::of_floats(&grid.knots),
         Argument::of_floats(tensor),
         scratch(random, grid.tensor() + CURVE_SCRATCH),
-        Argument::of_numbers(&place),
-        Argument::Float(sample),
-        Argument::of_numbers(&[77]),
-    ];
-    Case::new(Call::Change, arguments)
+    ]
 }
 
 /// Where a tensor is asked: a coordinate for each axis in use, and a mode for each of four.

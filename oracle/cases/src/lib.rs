@@ -18,10 +18,12 @@ mod random;
 mod reached;
 mod reached_sheets;
 mod reached_streams;
+mod reached_tensors;
 mod reading_calls;
 mod report;
 mod sheet;
 mod stream;
+mod verification;
 
 pub use case::{Argument, Call, Calls, Case};
 pub use comparison::{compare_all, Plan};

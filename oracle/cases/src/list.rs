@@ -24,7 +24,7 @@ use crate::reading_calls::Reading;
 use crate::report::NUMBERS;
 
 /// The calls in the order of their numbers; what programs print is none of them.
-pub const CALLS: [Call; 19] = [
+pub const CALLS: [Call; 20] = [
     Call::Moments,
     Call::Curve,
     Call::Slopes,
@@ -44,6 +44,7 @@ pub const CALLS: [Call; 19] = [
     Call::CursorNext,
     Call::ReadEdition1,
     Call::Surface,
+    Call::Verify,
 ];
 
 /// The seed of the list; another one makes another list.

@@ -30,7 +30,7 @@ pub fn largest_upper_knot(lower: f64) -> [f64; 2] {
 pub fn numbered_ends(case: &Case) -> Vec<usize> {
     let in_use = match case.call {
         Call::Moments => 2,
-        Call::Build | Call::Change => 2 * case.argument("axes").number(),
+        Call::Build | Call::Change | Call::Verify => 2 * case.argument("axes").number(),
         _ => 0,
     };
     let numbered = |end: &usize| matches!(case.argument("kinds").bytes()[*end], 1 | 2);

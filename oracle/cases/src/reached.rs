@@ -4,6 +4,7 @@ use crate::case::{Call, Case};
 use crate::overflow::{numbered_ends, refusal_with};
 use crate::reached_sheets::{SHEET_COUNT, SHEET_EDGES};
 use crate::reached_streams::{STREAM_COUNT, STREAM_EDGES};
+use crate::reached_tensors::{TENSOR_COUNT, TENSOR_EDGES};
 use crate::sheet::length_of;
 use ninterp_unchanged::{
     locate_lower_index, locate_lower_index_uniform, validate_uniform_grid_epsilon,
@@ -16,7 +17,8 @@ pub struct Edge {
     pub is_reached: fn(&Case, usize) -> bool,
 }
 
-/// How many edges there are, beside those of sheets that are read and of streams.
+/// How many edges there are, beside those of sheets that are read, of streams and of tensors that are
+/// verified.
 const COUNT: usize = 47;
 
 const EDGES: [Edge; COUNT] = [
@@ -380,6 +382,7 @@ pub struct Reached {
     cases: [u64; COUNT],
     sheets: [u64; SHEET_COUNT],
     streams: [u64; STREAM_COUNT],
+    tensors: [u64; TENSOR_COUNT],
 }
 
 impl Default for Reached {
@@ -388,13 +391,15 @@ impl Default for Reached {
             cases: [0; COUNT],
             sheets: [0; SHEET_COUNT],
             streams: [0; STREAM_COUNT],
+            tensors: [0; TENSOR_COUNT],
         }
     }
 }
 
 impl Reached {
-    /// Counts a case for each edge that it reaches.
-    pub fn count(&mut self, case: &Case, refusal: usize) {
+    /// Counts a case for each edge that it reaches. Those of a tensor that is verified are seen by what
+    /// was answered.
+    pub fn count(&mut self, case: &Case, answered: &Case, refusal: usize) {
         // The device has no knots and no sheet, and reaches none of these edges.
         if matches!(
             case.call,
@@ -402,15 +407,15 @@ impl Reached {
         ) {
             return;
         }
-        let (cases, edges) = if case.call.takes_a_sheet() {
-            (self.sheets.as_mut_slice(), SHEET_EDGES.as_slice())
+        if case.call.takes_a_sheet() {
+            count_each(&mut self.sheets, &SHEET_EDGES, case, refusal);
         } else if case.call == Call::ReportText {
-            (self.streams.as_mut_slice(), STREAM_EDGES.as_slice())
+            count_each(&mut self.streams, &STREAM_EDGES, case, refusal);
         } else {
-            (self.cases.as_mut_slice(), EDGES.as_slice())
-        };
-        for (cases, edge) in cases.iter_mut().zip(edges) {
-            *cases += u64::from((edge.is_reached)(case, refusal));
+            count_each(&mut self.cases, &EDGES, case, refusal);
+        }
+        if case.call == Call::Verify {
+            count_each(&mut self.tensors, &TENSOR_EDGES, answered, refusal);
         }
     }
 
@@ -418,12 +423,20 @@ impl Reached {
     pub fn edges(&self) -> impl Iterator<Item = (&'static str, u64)> + '_ {
         let edges = EDGES.iter().chain(&SHEET_EDGES).chain(&STREAM_EDGES);
         let cases = self.cases.iter().chain(&self.sheets).chain(&self.streams);
-        edges.map(|edge| edge.name).zip(cases.copied())
+        let edges = edges.chain(&TENSOR_EDGES).map(|edge| edge.name);
+        edges.zip(cases.chain(&self.tensors).copied())
+    }
+}
+
+/// Counts a case for each edge of a list.
+fn count_each(cases: &mut [u64], edges: &[Edge], case: &Case, refusal: usize) {
+    for (cases, edge) in cases.iter_mut().zip(edges) {
+        *cases += u64::from((edge.is_reached)(case, refusal));
     }
 }
 
 /// The slices of a fixed length in a call with axes.
-const FIXED: [(&str, usize); 12] = [
+const FIXED: [(&str, usize); 13] = [
     ("points", 4),
     ("kinds", 8),
     ("values", 8),
@@ -433,6 +446,7 @@ const FIXED: [(&str, usize); 12] = [
     ("labels", 4),
     ("lanes", 1),
     ("uneven", 2),
+    ("found", 3),
     ("length", 1),
     ("directions", 4),
     ("indices", 4),
@@ -447,7 +461,10 @@ fn a_fixed_length_off(case: &Case) -> bool {
 /// Whether the first axis of a call with axes and kinds has Periodic at one end only, and the only
 /// length that is off is that of the knots.
 fn no_kinds_beside_a_length_off(case: &Case) -> bool {
-    let has_kinds = matches!(case.call, Call::Build | Call::Change | Call::Write);
+    let has_kinds = matches!(
+        case.call,
+        Call::Build | Call::Change | Call::Verify | Call::Write
+    );
     if !has_kinds || a_fixed_length_off(case) {
         return false;
     }

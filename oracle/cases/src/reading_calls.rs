@@ -12,7 +12,7 @@ impl Calls for Reading {
         let arguments = case.arguments.as_mut_slice();
         let refusal = match case.call {
             Call::Moments | Call::Curve | Call::Slopes => on_a_line(case.call, arguments),
-            Call::Build | Call::Change => on_a_grid(case.call, arguments),
+            Call::Build | Call::Change | Call::Verify => on_a_grid(case.call, arguments),
             Call::Query | Call::QuickQuery => of_a_tensor(case.call, arguments),
             Call::EvenQuery => on_even_axes(arguments),
             Call::Read | Call::ReadEdition1 | Call::SheetTensor | Call::Write => {
@@ -68,6 +68,14 @@ fn on_a_grid(call: Call, arguments: &mut [Argument]) -> usize {
             axes.number(), points.numbers(), kinds.bytes(), values.floats(),
             knots.floats(), tensor.floats_mut(), scratch.floats_mut(), place.numbers(),
             sample.float(), lanes.numbers_mut(),
+        ),
+        (
+            Call::Verify,
+            [axes, points, kinds, values, knots, tensor, scratch, place, found],
+        ) => reading::verify(
+            axes.number(), points.numbers(), kinds.bytes(), values.floats(),
+            knots.floats(), tensor.floats(), scratch.floats_mut(), place.numbers_mut(),
+            found.numbers_mut(),
         ),
         _ => panic!("a case has the arguments of its call"),
     }

@@ -18,7 +18,7 @@ impl Calls for Nobody {
 fn refusals(kind: Kind) -> &'static [usize] {
     match kind {
         Kind::Example => &[
-            1, 3, 6, 7, 8, 9, 10, 11, 12, 15, 16, 17, 18, 19, 20, 21, 22, 23,
+            1, 3, 4, 6, 7, 8, 9, 10, 11, 12, 15, 16, 17, 18, 19, 20, 21, 22, 23,
         ],
         Kind::Moments => &[2, 4, 5, 7, 8, 9, 10, 13],
         Kind::Curve | Kind::Slopes => &[2, 4, 7, 8, 10],
@@ -44,6 +44,7 @@ fn refusals(kind: Kind) -> &'static [usize] {
         Kind::Surface => &[1, 2, 3, 7, 8, 9, 10, 11, 12, 13, 14, 16, 17, 18, 22],
         // Those at which a report stops.
         Kind::Report => &STOPPING,
+        Kind::Verify => &[1, 2, 3, 4, 5, 7, 8, 9, 10, 13],
     }
 }
 
@@ -89,7 +90,14 @@ fn about_sixty_in_a_hundred_are_accepted() {
 #[test]
 fn periodic_axes_of_one_interval_and_of_two_are_among_them() {
     let report = compare_all(&Nobody, &Plan::of_each_kind(6, 4000));
-    for kind in [Kind::Moments, Kind::Build, Kind::Change, Kind::ChangeList] {
+    let with_ends = [
+        Kind::Moments,
+        Kind::Build,
+        Kind::Change,
+        Kind::ChangeList,
+        Kind::Verify,
+    ];
+    for kind in with_ends {
         let seen = report.of(kind).periodic;
         assert!(
             seen.iter().all(|seen| *seen > 50),
@@ -122,6 +130,30 @@ fn a_change_is_the_fresh_build_of_the_samples_then_standing() {
     let total = compare_all(&Nobody, &plan).total();
     assert!(total.calls > 20_000);
     assert_eq!(total.differences, 0);
+}
+
+/// Of the tensors that are verified at least half are stale or damaged, and a third is whole.
+#[test]
+fn tensors_that_are_verified_are_of_both_sorts() {
+    let plan = Plan::of_kind(3, Kind::Verify, 4000);
+    let report = compare_all(&Nobody, &plan);
+    let seen = |name: &str| {
+        let mut edges = report.reached();
+        edges.find(|(edge, _)| *edge == name).unwrap().1
+    };
+    let (whole, stale) = (seen("a whole tensor"), seen("a tensor that is not whole"));
+    assert_eq!(whole + stale, report.of(Kind::Verify).refusals[0]);
+    assert!(stale >= whole && 2 * whole > stale, "{whole} {stale}");
+}
+
+/// A list that begins with a build ends with a verification, and all are of whole tensors.
+#[test]
+fn what_a_list_of_changes_leaves_is_whole() {
+    let plan = Plan::of_kind(3, Kind::ChangeList, 300);
+    let report = compare_all(&Nobody, &plan);
+    let whole = report.reached().find(|(edge, _)| *edge == "a whole tensor");
+    assert!(whole.unwrap().1 > 250, "{whole:?}");
+    assert_eq!(report.total().differences, 0);
 }
 
 #[test]

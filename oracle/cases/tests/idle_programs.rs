@@ -52,7 +52,7 @@ impl Calls for RefreshesAtFirst {
     fn run(&self, case: &mut Case) -> Option<usize> {
         let given = case.clone();
         let refusal = Reading.run(case)?;
-        if refusal == 0 {
+        if refusal == 0 && case.call == Call::Change {
             let before = self.changes.replace(self.changes.get() + 1);
             if before > 0 {
                 store_the_sample_only(&given, case);

@@ -12,6 +12,7 @@ fn scratch_left_behind_is_found() {
         (Call::Moments, Kind::Moments),
         (Call::Build, Kind::Build),
         (Call::Change, Kind::Change),
+        (Call::Verify, Kind::Verify),
     ] {
         let wrong = Altered {
             call,
@@ -66,5 +67,8 @@ impl Calls for Touching {
 fn a_refusal_that_touches_what_it_was_lent_is_found() {
     for name in ["tensor", "scratch", "samples"] {
         assert!(differences(&Touching { name }, Kind::Build) > 0, "{name}");
+    }
+    for name in ["tensor", "scratch"] {
+        assert!(differences(&Touching { name }, Kind::Verify) > 0, "{name}");
     }
 }

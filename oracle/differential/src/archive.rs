@@ -45,6 +45,7 @@ impl Calls for Archive {
             Call::ReadEdition1 => read_edition_1(arguments),
             Call::Surface => surface(arguments),
             Call::ReportText => report_text(arguments),
+            Call::Verify => verify(arguments),
         };
         Some(refusal)
     }
@@ -146,6 +147,29 @@ fn change(arguments: &mut [Argument]) -> usize {
             axes.number(), points.0, points.1, kinds.0, kinds.1, values.0, values.1,
             knots.0, knots.1, tensor.0, tensor.1, scratch.0, scratch.1, place.0, place.1,
             sample.float(), lanes.0, lanes.1,
+        )
+    }
+}
+
+#[rustfmt::skip]
+fn verify(arguments: &mut [Argument]) -> usize {
+    let [axes, points, kinds, values, knots, tensor, scratch, place, found] = arguments else {
+        panic!("a case has the arguments of its call")
+    };
+    let points = lent(points.numbers());
+    let kinds = lent(kinds.bytes());
+    let values = lent(values.floats());
+    let knots = lent(knots.floats());
+    let tensor = lent(tensor.floats());
+    let scratch = lent_mut(scratch.floats_mut());
+    let place = lent_mut(place.numbers_mut());
+    let found = lent_mut(found.numbers_mut());
+    // SAFETY: each pair is a live slice; no two of them overlap.
+    unsafe {
+        hullashlar_verify(
+            axes.number(), points.0, points.1, kinds.0, kinds.1, values.0, values.1,
+            knots.0, knots.1, tensor.0, tensor.1, scratch.0, scratch.1, place.0, place.1,
+            found.0, found.1,
         )
     }
 }

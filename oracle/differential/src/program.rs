@@ -61,7 +61,11 @@ extern "C" {
 /// The command that sets the flags of a file, and two of these.
 const F_SETFL: c_int = 4;
 const O_WRONLY: c_int = 1;
-const O_DIRECT: c_int = if cfg!(target_arch = "x86_64") { 0o40_000 } else { 0o200_000 };
+const O_DIRECT: c_int = if cfg!(target_arch = "x86_64") {
+    0o40_000
+} else {
+    0o200_000
+};
 
 /// Makes a pipe one of packets: no read gets more than what one write gave.
 fn keep_apart(writer: &PipeWriter) {

@@ -97,7 +97,7 @@ impl Grid {
 
     /// The refusal of a tensor that is verified, and what is told of it.
     pub fn verify(&self, tensor: &[f64], scratch: &mut [f64]) -> (usize, reading::Found) {
-        reading::verify(
+        reading::verified(
             self.axes,
             &self.points,
             &self.kinds,

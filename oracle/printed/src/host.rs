@@ -3,7 +3,8 @@
 use crate::grid::Grid;
 use reading::{surface, BUFFER, CURVE_SCRATCH, REFUSED};
 
-/// The gain at a frequency and a level, the changed sample, and the gain after it.
+/// The gain at a frequency and a level, then with the sample alone overwritten, what is stale then, the changed sample, and the gain
+/// after it.
 pub fn host(sheet: &[u8]) -> String {
     let (grid, modes, samples) = read(sheet);
     let mut scratch = vec![0.0; (samples.len() << 2) + CURVE_SCRATCH];
@@ -11,6 +12,11 @@ pub fn host(sheet: &[u8]) -> String {
     accepted(grid.build(&samples, &mut tensor, &mut scratch));
     let (rows, columns) = (grid.points[0], grid.points[1]);
     let before = gain(&grid, modes, &tensor);
+
+    let mut stale = tensor.clone();
+    stale[(2 * columns + 2) << 2] = 15.0;
+    let bulged = gain(&grid, modes, &stale);
+    let found = verified(&grid, &stale, &mut scratch);
 
     let mut changed = samples.clone();
     changed[2 * columns + 2] = 15.0;
@@ -24,13 +30,18 @@ pub fn host(sheet: &[u8]) -> String {
 
     let (length, old) = (tensor.len(), samples[2 * columns + 2]);
     let after = gain(&grid, modes, &tensor);
+    let found_then = verified(&grid, &tensor, &mut scratch);
     let (refusal, _, _) = grid.query(modes, &tensor, &[1.5, f64::NAN]);
     format!(
         "sheet of {} axes, {rows} and {columns} points; tensor of {length} numbers\n\
          {before}\
+         sample at 2, 2 overwritten by 15.0\n\
+         {bulged}\
+         {found}\
          sample at 2, 2: 15.0 in place of {old:.1}, {lanes} lanes solved again\n\
          a fresh build of the new samples has the same bits: {same}\n\
          {after}\
+         {found_then}\
          gain at a level that is no number: refused {refusal}\n",
         grid.axes
     )
@@ -80,6 +91,19 @@ fn read(sheet: &[u8]) -> (Grid, [u8; 4], Vec<f64>) {
     samples.truncate(points.iter().product());
     grid.knots = knots;
     (grid, modes, samples)
+}
+
+/// Whether a tensor is that of its own samples, and else where it first is not.
+fn verified(grid: &Grid, tensor: &[f64], scratch: &mut [f64]) -> String {
+    let (refusal, found) = grid.verify(tensor, scratch);
+    accepted(refusal);
+    if found.whole {
+        return "the tensor is whole\n".to_owned();
+    }
+    format!(
+        "the tensor is stale: {} of its numbers differ, the first at {}, {} with mask {}\n",
+        found.differing, found.place[0], found.place[1], found.mask
+    )
 }
 
 fn gain(grid: &Grid, modes: [u8; 4], tensor: &[f64]) -> String {

@@ -36,5 +36,5 @@ pub use tensor::{
     build, change, closed_sum_of_lanes, lanes_of_build, lanes_of_change, solve_lane, solve_lanes,
     Lane,
 };
-pub use verify::{verify, Found};
+pub use verify::{verified, verify, Found};
 pub use write::write;

@@ -15,8 +15,32 @@ pub struct Found {
     pub differing: usize,
 }
 
-/// Whether every number of a tensor has the bits that a build of its samples gives it.
+/// Whether every number of a tensor has the bits that a build of its samples gives it. The place of
+/// the first that differs goes to a slot of four; 1 for a whole tensor or 0, the mask of that number
+/// and how many differ go to a slot of three.
+#[allow(clippy::too_many_arguments)]
 pub fn verify(
+    axes: usize,
+    points: &[usize],
+    kinds: &[u8],
+    values: &[f64],
+    knots: &[f64],
+    tensor: &[f64],
+    scratch: &mut [f64],
+    place: &mut [usize],
+    found: &mut [usize],
+) -> Refusal {
+    if place.len() != 4 || found.len() != 3 {
+        return Shape::checked(axes, points).err().unwrap_or(4);
+    }
+    let (refusal, told) = verified(axes, points, kinds, values, knots, tensor, scratch);
+    place.copy_from_slice(&told.place);
+    found.copy_from_slice(&[usize::from(told.whole), told.mask, told.differing]);
+    refusal
+}
+
+/// The same with no slots: the refusal, and what is told of the tensor, which is nothing after one.
+pub fn verified(
     axes: usize,
     points: &[usize],
     kinds: &[u8],
@@ -31,7 +55,7 @@ pub fn verify(
         check_scratch(&shape, scratch)?;
         require(all_finite(tensor), 7)?;
         let conditions = checked_conditions(&shape, kinds, values, knots)?;
-        let samples: Vec<f64> = tensor.iter().step_by(1 << axes).copied().collect();
+        let samples: Vec<f64> = tensor.iter().step_by(shape.masks()).copied().collect();
         let fresh = tensor_of(&shape, &conditions, knots, &samples);
         require(all_finite(&fresh), 10)?;
         Ok(compared(&shape, tensor, &fresh))
@@ -48,23 +72,18 @@ fn compared(shape: &Shape, tensor: &[f64], fresh: &[f64]) -> Found {
         .filter(|(_, (number, fresh))| number.to_bits() != fresh.to_bits())
         .map(|(at, _)| at)
         .collect();
-    let masks = 1 << shape.axes();
     let Some(first) = differing.first() else {
         return Found {
             whole: true,
             ..Found::default()
         };
     };
-    let mut found = Found {
+    let mut place = [0; 4];
+    place[..shape.axes()].copy_from_slice(&shape.place(first / shape.masks()));
+    Found {
         whole: false,
-        place: [0; 4],
-        mask: first % masks,
+        place,
+        mask: first % shape.masks(),
         differing: differing.len(),
-    };
-    let mut rest = first / masks;
-    for axis in (0..shape.axes()).rev() {
-        found.place[axis] = rest % shape.points()[axis];
-        rest /= shape.points()[axis];
     }
-    found
 }

@@ -63,6 +63,23 @@ extern "C" {
         scratch: *mut f64,
         scratch_length: usize,
     ) -> c_int;
+    fn limit_verify(
+        axes: usize,
+        points: *const usize,
+        points_length: usize,
+        kinds: *const u8,
+        kinds_length: usize,
+        values: *const f64,
+        values_length: usize,
+        knots: *const f64,
+        knots_length: usize,
+        tensor: *const f64,
+        tensor_length: usize,
+        scratch: *mut f64,
+        scratch_length: usize,
+        found: *mut usize,
+        found_length: usize,
+    ) -> usize;
     fn lim_query_full(sheet: *const Sheet, point: *const f64, length: usize, answer: *mut Answer);
     fn lim_query_quick(sheet: *const Sheet, point: *const f64, length: usize, answer: *mut Answer);
 }
@@ -139,6 +156,38 @@ pub fn change(surface: &Surface) -> Work<'_> {
             )
         };
         assert!(lanes > 0, "{ACCEPTED}");
+        tensor[tensor.len() - 1]
+    })
+}
+
+/// Its slot has two numbers: 1 where a number differs, or 0, and which is the first.
+pub fn verify(surface: &Surface) -> Work<'_> {
+    let tensor: Vec<f64> = surface.tensor().iter().copied().collect();
+    let mut scratch = surface.scratch();
+    Box::new(move || {
+        let Surface { axes, knots, .. } = surface;
+        let mut found = [0; 2];
+        // SAFETY: every pointer is that of a slice that is there, with its own length behind it.
+        let refusal = unsafe {
+            limit_verify(
+                axes.count,
+                axes.points.as_ptr(),
+                axes.points.len(),
+                axes.kinds.as_ptr(),
+                axes.kinds.len(),
+                axes.values.as_ptr(),
+                axes.values.len(),
+                knots.as_ptr(),
+                knots.len(),
+                tensor.as_ptr(),
+                tensor.len(),
+                scratch.as_mut_ptr(),
+                scratch.len(),
+                found.as_mut_ptr(),
+                found.len(),
+            )
+        };
+        assert_eq!((refusal, found), (0, [0; 2]), "{ACCEPTED}");
         tensor[tensor.len() - 1]
     })
 }

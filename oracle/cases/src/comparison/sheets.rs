@@ -1,11 +1,10 @@
 //! Sheets through the writer and the reader: what is written is read, and what is read is written.
 
-use super::{same_arguments, Run};
+use super::Run;
 use crate::case::Case;
 use crate::generator::{self, Kind};
 use crate::lending;
 use crate::random::Random;
-use crate::report::describe;
 use crate::sheet::other_edition;
 use reading::EXTEND;
 
@@ -62,15 +61,6 @@ impl Run<'_> {
         let room = sheet.len() + 1;
         let given = lending::write_parts(random, &parts, other_edition(edition), room);
         self.read_back(random, &given);
-    }
-
-    /// Holds what a call left against something else than the reading.
-    fn hold(&mut self, what: &str, given: &Case, expected: (usize, &Case), found: (usize, &Case)) {
-        if expected.0 != found.0 || !same_arguments(expected.1, found.1) {
-            let title = format!("{}, {what}", self.title);
-            self.report
-                .difference(self.kind, || describe(&title, given, expected, found));
-        }
     }
 }
 
