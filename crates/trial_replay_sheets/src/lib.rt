@@ -1,26 +1,78 @@
 // The cases of a sheet (what is read of it, its tensor, what is written, its surface at a point), each replayed through the exported call:
-// whether it answers as the list says, and leaves every slice so. No list makes a function here trap.
+// whether it answers as the list says, and leaves every slice so. No list makes a function here trap. A case is taken in three: the slices
+// that the call writes are made as they are given; those that it reads are, and the call is made; what it wrote is held against the list.
 use trial_replay_items::Replayed;
+use trial_replay_items::compared::Compared;
 use trial_replay_items::items::after_given;
-use trial_replay_items::items::after_left;
 use trial_replay_items::items::bytes_at;
 use trial_replay_items::items::bytes_given;
-use trial_replay_items::items::bytes_left;
 use trial_replay_items::items::floats_at;
 use trial_replay_items::items::floats_given;
-use trial_replay_items::items::floats_left;
 use trial_replay_items::items::numbers_at;
 use trial_replay_items::items::numbers_given;
-use trial_replay_items::items::numbers_left;
 use trial_replay_items::words::after;
 use trial_replay_items::words::word;
 
-// Whether the slices that a sheet is read into are left as the list says: the first is given at a place, and what it is left with stands at
-// another.
-fn read_left(
+// Whether the slices that a sheet is read into are left as the list says.
+fn parts_left(
+    seen: Compared,
     list: &[u8],
-    given: usize,
-    left: usize,
+    knots: &[f64],
+    samples: &[f64],
+    axes: &[usize],
+    points: &[usize],
+    kinds: &[u8],
+    values: &[f64],
+) -> Compared {
+    let knots_seen = seen.floats(list, knots);
+    let samples_seen = knots_seen.floats(list, samples);
+    let axes_seen = samples_seen.numbers(list, axes);
+    let points_seen = axes_seen.numbers(list, points);
+    let kinds_seen = points_seen.bytes(list, kinds);
+    kinds_seen.floats(list, values)
+}
+
+// The place after a sheet, and after the slices of its parts.
+fn after_parts(list: &[u8], begin: usize) -> usize {
+    let at_knots = after_given(list, begin);
+    let at_samples = after_given(list, at_knots);
+    let at_axes = after_given(list, at_samples);
+    let at_points = after_given(list, at_axes);
+    let at_kinds = after_given(list, at_points);
+    let at_values = after_given(list, at_kinds);
+    after_given(list, at_values)
+}
+
+// The refusal of a read in edition 1 of the sheet that the list gives at a place.
+fn read_edition_1_refusal(
+    list: &[u8],
+    begin: usize,
+    knots: &mut [f64],
+    samples: &mut [f64],
+    axes: &mut [usize],
+    points: &mut [usize],
+    kinds: &mut [u8],
+    values: &mut [f64],
+) -> usize {
+    let bytes = bytes_given(list, begin);
+    let bytes_end = bytes_at(list, begin);
+    hullashlar::hullashlar_read_edition_1(
+        &bytes[0..bytes_end],
+        knots,
+        samples,
+        axes,
+        points,
+        kinds,
+        values,
+    )
+}
+
+// Whether it is that of the list at `answer`, and each slice is left as the list says.
+fn read_edition_1_left(
+    list: &[u8],
+    begin: usize,
+    answer: usize,
+    refusal: usize,
     knots: &[f64],
     samples: &[f64],
     axes: &[usize],
@@ -28,65 +80,15 @@ fn read_left(
     kinds: &[u8],
     values: &[f64],
 ) -> Replayed {
-    let given_samples = after_given(list, given);
-    let given_axes = after_given(list, given_samples);
-    let given_points = after_given(list, given_axes);
-    let given_kinds = after_given(list, given_points);
-    let given_values = after_given(list, given_kinds);
-    let left_samples = after_left(list, left);
-    let left_axes = after_left(list, left_samples);
-    let left_points = after_left(list, left_axes);
-    let left_kinds = after_left(list, left_points);
-    let left_values = after_left(list, left_kinds);
-    let next = after_left(list, left_values);
-    if !floats_left(list, given, left, knots) {
-        return Replayed { same: false, next };
-    }
-    if !floats_left(list, given_samples, left_samples, samples) {
-        return Replayed { same: false, next };
-    }
-    if !numbers_left(list, given_axes, left_axes, axes) {
-        return Replayed { same: false, next };
-    }
-    if !numbers_left(list, given_points, left_points, points) {
-        return Replayed { same: false, next };
-    }
-    if !bytes_left(list, given_kinds, left_kinds, kinds) {
-        return Replayed { same: false, next };
-    }
-    Replayed {
-        same: floats_left(list, given_values, left_values, values),
-        next,
-    }
+    let returned = Compared::returned(list, after_given(list, begin), answer, refusal);
+    let seen = parts_left(returned, list, knots, samples, axes, points, kinds, values);
+    seen.replayed()
 }
 
-// Whether the slots of a sheet's modes and of its edition are left as the list says: those after the slices of its parts, the first given
-// at a place, and what it is left with at another.
-fn edition_left(
-    list: &[u8],
-    given: usize,
-    left: usize,
-    modes: &[u8],
-    edition: &[usize],
-) -> Replayed {
-    let given_edition = after_given(list, given);
-    let left_edition = after_left(list, left);
-    let next = after_left(list, left_edition);
-    if !bytes_left(list, given, left, modes) {
-        return Replayed { same: false, next };
-    }
-    Replayed {
-        same: numbers_left(list, given_edition, left_edition, edition),
-        next,
-    }
-}
-
-// The call of the reader of edition 1 on the sheet that the list gives at a place and on the slices that it writes, of which the first is
-// given at another; the arguments end at `answer`.
+// A case with the slices that the call writes.
 fn read_edition_1_answered(
     list: &[u8],
     begin: usize,
-    given: usize,
     answer: usize,
     knots: &mut [f64],
     samples: &mut [f64],
@@ -95,36 +97,19 @@ fn read_edition_1_answered(
     kinds: &mut [u8],
     values: &mut [f64],
 ) -> Replayed {
-    let bytes = bytes_given(list, begin);
-    let bytes_end = bytes_at(list, begin);
-    let refusal = hullashlar::hullashlar_read_edition_1(
-        &bytes[0..bytes_end],
-        knots,
-        samples,
-        axes,
-        points,
-        kinds,
-        values,
-    );
-    let left = after(answer, 1);
-    let replayed = read_left(
+    let refusal = read_edition_1_refusal(list, begin, knots, samples, axes, points, kinds, values);
+    read_edition_1_left(
         list,
-        given,
-        left,
+        begin,
+        answer,
+        refusal,
         knots,
         samples,
         axes,
         points,
         kinds,
         values,
-    );
-    if refusal as u64 != word(list, answer) {
-        return Replayed {
-            same: false,
-            next: replayed.next,
-        };
-    }
-    replayed
+    )
 }
 
 // A case of a sheet for the reader of edition 1, whose arguments begin at a place.
@@ -151,7 +136,6 @@ pub fn read_edition_1(list: &[u8], begin: usize) -> Replayed {
     read_edition_1_answered(
         list,
         begin,
-        at_knots,
         answer,
         &mut knots[0..knots_end],
         &mut samples[0..samples_end],
@@ -190,12 +174,10 @@ fn read_refusal(
     )
 }
 
-// Whether the call refused and left its slices as the list says, of which the first is given at a place and the modes at another; the
-// arguments end at `answer`.
-fn parts_left(
+// Whether it is that of the list at `answer`, and each slice is left as the list says.
+fn read_left(
     list: &[u8],
-    given: usize,
-    given_modes: usize,
+    begin: usize,
     answer: usize,
     refusal: usize,
     knots: &[f64],
@@ -207,36 +189,17 @@ fn parts_left(
     modes: &[u8],
     edition: &[usize],
 ) -> Replayed {
-    let left = after(answer, 1);
-    let read = read_left(
-        list,
-        given,
-        left,
-        knots,
-        samples,
-        axes,
-        points,
-        kinds,
-        values,
-    );
-    let told = edition_left(list, given_modes, read.next, modes, edition);
-    let next = told.next;
-    if refusal as u64 != word(list, answer) {
-        return Replayed { same: false, next };
-    }
-    if !read.same {
-        return Replayed { same: false, next };
-    }
-    told
+    let returned = Compared::returned(list, after_given(list, begin), answer, refusal);
+    let seen = parts_left(returned, list, knots, samples, axes, points, kinds, values);
+    let modes_seen = seen.bytes(list, modes);
+    let edition_seen = modes_seen.numbers(list, edition);
+    edition_seen.replayed()
 }
 
-// The call on the sheet that the list gives at a place and on the slices that it writes, of which the first is given at another and the
-// modes at a third; the arguments end at `answer`.
+// A case with the slices that the call writes.
 fn read_answered(
     list: &[u8],
     begin: usize,
-    given: usize,
-    given_modes: usize,
     answer: usize,
     knots: &mut [f64],
     samples: &mut [f64],
@@ -259,10 +222,9 @@ fn read_answered(
         modes,
         edition,
     );
-    parts_left(
+    read_left(
         list,
-        given,
-        given_modes,
+        begin,
         answer,
         refusal,
         knots,
@@ -276,11 +238,10 @@ fn read_answered(
     )
 }
 
-// The same on the slots of modes and edition alone: the slices of the parts are as the list gives them.
+// The same with the slices behind the parts: those of the parts are as the list gives them.
 fn read_parts(
     list: &[u8],
     begin: usize,
-    at_modes: usize,
     answer: usize,
     modes: &mut [u8],
     edition: &mut [usize],
@@ -306,8 +267,6 @@ fn read_parts(
     read_answered(
         list,
         begin,
-        at_knots,
-        at_modes,
         answer,
         &mut knots[0..knots_end],
         &mut samples[0..samples_end],
@@ -318,17 +277,6 @@ fn read_parts(
         modes,
         edition,
     )
-}
-
-// The place after a sheet, and after the slices of its parts.
-fn after_parts(list: &[u8], begin: usize) -> usize {
-    let at_knots = after_given(list, begin);
-    let at_samples = after_given(list, at_knots);
-    let at_axes = after_given(list, at_samples);
-    let at_points = after_given(list, at_axes);
-    let at_kinds = after_given(list, at_points);
-    let at_values = after_given(list, at_kinds);
-    after_given(list, at_values)
 }
 
 // A case of a sheet that is read, whose arguments begin at a place.
@@ -343,38 +291,10 @@ pub fn read(list: &[u8], begin: usize) -> Replayed {
     read_parts(
         list,
         begin,
-        at_modes,
         answer,
         &mut modes[0..modes_end],
         &mut edition[0..edition_end],
     )
-}
-
-// Whether the slices that the tensor of a sheet goes to are left as the list says: those after the ones that a read writes, the first given
-// at a place, and what it is left with at another.
-fn tensor_left(
-    list: &[u8],
-    given: usize,
-    left: usize,
-    tensor: &[f64],
-    scratch: &[f64],
-    length: &[usize],
-) -> Replayed {
-    let given_scratch = after_given(list, given);
-    let given_length = after_given(list, given_scratch);
-    let left_scratch = after_left(list, left);
-    let left_length = after_left(list, left_scratch);
-    let next = after_left(list, left_length);
-    if !floats_left(list, given, left, tensor) {
-        return Replayed { same: false, next };
-    }
-    if !floats_left(list, given_scratch, left_scratch, scratch) {
-        return Replayed { same: false, next };
-    }
-    Replayed {
-        same: numbers_left(list, given_length, left_length, length),
-        next,
-    }
 }
 
 // The refusal of the call on the sheet that the list gives at a place.
@@ -411,13 +331,10 @@ fn sheet_tensor_refusal(
     )
 }
 
-// Whether the call refused and left its slices as the list says, of which the first is given at a place, the modes at another and the
-// tensor at a third; the arguments end at `answer`.
+// Whether it is that of the list at `answer`, and each slice is left as the list says.
 fn sheet_tensor_left(
     list: &[u8],
-    given: usize,
-    given_modes: usize,
-    given_tensor: usize,
+    begin: usize,
     answer: usize,
     refusal: usize,
     knots: &[f64],
@@ -432,41 +349,20 @@ fn sheet_tensor_left(
     scratch: &[f64],
     length: &[usize],
 ) -> Replayed {
-    let left = after(answer, 1);
-    let read = read_left(
-        list,
-        given,
-        left,
-        knots,
-        samples,
-        axes,
-        points,
-        kinds,
-        values,
-    );
-    let told = edition_left(list, given_modes, read.next, modes, edition);
-    let built = tensor_left(list, given_tensor, told.next, tensor, scratch, length);
-    let next = built.next;
-    if refusal as u64 != word(list, answer) {
-        return Replayed { same: false, next };
-    }
-    if !read.same {
-        return Replayed { same: false, next };
-    }
-    if !told.same {
-        return Replayed { same: false, next };
-    }
-    built
+    let returned = Compared::returned(list, after_given(list, begin), answer, refusal);
+    let seen = parts_left(returned, list, knots, samples, axes, points, kinds, values);
+    let modes_seen = seen.bytes(list, modes);
+    let edition_seen = modes_seen.numbers(list, edition);
+    let tensor_seen = edition_seen.floats(list, tensor);
+    let scratch_seen = tensor_seen.floats(list, scratch);
+    let length_seen = scratch_seen.numbers(list, length);
+    length_seen.replayed()
 }
 
-// The call on the sheet that the list gives at a place and on the slices that it writes, of which the first is given at another, the modes
-// at a third and the tensor at a fourth; the arguments end at `answer`.
+// A case with the slices that the call writes.
 fn sheet_tensor_answered(
     list: &[u8],
     begin: usize,
-    given: usize,
-    given_modes: usize,
-    given_tensor: usize,
     answer: usize,
     knots: &mut [f64],
     samples: &mut [f64],
@@ -497,9 +393,7 @@ fn sheet_tensor_answered(
     );
     sheet_tensor_left(
         list,
-        given,
-        given_modes,
-        given_tensor,
+        begin,
         answer,
         refusal,
         knots,
@@ -516,12 +410,10 @@ fn sheet_tensor_answered(
     )
 }
 
-// The same on the slots of modes and edition and on the slices of the tensor: those of the parts are as the list gives them.
+// The same with the slices behind the parts: those of the parts are as the list gives them.
 fn sheet_tensor_parts(
     list: &[u8],
     begin: usize,
-    at_modes: usize,
-    at_tensor: usize,
     answer: usize,
     modes: &mut [u8],
     edition: &mut [usize],
@@ -550,9 +442,6 @@ fn sheet_tensor_parts(
     sheet_tensor_answered(
         list,
         begin,
-        at_knots,
-        at_modes,
-        at_tensor,
         answer,
         &mut knots[0..knots_end],
         &mut samples[0..samples_end],
@@ -589,8 +478,6 @@ pub fn sheet_tensor(list: &[u8], begin: usize) -> Replayed {
     sheet_tensor_parts(
         list,
         begin,
-        at_modes,
-        at_tensor,
         answer,
         &mut modes[0..modes_end],
         &mut edition[0..edition_end],
@@ -600,60 +487,8 @@ pub fn sheet_tensor(list: &[u8], begin: usize) -> Replayed {
     )
 }
 
-// The call on what the list gives, where the arguments end at `answer` and the written slices are given at the places named so.
-fn write_answered(
-    list: &[u8],
-    answer: usize,
-    given_bytes: usize,
-    given_length: usize,
-    axes: usize,
-    points: &[usize],
-    kinds: &[u8],
-    values: &[f64],
-    modes: &[u8],
-    knots: &[f64],
-    samples: &[f64],
-    edition: usize,
-    bytes: &mut [u8],
-    length: &mut [usize],
-) -> Replayed {
-    let refusal = hullashlar::hullashlar_write(
-        axes,
-        points,
-        kinds,
-        values,
-        modes,
-        knots,
-        samples,
-        edition,
-        bytes,
-        length,
-    );
-    let left_bytes = after(answer, 1);
-    let left_length = after_left(list, left_bytes);
-    let next = after_left(list, left_length);
-    if refusal as u64 != word(list, answer) {
-        return Replayed { same: false, next };
-    }
-    if !bytes_left(list, given_bytes, left_bytes, bytes) {
-        return Replayed { same: false, next };
-    }
-    Replayed {
-        same: numbers_left(list, given_length, left_length, length),
-        next,
-    }
-}
-
-// A case of a sheet that is written with the slices that are: the others are given at their places.
-fn write_on(
-    list: &[u8],
-    begin: usize,
-    answer: usize,
-    given_bytes: usize,
-    given_length: usize,
-    bytes: &mut [u8],
-    length: &mut [usize],
-) -> Replayed {
+// The refusal of a sheet that is written, with the slices that are: the others are given at their places.
+fn write_refusal(list: &[u8], begin: usize, bytes: &mut [u8], length: &mut [usize]) -> usize {
     let at_points = after(begin, 1);
     let at_kinds = after_given(list, at_points);
     let at_values = after_given(list, at_kinds);
@@ -673,11 +508,7 @@ fn write_on(
     let knots_end = floats_at(list, at_knots);
     let samples = floats_given(list, at_samples);
     let samples_end = floats_at(list, at_samples);
-    write_answered(
-        list,
-        answer,
-        given_bytes,
-        given_length,
+    hullashlar::hullashlar_write(
         word(list, begin) as usize,
         &points[0..points_end],
         &kinds[0..kinds_end],
@@ -689,6 +520,22 @@ fn write_on(
         bytes,
         length,
     )
+}
+
+// A case with the slices that are written, of which the first is given at a place; the arguments end at `answer`.
+fn write_answered(
+    list: &[u8],
+    begin: usize,
+    given: usize,
+    answer: usize,
+    bytes: &mut [u8],
+    length: &mut [usize],
+) -> Replayed {
+    let refusal = write_refusal(list, begin, bytes, length);
+    let returned = Compared::returned(list, given, answer, refusal);
+    let bytes_seen = returned.bytes(list, bytes);
+    let length_seen = bytes_seen.numbers(list, length);
+    length_seen.replayed()
 }
 
 // A case of a sheet that is written, whose arguments begin at a place.
@@ -707,12 +554,11 @@ pub fn write(list: &[u8], begin: usize) -> Replayed {
     let bytes_end = bytes_at(list, at_bytes);
     let mut length = numbers_given(list, at_length);
     let length_end = numbers_at(list, at_length);
-    write_on(
+    write_answered(
         list,
         begin,
-        answer,
         at_bytes,
-        at_length,
+        answer,
         &mut bytes[0..bytes_end],
         &mut length[0..length_end],
     )
