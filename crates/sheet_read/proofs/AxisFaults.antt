@@ -1,10 +1,11 @@
 -- The fault of an axis, test by test, and what holds of an axis that has none.
-use mathlib.Core.Path.{_≡_}
+use mathlib.Core.Path.{_≡_, refl}
 use mathlib.Core.Bool.{Bool, true, false, cond}
 use mathlib.Core.List.{List}
 use Prim.Native.Nat.{ℕ, _+_, _*_, _<_, _≤_}
 use native.Mathlib.Omega.{arith}
-use borrow.Author.Tests.{lt-ltb, le-ltb}
+use borrow.Author.Tests.{lt-ltb, le-ltb, ltb-true, ltb-false}
+use lib.Dec.{ltb}
 use lib.ListN.{length}
 use Rattle.rules.specs.Refusals.{points-refused}
 use Rattle.base_bits.specs.Bits.{short, numbers-short}
@@ -32,14 +33,22 @@ module _ (bytes : List ℕ) (at : ℕ) where
         let reach = extent bytes at in
         rw (le-ltb (points-at bytes at) 2 (omega arith), le-ltb 256 (points-at bytes at) (omega arith))
 
-    pub no-lower-kind : at + 8 ≤ bits → bits < at + 8 + 2 → 11 ≡ axis-fault bytes at
+    no-lower-kind : at + 8 ≤ bits → bits < at + 8 + 2 → 11 ≡ axis-fault bytes at
     unfolding axis-fault
     no-lower-kind room gone = rw (le-ltb bits (at + 8) room, enough-points, lt-ltb bits (at + 8 + 2) gone)
 
-    pub no-upper-kind : at + 8 + 2 ≤ bits → bits < at + 10 + 2 → 11 ≡ axis-fault bytes at
+    no-upper-kind : at + 8 + 2 ≤ bits → bits < at + 10 + 2 → 11 ≡ axis-fault bytes at
     unfolding axis-fault
     no-upper-kind room gone =
         rw (le-ltb bits (at + 8) (omega arith), enough-points, le-ltb bits (at + 8 + 2) room, lt-ltb bits (at + 10 + 2) gone)
+
+    -- where one of the two kinds is not there
+    pub no-kinds : at + 8 ≤ bits → bits < at + 8 + 4 → 11 ≡ axis-fault bytes at
+    no-kinds room gone = go (ltb bits (at + 8 + 2)) refl
+      where
+        go : (b : Bool) → ltb bits (at + 8 + 2) ≡ b → 11 ≡ axis-fault bytes at
+        go true e = no-lower-kind room (ltb-true bits (at + 8 + 2) e)
+        go false e = no-upper-kind (ltb-false bits (at + 8 + 2) e) (omega (arith, gone))
 
     module _ (room : at + 10 + 2 ≤ bits) where
       pub one-periodic : periodic-at-one-end (lower-kind bytes at) (upper-kind bytes at) ≡ true → 13 ≡ axis-fault bytes at

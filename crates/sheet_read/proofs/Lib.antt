@@ -1,6 +1,7 @@
 pub mod Numbers
 pub mod Extents
 pub mod AxisFaults
+pub mod HeadFields
 pub mod Walks
 pub mod Stores
 pub mod Samples

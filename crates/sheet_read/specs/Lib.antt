@@ -1,4 +1,5 @@
 pub mod Fields
 pub mod Faults
 pub mod Read
+pub mod Heads
 pub mod FoundSoFar

@@ -10,6 +10,7 @@ use grid_codes::classes::is_unread;
 use rules::Axis;
 
 pub mod axes; // axes.rt: the axes of a sheet, one after the other
+pub mod heads; // heads.rt: the head of an axis, read once
 pub mod look; // look.rt: all of a sheet, up to its first fault
 pub mod store; // store.rt: knots and samples of a sheet that has no fault, stored
 

@@ -1,5 +1,5 @@
 -- Both ends are those of the rules. By `extent` 64 bits of the axis follow each place that is read, also where a kind has none.
-use mathlib.Core.Path.{_≡_, ap}
+use mathlib.Core.Path.{_≡_, ap, _∙_}
 use native.Mathlib.Omega.{arith}
 use Rattle.grid_codes.specs.Kinds.{values-of-kind}
 use Rattle.sheet_read.specs.Fields.{lower-kind, axis-at}
@@ -12,39 +12,32 @@ known : (c : tie.Start) → Extent (c .args .bytes .now) (c .args .at)
 known c = extent _ _
 
 kind : (c : tie.After-values-of-kind)
-    → values-of-kind (c .before .before .before .field-at .result)
-    ≡ values-of-kind
-    (lower-kind (c .before .before .before .before .before .args .bytes .now) (c .before .before .before .before .before .args .at))
-kind c = ap values-of-kind (c .before .before .before .field-at .ensures)
-
-field-at-requires : tie.Need-field-at-requires
-field-at-requires c κs = let reach = known (c .before) in search needs
-
-field-at-requires-2 : tie.Need-field-at-requires-2
-field-at-requires-2 c κs = let reach = known (c .before .before) in search needs
+    → let start = c .before .before .before in
+    c .values-of-kind .result ≡ values-of-kind (lower-kind (start .args .bytes .now) (start .args .at))
+kind c = c .values-of-kind .ensures ∙ ap values-of-kind (c .before .before .before .pre .2 .lower)
 
 add-number-at-2 : tie.Need-add-number-at-2
-add-number-at-2 c = let start = c .before .before .before in let reach = known start in let told = start .pre .0 in omega arith
+add-number-at-2 c = let start = c .before in let reach = known start in let told = start .pre .0 in omega arith
 
 number-at-requires : tie.Need-number-at-requires
-number-at-requires c κs = let start = c .before .before .before in let reach = known start in let told = start .pre .0 in search needs
+number-at-requires c κs = let start = c .before in let reach = known start in let told = start .pre .0 in search needs
 
 add-number-at-4 : tie.Need-add-number-at-4
-add-number-at-4 c = let start = c .before .before .before .before in let reach = known start in let told = start .pre .0 in omega arith
+add-number-at-4 c = let start = c .before .before in let reach = known start in let told = start .pre .0 in omega arith
 
 mul-number-at : tie.Need-mul-number-at
-mul-number-at c = let reach = known (c .before .before .before .before .before) in let lower = kind c in omega arith
+mul-number-at c = let reach = known (c .before .before .before) in let lower = kind c in omega arith
 
 add-number-at-5 : tie.Need-add-number-at-5
 add-number-at-5 c =
-    let start = c .before .before .before .before .before in
+    let start = c .before .before .before in
     let reach = known start in
     let told = start .pre .0 in
     let lower = kind c in omega arith
 
 number-at-requires-2 : tie.Need-number-at-requires-2
 number-at-requires-2 c κs =
-    let start = c .before .before .before .before .before in
+    let start = c .before .before .before in
     let reach = known start in
     let told = start .pre .0 in
     let lower = kind c in search needs
@@ -52,17 +45,16 @@ number-at-requires-2 c κs =
 returns : tie.Need-returns
 unfolding axis-at
 returns c =
-    let start = c .before .before .before .before .before .before .before .before .before in
-    let told = start .pre .0 in cc
+    let start = c .before .before .before .before .before .before .before in
+    let told = start .pre .0 in
+    let head = start .pre .2 in
+    let lower = head .lower in
+    let upper = head .upper in cc
 
 pub condition-spec : {M : Type 1} → statement M
 condition-spec =
     tie.close
     (tie.spec
-    (λ c. search needs)
-    field-at-requires
-    (λ c. search needs)
-    field-at-requires-2
     (λ c. search needs)
     add-number-at-2
     number-at-requires
