@@ -1,5 +1,6 @@
 pub mod Shifts
 pub mod Runs
+pub mod WordsRead
 pub mod Patches
 pub mod Writes
 pub mod Rows

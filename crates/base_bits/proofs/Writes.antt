@@ -4,7 +4,7 @@ use mathlib.Core.Path.{_≡_, refl, sym, ap, _∙_}
 use mathlib.Core.List.{List}
 use mathlib.Core.Logic.{⊎-elim, _⊎_, inl, inr}
 use Prim.Native.Nat.{ℕ, zero, suc, _+_, _-_, _*_, _/_, _%_, _^_, _<_, _≤_}
-use native.Mathlib.Nat.{pow-succ', add-zero, add-suc, add-assoc, mod-one, mod-lt, div-one, div-div-eq-div-mul, eq-or-lt-of-le}
+use native.Mathlib.Nat.{pow-succ', add-zero, add-suc, add-assoc, mod-one, mod-lt, div-one, div-div-eq-div-mul, eq-or-lt-of-le, mod-eq-of-lt}
 use native.Mathlib.Omega.{arith}
 use native.Mathlib.Decide.{ℕ-discrete, decLt}
 use lib.Dec.{lit<}
@@ -13,7 +13,7 @@ use lib.Seq.{getD-set-same, getD-set-other, set-getD, set-set, set-out, drop-set
 use lib.Pow.{shr-shr}
 use Rattle.base_bits.specs.Bits.{bit, field}
 use Rattle.base_bits.specs.Written.{patch, with-bit, with-field}
-use Rattle.base_bits.proofs.Runs.{field-byte, halves}
+use Rattle.base_bits.proofs.Runs.{field-whole, halves}
 use Rattle.base_bits.proofs.Patches.{patch-none, patch-own, patch-more, patch-below, bit-here, bit-other}
 
 -- ---- one bit of the list
@@ -221,10 +221,7 @@ agree-more s d at (suc k) h a = record {
 }
 
 byte-is : (bytes : List ℕ) (q : ℕ) → getD bytes q 0 < 256 → field bytes (8 * q) 8 ≡ getD bytes q 0
-byte-is bytes q h =
-    let e : 8 * q / 8 ≡ q = omega arith in
-    let f : 8 - 8 * q % 8 - 8 ≡ 0 = omega arith in
-    field-byte bytes (8 * q) 8 (omega arith) ∙ rw (e, f) (omega arith)
+byte-is bytes q h = field-whole bytes q ∙ mod-eq-of-lt h
 
 -- with the same bits they are the same bytes
 pub agree-bytes : (s d : List ℕ) (n : ℕ) → Bytes s → Bytes d → length s ≡ n → n ≤ length d → Agree s d (8 * n) → take n d ≡ s
