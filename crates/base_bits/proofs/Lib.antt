@@ -5,3 +5,4 @@ pub mod Patches
 pub mod Writes
 pub mod Rows
 pub mod Numbers
+pub mod WordsWritten

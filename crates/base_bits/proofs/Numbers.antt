@@ -1,18 +1,22 @@
 -- Floats as fields: how many bits they have, that each pattern fits its field, what is read where they stand, and that they are stored and
 -- written one after the other.
 use mathlib.Core.Path.{_≡_, refl, sym, ap, subst, _∙_}
-use mathlib.Core.Bool.{not}
-use mathlib.Core.List.{List, [], _∷_, _++_, map, map-append}
-use Prim.Native.Nat.{ℕ, zero, suc, _+_, _*_, _^_, _<_, _≤_}
+use mathlib.Core.Bool.{not, true, false}
+use mathlib.Core.List.{List, [], _∷_, map-append}
+use Prim.Native.Nat.{ℕ, zero, suc, _+_, _*_, _<_, _≤_}
 use native.Mathlib.Numerals.{add-one}
 use native.Mathlib.Omega.{arith}
+use borrow.Author.Tests.{not-false}
 use lib.Dec.{T}
 use lib.ListN.{length, getD, take, drop, set}
 use lib.Seq.{take-all, take-suc, length-take-le}
 use lib.Ieee.{Float, nan, binary64, fits, isNan, ofBits, toBits}
+use lib.Ieee.Scale.{finite}
 use lib.Ieee.Bits.{ofBits-toBits, toBits-lt, toBits-ofBits}
-use Rattle.rules.specs.Numbers.{table, table-from}
+use Rattle.rules.specs.Numbers.{table-from}
+use Rattle.rules.specs.Refusals.{number-refused, some-number-refused}
 use Rattle.rules.proofs.Tables.{length-table, at-table}
+use Rattle.base_numbers.proofs.Scan.{any-at}
 use Rattle.base_numbers.proofs.Front.{front, front-none, front-more, front-all}
 use Rattle.base_bits.specs.Bits.{field, number, numbers}
 use Rattle.base_bits.specs.Written.{with-field, Field, number-field, number-fields, bits-in, with-fields}
@@ -46,6 +50,10 @@ module _ (holds : Float → Type 0) where
   unfolding Each
   each-at [] all = tt
   each-at (x ∷ xs) all = (all 0 (omega arith), each-at xs (λ k l. all (suc k) (omega arith)))
+
+-- where none is refused, each is finite
+pub each-finite : (xs : List Float) → some-number-refused xs ≡ false → (k : ℕ) → k < length xs → finite (getD xs k nan) ≡ true
+each-finite xs none k h = not-false _ (any-at (λ i. number-refused (getD xs i nan)) (length xs) none k h)
 
 -- binary64 holds each number, as it does every number of a slice
 abbrev pub Held : List Float → Type 0

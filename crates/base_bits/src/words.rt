@@ -25,9 +25,9 @@ fn of_eight_bytes(
             + (((seventh as u64) << 8) + (eighth as u64)))
 }
 
-// The word from byte `place` on. Not a public call: eight bytes from there on are required, at a place that is a small number.
+// The word from byte `place` on. Not a public call: eight bytes from there on are required.
 pub fn word_at(bytes: &[u8], place: usize) -> u64
-    requires { ⌜ (place + 8 ≤ length (now bytes)) × (place ≤ 131072) ⌝ }
+    requires { ⌜ place + 8 ≤ length (now bytes) ⌝ }
     ensures { λ r. ⌜ r ≡ field (now (bytes .entry)) (8 * place) 64 ⌝ }
 {
     of_eight_bytes(

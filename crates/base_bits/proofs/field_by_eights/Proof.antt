@@ -1,6 +1,6 @@
 -- `n` is the field of the first `read` bits, and each turn joins a narrow field to it (`field-add`). The measure is the bits left.
 use mathlib.Core.Path.{_≡_, sym}
-use Prim.Native.Nat.{_≤_, _<_, _-_, _+_, _^_}
+use Prim.Native.Nat.{_≤_, _<_, _-_, _^_}
 use native.Mathlib.Omega.{arith}
 use Rattle.base_bits.specs.Bits.{field}
 use Rattle.base_bits.proofs.Runs.{field-none, field-below, field-add}

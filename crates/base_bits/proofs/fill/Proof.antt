@@ -1,5 +1,5 @@
 -- The patterns begin with a byte or `at % 8` bits behind one, and are stored either way; with no place to fill, none is all of them.
-use mathlib.Core.Path.{_≡_, sym, ap, _∙_}
+use mathlib.Core.Path.{_≡_, ap, _∙_}
 use Prim.Native.Nat.{ℕ, _+_, _*_, _/_, _%_}
 use native.Mathlib.Omega.{arith}
 use lib.ListN.{length}
