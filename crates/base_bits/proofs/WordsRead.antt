@@ -8,11 +8,11 @@ use lib.ListN.{getD}
 use lib.Pow.{shl-exact}
 use Rattle.base_bits.specs.Bits.{field}
 use Rattle.base_bits.proofs.Runs.{field-add, field-first, field-second, field-start, field-whole}
-use Rattle.base_bits.proofs.Shifts.{kept}
+use Rattle.base_bits.proofs.Shifts.{shifted-is}
 
 -- ---- eight bytes
 
--- the number that eight digits of a byte each spell
+-- the number that eight digits spell, each of them a byte
 abbrev spelled : ℕ → ℕ → ℕ → ℕ → ℕ → ℕ → ℕ → ℕ → ℕ
 spelled a b c d e f g h = ((((((a * 256 + b) * 256 + c) * 256 + d) * 256 + e) * 256 + f) * 256 + g) * 256 + h
 
@@ -34,10 +34,11 @@ pub word-alone : (bytes : List ℕ) (p : ℕ)
     ∷ getD bytes (p + 6) 0 ∷ getD bytes (p + 7) 0 ∷ []) 0 64 ≡ field bytes (8 * p) 64
 word-alone bytes p = word-spelled _ 0 ∙ sym (word-spelled bytes p)
 
--- and of eight bytes each is moved to its place; no shift loses a bit
+-- a byte moved to its place in a word: the shift loses no bit
 moved : (n k : ℕ) → n < 256 → k ≤ 56 → n * 2 ^ k % 18446744073709551616 ≡ n * 2 ^ k
 moved n k h l = shl-exact 8 k 64 h (omega arith)
 
+-- eight of them, summed two by two
 pub word-summed : (a b c d e f g h : ℕ) → a < 256 → b < 256 → c < 256 → d < 256 → e < 256 → f < 256 → g < 256 → h < 256
     → a * 2 ^ 56 % 18446744073709551616 + b * 2 ^ 48 % 18446744073709551616
     + (c * 2 ^ 40 % 18446744073709551616 + d * 2 ^ 32 % 18446744073709551616)
@@ -76,7 +77,7 @@ module _ (bytes : List ℕ) where
       let behind : rest ≡ at + s + t = omega arith in
       let left : field bytes at 64 % 2 ^ t ≡ field bytes (at + s) t =
       ap (λ (k : ℕ). field bytes at k % 2 ^ t) (sym e) ∙ field-second bytes at s t in
-      rw (kept s t e (field bytes at 64), left, behind) (sym (field-add bytes (at + s) t s) ∙ ap (field bytes (at + s)) whole)
+      rw (shifted-is s t e (field bytes at 64), left, behind) (sym (field-add bytes (at + s) t s) ∙ ap (field bytes (at + s)) whole)
 
   -- another word follows
   pub across-word : (p s : ℕ) → s < 64

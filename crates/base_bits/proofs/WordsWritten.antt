@@ -9,7 +9,7 @@ use lib.ListN.{length, getD, take}
 use lib.Ieee.{Float, nan, binary64, toBits}
 use lib.Pow.{high, low, shr-lt}
 use Rattle.base_bits.specs.Written.{with-field, number-fields, with-fields}
-use Rattle.base_bits.proofs.Shifts.{kept}
+use Rattle.base_bits.proofs.Shifts.{shifted-is}
 use Rattle.base_bits.proofs.Runs.{field-start}
 use Rattle.base_bits.proofs.Writes.{lowest-written, written-of-read, written-add, written-more}
 use Rattle.base_bits.proofs.Numbers.{none-written, more-written, all-written}
@@ -33,7 +33,7 @@ word-written z a b p v first second =
 -- ---- a pattern that begins within a byte
 
 -- s bits and a pattern behind them are a word and the pattern's last s bits behind it
-pub across-written : (z : List ℕ) (at p before n s t : ℕ) → s + t ≡ 64 → p ≡ at + 64 → n < 18446744073709551616
+across-written : (z : List ℕ) (at p before n s t : ℕ) → s + t ≡ 64 → p ≡ at + 64 → n < 18446744073709551616
     → with-field (with-field z at 64 (before * 2 ^ t % 18446744073709551616 + n / 2 ^ s)) p s n
     ≡ with-field (with-field z at s before) (at + s) 64 n
 across-written z at p before n s t whole place h =
@@ -49,7 +49,7 @@ across-written z at p before n s t whole place h =
       lowest-written (with-field z at s before) (at + s) t w,
       low (before % 2 ^ s) t few,
     ) in
-    rw (kept t s swapped before, word, behind)
+    rw (shifted-is t s swapped before, word, behind)
     (sym (written-add (with-field z at s before) (at + s) t s n)
     ∙ ap (λ (k : ℕ). with-field (with-field z at s before) (at + s) k n) swapped)
 
@@ -61,7 +61,7 @@ Late z place s xs now before k =
 
 module _ (z : List ℕ) (place s : ℕ) (few : s ≤ 8) where
   -- the first bits of a byte, written where they stand, change nothing
-  pub first-kept : (before : ℕ) → before ≡ getD z place 0 / 2 ^ (8 - s) % 2 ^ s → with-field z (8 * place) s before ≡ z
+  first-kept : (before : ℕ) → before ≡ getD z place 0 / 2 ^ (8 - s) % 2 ^ s → with-field z (8 * place) s before ≡ z
   first-kept before e =
       ap (with-field z (8 * place) s) (e ∙ sym (field-start z place s few)) ∙ written-of-read z (8 * place) s
 

@@ -21,7 +21,7 @@ fn chunk(byte: u8, from: usize, count: usize) -> u64
     ((byte as u64) >> (8 - from - count)) % (1 << count)
 }
 
-// The first `count` bits of a byte, with none above them to take away.
+// The first `count` bits of a byte: one shift, since nothing stands above them.
 fn first_bits(byte: u8, count: usize) -> u64
     requires { ⌜ count ≤ 8 ⌝ }
     ensures { λ r. ⌜ (r ≡ byte / 2 ^ (8 - count) % 2 ^ count) × (r < 2 ^ count) ⌝ }
@@ -75,7 +75,7 @@ fn field_by_eights(bytes: &[u8], at: usize, width: usize) -> u64
     n
 }
 
-// A field of 64 bits: a word, or what a word has behind its first bits, and the first bits of the byte behind it.
+// A field of 64 bits: a word, or all of a word but its first bits, and as many of the byte behind it.
 fn pattern_at(bytes: &[u8], at: usize) -> u64
     requires { ⌜ Within (now bytes) at 64 ⌝ }
     ensures { λ r. ⌜ r ≡ field (now (bytes .entry)) at 64 ⌝ }
@@ -106,7 +106,8 @@ pub fn field_at(bytes: &[u8], at: usize, width: usize) -> u64
     field_by_eights(bytes, at, width)
 }
 
-// Whether the field of `width` bits from bit `at` on would end behind the last bit. Not a public call: small numbers are required.
+// Whether the field of `width` bits from bit `at` on would end behind the last bit. Not a public call: an end at a small number
+// is required.
 pub fn is_short(bytes: &[u8], at: usize, width: usize) -> bool
     requires { ⌜ at + width ≤ 1048576 ⌝ }
     ensures { λ r. ⌜ r ≡ short (now (bytes .entry)) at width ⌝ }
@@ -114,8 +115,8 @@ pub fn is_short(bytes: &[u8], at: usize, width: usize) -> bool
     bytes.len() < (at + width + 7) / 8
 }
 
-// Whether one of the patterns from bit `at` on would end behind the last bit. Not a public call: one pattern or more, and places that are
-// small numbers, are required.
+// Whether one of the patterns from bit `at` on would end behind the last bit. Not a public call: one pattern or more, and their end at a
+// small number, are required.
 pub fn are_short(bytes: &[u8], at: usize, count: usize) -> bool
     requires { ⌜ (0 < count) × (at + 64 * count ≤ 1048576) ⌝ }
     ensures { λ r. ⌜ r ≡ numbers-short (now (bytes .entry)) at count ⌝ }

@@ -51,7 +51,7 @@ pub fn across_words(word: u64, next: u64, shift: usize) -> u64
     (word << shift) + (next >> (64 - shift))
 }
 
-// The same where a byte follows, of which no word need be there. Not a public call: that its bits are fewer than eight is required.
+// The same where what follows may be one byte alone. Not a public call: that fewer than all its bits are taken is required.
 pub fn across_to_byte(word: u64, byte: u8, shift: usize) -> u64
     requires { ⌜ shift < 8 ⌝ }
     ensures { λ r. ⌜ r ≡ word * 2 ^ shift % 18446744073709551616 + byte / 2 ^ (8 - shift) % 2 ^ shift ⌝ }

@@ -56,7 +56,7 @@ fn put_narrow_field(bytes: &mut [u8], at: usize, width: usize, n: u64)
 }
 
 // Writes a field of any width up to 64: up to eight bits more at each turn.
-fn put_by_eights(bytes: &mut [u8], at: usize, width: usize, n: u64)
+fn put_field_by_eights(bytes: &mut [u8], at: usize, width: usize, n: u64)
     requires { ⌜ Within (now bytes) at width × (width ≤ 64) ⌝ }
     ensures { λ _. ⌜ now (bytes .exit) ≡ with-field (now (bytes .entry)) at width n ⌝ }
 {
@@ -100,7 +100,8 @@ fn put_pattern(bytes: &mut [u8], at: usize, n: u64)
         put_word(bytes, place, n)
     } else {
         let before = first_bits(bytes[place], shift);
-        put_word(bytes, place, across_words(before, n, 64 - shift));
+        let word = across_words(before, n, 64 - shift);
+        put_word(bytes, place, word);
         put_in_byte(bytes, place + 8, 0, shift, n)
     }
 }
@@ -120,7 +121,7 @@ pub fn put_field(bytes: &mut [u8], at: usize, width: usize, n: u64)
         if width == 64 {
             put_pattern(bytes, at, n)
         } else {
-            put_by_eights(bytes, at, width, n)
+            put_field_by_eights(bytes, at, width, n)
         }
     }
 }
@@ -157,11 +158,8 @@ fn put_words_across(bytes: &mut [u8], place: usize, shift: usize, from: &[f64])
     let mut k = 0;
     while k < from.len() {
         let pattern = base_numbers::pattern_of(from[k]);
-        put_word(
-            bytes,
-            place + 8 * k,
-            across_words(before, pattern, 64 - shift),
-        );
+        let word = across_words(before, pattern, 64 - shift);
+        put_word(bytes, place + 8 * k, word);
         before = pattern;
         k += 1;
     }

@@ -16,7 +16,7 @@ returns c =
 returns-3 : tie.Need-returns-3
 returns-3 c =
     let args = c .before .before .before .before .before .args in
-    let all : 64 ≡ args .width = omega arith in c .pattern-at .ensures ∙ ap (field (args .bytes .now) (args .at)) all
+    let all : 64 ≡ args .width = omega arith in c .pattern-at .ensures ∙ rw all
 
 pub field-at-spec : {M : Type 1} → statement M
 field-at-spec =

@@ -1,9 +1,7 @@
 -- The patterns begin with a byte or `at % 8` bits behind one, and are stored either way; with no place to fill, none is all of them.
-use mathlib.Core.Path.{_≡_, ap, _∙_}
-use Prim.Native.Nat.{ℕ, _+_, _*_, _/_, _%_}
+use mathlib.Core.Path.{_≡_, _∙_}
+use Prim.Native.Nat.{_+_, _*_, _/_, _%_}
 use native.Mathlib.Omega.{arith}
-use lib.ListN.{length}
-use Rattle.base_bits.specs.Bits.{numbers}
 use Rattle.base_bits.proofs.Numbers.{stored-none, stored-all}
 use borrow.Author.Needs.{needs}
 use Rattle.base_bits.proofs.fill.Statement.{statement}
@@ -19,7 +17,7 @@ returns-2 c =
     let at-fill = c .before .before in
     let args = at-fill .before .before .before .before .before .args in
     let here : 8 * (args .at / 8) ≡ args .at = omega arith in
-    at-fill .fill-from-words .ensures ∙ ap (λ (p : ℕ). numbers (args .bytes .now) p (length (args .to .now))) here
+    at-fill .fill-from-words .ensures ∙ rw here
 
 returns-3 : tie.Need-returns-3
 returns-3 c =
@@ -27,7 +25,7 @@ returns-3 c =
     let at-tests = at-fill .before .before in
     let args = at-tests .before .before .before .before .args in
     let here : 8 * (args .at / 8) + args .at % 8 ≡ args .at = omega arith in
-    at-fill .fill-across-words .ensures ∙ ap (λ (p : ℕ). numbers (args .bytes .now) p (length (args .to .now))) here
+    at-fill .fill-across-words .ensures ∙ rw here
 
 pub fill-spec : {M : Type 1} → statement M
 fill-spec =

@@ -1,7 +1,7 @@
 -- The first `k` numbers are stored, and `word` is the word in which the next one begins; it ends in the word that the turn reads
 -- (`across-word`), and the last one in a byte (`across-byte`). The measure is the places left.
 use mathlib.Core.Path.{_≡_, refl, ap, _∙_}
-use Prim.Native.Nat.{ℕ, _<_, _-_, _+_, _*_}
+use Prim.Native.Nat.{_<_, _-_, _+_, _*_}
 use native.Mathlib.Omega.{arith}
 use lib.ListN.{length, length-set}
 use lib.Ieee.{binary64, ofBits}
@@ -24,7 +24,7 @@ loop-holds : tie.Need-loop-holds Inv-loop μ-loop
 loop-holds c =
     let args = c .before .before .before .args in
     let first : 8 * args .place ≡ 8 * (args .place + 8 * 0) = omega arith in
-    (omega arith, stored-none _ _ _, refl, c .word-at .ensures ∙ ap (λ (p : ℕ). field (args .bytes .now) p 64) first)
+    (omega arith, stored-none _ _ _, refl, c .word-at .ensures ∙ rw first)
 
 loop-again : tie.Need-loop-again Inv-loop μ-loop
 loop-again c =
@@ -42,7 +42,7 @@ loop-again c =
       stored-more (args .bytes .now) (8 * args .place + args .shift) (args .to .now) _ _ (8 * place + args .shift) _ (turn .inv .1)
           (c .float-of .ensures ∙ ap (ofBits binary64) pattern) (omega arith) (omega arith),
       simp length-set (turn .inv .2),
-      at-next .word-at2 .ensures ∙ ap (λ (p : ℕ). field (args .bytes .now) p 64) behind,
+      at-next .word-at2 .ensures ∙ rw behind,
     )
 
 returns : tie.Need-returns Inv-loop μ-loop

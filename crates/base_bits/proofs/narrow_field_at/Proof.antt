@@ -1,9 +1,8 @@
 -- Bit `at` is bit `at % 8` of its byte, so the field is a run within that byte, or it fills the byte's end and goes on in the next
 -- (`field-byte`, `field-two-bytes`).
-use mathlib.Core.Path.{_≡_, sym, ap, ap₂, _∙_}
-use Prim.Native.Nat.{ℕ, _+_, _-_, _*_, _/_, _%_}
+use mathlib.Core.Path.{_≡_, sym, _∙_}
+use Prim.Native.Nat.{_+_, _-_, _*_, _/_, _%_}
 use native.Mathlib.Omega.{arith}
-use Rattle.base_bits.specs.Bits.{field}
 use Rattle.base_bits.proofs.Runs.{field-byte, field-two-bytes}
 use borrow.Author.Needs.{needs}
 use Rattle.base_bits.proofs.narrow_field_at.Statement.{statement}
@@ -14,7 +13,7 @@ returns c =
     let args = c .before .before .before .before .args in
     let here : 8 * (args .at / 8) + args .at % 8 ≡ args .at = omega arith in
     c .chunk .ensures .0 ∙ sym (field-byte (args .bytes .now) (args .at / 8) (args .at % 8) (args .width) (omega arith))
-    ∙ ap (λ (p : ℕ). field (args .bytes .now) p (args .width)) here
+    ∙ rw here
 
 returns-2 : tie.Need-returns-2
 returns-2 c =
@@ -24,9 +23,14 @@ returns-2 c =
     let first = 8 - args .at % 8 in
     let here : 8 * (args .at / 8) + args .at % 8 ≡ args .at = omega arith in
     let all : first + (args .width - first) ≡ args .width = omega arith in
-    rw (c .chunk3 .ensures .0, at-raised .raised .ensures .0, at-chunk .chunk2 .ensures .0)
-    (field-two-bytes (args .bytes .now) (args .at / 8) (args .at % 8) first (args .width - first) (omega arith) (omega arith))
-    ∙ ap₂ (field (args .bytes .now)) here all
+    rw (
+      c .chunk3 .ensures .0,
+      at-raised .raised .ensures .0,
+      at-chunk .chunk2 .ensures .0,
+      field-two-bytes (args .bytes .now) (args .at / 8) (args .at % 8) first (args .width - first) (omega arith) (omega arith),
+      here,
+      all,
+    )
 
 pub narrow-field-at-spec : {M : Type 1} → statement M
 narrow-field-at-spec =

@@ -20,7 +20,7 @@ returns-3 c =
     let at-test = at-put .before .before in
     let args = at-test .before .before .before .before .args in
     let all : 64 ≡ args .width = omega arith in
-    at-put .put-pattern .ensures ∙ ap (λ (k : ℕ). with-field (args .bytes .now) (args .at) k (args .n)) all
+    at-put .put-pattern .ensures ∙ rw all
 
 pub put-field-spec : {M : Type 1} → statement M
 put-field-spec =

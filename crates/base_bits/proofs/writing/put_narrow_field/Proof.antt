@@ -1,9 +1,8 @@
 -- Bit `at` is bit `at % 8` of its byte; a field that does not end there is a run up to the byte's end and one from the next byte's first
 -- bit on (`written-add`).
-use mathlib.Core.Path.{_≡_, sym, ap, _∙_}
-use Prim.Native.Nat.{ℕ, _+_, _-_, _*_, _/_, _%_}
+use mathlib.Core.Path.{_≡_, _∙_}
+use Prim.Native.Nat.{_+_, _-_, _*_, _/_, _%_}
 use native.Mathlib.Omega.{arith}
-use Rattle.base_bits.specs.Written.{with-field}
 use Rattle.base_bits.proofs.Writes.{written-add}
 use borrow.Author.Needs.{needs}
 use Rattle.base_bits.proofs.writing.put_narrow_field.Statement.{statement}
@@ -14,7 +13,7 @@ returns c =
     let at-put = c .before .before in
     let args = at-put .before .before .before .before .args in
     let here : 8 * (args .at / 8) + args .at % 8 ≡ args .at = omega arith in
-    at-put .put-in-byte .ensures ∙ ap (λ (p : ℕ). with-field (args .bytes .now) p (args .width) (args .n)) here
+    at-put .put-in-byte .ensures ∙ rw here
 
 returns-2 : tie.Need-returns-2
 returns-2 c =
@@ -27,8 +26,7 @@ returns-2 c =
     let behind : 8 * (args .at / 8 + 1) + 0 ≡ args .at + first = omega arith in
     let all : first + rest ≡ args .width = omega arith in
     at-second .put-in-byte3 .ensures
-    ∙ rw (at-first .put-in-byte2 .ensures, here, behind) (sym (written-add (args .bytes .now) (args .at) first rest (args .n)))
-    ∙ ap (λ (k : ℕ). with-field (args .bytes .now) (args .at) k (args .n)) all
+    ∙ rw (at-first .put-in-byte2 .ensures, here, behind, ← written-add (args .bytes .now) (args .at) first rest (args .n), all)
 
 pub put-narrow-field-spec : {M : Type 1} → statement M
 put-narrow-field-spec =

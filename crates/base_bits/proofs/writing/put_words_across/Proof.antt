@@ -33,8 +33,8 @@ pattern-of-requires c κs =
 loop-again : tie.Need-loop-again Inv-loop μ-loop
 loop-again c =
     let at-put = c .before .before in
-    let at-across = at-put .before in
-    let at-pattern = at-across .before .before in
+    let at-across = at-put .before .before in
+    let at-pattern = at-across .before in
     let at-loop = at-pattern .before .before .before in
     let args = at-loop .before .before .before .before .before .args in
     let turn = at-loop .loop in
@@ -69,9 +69,9 @@ put-words-across-spec =
     (λ c. search needs)
     pattern-of-requires
     (λ c. search needs)
-    (λ c. search needs)
-    (λ c. search needs)
     (λ c κs. search needs)
+    (λ c. search needs)
+    (λ c. search needs)
     (λ c κs. search needs)
     (λ c. search needs)
     (λ c. search needs)

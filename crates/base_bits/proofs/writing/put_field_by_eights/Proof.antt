@@ -7,8 +7,8 @@ use lib.ListN.{length}
 use Rattle.base_bits.specs.Written.{with-field}
 use Rattle.base_bits.proofs.Writes.{field-length, written-none, written-more, written-all}
 use borrow.Author.Needs.{needs}
-use Rattle.base_bits.proofs.writing.put_by_eights.Statement.{statement}
-use Rattle.base_bits.proofs.writing.put_by_eights.Tie as tie
+use Rattle.base_bits.proofs.writing.put_field_by_eights.Statement.{statement}
+use Rattle.base_bits.proofs.writing.put_field_by_eights.Tie as tie
 
 abbrev Inv-loop : tie.InvT-loop
 Inv-loop bytes₀ at width n written₀ bytes written =
@@ -41,8 +41,8 @@ returns c =
     let args = at-loop .before .before .args in
     written-all _ _ (args .at) (at-loop .loop .written) (args .width) (args .n) (at-loop .loop .inv .2) (omega arith)
 
-pub put-by-eights-spec : {M : Type 1} → statement M
-put-by-eights-spec =
+pub put-field-by-eights-spec : {M : Type 1} → statement M
+put-field-by-eights-spec =
     tie.close
     (tie.spec
     Inv-loop
