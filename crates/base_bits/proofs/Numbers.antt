@@ -1,17 +1,23 @@
--- Floats as fields: how many bits they have, that each pattern fits its field, what is read where they stand, and that they are written one
--- after the other.
+-- Floats as fields: how many bits they have, that each pattern fits its field, what is read where they stand, and that they are stored and
+-- written one after the other.
 use mathlib.Core.Path.{_≡_, refl, sym, ap, subst, _∙_}
-use mathlib.Core.Bool.{not}
-use mathlib.Core.List.{List, [], _∷_, _++_, map, map-append}
-use Prim.Native.Nat.{ℕ, zero, suc, _+_, _*_, _^_, _<_, _≤_}
+use mathlib.Core.Bool.{not, true, false}
+use mathlib.Core.List.{List, [], _∷_, map-append}
+use Prim.Native.Nat.{ℕ, zero, suc, _+_, _*_, _<_, _≤_}
 use native.Mathlib.Numerals.{add-one}
 use native.Mathlib.Omega.{arith}
+use borrow.Author.Tests.{not-false}
 use lib.Dec.{T}
-use lib.ListN.{length, getD, take, drop}
+use lib.ListN.{length, getD, take, drop, set}
 use lib.Seq.{take-all, take-suc, length-take-le}
 use lib.Ieee.{Float, nan, binary64, fits, isNan, ofBits, toBits}
+use lib.Ieee.Scale.{finite}
 use lib.Ieee.Bits.{ofBits-toBits, toBits-lt, toBits-ofBits}
-use Rattle.rules.specs.Numbers.{table, table-from}
+use Rattle.rules.specs.Numbers.{table-from}
+use Rattle.rules.specs.Refusals.{number-refused, some-number-refused}
+use Rattle.rules.proofs.Tables.{length-table, at-table}
+use Rattle.base_numbers.proofs.Scan.{any-at}
+use Rattle.base_numbers.proofs.Front.{front, front-none, front-more, front-all}
 use Rattle.base_bits.specs.Bits.{field, number, numbers}
 use Rattle.base_bits.specs.Written.{with-field, Field, number-field, number-fields, bits-in, with-fields}
 use Rattle.base_bits.proofs.Runs.{field-below}
@@ -44,6 +50,10 @@ module _ (holds : Float → Type 0) where
   unfolding Each
   each-at [] all = tt
   each-at (x ∷ xs) all = (all 0 (omega arith), each-at xs (λ k l. all (suc k) (omega arith)))
+
+-- where none is refused, each is finite
+pub each-finite : (xs : List Float) → some-number-refused xs ≡ false → (k : ℕ) → k < length xs → finite (getD xs k nan) ≡ true
+each-finite xs none k h = not-false _ (any-at (λ i. number-refused (getD xs i nan)) (length xs) none k h)
 
 -- binary64 holds each number, as it does every number of a slice
 abbrev pub Held : List Float → Type 0
@@ -88,7 +98,31 @@ numbers-stand bytes at n fine =
     let e : at + 64 * 0 ≡ at = omega arith in
     subst (λ (p : ℕ). Stand bytes p (number-fields (numbers bytes at n))) e (stand-from bytes at 0 n fine)
 
--- ---- one after the other
+-- ---- stored one after the other
+
+module _ (bytes : List ℕ) (at : ℕ) (old : List Float) where
+  -- what a list holds once the first k of the numbers that it has places for are stored
+  abbrev pub stored : ℕ → List Float
+  stored k = front (numbers bytes at (length old)) k old
+
+  pub stored-none : old ≡ stored 0
+  stored-none = front-none (numbers bytes at (length old)) old
+
+  sizes : length (numbers bytes at (length old)) ≡ length old
+  sizes = length-table (length old) (λ k. number bytes (at + 64 * k))
+
+  -- the next, whose pattern is read from bit p on
+  pub stored-more : (now : List Float) (k p : ℕ) (v : Float) → now ≡ stored k → v ≡ number bytes p → p ≡ at + 64 * k → k < length old
+      → set now k v ≡ stored (k + 1)
+  stored-more now k p v e f place h =
+      let size = sizes in
+      front-more (numbers bytes at (length old)) old now k v nan e
+      (f ∙ ap (number bytes) place ∙ sym (at-table (length old) (λ k. number bytes (at + 64 * k)) k nan h)) (omega arith) h
+
+  pub stored-all : (now : List Float) (k : ℕ) → now ≡ stored k → k ≡ length old → now ≡ numbers bytes at (length old)
+  stored-all now k e f = let size = sizes in e ∙ front-all (numbers bytes at (length old)) old k (omega arith) (omega arith)
+
+-- ---- written one after the other
 
 -- one field is put as a field
 pub with-last : (bytes : List ℕ) (at : ℕ) (f : Field) → with-fields bytes at (f ∷ []) ≡ with-field bytes at (f .width) (f .value)

@@ -2,16 +2,16 @@
 use mathlib.Core.Path.{_≡_, refl, sym, ap, subst, _∙_}
 use mathlib.Core.List.{List, [], _∷_, _++_, map}
 use mathlib.Core.Logic.{inl}
-use Prim.Native.Nat.{ℕ, zero, suc, _+_, _-_, _*_, _/_, _%_, _^_, _<_, _≤_}
+use Prim.Native.Nat.{ℕ, _+_, _*_, _%_, _^_, _<_, _≤_}
 use native.Mathlib.Nat.{mod-eq-of-lt, mod-lt, add-zero, add-assoc}
 use native.Mathlib.Omega.{arith}
 use native.Mathlib.Decide.{decLt}
 use lib.Dec.{lit<}
-use lib.ListN.{length, getD, take, drop, replicate, length-replicate, take-append-drop, getD-replicate, List·getD-eq-default}
+use lib.ListN.{length, take, drop, replicate, length-replicate, take-append-drop, getD-replicate, List·getD-eq-default}
 use lib.Seq.{take-all}
 use lib.Pow.{pow-pos}
-use Rattle.base_bits.specs.Bits.{bit, field}
-use Rattle.base_bits.specs.Written.{with-field, Field, bits-in, with-fields, filler, bytes-for, packed}
+use Rattle.base_bits.specs.Bits.{field}
+use Rattle.base_bits.specs.Written.{with-field, Field, bits-in, with-fields, bytes-for, packed}
 use Rattle.base_bits.proofs.Writes.{
   field-length,
   lowest-written,

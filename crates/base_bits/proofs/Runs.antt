@@ -3,14 +3,14 @@ use mathlib.Core.Path.{_≡_, refl, sym, ap, _∙_}
 use mathlib.Core.Bool.{_||_}
 use mathlib.Core.List.{List}
 use Prim.Native.Nat.{ℕ, zero, suc, _+_, _-_, _*_, _/_, _%_, _^_, _<_, _≤_}
-use native.Mathlib.Nat.{pow-succ', pow-suc, add-zero, add-suc, add-assoc, mul-assoc, mod-one, div-div-eq-div-mul}
+use native.Mathlib.Nat.{pow-succ', pow-suc, add-zero, add-suc, add-assoc, mul-assoc, mod-one, div-one, div-div-eq-div-mul}
 use native.Mathlib.Decide.{decLt}
 use native.Mathlib.Numerals.{add-one}
 use native.Mathlib.Omega.{arith}
 use borrow.Author.Tests.{lt-ltb, le-ltb}
 use lib.Dec.{ltb}
 use lib.ListN.{length, getD}
-use lib.Pow.{mod-pow-add}
+use lib.Pow.{mod-pow-add, high, low}
 use Rattle.rules.specs.Numbers.{any}
 use Rattle.base_bits.specs.Bits.{bit, field, short, numbers-short}
 
@@ -30,19 +30,41 @@ module _ (bytes : List ℕ) where
   field-add at a zero = let e = ap (field bytes at) (add-zero a) in omega arith
   field-add at a (suc b) = rw (add-suc, field-add at a b, pow-suc, ← mul-assoc, ← add-assoc at a b) (omega arith)
 
+  -- of which the first is the upper part and the second the lower
+  pub field-first : (at a b : ℕ) → field bytes at (a + b) / 2 ^ b ≡ field bytes at a
+  field-first at a b = rw (field-add at a b) (high (field bytes at a) b (field-below (at + a) b))
+
+  pub field-second : (at a b : ℕ) → field bytes at (a + b) % 2 ^ b ≡ field bytes (at + a) b
+  field-second at a b = rw (field-add at a b) (low (field bytes at a) b (field-below (at + a) b))
+
 pub halves : (x t : ℕ) → x / 2 % 2 ^ t * 2 + x % 2 ≡ x % 2 ^ suc t
 halves x t = sym (rw (add-one t) at (mod-pow-add x t 1))
 
--- a run within one byte
-pub field-byte : (bytes : List ℕ) (at k : ℕ) → at % 8 + k ≤ 8 → field bytes at k ≡ getD bytes (at / 8) 0 / 2 ^ (8 - at % 8 - k) % 2 ^ k
+-- a run within one byte, from its bit f on
+pub field-byte : (bytes : List ℕ) (q f k : ℕ) → f + k ≤ 8 → field bytes (8 * q + f) k ≡ getD bytes q 0 / 2 ^ (8 - f - k) % 2 ^ k
 unfolding field bit
-field-byte bytes at zero h = let e = mod-one (getD bytes (at / 8) 0 / 2 ^ (8 - at % 8 - 0)) in omega arith
-field-byte bytes at (suc k) h =
-    let q : (at + k) / 8 ≡ at / 8 = omega arith in
-    let m : 7 - (at + k) % 8 ≡ 8 - at % 8 - suc k = omega arith in
-    let e : 8 - at % 8 - k ≡ suc (8 - at % 8 - suc k) = omega arith in
-    rw (field-byte bytes at k (omega arith), q, m, e, pow-suc 2 (8 - at % 8 - suc k), ← div-div-eq-div-mul)
-    (halves (getD bytes (at / 8) 0 / 2 ^ (8 - at % 8 - suc k)) k)
+field-byte bytes q f zero h = sym (mod-one (getD bytes q 0 / 2 ^ (8 - f - 0)))
+field-byte bytes q f (suc k) h =
+    let p : (8 * q + f + k) / 8 ≡ q = omega arith in
+    let m : 7 - (8 * q + f + k) % 8 ≡ 8 - f - suc k = omega arith in
+    let e : 8 - f - k ≡ suc (8 - f - suc k) = omega arith in
+    rw (field-byte bytes q f k (omega arith), p, m, e, pow-suc 2 (8 - f - suc k), ← div-div-eq-div-mul)
+    (halves (getD bytes q 0 / 2 ^ (8 - f - suc k)) k)
+
+-- from its first bit on
+pub field-start : (bytes : List ℕ) (q k : ℕ) → k ≤ 8 → field bytes (8 * q) k ≡ getD bytes q 0 / 2 ^ (8 - k) % 2 ^ k
+field-start bytes q k h = rw add-zero at (field-byte bytes q 0 k (omega arith))
+
+-- and all of it
+pub field-whole : (bytes : List ℕ) (q : ℕ) → field bytes (8 * q) 8 ≡ getD bytes q 0 % 256
+field-whole bytes q = field-start bytes q 8 (omega arith) ∙ rw (div-one (getD bytes q 0))
+
+-- a run that a byte ends and the next one goes on with
+pub field-two-bytes : (bytes : List ℕ) (q f a b : ℕ) → f + a ≡ 8 → b ≤ 8
+    → getD bytes q 0 / 2 ^ (8 - f - a) % 2 ^ a * 2 ^ b + getD bytes (q + 1) 0 / 2 ^ (8 - 0 - b) % 2 ^ b ≡ field bytes (8 * q + f) (a + b)
+field-two-bytes bytes q f a b e h =
+    let p : 8 * (q + 1) + 0 ≡ 8 * q + f + a = omega arith in
+    rw (← field-byte bytes q f a (omega arith), ← field-byte bytes (q + 1) 0 b (omega arith), p) (sym (field-add bytes (8 * q + f) a b))
 
 -- ---- what fits
 

@@ -1,10 +1,10 @@
--- Fields written: what was written is read, what was read is written, what stands elsewhere stays, and a field is written by chunks, each
+-- Fields written: what was written is read, what was read is written, what stands elsewhere stays, and a field is written in runs, each
 -- within one byte.
 use mathlib.Core.Path.{_≡_, refl, sym, ap, _∙_}
 use mathlib.Core.List.{List}
 use mathlib.Core.Logic.{⊎-elim, _⊎_, inl, inr}
 use Prim.Native.Nat.{ℕ, zero, suc, _+_, _-_, _*_, _/_, _%_, _^_, _<_, _≤_}
-use native.Mathlib.Nat.{pow-succ', add-zero, add-suc, add-assoc, mod-one, mod-lt, div-one, div-div-eq-div-mul, eq-or-lt-of-le}
+use native.Mathlib.Nat.{pow-succ', add-zero, add-suc, add-assoc, mod-one, mod-lt, div-one, div-div-eq-div-mul, eq-or-lt-of-le, mod-eq-of-lt}
 use native.Mathlib.Omega.{arith}
 use native.Mathlib.Decide.{ℕ-discrete, decLt}
 use lib.Dec.{lit<}
@@ -13,7 +13,7 @@ use lib.Seq.{getD-set-same, getD-set-other, set-getD, set-set, set-out, drop-set
 use lib.Pow.{shr-shr}
 use Rattle.base_bits.specs.Bits.{bit, field}
 use Rattle.base_bits.specs.Written.{patch, with-bit, with-field}
-use Rattle.base_bits.proofs.Runs.{field-byte, halves}
+use Rattle.base_bits.proofs.Runs.{field-whole, halves}
 use Rattle.base_bits.proofs.Patches.{patch-none, patch-own, patch-more, patch-below, bit-here, bit-other}
 
 -- ---- one bit of the list
@@ -147,47 +147,44 @@ field-bytes bytes at (suc k) v all =
 
 -- ---- a run is a first run and a second, and within one byte one store
 
-field-add : (bytes : List ℕ) (at a b v : ℕ) → with-field bytes at (a + b) v ≡ with-field (with-field bytes at a (v / 2 ^ b)) (at + a) b v
+pub written-add : (bytes : List ℕ) (at a b v : ℕ)
+    → with-field bytes at (a + b) v ≡ with-field (with-field bytes at a (v / 2 ^ b)) (at + a) b v
 unfolding with-field
-field-add bytes at a zero v = rw (add-zero a, div-one v)
-field-add bytes at a (suc b) v =
-    rw (add-suc a b, field-add bytes at a b (v / 2), div-div-eq-div-mul v 2 (2 ^ b), ← pow-succ' 2 b, ← add-assoc at a b)
+written-add bytes at a zero v = rw (add-zero a, div-one v)
+written-add bytes at a (suc b) v =
+    rw (add-suc a b, written-add bytes at a b (v / 2), div-div-eq-div-mul v 2 (2 ^ b), ← pow-succ' 2 b, ← add-assoc at a b)
 
-in-byte : (bytes : List ℕ) (p t v : ℕ) → p % 8 + t ≤ 8 → p / 8 < length bytes
-    → with-field bytes p t v ≡ set bytes (p / 8) (patch (getD bytes (p / 8) 0) (8 - p % 8 - t) t (v % 2 ^ t))
+pub in-byte : (bytes : List ℕ) (q f t v : ℕ) → f + t ≤ 8 → q < length bytes
+    → set bytes q (patch (getD bytes q 0) (8 - f - t) t (v % 2 ^ t)) ≡ with-field bytes (8 * q + f) t v
 unfolding with-field with-bit
-in-byte bytes p zero v h l = rw (patch-none (getD bytes (p / 8) 0) (8 - p % 8 - 0) v) (sym (set-getD bytes (p / 8) 0))
-in-byte bytes p (suc t) v h l =
-    let q : (p + t) / 8 ≡ p / 8 = omega arith in
-    let m : 7 - (p + t) % 8 ≡ 8 - p % 8 - suc t = omega arith in
-    let e : 8 - p % 8 - t ≡ 8 - p % 8 - suc t + 1 = omega arith in
-    let y = patch (getD bytes (p / 8) 0) (8 - p % 8 - suc t + 1) t (v / 2 % 2 ^ t) in
+in-byte bytes q f zero v h l = rw (patch-none (getD bytes q 0) (8 - f - 0) v) (set-getD bytes q 0)
+in-byte bytes q f (suc t) v h l =
+    let p : (8 * q + f + t) / 8 ≡ q = omega arith in
+    let m : 7 - (8 * q + f + t) % 8 ≡ 8 - f - suc t = omega arith in
+    let e : 8 - f - t ≡ 8 - f - suc t + 1 = omega arith in
+    let y = patch (getD bytes q 0) (8 - f - suc t + 1) t (v / 2 % 2 ^ t) in
     rw (
-      in-byte bytes p t (v / 2) (omega arith) l,
-      q,
+      ← in-byte bytes q f t (v / 2) (omega arith) l,
+      p,
       m,
       e,
-      getD-set-same bytes (p / 8) y 0 l,
-      set-set bytes (p / 8) y (patch y (8 - p % 8 - suc t) 1 (v % 2)),
-      patch-more (getD bytes (p / 8) 0) (8 - p % 8 - suc t) t (v / 2 % 2 ^ t) (v % 2),
+      getD-set-same bytes q y 0 l,
+      set-set bytes q y (patch y (8 - f - suc t) 1 (v % 2)),
+      patch-more (getD bytes q 0) (8 - f - suc t) t (v / 2 % 2 ^ t) (v % 2),
       halves v t,
     )
 
--- nothing is written yet, one store more, all is written
+-- a number's heaviest bits: none is written yet, one run more at p, all are written
 pub written-none : (bytes : List ℕ) (at v : ℕ) → bytes ≡ with-field bytes at 0 v
 unfolding with-field
 written-none bytes at v = refl
 
-pub written-more : (z s : List ℕ) (at i k t v : ℕ) → s ≡ with-field z at i (v / 2 ^ (k - i)) → i + t ≤ k → (at + i) % 8 + t ≤ 8
-    → (at + i) / 8 < length s
-    → set s ((at + i) / 8) (patch (getD s ((at + i) / 8) 0) (8 - (at + i) % 8 - t) t (v / 2 ^ (k - i - t) % 2 ^ t))
-    ≡ with-field z at (i + t) (v / 2 ^ (k - (i + t)))
-written-more z s at i k t v e h r l =
+pub written-more : (z s : List ℕ) (at i k t v p : ℕ) → s ≡ with-field z at i (v / 2 ^ (k - i)) → i + t ≤ k → p ≡ at + i
+    → with-field s p t (v / 2 ^ (k - i - t)) ≡ with-field z at (i + t) (v / 2 ^ (k - (i + t)))
+written-more z s at i k t v p e h place =
     let m : k - (i + t) ≡ k - i - t = omega arith in
     let n : k - i - t + t ≡ k - i = omega arith in
-    sym (in-byte s (at + i) t (v / 2 ^ (k - i - t)) r l)
-    ∙ ap (λ (x : List ℕ). with-field x (at + i) t (v / 2 ^ (k - i - t))) e
-    ∙ rw (m, field-add z at i t (v / 2 ^ (k - i - t)), shr-shr v (k - i - t) t, n)
+    rw (place, e, m, written-add z at i t (v / 2 ^ (k - i - t)), shr-shr v (k - i - t) t, n)
 
 pub written-all : (z s : List ℕ) (at i k v : ℕ) → s ≡ with-field z at i (v / 2 ^ (k - i)) → i ≡ k → s ≡ with-field z at k v
 written-all z s at i k v e f = let n : k - k ≡ 0 = omega arith in e ∙ rw (f, n, div-one v)
@@ -221,10 +218,7 @@ agree-more s d at (suc k) h a = record {
 }
 
 byte-is : (bytes : List ℕ) (q : ℕ) → getD bytes q 0 < 256 → field bytes (8 * q) 8 ≡ getD bytes q 0
-byte-is bytes q h =
-    let e : 8 * q / 8 ≡ q = omega arith in
-    let f : 8 - 8 * q % 8 - 8 ≡ 0 = omega arith in
-    field-byte bytes (8 * q) 8 (omega arith) ∙ rw (e, f) (omega arith)
+byte-is bytes q h = field-whole bytes q ∙ mod-eq-of-lt h
 
 -- with the same bits they are the same bytes
 pub agree-bytes : (s d : List ℕ) (n : ℕ) → Bytes s → Bytes d → length s ≡ n → n ≤ length d → Agree s d (8 * n) → take n d ≡ s

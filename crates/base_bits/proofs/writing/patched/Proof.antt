@@ -1,6 +1,6 @@
 -- No shift loses a bit and the sum stays below 256 (`small`, `patch-below`): it is the byte with the run of bits replaced.
-use mathlib.Core.Path.{_≡_, sym}
-use Prim.Native.Nat.{_+_, _%_, _/_, _^_, _≤_, _<_}
+use mathlib.Core.Path.{sym}
+use Prim.Native.Nat.{_+_, _/_, _^_, _<_}
 use native.Mathlib.Omega.{arith}
 use lib.Pow.{pow-pos}
 use Rattle.base_bits.specs.Written.{patch}
