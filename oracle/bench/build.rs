@@ -24,8 +24,8 @@ fn main() {
     }
 }
 
-/// The files of the limit whose calls are measured: builds, changes and queries, and verifications.
-const LIMIT: [&str; 2] = ["limit.c", "limit_tensor.c"];
+/// The files of the limit whose calls are measured: builds, changes and queries; verifications; and the calls of sheets.
+const LIMIT: [&str; 3] = ["limit.c", "limit_tensor.c", "limit_sheet.c"];
 
 fn limit_folder() -> PathBuf {
     let manifest = env::var("CARGO_MANIFEST_DIR").expect("cargo sets CARGO_MANIFEST_DIR");

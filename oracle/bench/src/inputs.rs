@@ -1,6 +1,8 @@
 //! The surfaces that are measured, in the form of the archive and in the Rust's.
 
 use crate::hullashlar::{Axes, SCRATCH};
+#[cfg(limit)]
+use crate::limit::Sheets;
 use crate::sheet::packed;
 use ninterp_quick::{
     compute_corner_cache, compute_m, ArrayD, ArrayView1, Broadcastable, CubicC2BoundaryConditions,
@@ -50,6 +52,8 @@ pub struct Surface {
     pub axes: Axes,
     pub knots: Vec<f64>,
     pub samples: Vec<f64>,
+    /// The edition of its sheet.
+    pub edition: usize,
     ends: Ends,
 }
 
@@ -67,6 +71,7 @@ impl Surface {
             knots: knots.collect(),
             samples: (0..axes.samples_length()).map(sample).collect(),
             axes,
+            edition: 1,
             ends,
         }
     }
@@ -164,7 +169,14 @@ impl Surface {
 
     /// The surface as a packed sheet.
     pub fn sheet(&self) -> Vec<u8> {
-        packed(&self.axes, &self.knots, &self.samples)
+        packed(self.edition, &self.axes, &self.knots, &self.samples)
+    }
+
+    /// The zero bits behind the last sample of that sheet. Before its numbers an axis has 12 bits, or 14 in edition 2.
+    pub fn bits_behind(&self) -> usize {
+        let head = if self.edition == 2 { 14 } else { 12 };
+        let bits = 7 + head * self.axes.count;
+        bits.next_multiple_of(8) - bits
     }
 }
 
@@ -196,6 +208,9 @@ pub struct Inputs {
     pub even_two_axes: Surface,
     pub even_three_axes: Surface,
     pub even_four_axes: Surface,
+    /// Those of the limit's lines alone.
+    #[cfg(limit)]
+    pub sheets: Sheets,
 }
 
 impl Inputs {
@@ -217,6 +232,8 @@ impl Inputs {
             even_two_axes: two_axes.even(),
             even_three_axes: three_axes.even(),
             even_four_axes: four_axes.even(),
+            #[cfg(limit)]
+            sheets: Sheets::new(),
             line_of_16,
             line_of_256,
             two_axes,

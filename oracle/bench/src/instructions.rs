@@ -35,16 +35,16 @@ pub fn make_counted_calls(lines: &mut [Line]) {
 
 /// The instructions of both sides of so many lines. Elsewhere than on x86-64 valgrind does not tell when a function returns, and
 /// none are counted.
-pub fn count(lines: usize) -> Vec<[u64; 2]> {
+pub fn count(lines: usize) -> Vec<Option<[u64; 2]>> {
     if !cfg!(target_arch = "x86_64") {
-        return vec![[0, 0]; lines];
+        return vec![None; lines];
     }
     let folder = env::temp_dir().join(format!("hullashlar-bench-{}", process::id()));
     fs::create_dir_all(&folder).expect("the folder for the counts can be made");
     let counts = folder.join("count");
     run_under_callgrind(&counts);
     let count = |call: usize| read_count(&counts.with_extension((call + 1).to_string()));
-    let both = |line| [count(2 * line), count(2 * line + 1)];
+    let both = |line| Some([count(2 * line), count(2 * line + 1)]);
     let instructions = (0..lines).map(both).collect();
     fs::remove_dir_all(&folder).expect("the folder for the counts can be removed");
     instructions

@@ -1,7 +1,11 @@
-//! The lines of the limit: build, change, verification and query in hand-written C that ends in the same bits. It is no part of the
-//! repository; `build.rs` says where it is looked for.
+//! The lines of the limit: build, change, verification, query and the calls of sheets in hand-written C that ends in the same bits.
+//! It is no part of the repository; `build.rs` says where it is looked for.
 
 mod calls;
+mod sheet_calls;
+mod sheets;
+
+pub use sheets::Sheets;
 
 use crate::inputs::Inputs;
 use crate::lines::{our_build, our_change, our_query, our_quick_query, our_verify, Line, Work};
@@ -14,6 +18,7 @@ pub fn lines(inputs: &Inputs) -> Vec<Line<'_>> {
     lines.extend(verifications(inputs));
     lines.extend(queries(inputs));
     lines.extend(quick_queries(inputs));
+    lines.extend(sheets::lines(&inputs.sheets));
     lines
 }
 

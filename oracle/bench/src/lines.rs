@@ -353,7 +353,7 @@ fn read(surface: &Surface) -> Line<'_> {
     }
 }
 
-fn our_read(surface: &Surface) -> Work<'_> {
+pub fn our_read(surface: &Surface) -> Work<'_> {
     let sheet = surface.sheet();
     let last = surface.samples.len() - 1;
     let (mut knots, mut samples) = ([0.0; BUFFER], [0.0; BUFFER]);
@@ -395,7 +395,7 @@ fn surfaces(inputs: &Inputs) -> [Line<'_>; 4] {
     ]
 }
 
-fn our_surface(surface: &Surface) -> Work<'_> {
+pub fn our_surface(surface: &Surface) -> Work<'_> {
     let sheet = surface.sheet();
     let patterns = surface.middle_patterns();
     Box::new(move || hullashlar::surface(&sheet, patterns).expect(ACCEPTED))
@@ -431,17 +431,19 @@ fn writes(surface: &Surface) -> [Line<'_>; 2] {
     ]
 }
 
-fn our_write(surface: &Surface) -> Work<'_> {
+pub fn our_write(surface: &Surface) -> Work<'_> {
     let Surface {
         axes,
         knots,
         samples,
+        edition,
         ..
     } = surface;
     let mut sheet = vec![0; surface.sheet().len()];
+    let behind = surface.bits_behind();
     Box::new(move || {
-        hullashlar::write(1, axes, knots, samples, &mut sheet).expect(ACCEPTED);
-        last_sample(&sheet)
+        hullashlar::write(*edition, axes, knots, samples, &mut sheet).expect(ACCEPTED);
+        last_sample(&sheet, behind)
     })
 }
 
@@ -450,9 +452,11 @@ fn oracle_write(surface: &Surface) -> Work<'_> {
         axes,
         knots,
         samples,
+        edition,
         ..
     } = surface;
     let mut sheet = vec![0; surface.sheet().len()];
+    let behind = surface.bits_behind();
     Box::new(move || {
         let refusal = reading::write(
             axes.count,
@@ -462,25 +466,24 @@ fn oracle_write(surface: &Surface) -> Work<'_> {
             &axes.modes,
             knots,
             samples,
-            1,
+            *edition,
             &mut sheet,
             &mut [0],
         );
         assert_eq!(refusal, 0, "{ACCEPTED}");
-        last_sample(&sheet)
+        last_sample(&sheet, behind)
     })
 }
 
-/// The last sample of a sheet of two axes, which one zero bit follows: the fields before the
-/// numbers have 31 bits.
-fn last_sample(sheet: &[u8]) -> f64 {
+/// The last sample of a sheet, behind which there are so many zero bits, fewer than eight.
+pub fn last_sample(sheet: &[u8], behind: usize) -> f64 {
     let last = sheet
         .last_chunk::<9>()
         .expect("a sheet of numbers is longer");
     let bits = last
         .iter()
         .fold(0, |bits, byte| bits << 8 | u128::from(*byte));
-    f64::from_bits((bits >> 1) as u64)
+    f64::from_bits((bits >> behind) as u64)
 }
 
 fn exact(line: &Surface) -> Line<'_> {

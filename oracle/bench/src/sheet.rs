@@ -3,14 +3,16 @@
 use crate::hullashlar::Axes;
 
 /// The fields one after the other, most significant bit first, and zero bits to the byte.
-pub fn packed(axes: &Axes, knots: &[f64], samples: &[f64]) -> Vec<u8> {
+pub fn packed(edition: usize, axes: &Axes, knots: &[f64], samples: &[f64]) -> Vec<u8> {
     let mut sheet = Sheet::default();
-    sheet.field(1, 4);
+    sheet.field(edition as u64, 4);
     sheet.field(axes.count as u64, 3);
     let mut rest = knots;
     for axis in 0..axes.count {
         let (own, behind) = rest.split_at(axes.points[axis]);
-        sheet.axis(axes, axis, own);
+        sheet.head(edition, axes, axis);
+        sheet.values(axes, axis);
+        sheet.floats(own);
         rest = behind;
     }
     sheet.floats(samples);
@@ -24,18 +26,24 @@ struct Sheet {
 }
 
 impl Sheet {
-    fn axis(&mut self, axes: &Axes, axis: usize, knots: &[f64]) {
-        let ends = [2 * axis, 2 * axis + 1];
+    /// The points and the kinds of an axis, and in edition 2 its mode.
+    fn head(&mut self, edition: usize, axes: &Axes, axis: usize) {
         self.field(axes.points[axis] as u64 - 1, 8);
-        for end in ends {
+        for end in [2 * axis, 2 * axis + 1] {
             self.field(u64::from(axes.kinds[end]), 2);
         }
-        for end in ends {
+        if edition == 2 {
+            self.field(u64::from(axes.modes[axis]), 2);
+        }
+    }
+
+    /// The values of the ends that take one.
+    fn values(&mut self, axes: &Axes, axis: usize) {
+        for end in [2 * axis, 2 * axis + 1] {
             if matches!(axes.kinds[end], 1 | 2) {
                 self.floats(&[axes.values[end]]);
             }
         }
-        self.floats(knots);
     }
 
     fn floats(&mut self, numbers: &[f64]) {

@@ -7,17 +7,22 @@ use crate::stack::Stack;
 pub struct Row {
     name: &'static str,
     held_against: &'static str,
-    instructions: [f64; 2],
+    /// Nothing where none were counted.
+    instructions: Option<[f64; 2]>,
     nanoseconds: [f64; 2],
 }
 
 /// The rows of so many lines.
-pub fn rows(lines: &[Line], instructions: &[[u64; 2]], nanoseconds: &[[f64; 2]]) -> Vec<Row> {
+pub fn rows(
+    lines: &[Line],
+    instructions: &[Option<[u64; 2]>],
+    nanoseconds: &[[f64; 2]],
+) -> Vec<Row> {
     let measured = instructions.iter().zip(nanoseconds);
-    let row = |(line, (counts, times)): (&Line, (&[u64; 2], &[f64; 2]))| Row {
+    let row = |(line, (counts, times)): (&Line, (&Option<[u64; 2]>, &[f64; 2]))| Row {
         name: line.name,
         held_against: line.held_against,
-        instructions: counts.map(|count| count as f64),
+        instructions: counts.map(|both| both.map(|count| count as f64)),
         nanoseconds: *times,
     };
     lines.iter().zip(measured).map(row).collect()
@@ -28,7 +33,7 @@ pub fn print_lines(rows: &[Row]) {
     println!("| Call | Held against | Instructions, ours | the other | ratio | Nanoseconds, ours | the other | ratio |");
     println!("|---|---|--:|--:|--:|--:|--:|--:|");
     for row in rows {
-        let count = columns(row.instructions, |ours, other| other / ours);
+        let count = counted(row.instructions, |ours, other| other / ours);
         let time = columns(row.nanoseconds, |ours, other| other / ours);
         println!("| {} | {} | {count} | {time} |", row.name, row.held_against);
     }
@@ -46,10 +51,15 @@ pub fn print_limit(rows: &[Row]) {
     );
     println!("|---|--:|--:|--:|--:|--:|--:|");
     for row in rows {
-        let count = columns(row.instructions, |ours, limit| ours / limit);
+        let count = counted(row.instructions, |ours, limit| ours / limit);
         let time = columns(row.nanoseconds, |ours, limit| ours / limit);
         println!("| {} | {count} | {time} |", row.name);
     }
+}
+
+/// The columns of instructions, which are dashes where none were counted.
+fn counted(both: Option<[f64; 2]>, ratio: fn(f64, f64) -> f64) -> String {
+    both.map_or("- | - | -".into(), |both| columns(both, ratio))
 }
 
 /// Ours, the other, and their ratio.

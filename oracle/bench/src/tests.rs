@@ -1,7 +1,10 @@
 //! The stand-in that is made for speed gives the bits of the simple one, which
-//! the reading of the rules stands on.
+//! the reading of the rules stands on; and a packed sheet is the one that this
+//! reading writes.
 
+use crate::hullashlar::LONGEST_SHEET;
 use crate::inputs::{Ends, Inputs, Surface};
+use crate::lines::last_sample;
 use ninterp_quick::evaluate_spline_corner_cached;
 
 fn bits(numbers: impl IntoIterator<Item = f64>) -> Vec<u64> {
@@ -77,5 +80,46 @@ fn both_stand_ins_give_the_same_bits() {
         let knots = surface.knots_by_axis();
         let value = evaluate_spline_corner_cached(&knots, quick.view(), &surface.middle_point());
         assert_eq!(value.to_bits(), simple_value(surface, &simple).to_bits());
+    }
+}
+
+/// The sheet as the oracle writes it.
+fn written(surface: &Surface) -> Vec<u8> {
+    let Surface {
+        axes,
+        knots,
+        samples,
+        edition,
+        ..
+    } = surface;
+    let (mut bytes, mut length) = (vec![0; LONGEST_SHEET], [0]);
+    let refusal = reading::write(
+        axes.count,
+        &axes.points,
+        &axes.kinds,
+        &axes.values,
+        &axes.modes,
+        knots,
+        samples,
+        *edition,
+        &mut bytes,
+        &mut length,
+    );
+    assert_eq!(refusal, 0);
+    bytes.truncate(length[0]);
+    bytes
+}
+
+#[test]
+fn a_packed_sheet_is_the_one_that_is_written() {
+    for mut surface in surfaces() {
+        for (edition, modes) in [(1, [0; 4]), (2, [0, 1, 0, 1])] {
+            surface.edition = edition;
+            surface.axes.modes = modes;
+            let sheet = surface.sheet();
+            assert_eq!(sheet, written(&surface));
+            let last = last_sample(&sheet, surface.bits_behind());
+            assert_eq!(Some(&last), surface.samples.last());
+        }
     }
 }
