@@ -18,7 +18,7 @@
  *
  * Memory for the largest grid: tensor 32,768 bytes, scratch 49,152, the two buffers of a sheet 16,384, together 98,304.
  * hullashlar_surface is lent nothing but the sheet, and has its memory on the stack.
- * No other call needs more than 3,232 bytes of stack, on any input, beside what the host's memcpy and memset take.
+ * No other call needs more than 3,176 bytes of stack, on any input, beside what the host's memcpy and memset take.
  * docs/BENCH.md has the stack of each, the size of the code and what the archive's proofs rest on.
  *
  * Axes. Points, kinds, values, modes, directions, places, labels and indices are lent for four axes. What stands past
