@@ -1,3 +1,4 @@
+mod LessScratch
 mod Fronts
 mod Streams
 pub mod Steps

@@ -1,8 +1,9 @@
 -- Where a report stands in its stream, and what a step and a feeding promise.
 use mathlib.Core.Path.{_≡_}
-use mathlib.Core.Bool.{true, false}
+use mathlib.Core.Bool.{true, false, cond}
 use mathlib.Core.List.{List, [], _++_}
-use Prim.Native.Nat.{ℕ, _+_, _-_, _≤_, _<_}
+use Prim.Native.Nat.{ℕ, _+_, _-_, _*_, _≤_, _<_}
+use lib.Dec.{ltb}
 use lib.ListN.{length, drop}
 use lib.Ieee.{Float}
 use Rattle.sheet_build.specs.LentEnough.{Enough}
@@ -26,6 +27,10 @@ Shown n more = n < enough-bytes → more ≡ []
 -- the four buffers that reading and building a sheet is lent
 abbrev pub Buffers : List Float → List Float → List Float → List Float → Type 0
 Buffers knots samples tensor scratch = Enough (length knots) (length samples) (length tensor) (length scratch)
+
+-- so much of the scratch is lent for a sheet of so many bytes
+abbrev pub scratch-of : ℕ → ℕ
+scratch-of size = cond (ltb size 2048) (2048 + 2 * size) 6144
 
 -- a step or a feeding on some bytes, which may be the front of any rest of any input: the report has then come to what it left of these
 -- bytes, or it stops and has the report of that input. It may look at n bytes

@@ -1,9 +1,10 @@
 // The report over a stream of sheets: each sheet read and built, and what it holds counted.
+ghost use mathlib.Core.Path.{_≡_};
 ghost use Prim.Native.Nat.{_≤_};
 ghost use lib.ListN.{length};
 ghost use Rattle.report_totals.specs.Counting.{Running};
 ghost use Rattle.report.specs.Report.{ReportPromise};
-ghost use Rattle.report.specs.Feeding.{Buffers, Stepped, Fed};
+ghost use Rattle.report.specs.Feeding.{scratch-of, Buffers, Stepped, Fed};
 use grid_codes::classes::is_unread;
 use report_front::size_of_front;
 use report_totals::Report;
@@ -18,6 +19,14 @@ pub struct Step {
     pub totals: Totals,
     pub taken: usize,
     pub stopped: bool,
+}
+
+// How much of the scratch a sheet of so many bytes can need, so that no more is cleared: of each sample it has eight bytes, and the tensor
+// at most sixteen numbers.
+fn scratch_of(size: usize) -> usize
+    ensures { λ r. ⌜ r ≡ scratch-of size ⌝ }
+{
+    if size < 2048 { 2048 + 2 * size } else { 6144 }
 }
 
 // One step: the front sheet is read, built and counted, and the report stops in it where it was not read. Not a public call: it requires
@@ -41,7 +50,14 @@ fn take_sheet(
         };
     }
     let size = size_of_front(bytes);
-    let sheet = tensor_of_sheet(&bytes[0..size], knots, samples, tensor, scratch);
+    let end = scratch_of(size);
+    let sheet = tensor_of_sheet(
+        &bytes[0..size],
+        knots,
+        samples,
+        tensor,
+        &mut scratch[0..end],
+    );
     let refusal = sheet.refusal;
     let length = sheet.length;
     let counted = with_sheet(totals, refusal, sheet.axes, &tensor[0..length]);
