@@ -90,9 +90,11 @@ endif
 # wants valgrind and objdump.
 bench: archive-here
 	cd oracle && cargo run --offline --release -p bench
+ifeq ($(MACHINE),x86_64)
 	python3 tests/stack_frames.py
 	rt check sheet_report
 	python3 tests/report_speed.py
+endif
 
 # The example hosts on one sheet, each held against the output that is kept beside it, and those that write the sheet back against the changed sheet.
 examples: archive-here
