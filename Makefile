@@ -52,7 +52,7 @@ further-edits:
 sheet-by-hand:
 	rt check sheet_tensor
 	python3 tests/sheet_by_hand/sheet.py | cmp - tests/sheet_by_hand/two_axes.sheet
-	target/bin/sheet_tensor < tests/sheet_by_hand/two_axes.sheet | diff tests/sheet_by_hand/expected.txt -
+	$(HULLASHLAR_RUNNER) target/bin/sheet_tensor < tests/sheet_by_hand/two_axes.sheet | diff tests/sheet_by_hand/expected.txt -
 
 # Runs the sheet program and the report where their input or their output fails, and sees what they say; with strace also by how many
 # calls a tensor is printed and a long stream is read.
