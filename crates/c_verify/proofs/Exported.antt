@@ -3,7 +3,7 @@ use mathlib.Core.Path.{_≡_, sym, ap, _∙_, subst}
 use mathlib.Core.List.{List}
 use Prim.Native.Nat.{ℕ}
 use lib.Ieee.{Float}
-use borrow.Author.Tests.{eq-eqb, ne-eqb}
+use borrow.Author.Tests.{ne-eqb}
 use Rattle.rules.specs.declared.Axis.{Axis}
 use Rattle.tensor_verify.specs.Verify.{refused-with, verify-answer, VerifyPromise}
 use Rattle.tensor_verify.specs.declared.VerifyAnswer.{VerifyAnswer}

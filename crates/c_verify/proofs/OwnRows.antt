@@ -1,5 +1,5 @@
 -- The own refusals of a call that looks at a tensor: where its slots have their lengths, they are those of a change with a slot of one.
-use mathlib.Core.Path.{_≡_, refl, sym, _∙_}
+use mathlib.Core.Path.{_≡_, refl, _∙_}
 use mathlib.Core.Bool.{Bool, true, false, _||_}
 use mathlib.Core.List.{List, [], _∷_}
 use Prim.Native.Nat.{ℕ}

@@ -5,7 +5,6 @@ use mathlib.Core.Bool.{Bool, true, false, cond}
 use mathlib.Core.List.{List, [], _∷_}
 use Prim.Native.Nat.{ℕ, zero, suc, _≤_}
 use native.Mathlib.Omega.{arith}
-use lib.Dec.{eqb}
 use lib.ListN.{length, getD}
 use lib.Ieee.{Float}
 use borrow.Author.Tests.{ne-eqb}
@@ -15,7 +14,7 @@ use Rattle.rules.proofs.Cases.{neither-of}
 use Rattle.rules.proofs.Tables.{length-table}
 use Rattle.base_floats.specs.Place.{AllFit}
 use Rattle.grid_checks.proofs.Rows.{length-fits}
-use Rattle.tensor_verify.specs.Verify.{samples-in, refused-with, verify-answer}
+use Rattle.tensor_verify.specs.Verify.{samples-in, verify-answer}
 use Rattle.tensor_verify.specs.declared.VerifyAnswer.{VerifyAnswer}
 use Rattle.tensor_verify.proofs.Whole.{whole-is-built, built-is-whole}
 use Rattle.c_axes.specs.Axes.{grid-given}
@@ -36,7 +35,7 @@ use Rattle.c_tensor.proofs.Demand3.{
   host-refusal-of-fresh-build,
   host-bits-kept-elsewhere,
 }
-use Rattle.c_verify.specs.VerifyExports.{verify-slots-refused, verify-own-refusal, verify-told, VerifyExport}
+use Rattle.c_verify.specs.VerifyExports.{verify-slots-refused, verify-own-refusal, VerifyExport}
 use Rattle.c_verify.proofs.OwnRows.{own-of-change, own-slots, own-fine}
 
 -- the first of the numbers found: 1 for a whole tensor

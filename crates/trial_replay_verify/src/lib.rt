@@ -1,49 +1,16 @@
 // The cases of a look at a tensor, each replayed through the exported call: whether it answers as the list says, and leaves every slice so.
 // No list makes a function here trap.
 use trial_replay_items::Replayed;
+use trial_replay_items::compared::Compared;
 use trial_replay_items::items::after_given;
-use trial_replay_items::items::after_left;
 use trial_replay_items::items::bytes_at;
 use trial_replay_items::items::bytes_given;
 use trial_replay_items::items::floats_at;
 use trial_replay_items::items::floats_given;
-use trial_replay_items::items::floats_left;
 use trial_replay_items::items::numbers_at;
 use trial_replay_items::items::numbers_given;
-use trial_replay_items::items::numbers_left;
 use trial_replay_items::words::after;
 use trial_replay_items::words::word;
-
-// Whether the call answered and left what it was lent as the list says from `answer` on, of slices given at the places named so.
-fn verify_left(
-    list: &[u8],
-    answer: usize,
-    refusal: usize,
-    given_scratch: usize,
-    given_place: usize,
-    given_found: usize,
-    scratch: &[f64],
-    place: &[usize],
-    found: &[usize],
-) -> Replayed {
-    let left_scratch = after(answer, 1);
-    let left_place = after_left(list, left_scratch);
-    let left_found = after_left(list, left_place);
-    let next = after_left(list, left_found);
-    if refusal as u64 != word(list, answer) {
-        return Replayed { same: false, next };
-    }
-    if !floats_left(list, given_scratch, left_scratch, scratch) {
-        return Replayed { same: false, next };
-    }
-    if !numbers_left(list, given_place, left_place, place) {
-        return Replayed { same: false, next };
-    }
-    Replayed {
-        same: numbers_left(list, given_found, left_found, found),
-        next,
-    }
-}
 
 // The call with the slices that it writes: the others are given at their places, and it gives its refusal.
 fn verify_on(
@@ -81,30 +48,22 @@ fn verify_on(
     )
 }
 
-// A case with the slices that the call writes, which are given at the places named so.
+// A case with the slices that the call writes, of which the first is given at a place; the arguments end at `answer`.
 fn verify_answered(
     list: &[u8],
     begin: usize,
+    given: usize,
     answer: usize,
-    given_scratch: usize,
-    given_place: usize,
-    given_found: usize,
     scratch: &mut [f64],
     place: &mut [usize],
     found: &mut [usize],
 ) -> Replayed {
     let refusal = verify_on(list, begin, scratch, place, found);
-    verify_left(
-        list,
-        answer,
-        refusal,
-        given_scratch,
-        given_place,
-        given_found,
-        scratch,
-        place,
-        found,
-    )
+    let returned = Compared::returned(list, given, answer, refusal);
+    let scratch_seen = returned.floats(list, scratch);
+    let place_seen = scratch_seen.numbers(list, place);
+    let found_seen = place_seen.numbers(list, found);
+    found_seen.replayed()
 }
 
 // A case, whose arguments begin at a place.
@@ -127,10 +86,8 @@ pub fn verify(list: &[u8], begin: usize) -> Replayed {
     verify_answered(
         list,
         begin,
-        answer,
         at_scratch,
-        at_place,
-        at_found,
+        answer,
         &mut scratch[0..scratch_end],
         &mut place[0..place_end],
         &mut found[0..found_end],
