@@ -7,7 +7,7 @@
 #include <string.h>
 
 static uint8_t sheet[HULLASHLAR_SHEET + 1];
-static size_t sheet_length;
+static uint64_t sheet_length;
 
 static uint64_t pattern(double number)
 {

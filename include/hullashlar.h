@@ -3,13 +3,14 @@
  * DeviceCurve, OwnRefusals, CurveExports, TensorExports, VerifyExports, QueryExports, SheetExports, StepExports and
  * DeviceExports.
  *
- * The machine. The archive, target/staticlib/libhullashlar.a, is code for x86-64, with SSE2 and the System V calling
+ * The machine. One header serves every processor: what is counted has 64 bits on each of them, and a size_t is no part
+ * of any call. The archive, target/staticlib/libhullashlar.a, is code for x86-64, with SSE2 and the System V calling
  * convention. Of its host it wants memcpy and memset, and nothing else. It computes under the caller's MXCSR, which
  * must be as a C program finds it at its start: rounding to nearest, subnormal numbers neither flushed to zero nor
  * taken for zero (FTZ and DAZ clear), all exceptions masked. No call changes these settings; exception flags may be set
  * when it returns.
  *
- * Slices. A slice is a pointer and then its length, in elements. Pointers to double and to size_t are aligned to 8
+ * Slices. A slice is a pointer and then its length, in elements. Pointers to double and to uint64_t are aligned to 8
  * bytes, those to int32_t and uint32_t to 4. A slice that a call writes overlaps no other slice of that call.
  *
  * State. No call allocates memory, keeps a pointer, has data of its own, or writes anything but its stack and the
@@ -52,14 +53,33 @@
 #ifndef HULLASHLAR_H
 #define HULLASHLAR_H
 
-#include <stddef.h>
+#include <float.h>
 #include <stdint.h>
 
 #ifdef __cplusplus
-static_assert(sizeof(size_t) == 8, "the archive is for x86-64, where a size_t has 8 bytes");
-extern "C" {
+#define HULLASHLAR_HOLDS(fact, meaning) static_assert(fact, meaning)
+#define HULLASHLAR_ALIGNMENT(type) alignof(type)
 #else
-_Static_assert(sizeof(size_t) == 8, "the archive is for x86-64, where a size_t has 8 bytes");
+#define HULLASHLAR_HOLDS(fact, meaning) _Static_assert(fact, meaning)
+#define HULLASHLAR_ALIGNMENT(type) _Alignof(type)
+#endif
+
+HULLASHLAR_HOLDS(sizeof(double) == 8 && FLT_RADIX == 2 && DBL_MANT_DIG == 53 && DBL_MIN_EXP == -1021 &&
+                 DBL_MAX_EXP == 1024, "a double is a number of IEEE 754 with 64 bits");
+HULLASHLAR_HOLDS(HULLASHLAR_ALIGNMENT(double) == 8 && HULLASHLAR_ALIGNMENT(uint64_t) == 8,
+                 "the compiler aligns double and uint64_t to 8 bytes");
+
+/* Every archive is for a processor that has the lowest byte first, of a double as of a whole number: so pattern() below
+ * gives the bits that are meant. */
+#if defined(__BYTE_ORDER__) && __BYTE_ORDER__ != __ORDER_LITTLE_ENDIAN__
+#error "the archives are for processors that have the lowest byte first"
+#endif
+#if defined(__FLOAT_WORD_ORDER__) && __FLOAT_WORD_ORDER__ != __ORDER_LITTLE_ENDIAN__
+#error "the archives are for processors that have the lowest byte of a double first"
+#endif
+
+#ifdef __cplusplus
+extern "C" {
 #endif
 
 /* What a call returns. */
@@ -129,45 +149,45 @@ enum hullashlar_size {
 /* The moments of a curve on one axis: one for each point.
  * Lengths: knots, samples and moments as many as points; kinds and values 2; scratch at least 2,048.
  * Written: moments, scratch. Refuses by 2, 4, 13, 5, 7, 8, 9, 10. */
-size_t hullashlar_moments(size_t points,
-                          const double *knots, size_t knots_length,
-                          const double *samples, size_t samples_length,
-                          const uint8_t *kinds, size_t kinds_length,
-                          const double *values, size_t values_length,
-                          double *moments, size_t moments_length,
-                          double *scratch, size_t scratch_length);
+uint64_t hullashlar_moments(uint64_t points,
+                            const double *knots, uint64_t knots_length,
+                            const double *samples, uint64_t samples_length,
+                            const uint8_t *kinds, uint64_t kinds_length,
+                            const double *values, uint64_t values_length,
+                            double *moments, uint64_t moments_length,
+                            double *scratch, uint64_t scratch_length);
 
 /* The curve's value at a point, beyond the knots too, by the boundary cubic.
  * Lengths: knots, samples and moments as many as points; value 1.
  * Written: value. Refuses by 2, 4, 7, 8, 10. */
-size_t hullashlar_curve(size_t points,
-                        const double *knots, size_t knots_length,
-                        const double *samples, size_t samples_length,
-                        const double *moments, size_t moments_length,
-                        double point,
-                        double *value, size_t value_length);
+uint64_t hullashlar_curve(uint64_t points,
+                          const double *knots, uint64_t knots_length,
+                          const double *samples, uint64_t samples_length,
+                          const double *moments, uint64_t moments_length,
+                          double point,
+                          double *value, uint64_t value_length);
 
 /* The curve's slope at every knot.
  * Lengths: knots, samples, moments and slopes as many as points.
  * Written: slopes. Refuses by 2, 4, 7, 8, 10. */
-size_t hullashlar_slopes(size_t points,
-                         const double *knots, size_t knots_length,
-                         const double *samples, size_t samples_length,
-                         const double *moments, size_t moments_length,
-                         double *slopes, size_t slopes_length);
+uint64_t hullashlar_slopes(uint64_t points,
+                           const double *knots, uint64_t knots_length,
+                           const double *samples, uint64_t samples_length,
+                           const double *moments, uint64_t moments_length,
+                           double *slopes, uint64_t slopes_length);
 
 /* The tensor of samples on a grid.
  * Lengths: points 4; kinds and values 8; knots as many as the points of all axes together; samples one for each place
  * of the grid; tensor 2^axes for each place; scratch at least 2,048 longer than the tensor.
  * Written: tensor, scratch. Refuses by 1, 2, 3, 4, 13, 5, 7, 8, 9, 10. */
-size_t hullashlar_build(size_t axes,
-                        const size_t *points, size_t points_length,
-                        const uint8_t *kinds, size_t kinds_length,
-                        const double *values, size_t values_length,
-                        const double *knots, size_t knots_length,
-                        const double *samples, size_t samples_length,
-                        double *tensor, size_t tensor_length,
-                        double *scratch, size_t scratch_length);
+uint64_t hullashlar_build(uint64_t axes,
+                          const uint64_t *points, uint64_t points_length,
+                          const uint8_t *kinds, uint64_t kinds_length,
+                          const double *values, uint64_t values_length,
+                          const double *knots, uint64_t knots_length,
+                          const double *samples, uint64_t samples_length,
+                          double *tensor, uint64_t tensor_length,
+                          double *scratch, uint64_t scratch_length);
 
 /* One sample changed in a tensor, every lane that can differ solved again, and how many these were. Where the tensor
  * comes from an accepted build or sheet, whatever changes followed, each of its numbers then has the bits of a fresh
@@ -175,16 +195,16 @@ size_t hullashlar_build(size_t axes,
  * Lengths: points and place 4; kinds and values 8; knots as many as the points of all axes together; tensor 2^axes for
  * each place of the grid; scratch at least 2,048 longer than the tensor; lanes 1.
  * Written: tensor, scratch, lanes. Refuses by 1, 2, 3, 4, 13, 5, 6, 7, 8, 9, 10. */
-size_t hullashlar_change(size_t axes,
-                         const size_t *points, size_t points_length,
-                         const uint8_t *kinds, size_t kinds_length,
-                         const double *values, size_t values_length,
-                         const double *knots, size_t knots_length,
-                         double *tensor, size_t tensor_length,
-                         double *scratch, size_t scratch_length,
-                         const size_t *place, size_t place_length,
-                         double sample,
-                         size_t *lanes, size_t lanes_length);
+uint64_t hullashlar_change(uint64_t axes,
+                           const uint64_t *points, uint64_t points_length,
+                           const uint8_t *kinds, uint64_t kinds_length,
+                           const double *values, uint64_t values_length,
+                           const double *knots, uint64_t knots_length,
+                           double *tensor, uint64_t tensor_length,
+                           double *scratch, uint64_t scratch_length,
+                           const uint64_t *place, uint64_t place_length,
+                           double sample,
+                           uint64_t *lanes, uint64_t lanes_length);
 
 /* Whether a tensor, whoever wrote it, is whole: whether each of its numbers has the bits that a build from its own
  * samples, the numbers at mask 0, gives. Bits decide, so -0.0 is another number than +0.0. Of a whole tensor all that
@@ -197,15 +217,15 @@ size_t hullashlar_change(size_t axes,
  * each place of the grid; scratch at least 2,048 longer than the tensor; found 3.
  * Written: scratch, place, found. Refuses by 1, 2, 3, 4, 13, 5, 7, 8, 9, 10: 7 for any number of the tensor, 10 where
  * the build would be refused so. */
-size_t hullashlar_verify(size_t axes,
-                         const size_t *points, size_t points_length,
-                         const uint8_t *kinds, size_t kinds_length,
-                         const double *values, size_t values_length,
-                         const double *knots, size_t knots_length,
-                         const double *tensor, size_t tensor_length,
-                         double *scratch, size_t scratch_length,
-                         size_t *place, size_t place_length,
-                         size_t *found, size_t found_length);
+uint64_t hullashlar_verify(uint64_t axes,
+                           const uint64_t *points, uint64_t points_length,
+                           const uint8_t *kinds, uint64_t kinds_length,
+                           const double *values, uint64_t values_length,
+                           const double *knots, uint64_t knots_length,
+                           const double *tensor, uint64_t tensor_length,
+                           double *scratch, uint64_t scratch_length,
+                           uint64_t *place, uint64_t place_length,
+                           uint64_t *found, uint64_t found_length);
 
 /* The surface's value at the coordinates, outside the knots of an axis as its mode says, and a label for each axis: the
  * number of the cell that was evaluated, which on a knot between two cells is the lower one. On knots that are accepted
@@ -215,14 +235,14 @@ size_t hullashlar_verify(size_t axes,
  * Lengths: points and modes 4; knots as many as the points of all axes together; tensor 2^axes for each place of the
  * grid; coordinates as many as axes; value 1; labels 4.
  * Written: value, labels. Refuses by 1, 2, 3, 4, 22, 7, 8, 18, 10. */
-size_t hullashlar_query(size_t axes,
-                        const size_t *points, size_t points_length,
-                        const uint8_t *modes, size_t modes_length,
-                        const double *knots, size_t knots_length,
-                        const double *tensor, size_t tensor_length,
-                        const double *coordinates, size_t coordinates_length,
-                        double *value, size_t value_length,
-                        size_t *labels, size_t labels_length);
+uint64_t hullashlar_query(uint64_t axes,
+                          const uint64_t *points, uint64_t points_length,
+                          const uint8_t *modes, uint64_t modes_length,
+                          const double *knots, uint64_t knots_length,
+                          const double *tensor, uint64_t tensor_length,
+                          const double *coordinates, uint64_t coordinates_length,
+                          double *value, uint64_t value_length,
+                          uint64_t *labels, uint64_t labels_length);
 
 /* The same at a cost that does not grow with the knots but by at most 8 halvings for each axis: only the first and the
  * last knot of an axis are looked at, those that the search visits and the two of the cell that it finds. On knots that
@@ -231,14 +251,14 @@ size_t hullashlar_query(size_t axes,
  * some axis, a knot is infinite or NaN, or the upper one is not above the lower by a step that a double holds.
  * Lengths: as of hullashlar_query.
  * Written: value, labels. Refuses by 1, 2, 3, 4, 22, 7 for coordinates alone, 8, 18, 10. */
-size_t hullashlar_quick_query(size_t axes,
-                              const size_t *points, size_t points_length,
-                              const uint8_t *modes, size_t modes_length,
-                              const double *knots, size_t knots_length,
-                              const double *tensor, size_t tensor_length,
-                              const double *coordinates, size_t coordinates_length,
-                              double *value, size_t value_length,
-                              size_t *labels, size_t labels_length);
+uint64_t hullashlar_quick_query(uint64_t axes,
+                                const uint64_t *points, uint64_t points_length,
+                                const uint8_t *modes, uint64_t modes_length,
+                                const double *knots, uint64_t knots_length,
+                                const double *tensor, uint64_t tensor_length,
+                                const double *coordinates, uint64_t coordinates_length,
+                                double *value, uint64_t value_length,
+                                uint64_t *labels, uint64_t labels_length);
 
 /* The surface's value at the coordinates where every axis is even: no interval between neighbouring knots differs from
  * the first one of its axis by more than 1,024 units of the format in one, times that first interval. The cell is then
@@ -251,15 +271,15 @@ size_t hullashlar_quick_query(size_t axes,
  * the lower knot of its first interval that differs by more, both counted from 0; else it has 0 and 0.
  * Lengths: as of hullashlar_query; uneven 2.
  * Written: value, labels, uneven. Refuses by 1, 2, 3, 4, 22, 7, 8, 21, 18, 10. */
-size_t hullashlar_even_query(size_t axes,
-                             const size_t *points, size_t points_length,
-                             const uint8_t *modes, size_t modes_length,
-                             const double *knots, size_t knots_length,
-                             const double *tensor, size_t tensor_length,
-                             const double *coordinates, size_t coordinates_length,
-                             double *value, size_t value_length,
-                             size_t *labels, size_t labels_length,
-                             size_t *uneven, size_t uneven_length);
+uint64_t hullashlar_even_query(uint64_t axes,
+                               const uint64_t *points, uint64_t points_length,
+                               const uint8_t *modes, uint64_t modes_length,
+                               const double *knots, uint64_t knots_length,
+                               const double *tensor, uint64_t tensor_length,
+                               const double *coordinates, uint64_t coordinates_length,
+                               double *value, uint64_t value_length,
+                               uint64_t *labels, uint64_t labels_length,
+                               uint64_t *uneven, uint64_t uneven_length);
 
 /* The parts of a packed sheet of either edition: knots and samples in the first places of their buffers, whose other
  * places are as they were; how many axes there are; of each axis the points, the kinds and values of its ends, and its
@@ -269,28 +289,28 @@ size_t hullashlar_even_query(size_t axes,
  * Lengths: bytes any; knots and samples 1,024 each; axes 1; points 4; kinds and values 8; modes 4; edition 1.
  * Written: knots, samples, axes, points, kinds, values, modes, edition. Refuses by 4, and then by the first of 11, 12,
  * 1, 2, 13, 22, 3, 14 that is met on the way through the sheet. */
-size_t hullashlar_read(const uint8_t *bytes, size_t bytes_length,
-                       double *knots, size_t knots_length,
-                       double *samples, size_t samples_length,
-                       size_t *axes, size_t axes_length,
-                       size_t *points, size_t points_length,
-                       uint8_t *kinds, size_t kinds_length,
-                       double *values, size_t values_length,
-                       uint8_t *modes, size_t modes_length,
-                       size_t *edition, size_t edition_length);
+uint64_t hullashlar_read(const uint8_t *bytes, uint64_t bytes_length,
+                         double *knots, uint64_t knots_length,
+                         double *samples, uint64_t samples_length,
+                         uint64_t *axes, uint64_t axes_length,
+                         uint64_t *points, uint64_t points_length,
+                         uint8_t *kinds, uint64_t kinds_length,
+                         double *values, uint64_t values_length,
+                         uint8_t *modes, uint64_t modes_length,
+                         uint64_t *edition, uint64_t edition_length);
 
 /* The parts of a packed sheet of edition 1, as a read hands them over, without modes, which are all extend, and without
  * the edition. Of a sheet of another edition nothing is handed over: it is refused by 12.
  * Lengths: bytes any; knots and samples 1,024 each; axes 1; points 4; kinds and values 8.
  * Written: knots, samples, axes, points, kinds, values. Refuses by 4, then by the first of 11, 12, 1, 2, 13, 3, 14
  * that is met on the way through the sheet. */
-size_t hullashlar_read_edition_1(const uint8_t *bytes, size_t bytes_length,
-                                 double *knots, size_t knots_length,
-                                 double *samples, size_t samples_length,
-                                 size_t *axes, size_t axes_length,
-                                 size_t *points, size_t points_length,
-                                 uint8_t *kinds, size_t kinds_length,
-                                 double *values, size_t values_length);
+uint64_t hullashlar_read_edition_1(const uint8_t *bytes, uint64_t bytes_length,
+                                   double *knots, uint64_t knots_length,
+                                   double *samples, uint64_t samples_length,
+                                   uint64_t *axes, uint64_t axes_length,
+                                   uint64_t *points, uint64_t points_length,
+                                   uint8_t *kinds, uint64_t kinds_length,
+                                   double *values, uint64_t values_length);
 
 /* The tensor of a packed sheet, read and built in one call: all that a read hands over, the tensor in the first places
  * of its buffer, whose other places are as they were, and how many numbers it has. With what it hands over the tensor
@@ -299,18 +319,18 @@ size_t hullashlar_read_edition_1(const uint8_t *bytes, size_t bytes_length,
  * 4,096; scratch at least 2,048 longer than the sheet's tensor, so that 6,144 is enough for every sheet; length 1.
  * Written: knots, samples, axes, points, kinds, values, modes, edition, tensor, scratch, length. Refuses as a read
  * does, then as a build by 5, 7, 8, 9, 10. */
-size_t hullashlar_sheet_tensor(const uint8_t *bytes, size_t bytes_length,
-                               double *knots, size_t knots_length,
-                               double *samples, size_t samples_length,
-                               size_t *axes, size_t axes_length,
-                               size_t *points, size_t points_length,
-                               uint8_t *kinds, size_t kinds_length,
-                               double *values, size_t values_length,
-                               uint8_t *modes, size_t modes_length,
-                               size_t *edition, size_t edition_length,
-                               double *tensor, size_t tensor_length,
-                               double *scratch, size_t scratch_length,
-                               size_t *length, size_t length_length);
+uint64_t hullashlar_sheet_tensor(const uint8_t *bytes, uint64_t bytes_length,
+                                 double *knots, uint64_t knots_length,
+                                 double *samples, uint64_t samples_length,
+                                 uint64_t *axes, uint64_t axes_length,
+                                 uint64_t *points, uint64_t points_length,
+                                 uint8_t *kinds, uint64_t kinds_length,
+                                 double *values, uint64_t values_length,
+                                 uint8_t *modes, uint64_t modes_length,
+                                 uint64_t *edition, uint64_t edition_length,
+                                 double *tensor, uint64_t tensor_length,
+                                 double *scratch, uint64_t scratch_length,
+                                 uint64_t *length, uint64_t length_length);
 
 /* The packed sheet of axes, knots and samples in an edition, 1 or 2, written to the first of the bytes, and how many it
  * has; the others are as they were. A read of the sheet hands the same parts over, and a sheet that a read accepts and
@@ -319,59 +339,59 @@ size_t hullashlar_sheet_tensor(const uint8_t *bytes, size_t bytes_length,
  * Lengths: points 4; kinds and values 8; modes 4; knots as many as the points of all axes together; samples one for
  * each place of the grid; bytes any, of which 10,309 are enough for every sheet; length 1.
  * Written: bytes, length. Refuses by 1, 2, 3, 4, 13, 22, 7, 8, 9, 12, 23, 15. */
-size_t hullashlar_write(size_t axes,
-                        const size_t *points, size_t points_length,
-                        const uint8_t *kinds, size_t kinds_length,
-                        const double *values, size_t values_length,
-                        const uint8_t *modes, size_t modes_length,
-                        const double *knots, size_t knots_length,
-                        const double *samples, size_t samples_length,
-                        size_t edition,
-                        uint8_t *bytes, size_t bytes_length,
-                        size_t *length, size_t length_length);
+uint64_t hullashlar_write(uint64_t axes,
+                          const uint64_t *points, uint64_t points_length,
+                          const uint8_t *kinds, uint64_t kinds_length,
+                          const double *values, uint64_t values_length,
+                          const uint8_t *modes, uint64_t modes_length,
+                          const double *knots, uint64_t knots_length,
+                          const double *samples, uint64_t samples_length,
+                          uint64_t edition,
+                          uint8_t *bytes, uint64_t bytes_length,
+                          uint64_t *length, uint64_t length_length);
 
 /* Which of two neighbouring knots equals the point, that at the lower index or the next: 1 and its index, or 0 and 0.
  * Lengths: knots as many as points; found 2.
  * Written: found. Refuses by 2, 4, 6, 7, 8. */
-size_t hullashlar_exact_index(size_t points,
-                              const double *knots, size_t knots_length,
-                              size_t lower,
-                              double point,
-                              size_t *found, size_t found_length);
+uint64_t hullashlar_exact_index(uint64_t points,
+                                const double *knots, uint64_t knots_length,
+                                uint64_t lower,
+                                double point,
+                                uint64_t *found, uint64_t found_length);
 
 /* Where a point lies among the knots: 0 and the index of the knot that it equals, with the fraction +0.0; or 1 and the
  * lower index of its cell, with the fraction of the cell's width at which it lies, below 0 or above 1 beyond the knots.
  * Lengths: knots as many as points; location 2; fraction 1.
  * Written: location, fraction. Refuses by 2, 4, 7, 8, and 10 for an infinite fraction. */
-size_t hullashlar_locate_axis(size_t points,
-                              const double *knots, size_t knots_length,
-                              double point,
-                              size_t *location, size_t location_length,
-                              double *fraction, size_t fraction_length);
+uint64_t hullashlar_locate_axis(uint64_t points,
+                                const double *knots, uint64_t knots_length,
+                                double point,
+                                uint64_t *location, uint64_t location_length,
+                                double *fraction, uint64_t fraction_length);
 
 /* The index of the knot that a point steps to: downward the last knot at or below it, upward the first at or above it;
  * downward the first knot and upward the last where there is none. But above all knots downward gives the last but one,
  * and below all knots upward gives index 1, as in the Rust.
  * Lengths: knots as many as points; index 1.
  * Written: index. Refuses by 2, 4, 22, 7, 8. */
-size_t hullashlar_locate_step_index(size_t points,
-                                    const double *knots, size_t knots_length,
-                                    uint8_t direction,
-                                    double point,
-                                    size_t *index, size_t index_length);
+uint64_t hullashlar_locate_step_index(uint64_t points,
+                                      const double *knots, uint64_t knots_length,
+                                      uint8_t direction,
+                                      double point,
+                                      uint64_t *index, uint64_t index_length);
 
 /* The sample at the place that the coordinates step to, each axis in its own direction, and the indices of that place.
  * Lengths: points and directions 4; knots as many as the points of all axes together; samples one for each place of the
  * grid; coordinates as many as axes; value 1; indices 4.
  * Written: value, indices. Refuses by 1, 2, 3, 4, 22, 7, 8. */
-size_t hullashlar_stepped(size_t axes,
-                          const size_t *points, size_t points_length,
-                          const uint8_t *directions, size_t directions_length,
-                          const double *knots, size_t knots_length,
-                          const double *samples, size_t samples_length,
-                          const double *coordinates, size_t coordinates_length,
-                          double *value, size_t value_length,
-                          size_t *indices, size_t indices_length);
+uint64_t hullashlar_stepped(uint64_t axes,
+                            const uint64_t *points, uint64_t points_length,
+                            const uint8_t *directions, uint64_t directions_length,
+                            const double *knots, uint64_t knots_length,
+                            const double *samples, uint64_t samples_length,
+                            const double *coordinates, uint64_t coordinates_length,
+                            double *value, uint64_t value_length,
+                            uint64_t *indices, uint64_t indices_length);
 
 /* ---- For aids without a float unit: whole numbers alone, in the calls and inside them. ---- */
 
@@ -381,8 +401,8 @@ size_t hullashlar_stepped(size_t axes,
  * Lengths: value 1. Another length is 4, and the slot is left as it was.
  * Written: value, 0 on a refusal by 19 or 20. Refuses by 4; 19 for a value outside -32,768..32,767 or a slope outside
  * -131,072..131,071; 20 for a position outside 0..256. */
-size_t hullashlar_cell_value(int32_t p0, int32_t p1, int32_t d0, int32_t d1, int32_t k,
-                             int32_t *value, size_t value_length);
+uint64_t hullashlar_cell_value(int32_t p0, int32_t p1, int32_t d0, int32_t d1, int32_t k,
+                               int32_t *value, uint64_t value_length);
 
 /* The value at a cursor of a curve of 1 to 255 cells, and the cursor moved on. A cell is 16 bytes: p0, p1, d0, d1, each
  * 32 bits with a sign, the lowest byte first. A walk starts with 0 in the cursor's slot. Below 256 times the cells a
@@ -391,9 +411,9 @@ size_t hullashlar_cell_value(int32_t p0, int32_t p1, int32_t d0, int32_t d1, int
  * Lengths: cursor 1; value 1. Another length is 4, and then nothing is written.
  * Written: cursor, as it was on a refusal; value, 0 on a refusal by 19 or 20. Refuses by 4; 20 for a curve that is not 1
  * to 255 whole cells; 19 for a value or a slope out of range anywhere in it; 20 past the end, for ever. */
-size_t hullashlar_cursor_next(const uint8_t *curve, size_t curve_length,
-                              uint32_t *cursor, size_t cursor_length,
-                              int32_t *value, size_t value_length);
+uint64_t hullashlar_cursor_next(const uint8_t *curve, uint64_t curve_length,
+                                uint32_t *cursor, uint64_t cursor_length,
+                                int32_t *value, uint64_t value_length);
 
 /* ---- For firmware that keeps a sheet and no tensor: one call. ---- */
 
@@ -422,7 +442,7 @@ size_t hullashlar_cursor_next(const uint8_t *curve, size_t curve_length,
  * are the frames of the functions that read, build and ask.
  * Written: nothing. Refuses by the first of 11, 12, 1, 2, 13, 22, 3, 14 that is met on the way through the sheet; then
  * by 16, 17; then as a build by 7, 8, 9, 10; then as a query by 7, 18, 10. */
-uint64_t hullashlar_surface(const uint8_t *bytes, size_t bytes_length,
+uint64_t hullashlar_surface(const uint8_t *bytes, uint64_t bytes_length,
                             uint64_t c0, uint64_t c1, uint64_t c2, uint64_t c3);
 
 #ifdef __cplusplus

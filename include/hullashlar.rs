@@ -1,187 +1,193 @@
 //! The calls of hullashlar.h as Rust declares them: a slice is a pointer and then its length.
 
+/// What is counted, a length or an index: 64 bits on every processor, and `usize` where that has them.
+#[cfg(target_pointer_width = "64")]
+pub type Count = usize;
+#[cfg(not(target_pointer_width = "64"))]
+pub type Count = u64;
+
 #[rustfmt::skip]
 extern "C" {
     pub fn hullashlar_moments(
-        points: usize,
-        knots: *const f64, knots_length: usize,
-        samples: *const f64, samples_length: usize,
-        kinds: *const u8, kinds_length: usize,
-        values: *const f64, values_length: usize,
-        moments: *mut f64, moments_length: usize,
-        scratch: *mut f64, scratch_length: usize,
-    ) -> usize;
+        points: Count,
+        knots: *const f64, knots_length: Count,
+        samples: *const f64, samples_length: Count,
+        kinds: *const u8, kinds_length: Count,
+        values: *const f64, values_length: Count,
+        moments: *mut f64, moments_length: Count,
+        scratch: *mut f64, scratch_length: Count,
+    ) -> Count;
     pub fn hullashlar_curve(
-        points: usize,
-        knots: *const f64, knots_length: usize,
-        samples: *const f64, samples_length: usize,
-        moments: *const f64, moments_length: usize,
+        points: Count,
+        knots: *const f64, knots_length: Count,
+        samples: *const f64, samples_length: Count,
+        moments: *const f64, moments_length: Count,
         point: f64,
-        value: *mut f64, value_length: usize,
-    ) -> usize;
+        value: *mut f64, value_length: Count,
+    ) -> Count;
     pub fn hullashlar_slopes(
-        points: usize,
-        knots: *const f64, knots_length: usize,
-        samples: *const f64, samples_length: usize,
-        moments: *const f64, moments_length: usize,
-        slopes: *mut f64, slopes_length: usize,
-    ) -> usize;
+        points: Count,
+        knots: *const f64, knots_length: Count,
+        samples: *const f64, samples_length: Count,
+        moments: *const f64, moments_length: Count,
+        slopes: *mut f64, slopes_length: Count,
+    ) -> Count;
     pub fn hullashlar_build(
-        axes: usize,
-        points: *const usize, points_length: usize,
-        kinds: *const u8, kinds_length: usize,
-        values: *const f64, values_length: usize,
-        knots: *const f64, knots_length: usize,
-        samples: *const f64, samples_length: usize,
-        tensor: *mut f64, tensor_length: usize,
-        scratch: *mut f64, scratch_length: usize,
-    ) -> usize;
+        axes: Count,
+        points: *const Count, points_length: Count,
+        kinds: *const u8, kinds_length: Count,
+        values: *const f64, values_length: Count,
+        knots: *const f64, knots_length: Count,
+        samples: *const f64, samples_length: Count,
+        tensor: *mut f64, tensor_length: Count,
+        scratch: *mut f64, scratch_length: Count,
+    ) -> Count;
     pub fn hullashlar_change(
-        axes: usize,
-        points: *const usize, points_length: usize,
-        kinds: *const u8, kinds_length: usize,
-        values: *const f64, values_length: usize,
-        knots: *const f64, knots_length: usize,
-        tensor: *mut f64, tensor_length: usize,
-        scratch: *mut f64, scratch_length: usize,
-        place: *const usize, place_length: usize,
+        axes: Count,
+        points: *const Count, points_length: Count,
+        kinds: *const u8, kinds_length: Count,
+        values: *const f64, values_length: Count,
+        knots: *const f64, knots_length: Count,
+        tensor: *mut f64, tensor_length: Count,
+        scratch: *mut f64, scratch_length: Count,
+        place: *const Count, place_length: Count,
         sample: f64,
-        lanes: *mut usize, lanes_length: usize,
-    ) -> usize;
+        lanes: *mut Count, lanes_length: Count,
+    ) -> Count;
     pub fn hullashlar_verify(
-        axes: usize,
-        points: *const usize, points_length: usize,
-        kinds: *const u8, kinds_length: usize,
-        values: *const f64, values_length: usize,
-        knots: *const f64, knots_length: usize,
-        tensor: *const f64, tensor_length: usize,
-        scratch: *mut f64, scratch_length: usize,
-        place: *mut usize, place_length: usize,
-        found: *mut usize, found_length: usize,
-    ) -> usize;
+        axes: Count,
+        points: *const Count, points_length: Count,
+        kinds: *const u8, kinds_length: Count,
+        values: *const f64, values_length: Count,
+        knots: *const f64, knots_length: Count,
+        tensor: *const f64, tensor_length: Count,
+        scratch: *mut f64, scratch_length: Count,
+        place: *mut Count, place_length: Count,
+        found: *mut Count, found_length: Count,
+    ) -> Count;
     pub fn hullashlar_query(
-        axes: usize,
-        points: *const usize, points_length: usize,
-        modes: *const u8, modes_length: usize,
-        knots: *const f64, knots_length: usize,
-        tensor: *const f64, tensor_length: usize,
-        coordinates: *const f64, coordinates_length: usize,
-        value: *mut f64, value_length: usize,
-        labels: *mut usize, labels_length: usize,
-    ) -> usize;
+        axes: Count,
+        points: *const Count, points_length: Count,
+        modes: *const u8, modes_length: Count,
+        knots: *const f64, knots_length: Count,
+        tensor: *const f64, tensor_length: Count,
+        coordinates: *const f64, coordinates_length: Count,
+        value: *mut f64, value_length: Count,
+        labels: *mut Count, labels_length: Count,
+    ) -> Count;
     pub fn hullashlar_quick_query(
-        axes: usize,
-        points: *const usize, points_length: usize,
-        modes: *const u8, modes_length: usize,
-        knots: *const f64, knots_length: usize,
-        tensor: *const f64, tensor_length: usize,
-        coordinates: *const f64, coordinates_length: usize,
-        value: *mut f64, value_length: usize,
-        labels: *mut usize, labels_length: usize,
-    ) -> usize;
+        axes: Count,
+        points: *const Count, points_length: Count,
+        modes: *const u8, modes_length: Count,
+        knots: *const f64, knots_length: Count,
+        tensor: *const f64, tensor_length: Count,
+        coordinates: *const f64, coordinates_length: Count,
+        value: *mut f64, value_length: Count,
+        labels: *mut Count, labels_length: Count,
+    ) -> Count;
     pub fn hullashlar_even_query(
-        axes: usize,
-        points: *const usize, points_length: usize,
-        modes: *const u8, modes_length: usize,
-        knots: *const f64, knots_length: usize,
-        tensor: *const f64, tensor_length: usize,
-        coordinates: *const f64, coordinates_length: usize,
-        value: *mut f64, value_length: usize,
-        labels: *mut usize, labels_length: usize,
-        uneven: *mut usize, uneven_length: usize,
-    ) -> usize;
+        axes: Count,
+        points: *const Count, points_length: Count,
+        modes: *const u8, modes_length: Count,
+        knots: *const f64, knots_length: Count,
+        tensor: *const f64, tensor_length: Count,
+        coordinates: *const f64, coordinates_length: Count,
+        value: *mut f64, value_length: Count,
+        labels: *mut Count, labels_length: Count,
+        uneven: *mut Count, uneven_length: Count,
+    ) -> Count;
     pub fn hullashlar_read(
-        bytes: *const u8, bytes_length: usize,
-        knots: *mut f64, knots_length: usize,
-        samples: *mut f64, samples_length: usize,
-        axes: *mut usize, axes_length: usize,
-        points: *mut usize, points_length: usize,
-        kinds: *mut u8, kinds_length: usize,
-        values: *mut f64, values_length: usize,
-        modes: *mut u8, modes_length: usize,
-        edition: *mut usize, edition_length: usize,
-    ) -> usize;
+        bytes: *const u8, bytes_length: Count,
+        knots: *mut f64, knots_length: Count,
+        samples: *mut f64, samples_length: Count,
+        axes: *mut Count, axes_length: Count,
+        points: *mut Count, points_length: Count,
+        kinds: *mut u8, kinds_length: Count,
+        values: *mut f64, values_length: Count,
+        modes: *mut u8, modes_length: Count,
+        edition: *mut Count, edition_length: Count,
+    ) -> Count;
     pub fn hullashlar_read_edition_1(
-        bytes: *const u8, bytes_length: usize,
-        knots: *mut f64, knots_length: usize,
-        samples: *mut f64, samples_length: usize,
-        axes: *mut usize, axes_length: usize,
-        points: *mut usize, points_length: usize,
-        kinds: *mut u8, kinds_length: usize,
-        values: *mut f64, values_length: usize,
-    ) -> usize;
+        bytes: *const u8, bytes_length: Count,
+        knots: *mut f64, knots_length: Count,
+        samples: *mut f64, samples_length: Count,
+        axes: *mut Count, axes_length: Count,
+        points: *mut Count, points_length: Count,
+        kinds: *mut u8, kinds_length: Count,
+        values: *mut f64, values_length: Count,
+    ) -> Count;
     pub fn hullashlar_sheet_tensor(
-        bytes: *const u8, bytes_length: usize,
-        knots: *mut f64, knots_length: usize,
-        samples: *mut f64, samples_length: usize,
-        axes: *mut usize, axes_length: usize,
-        points: *mut usize, points_length: usize,
-        kinds: *mut u8, kinds_length: usize,
-        values: *mut f64, values_length: usize,
-        modes: *mut u8, modes_length: usize,
-        edition: *mut usize, edition_length: usize,
-        tensor: *mut f64, tensor_length: usize,
-        scratch: *mut f64, scratch_length: usize,
-        length: *mut usize, length_length: usize,
-    ) -> usize;
+        bytes: *const u8, bytes_length: Count,
+        knots: *mut f64, knots_length: Count,
+        samples: *mut f64, samples_length: Count,
+        axes: *mut Count, axes_length: Count,
+        points: *mut Count, points_length: Count,
+        kinds: *mut u8, kinds_length: Count,
+        values: *mut f64, values_length: Count,
+        modes: *mut u8, modes_length: Count,
+        edition: *mut Count, edition_length: Count,
+        tensor: *mut f64, tensor_length: Count,
+        scratch: *mut f64, scratch_length: Count,
+        length: *mut Count, length_length: Count,
+    ) -> Count;
     pub fn hullashlar_write(
-        axes: usize,
-        points: *const usize, points_length: usize,
-        kinds: *const u8, kinds_length: usize,
-        values: *const f64, values_length: usize,
-        modes: *const u8, modes_length: usize,
-        knots: *const f64, knots_length: usize,
-        samples: *const f64, samples_length: usize,
-        edition: usize,
-        bytes: *mut u8, bytes_length: usize,
-        length: *mut usize, length_length: usize,
-    ) -> usize;
+        axes: Count,
+        points: *const Count, points_length: Count,
+        kinds: *const u8, kinds_length: Count,
+        values: *const f64, values_length: Count,
+        modes: *const u8, modes_length: Count,
+        knots: *const f64, knots_length: Count,
+        samples: *const f64, samples_length: Count,
+        edition: Count,
+        bytes: *mut u8, bytes_length: Count,
+        length: *mut Count, length_length: Count,
+    ) -> Count;
     pub fn hullashlar_exact_index(
-        points: usize,
-        knots: *const f64, knots_length: usize,
-        lower: usize,
+        points: Count,
+        knots: *const f64, knots_length: Count,
+        lower: Count,
         point: f64,
-        found: *mut usize, found_length: usize,
-    ) -> usize;
+        found: *mut Count, found_length: Count,
+    ) -> Count;
     pub fn hullashlar_locate_axis(
-        points: usize,
-        knots: *const f64, knots_length: usize,
+        points: Count,
+        knots: *const f64, knots_length: Count,
         point: f64,
-        location: *mut usize, location_length: usize,
-        fraction: *mut f64, fraction_length: usize,
-    ) -> usize;
+        location: *mut Count, location_length: Count,
+        fraction: *mut f64, fraction_length: Count,
+    ) -> Count;
     pub fn hullashlar_locate_step_index(
-        points: usize,
-        knots: *const f64, knots_length: usize,
+        points: Count,
+        knots: *const f64, knots_length: Count,
         direction: u8,
         point: f64,
-        index: *mut usize, index_length: usize,
-    ) -> usize;
+        index: *mut Count, index_length: Count,
+    ) -> Count;
     pub fn hullashlar_stepped(
-        axes: usize,
-        points: *const usize, points_length: usize,
-        directions: *const u8, directions_length: usize,
-        knots: *const f64, knots_length: usize,
-        samples: *const f64, samples_length: usize,
-        coordinates: *const f64, coordinates_length: usize,
-        value: *mut f64, value_length: usize,
-        indices: *mut usize, indices_length: usize,
-    ) -> usize;
+        axes: Count,
+        points: *const Count, points_length: Count,
+        directions: *const u8, directions_length: Count,
+        knots: *const f64, knots_length: Count,
+        samples: *const f64, samples_length: Count,
+        coordinates: *const f64, coordinates_length: Count,
+        value: *mut f64, value_length: Count,
+        indices: *mut Count, indices_length: Count,
+    ) -> Count;
     pub fn hullashlar_cell_value(
         p0: i32,
         p1: i32,
         d0: i32,
         d1: i32,
         k: i32,
-        value: *mut i32, value_length: usize,
-    ) -> usize;
+        value: *mut i32, value_length: Count,
+    ) -> Count;
     pub fn hullashlar_cursor_next(
-        curve: *const u8, curve_length: usize,
-        cursor: *mut u32, cursor_length: usize,
-        value: *mut i32, value_length: usize,
-    ) -> usize;
+        curve: *const u8, curve_length: Count,
+        cursor: *mut u32, cursor_length: Count,
+        value: *mut i32, value_length: Count,
+    ) -> Count;
     pub fn hullashlar_surface(
-        bytes: *const u8, bytes_length: usize,
+        bytes: *const u8, bytes_length: Count,
         c0: u64,
         c1: u64,
         c2: u64,

@@ -7,6 +7,7 @@
  */
 #include "hullashlar.h"
 
+#include <inttypes.h>
 #include <stdio.h>
 #include <stdlib.h>
 #include <string.h>
@@ -15,7 +16,7 @@ enum { AXES = 2, FREQUENCIES = 5, LEVELS = 6, MASKS = 4, TENSOR = FREQUENCIES * 
 enum { KNOTS = FREQUENCIES + LEVELS, SAMPLES = FREQUENCIES * LEVELS, SCRATCH = TENSOR + HULLASHLAR_SCRATCH };
 
 /* Both axes natural. */
-static const size_t points[HULLASHLAR_AXES] = {FREQUENCIES, LEVELS};
+static const uint64_t points[HULLASHLAR_AXES] = {FREQUENCIES, LEVELS};
 static const uint8_t kinds[HULLASHLAR_ENDS] = {HULLASHLAR_SECOND_DERIVATIVE, HULLASHLAR_SECOND_DERIVATIVE,
                                                HULLASHLAR_SECOND_DERIVATIVE, HULLASHLAR_SECOND_DERIVATIVE};
 static const double values[HULLASHLAR_ENDS];
@@ -32,15 +33,15 @@ static const double samples[SAMPLES] = {
 
 /* The sample at 1 kHz and 60 dB was recorded as 0, and is put right. */
 enum { ROW = 2, COLUMN = 2 };
-static const size_t place[HULLASHLAR_AXES] = {ROW, COLUMN};
+static const uint64_t place[HULLASHLAR_AXES] = {ROW, COLUMN};
 static const double new_sample = 16;
 
 static double scratch[SCRATCH];
 
-static void accept(size_t refusal)
+static void accept(uint64_t refusal)
 {
     if (refusal != HULLASHLAR_ACCEPTED) {
-        fprintf(stderr, "refused %zu\n", refusal);
+        fprintf(stderr, "refused %" PRIu64 "\n", refusal);
         exit(1);
     }
 }
@@ -49,7 +50,7 @@ static double gain(const double *tensor, double level)
 {
     const double coordinates[AXES] = {knots[ROW], level};
     double value;
-    size_t labels[HULLASHLAR_AXES];
+    uint64_t labels[HULLASHLAR_AXES];
     const uint8_t modes[HULLASHLAR_AXES] = {HULLASHLAR_EXTEND, HULLASHLAR_EXTEND};
     accept(hullashlar_query(AXES, points, HULLASHLAR_AXES, modes, HULLASHLAR_AXES, knots, KNOTS, tensor, TENSOR,
                             coordinates, AXES, &value, 1, labels, HULLASHLAR_AXES));
@@ -71,7 +72,7 @@ static void print_samples(void)
 int main(void)
 {
     double before[TENSOR], stale[TENSOR], after[TENSOR];
-    size_t lanes;
+    uint64_t lanes;
 
     accept(hullashlar_build(AXES, points, HULLASHLAR_AXES, kinds, HULLASHLAR_ENDS, values, HULLASHLAR_ENDS, knots,
                             KNOTS, samples, SAMPLES, before, TENSOR, scratch, SCRATCH));

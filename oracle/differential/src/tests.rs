@@ -4,7 +4,8 @@ const OURS: &str = include_str!("../../../crates/hullashlar/src/lib.rt");
 const FOR_C: &str = include_str!("../../../include/hullashlar.h");
 const FOR_RUST: &str = include_str!("../../../include/hullashlar.rs");
 
-/// A call's name, and its arguments with their types as Rust declares them.
+/// A call's name, and its arguments with their types in Rust's words, where a whole number of
+/// 64 bits is a u64, whether it counts or is a pattern.
 type Declared = (String, Vec<String>);
 
 /// The calls of a text, whose arguments are put into Rust's words one by one. What
@@ -27,17 +28,18 @@ fn declared(text: &str, in_rust: fn(&str) -> Vec<String>) -> Vec<Declared> {
 /// A slice of ours is a pointer and a length.
 fn of_ours(argument: &str) -> Vec<String> {
     let (name, own_type) = argument.split_once(": ").expect("an argument has a type");
+    let own_type = own_type.replace("usize", "u64");
     let pointer = |access: &str, items: &str| {
         let item = items.trim_end_matches(']');
         vec![
             format!("{name}: *{access} {item}"),
-            format!("{name}_length: usize"),
+            format!("{name}_length: u64"),
         ]
     };
     match own_type.split_once('[') {
         Some(("&", items)) => pointer("const", items),
         Some(("&mut ", items)) => pointer("mut", items),
-        _ => vec![argument.to_string()],
+        _ => vec![format!("{name}: {own_type}")],
     }
 }
 
@@ -57,16 +59,15 @@ fn of_c(argument: &str) -> Vec<String> {
         .expect("an argument has a type and a name");
     let (c_type, name) = argument.split_at(end + 1);
     let rust_type = match c_type.trim() {
-        "size_t" => "usize",
         "uint8_t" => "u8",
         "int32_t" => "i32",
         "uint64_t" => "u64",
         "double" => "f64",
         "const double *" => "*const f64",
-        "const size_t *" => "*const usize",
+        "const uint64_t *" => "*const u64",
         "const uint8_t *" => "*const u8",
         "double *" => "*mut f64",
-        "size_t *" => "*mut usize",
+        "uint64_t *" => "*mut u64",
         "uint8_t *" => "*mut u8",
         "int32_t *" => "*mut i32",
         "uint32_t *" => "*mut u32",
@@ -75,13 +76,15 @@ fn of_c(argument: &str) -> Vec<String> {
     vec![format!("{name}: {rust_type}")]
 }
 
+/// What is counted has 64 bits on every processor.
+fn of_rust(argument: &str) -> Vec<String> {
+    vec![argument.replace("Count", "u64")]
+}
+
 #[test]
 fn the_calls_are_declared_alike() {
     let ours = declared(OURS, of_ours);
     assert!(!ours.is_empty());
     assert_eq!(declared(&without_comments(FOR_C), of_c), ours);
-    assert_eq!(
-        declared(FOR_RUST, |argument| vec![argument.to_string()]),
-        ours
-    );
+    assert_eq!(declared(FOR_RUST, of_rust), ours);
 }
