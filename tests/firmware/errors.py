@@ -1,0 +1,57 @@
+"""Errors that the comparison must find: operations fused, subnormal numbers flushed to zero, another rounding. `make firmware` must
+refuse the first by itself, and the line of docs/FIRMWARE.md that looks at the settings must see the others."""
+
+import re
+import sys
+
+import make_archives
+import module
+from machines import ARCHIVES, WORK, built, emulated
+
+# The processors that compute doubles themselves, and those of them that can flush.
+WITH_DOUBLES = ["cortex-m7", "aarch64", "rv32imafdc", "rv64gc"]
+FLUSHING = ["cortex-m7", "aarch64"]
+
+
+def refused(check, *given):
+    """Whether a check ends the run."""
+    try:
+        check(*given)
+    except SystemExit:
+        return True
+    return False
+
+
+def contracted(target):
+    """An archive's code of the module with leave to fuse, which is neither refused as text nor as a listing here."""
+    text = re.sub(r"= (fadd|fsub|fmul) double", r"= \1 contract double", (ARCHIVES / "hullashlar.ll").read_text())
+    listing = make_archives.listing_of(text, target, "")
+    if not refused(module.hold_to_the_rules, "hullashlar", text):
+        sys.exit("a module with leave to fuse was not refused")
+    if not refused(make_archives.hold_unfused, target, listing):
+        sys.exit(f"{target}: fused instructions were not refused")
+    code = WORK / target / "contracted.o"
+    make_archives.assemble(listing, target, code)
+    return code
+
+
+def settings_right(target, words):
+    """What the line of docs/FIRMWARE.md says of the float settings."""
+    return emulated(target, built(target, "settings", ["settings.c"], [], words)) == b"\1"
+
+
+def hold_settings(target, words, right):
+    if settings_right(target, words) != right:
+        sys.exit(f"{target}: the float settings are not told apart")
+
+
+def tried(differences):
+    """Tries each error by what counts the records that differ; gives a line for each."""
+    for target in WITH_DOUBLES:
+        yield f"{target}, operations fused", differences(target, "contracted", contracted(target), ())
+        hold_settings(target, [], True)
+        hold_settings(target, ["-DROUND_UP"], False)
+        yield f"{target}, rounding upward", differences(target, "upward", ARCHIVES / target / "libhullashlar.a", ["-DROUND_UP"])
+    for target in FLUSHING:
+        hold_settings(target, ["-DFLUSH_TO_ZERO"], False)
+        yield f"{target}, flushing to zero", differences(target, "flushing", ARCHIVES / target / "libhullashlar.a", ["-DFLUSH_TO_ZERO"])

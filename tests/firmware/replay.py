@@ -1,0 +1,1 @@
+"""The replay list on each processor."""

@@ -1,0 +1,112 @@
+#!/usr/bin/env python3
+"""Holds the archives of `make firmware` against the x86-64 archive, on every processor as the emulator has it: run.py [CALLS] makes
+so many calls on each, every exported call accepted and refused, and compares what each call returned and wrote. Then the replay list
+is run on each, and examples/firmware.c on those with a C library at hand. Errors that are put in must be found."""
+
+import os
+import re
+import struct
+import subprocess
+import sys
+from collections import Counter
+from pathlib import Path
+
+HERE = Path(__file__).resolve().parent
+ROOT = HERE.parent.parent
+sys.path[:0] = [str(HERE), str(ROOT / "firmware")]
+import errors  # noqa: E402
+import replay  # noqa: E402
+from machines import ARCHIVES, MACHINES, WORK, built, emulated, want_tools  # noqa: E402
+from make_archives import FUSED, PURPOSES  # noqa: E402
+
+RECORD = struct.Struct("<QQQ")
+SOURCES = ["calls.c", "inputs.c"]
+
+# By what each call must have been refused at least once, beside being accepted.
+GRID = [1, 2, 3, 4]
+REFUSALS = {
+    "moments": [2, 4, 13, 5, 7, 8, 9, 10], "curve": [2, 4, 7, 8, 10], "slopes": [2, 4, 7, 8, 10],
+    "build": [*GRID, 13, 5, 7, 8, 9, 10], "change": [*GRID, 13, 5, 6, 7, 8, 9, 10], "verify": [*GRID, 13, 5, 7, 8, 9, 10],
+    "query": [*GRID, 22, 7, 8, 18, 10], "quick_query": [*GRID, 22, 7, 8, 18, 10], "even_query": [*GRID, 22, 7, 8, 21, 18, 10],
+    "read": [4, 11, 12, 1, 2, 13, 22, 3, 14], "read_edition_1": [4, 11, 12, 1, 2, 13, 3, 14],
+    "sheet_tensor": [4, 11, 12, 1, 2, 13, 22, 3, 14, 5, 7, 8, 9, 10], "write": [*GRID, 13, 22, 7, 8, 9, 12, 23, 15],
+    "exact_index": [2, 4, 6, 7, 8], "locate_axis": [2, 4, 7, 8, 10], "locate_step_index": [2, 4, 22, 7, 8],
+    "stepped": [*GRID, 22, 7, 8], "cell_value": [4, 19, 20], "cursor_next": [4, 19, 20],
+    "surface": [11, 12, 1, 2, 13, 22, 3, 14, 16, 17, 7, 8, 9, 10, 18],
+}
+REFUSED_PATTERN = 0x7FF8000000000000
+
+
+def names():
+    """The calls in the order of the header, which is that of their numbers."""
+    return re.findall(r"^uint64_t hullashlar_(\w+)\(", (ROOT / "include" / "hullashlar.h").read_text(), re.M)
+
+
+def here(calls):
+    """The records of the x86-64 archive."""
+    WORK.mkdir(parents=True, exist_ok=True)
+    program = WORK / "here"
+    archive = ROOT / "target" / "staticlib" / "libhullashlar.a"
+    words = ["gcc", "-std=gnu11", "-Wall", "-Wextra", "-Werror", "-O2", f"-DCALLS={calls}", f"-I{ROOT / 'include'}", f"-I{HERE}"]
+    subprocess.run([*words, *[str(HERE / source) for source in [*SOURCES, "here.c"]], str(archive), "-o", str(program)], check=True)
+    return subprocess.run([str(program)], check=True, stdout=subprocess.PIPE).stdout
+
+
+def hold_reached(records):
+    """Every call of the header was accepted, and refused by each of its numbers."""
+    reached = Counter()
+    for call, answer, _ in RECORD.iter_unpack(records):
+        name = names()[call]
+        pattern = name == "surface"
+        refused = answer - REFUSED_PATTERN if pattern and answer & REFUSED_PATTERN == REFUSED_PATTERN else 0 if pattern else answer
+        reached[name, refused] += 1
+    missing = [f"{name} {number}" for name in names() for number in [0, *REFUSALS.get(name, [99])] if not reached[name, number]]
+    if missing:
+        sys.exit(f"not reached: {', '.join(missing)}")
+    print(f"x86-64: {reached.total():,} calls of {len(names())}, each accepted and refused by every number of its list")
+
+
+def differing(records, expected):
+    """How many records differ; every one of a stream of another length."""
+    if len(records) != len(expected):
+        return max(len(records), len(expected)) // RECORD.size
+    return sum(ours != theirs for ours, theirs in zip(RECORD.iter_unpack(records), RECORD.iter_unpack(expected)))
+
+
+def records_of(target, name, archive, calls, words=()):
+    program = built(target, name, SOURCES, [archive], [f"-DCALLS={calls}", *words])
+    return emulated(target, program)
+
+
+def hold_unfused(target, archive):
+    """No instruction of the archive fuses two operations, as the target's own objdump reads it."""
+    listing = subprocess.run([MACHINES[target].prefix + "objdump", "-d", str(archive)], check=True, stdout=subprocess.PIPE, text=True).stdout
+    if not re.search(r"\t\w", listing):
+        sys.exit(f"{target}: nothing was disassembled")
+    if FUSED.search(listing):
+        sys.exit(f"{target}: a fused instruction: {FUSED.search(listing).group().strip()}")
+
+
+def compare(target, expected, calls):
+    for purpose in PURPOSES:
+        archive = ARCHIVES / target / purpose / "libhullashlar.a"
+        hold_unfused(target, archive)
+        count = differing(records_of(target, f"calls_{purpose or 'speed'}", archive, calls), expected)
+        print(f"{target}, for {purpose or 'speed'}: {len(expected) // RECORD.size:,} calls, {count} differ", flush=True)
+        if count:
+            yield f"{target} for {purpose or 'speed'}"
+
+
+def main():
+    calls = int(sys.argv[1]) if len(sys.argv) > 1 else 500000
+    targets = sys.argv[2:] or list(MACHINES)
+    want_tools()
+    expected = here(calls)
+    hold_reached(expected)
+    wrong = [name for target in targets for name in compare(target, expected, calls)]
+    if wrong:
+        sys.exit(f"differences: {', '.join(wrong)}")
+
+
+if __name__ == "__main__":
+    main()
