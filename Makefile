@@ -1,4 +1,4 @@
-.PHONY: run test differential report-largest deliberate-errors further-edits sheet-by-hand streams-fail docs-check rules-page oracle-test expected archive archive-here bench examples picture
+.PHONY: run test differential report-largest deliberate-errors further-edits sheet-by-hand streams-fail docs-check rules-page oracle-test expected archive archive-here firmware firmware-test firmware-bench bench examples picture
 
 # On another machine than x86-64, what links the archive takes one that is made for it, and our programs run on the kit's emulator.
 MACHINE := $(shell uname -m)
@@ -84,6 +84,21 @@ archive-here: archive
 ifneq ($(MACHINE),x86_64)
 	python3 firmware/make_archives.py $(MACHINE)
 endif
+
+# Archives of the proved module for the processors of aids, target/firmware/TARGET/libhullashlar.a; wants `rt` and Python alone.
+firmware:
+	python3 firmware/make_archives.py
+
+# How many calls are made on each processor.
+FIRMWARE_CALLS = 500000
+
+# Holds those archives against the x86-64 one, on each processor as the emulator has it; docs/FIRMWARE.md names the packages it wants.
+firmware-test: firmware
+	python3 tests/firmware/run.py $(FIRMWARE_CALLS)
+
+# Measures them, and prints the tables of docs/FIRMWARE.md.
+firmware-bench: firmware
+	python3 tests/firmware/bench.py
 
 # Measures the exported calls beside the Rust's functions, and beside the limit where the folder of its C is at hand (LIMIT_SRC, by default
 # ../shared/limit), adds up their stack from the archive's code, and measures the report on long streams; prints the tables of docs/BENCH.md;

@@ -76,13 +76,17 @@ def kept(crate, words):
     return module
 
 
-def hold_to_the_archive(crate, module):
-    """The archive is what clang makes of the kept module, byte for byte."""
+def makes(crate, module, made):
+    """Whether clang makes these bytes of the kept module."""
     again = OUT / f"{crate}.o"
     run([tool("clang"), *X86_64, *WORDS, "-c", "-x", "ir", module, "-o", again])
+    return made == again.read_bytes()
+
+
+def hold_to_the_archive(crate, module):
+    """The archive is what clang makes of the kept module, byte for byte."""
     archive = ROOT / "target" / "staticlib" / f"lib{crate}.a"
-    made = run([tool("llvm-ar"), "p", archive, f"{crate}.o"], stdout=subprocess.PIPE).stdout
-    if made != again.read_bytes():
+    if not makes(crate, module, run([tool("llvm-ar"), "p", archive, f"{crate}.o"], stdout=subprocess.PIPE).stdout):
         sys.exit(f"{crate}: the kept module is not the archive's")
 
 
@@ -109,4 +113,15 @@ def of_archive(crate):
     """The text of the module that the proved archive of a crate is made of."""
     module = kept(crate, ["staticlib", crate])
     hold_to_the_archive(crate, module)
+    return text_of(crate, module)
+
+
+def of_program(crate):
+    """The text of the module that a proved program is made of; one that is kept already is taken while it is the program's."""
+    module, code = OUT / f"{crate}.bc", ROOT / "target" / "obj" / f"{crate}.o"
+    if not (module.is_file() and code.is_file() and makes(crate, module, code.read_bytes())):
+        (ROOT / "target" / "stamp" / crate).unlink(missing_ok=True)
+        module = kept(crate, ["check", crate])
+    if not makes(crate, module, code.read_bytes()):
+        sys.exit(f"{crate}: the kept module is not the program's")
     return text_of(crate, module)

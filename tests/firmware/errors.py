@@ -25,7 +25,7 @@ def refused(check, *given):
 def contracted(target):
     """An archive's code of the module with leave to fuse, which is neither refused as text nor as a listing here."""
     text = re.sub(r"= (fadd|fsub|fmul) double", r"= \1 contract double", (ARCHIVES / "hullashlar.ll").read_text())
-    listing = make_archives.listing_of(text, target, "")
+    listing = make_archives.listing_of(text, target, "speed")
     if not refused(module.hold_to_the_rules, "hullashlar", text):
         sys.exit("a module with leave to fuse was not refused")
     if not refused(make_archives.hold_unfused, target, listing):

@@ -1,12 +1,16 @@
 #include "inputs.h"
 
+#ifndef SEED
+#define SEED 1
+#endif
+
 /* Where the knots of each axis stand, as whole numbers times a power of two. */
 static int64_t positions[HULLASHLAR_BUFFER];
 static int scales[HULLASHLAR_AXES];
 
 static uint64_t random_word(void)
 {
-    static uint64_t state = UINT64_C(0x9E3779B97F4A7C15);
+    static uint64_t state = UINT64_C(0x9E3779B97F4A7C15) * SEED;
     state ^= state >> 12;
     state ^= state << 25;
     state ^= state >> 27;

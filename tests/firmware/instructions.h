@@ -45,8 +45,9 @@ static uint64_t instructions(void)
 
 #else
 
-/* A Cortex-M counts ticks of its board, TICK nanoseconds each, downward from 2^24; the interrupt counts its rounds. */
-static volatile uint32_t rounds;
+/* A Cortex-M counts ticks of its board, TICK nanoseconds each, downward from 2^24, and says whether it began anew since it was
+ * last asked. */
+static uint32_t rounds;
 
 #define REGISTER(address) (*(volatile uint32_t *)(address))
 

@@ -13,6 +13,8 @@ WORK = ROOT / "target" / "firmware-test"
 
 SOURCE_WORDS = ["-std=gnu11", "-Wall", "-Wextra", "-Werror", "-O2", "-ffreestanding", "-ffunction-sections", "-fno-tree-loop-distribute-patterns",
                 f"-I{ROOT / 'include'}", f"-I{HERE}"]
+LINK_WORDS = ["-nostdlib", "-static", "-Wl,--gc-sections", "-Wl,--no-warn-rwx-segments", "-Wl,--build-id=none", "-Wl,-z,noexecstack",
+              "-T", HERE / "bare.ld"]
 PACKAGES = "gcc-arm-none-eabi libnewlib-arm-none-eabi gcc-aarch64-linux-gnu gcc-riscv64-unknown-elf qemu-system-arm qemu-system-misc"
 
 
@@ -55,28 +57,39 @@ def want_tools():
         sys.exit(f"not installed: {' '.join(missing)}; Debian's packages are {PACKAGES}")
 
 
-def built(target, name, sources, objects, words=()):
-    """A program for a target, of sources here, with these objects and archives, and words to the compiler."""
+def built(target, name, sources, objects, words=(), hosted=False):
+    """A program for a target, of sources here, with these objects and archives, and words to the compiler. A hosted one has a main
+    function and newlib under it."""
     machine = MACHINES[target]
-    folder = WORK / target / name
-    folder.mkdir(parents=True, exist_ok=True)
-    program = folder / "program"
+    program = WORK / target / name / "program"
+    program.parent.mkdir(parents=True, exist_ok=True)
     code, data = machine.addresses
     places = [f"-Wl,--defsym=code_start={code:#x}", f"-Wl,--defsym=data_start={data:#x}"]
-    command = [machine.prefix + "gcc", *machine.words, *SOURCE_WORDS, *words, "-nostdlib", "-static", "-Wl,--gc-sections", "-Wl,--no-warn-rwx-segments", "-Wl,--build-id=none", "-Wl,-z,noexecstack",
-               "-T", HERE / "bare.ld", *places, *[HERE / source for source in [machine.start, "bare.c", *sources]], *objects, *machine.library,
-               "-o", program]
+    layer, library = ("example.c", ["-Wl,--start-group", "-lc", "-lrdimon", "-lgcc", "-Wl,--end-group"]) if hosted else ("bare.c", machine.library)
+    command = [machine.prefix + "gcc", *machine.words, *SOURCE_WORDS, *words, *LINK_WORDS, *places,
+               *[HERE / source for source in [machine.start, layer, *sources]], *objects, *library, "-o", program]
     subprocess.run([str(word) for word in command], check=True)
     return program
 
 
-def emulated(target, program, words=(), seconds=1800):
-    """What a program emits, run in its own folder."""
-    emitted = program.parent / "emitted"
-    emitted.unlink(missing_ok=True)
+def run_emulator(target, program, words, seconds):
+    """What the emulator prints while it runs a program in the program's folder."""
     command = [*MACHINES[target].emulator, *words, "-display", "none", "-serial", "null", "-monitor", "none", "-semihosting-config",
                "enable=on,target=native", "-kernel", program]
-    done = subprocess.run([str(word) for word in command], cwd=program.parent, timeout=seconds)
+    done = subprocess.run([str(word) for word in command], cwd=program.parent, timeout=seconds, stdout=subprocess.PIPE)
     if done.returncode != 0:
         sys.exit(f"{target}: {program.parent.name} ended with {done.returncode}")
+    return done.stdout
+
+
+def emulated(target, program, words=(), seconds=1800):
+    """What a program emits."""
+    emitted = program.parent / "emitted"
+    emitted.unlink(missing_ok=True)
+    run_emulator(target, program, words, seconds)
     return emitted.read_bytes()
+
+
+def printed(target, program, seconds=60):
+    """What a hosted program prints."""
+    return run_emulator(target, program, (), seconds)

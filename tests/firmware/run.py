@@ -1,9 +1,9 @@
 #!/usr/bin/env python3
-"""Holds the archives of `make firmware` against the x86-64 archive, on every processor as the emulator has it: run.py [CALLS] makes
-so many calls on each, every exported call accepted and refused, and compares what each call returned and wrote. Then the replay list
+"""Holds the archives of `make firmware` against the x86-64 archive, on every processor as the emulator has it: run.py [CALLS]
+[TARGET...] makes so many calls on each, half of them by the archive for speed and half by that for size, every exported call accepted
+and refused, and compares what each call returned and wrote. Then the replay list
 is run on each, and examples/firmware.c on those with a C library at hand. Errors that are put in must be found."""
 
-import os
 import re
 import struct
 import subprocess
@@ -16,11 +16,16 @@ ROOT = HERE.parent.parent
 sys.path[:0] = [str(HERE), str(ROOT / "firmware")]
 import errors  # noqa: E402
 import replay  # noqa: E402
-from machines import ARCHIVES, MACHINES, WORK, built, emulated, want_tools  # noqa: E402
-from make_archives import FUSED, PURPOSES  # noqa: E402
+from machines import ARCHIVES, MACHINES, WORK, built, emulated, printed, want_tools  # noqa: E402
+from make_archives import FOLDERS, FUSED  # noqa: E402
 
 RECORD = struct.Struct("<QQQ")
 SOURCES = ["calls.c", "inputs.c"]
+EXAMPLES = ["cortex-m4f", "cortex-m33", "cortex-m7"]
+ERROR_CALLS = 20000
+
+# The inputs of the archive for speed and of that for size.
+SEEDS = {"speed": 1, "size": 2}
 
 # By what each call must have been refused at least once, beside being accepted.
 GRID = [1, 2, 3, 4]
@@ -42,12 +47,12 @@ def names():
     return re.findall(r"^uint64_t hullashlar_(\w+)\(", (ROOT / "include" / "hullashlar.h").read_text(), re.M)
 
 
-def here(calls):
+def here(calls, seed):
     """The records of the x86-64 archive."""
     WORK.mkdir(parents=True, exist_ok=True)
     program = WORK / "here"
     archive = ROOT / "target" / "staticlib" / "libhullashlar.a"
-    words = ["gcc", "-std=gnu11", "-Wall", "-Wextra", "-Werror", "-O2", f"-DCALLS={calls}", f"-I{ROOT / 'include'}", f"-I{HERE}"]
+    words = ["gcc", "-std=gnu11", "-Wall", "-Wextra", "-Werror", "-O2", *inputs(calls, seed), f"-I{ROOT / 'include'}", f"-I{HERE}"]
     subprocess.run([*words, *[str(HERE / source) for source in [*SOURCES, "here.c"]], str(archive), "-o", str(program)], check=True)
     return subprocess.run([str(program)], check=True, stdout=subprocess.PIPE).stdout
 
@@ -73,9 +78,12 @@ def differing(records, expected):
     return sum(ours != theirs for ours, theirs in zip(RECORD.iter_unpack(records), RECORD.iter_unpack(expected)))
 
 
-def records_of(target, name, archive, calls, words=()):
-    program = built(target, name, SOURCES, [archive], [f"-DCALLS={calls}", *words])
-    return emulated(target, program)
+def inputs(calls, seed):
+    return [f"-DCALLS={calls}", f"-DSEED={seed}"]
+
+
+def records_of(target, name, archive, words):
+    return emulated(target, built(target, name, SOURCES, [archive], words))
 
 
 def hold_unfused(target, archive):
@@ -88,22 +96,51 @@ def hold_unfused(target, archive):
 
 
 def compare(target, expected, calls):
-    for purpose in PURPOSES:
-        archive = ARCHIVES / target / purpose / "libhullashlar.a"
+    """Compares both archives of a target, each on inputs of its own; gives those with a difference."""
+    for purpose, seed in SEEDS.items():
+        archive = ARCHIVES / target / FOLDERS[purpose] / "libhullashlar.a"
         hold_unfused(target, archive)
-        count = differing(records_of(target, f"calls_{purpose or 'speed'}", archive, calls), expected)
-        print(f"{target}, for {purpose or 'speed'}: {len(expected) // RECORD.size:,} calls, {count} differ", flush=True)
+        count = differing(records_of(target, f"calls_{purpose}", archive, inputs(calls, seed)), expected[purpose])
+        print(f"{target}, for {purpose}: {len(expected[purpose]) // RECORD.size:,} calls, {count} differ", flush=True)
         if count:
-            yield f"{target} for {purpose or 'speed'}"
+            yield f"{target} for {purpose}"
+
+
+def hold_the_example(target):
+    """examples/firmware.c prints on the processor what it prints on x86-64."""
+    source = ROOT / "examples" / "firmware.c"
+    words = [f'-DSHEET="{ROOT / "examples" / "gain.sheet"}"']
+    program = built(target, "example", [source], [ARCHIVES / target / "libhullashlar.a"], words, hosted=True)
+    if printed(target, program) != (ROOT / "examples" / "firmware_expected.txt").read_bytes():
+        sys.exit(f"{target}: examples/firmware.c prints something else")
+    print(f"{target}: examples/firmware.c prints what it prints on x86-64")
+
+
+def hold_errors_found():
+    given = inputs(ERROR_CALLS, SEEDS["speed"])
+    expected = here(ERROR_CALLS, SEEDS["speed"])
+
+    def differences(target, name, archive, words):
+        return differing(records_of(target, name, archive, [*given, *words]), expected)
+
+    for error, count in errors.tried(differences):
+        print(f"{error}: {count:,} of {len(expected) // RECORD.size:,} calls differ", flush=True)
+        if not count:
+            sys.exit(f"{error}: not found")
 
 
 def main():
-    calls = int(sys.argv[1]) if len(sys.argv) > 1 else 500000
+    calls = (int(sys.argv[1]) if len(sys.argv) > 1 else 500000) // len(SEEDS)
     targets = sys.argv[2:] or list(MACHINES)
     want_tools()
-    expected = here(calls)
-    hold_reached(expected)
+    expected = {purpose: here(calls, seed) for purpose, seed in SEEDS.items()}
+    hold_reached(b"".join(expected.values()))
     wrong = [name for target in targets for name in compare(target, expected, calls)]
+    replay.hold(targets)
+    for target in targets:
+        if target in EXAMPLES:
+            hold_the_example(target)
+    hold_errors_found()
     if wrong:
         sys.exit(f"differences: {', '.join(wrong)}")
 

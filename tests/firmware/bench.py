@@ -1,0 +1,70 @@
+#!/usr/bin/env python3
+"""Measures the archives of `make firmware` on every processor as the emulator has it, and prints the tables of docs/FIRMWARE.md: the
+bytes of each call, with all that it calls in the archive; its stack at the deepest, painted and looked at in every call that the
+comparison makes; its instructions on an input of a usual size, as the emulator counts them."""
+
+import struct
+import subprocess
+import sys
+from pathlib import Path
+
+HERE = Path(__file__).resolve().parent
+ROOT = HERE.parent.parent
+sys.path[:0] = [str(HERE), str(ROOT / "firmware")]
+from machines import ARCHIVES, MACHINES, WORK, built, emulated, want_tools  # noqa: E402
+from run import RECORD, SOURCES, names  # noqa: E402
+
+STACK_CALLS = 20000
+COUNTED = ["-icount", "shift=0"]
+
+# How many nanoseconds a tick of a Cortex-M's timer takes on its board.
+TICKS = {"cortex-m0plus": 40, "cortex-m4f": 40, "cortex-m33": 50, "cortex-m7": 40}
+
+
+def code_bytes(target, archive, name):
+    """The bytes of a call's code and of all that it calls in the archive."""
+    machine, linked = MACHINES[target], WORK / target / "linked.o"
+    entry = f"hullashlar_{name}"
+    subprocess.run([machine.prefix + "gcc", *machine.words, "-nostdlib", "-r", "-Wl,--gc-sections", f"-Wl,-e,{entry}", f"-Wl,-u,{entry}",
+                    str(archive), "-o", str(linked)], check=True)
+    sizes = subprocess.run([machine.prefix + "size", str(linked)], check=True, stdout=subprocess.PIPE, text=True).stdout
+    return int(sizes.splitlines()[1].split()[0])
+
+
+def deepest(target, archive):
+    """The deepest stack of each call."""
+    program = built(target, "stacks", SOURCES, [archive], ["-DSTACKS", f"-DCALLS={STACK_CALLS}"])
+    found = [0] * len(names())
+    for call, _, depth in RECORD.iter_unpack(emulated(target, program)):
+        found[call] = max(found[call], depth)
+    return found
+
+
+def counted(target, archive):
+    """The instructions of each call on an input of a usual size."""
+    program = built(target, "counts", ["counts.c", "inputs.c"], [archive], [f"-DTICK={TICKS.get(target, 1)}"])
+    return [each for each, in struct.iter_unpack("<Q", emulated(target, program, COUNTED))]
+
+
+def table(title, columns):
+    """A table with a row for each call and a column for each target."""
+    print(f"\n{title}\n\n| Call | {' | '.join(columns)} |\n|---|{'--:|' * len(columns)}")
+    for number, name in enumerate(names()):
+        print(f"| `{name}` | {' | '.join(f'{column[number]:,}' for column in columns.values())} |")
+
+
+def main():
+    targets = sys.argv[1:] or list(MACHINES)
+    want_tools()
+    small = {target: ARCHIVES / target / "size" / "libhullashlar.a" for target in targets}
+    fast = {target: ARCHIVES / target / "libhullashlar.a" for target in targets}
+    for target in targets:
+        (WORK / target).mkdir(parents=True, exist_ok=True)
+    table("Bytes of code, for size:", {target: [code_bytes(target, small[target], name) for name in names()] for target in targets})
+    table("Stack, for size:", {target: deepest(target, small[target]) for target in targets})
+    table("Instructions, for size:", {target: counted(target, small[target]) for target in targets})
+    table("Instructions, for speed:", {target: counted(target, fast[target]) for target in targets})
+
+
+if __name__ == "__main__":
+    main()
