@@ -39,6 +39,19 @@ MADE_WITH = {"cortex-m7": ["-Xclang", "-target-feature", "-Xclang", "+slowfpvmlx
 PURPOSES = {"speed": ("-O3", ""), "size": ("-Os", " optsize")}
 FOLDERS = {"speed": "", "size": "size"}
 
+# The doubles of processors that have none: the crate of our own, and for each of the compiler's helpers the call of ours that stands in
+# its place. A comparison of Arm's says 1 or 0, as ours do; those of RISC-V say less, equal or greater, and firmware/comparisons.c makes
+# them of ours.
+DOUBLES = "hullashlar_doubles"
+ARM = {f"__aeabi_{helper}": f"hullashlar_soft_{ours}" for helper, ours in {
+    "dadd": "add", "dsub": "sub", "dmul": "mul", "ddiv": "div", "dcmplt": "lt", "dcmple": "le", "dcmpeq": "eq", "dcmpgt": "gt",
+    "dcmpge": "ge", "dcmpun": "un"}.items()}
+RISC_V = {f"__{helper}": f"hullashlar_soft_{ours}" for helper, ours in {
+    "adddf3": "add", "subdf3": "sub", "muldf3": "mul", "divdf3": "div", "ltdf2": "ltdf2", "ledf2": "ledf2", "eqdf2": "eqdf2",
+    "nedf2": "eqdf2", "gtdf2": "gtdf2", "gedf2": "gedf2", "unorddf2": "un"}.items()}
+HELPERS = {"cortex-m0plus": ARM, "cortex-m4f": ARM, "cortex-m33": ARM, "rv32imac": RISC_V}
+HELPER = re.compile(r"\b__(aeabi_d\w+|\w+df\w*)\b")
+
 # The words of a function's attributes begin so.
 ATTRIBUTES = re.compile(r"^(attributes #\d+ = \{)", re.M)
 
@@ -65,20 +78,56 @@ def assemble(listing, target, code):
     run([*words, "-c", "-x", "assembler", "-", "-o", code], input=listing, text=True)
 
 
-def compiled(text, target, purpose, code):
-    """The objects that make a module run on a target: its own, at the path that is given."""
+def own_doubles(listing, target):
+    """The listing with our doubles in place of the compiler's; a helper that has none of ours ends the run."""
+    ours = HELPERS[target]
+    unknown = sorted({name.group() for name in HELPER.finditer(listing)} - set(ours))
+    if unknown:
+        sys.exit(f"{target}: doubles that are not ours: {' '.join(unknown)}")
+    return HELPER.sub(lambda name: ours[name.group()], listing)
+
+
+def compiled(text, target, purpose, code, own=True):
+    """A module's object for a target, at the path that is given, with our doubles or with the compiler's."""
     listing = listing_of(text, target, purpose)
     hold_unfused(target, listing)
+    assemble(own_doubles(listing, target) if own and target in HELPERS else listing, target, code)
+    return code
+
+
+def doubles_of(text, target, purpose, folder):
+    """The objects of our doubles for a target that has none; they use no double themselves."""
+    code = folder / f"{DOUBLES}.o"
+    listing = listing_of(text, target, purpose)
+    if HELPER.search(listing):
+        sys.exit(f"{target}: our doubles use the compiler's {HELPER.search(listing).group()}")
     assemble(listing, target, code)
-    return [code]
+    if HELPERS[target] is ARM:
+        return [code]
+    comparisons = folder / "comparisons.o"
+    words = [tool("clang"), *TARGETS[target], "--no-default-config", "-Werror", "-ffreestanding", "-ffunction-sections", "-Os"]
+    run([*words, "-c", Path(__file__).resolve().parent / "comparisons.c", "-o", comparisons])
+    return [code, comparisons]
 
 
-def make_archive(text, target, purpose):
-    folder = OUT / target / FOLDERS[purpose]
-    folder.mkdir(parents=True, exist_ok=True)
+def make_archive(folder, objects):
     archive = folder / f"lib{CRATE}.a"
-    run([tool("llvm-ar"), "rcsD", "--format=gnu", archive, *compiled(text, target, purpose, folder / f"{CRATE}.o")])
+    run([tool("llvm-ar"), "rcsD", "--format=gnu", archive, *objects])
     print(f"{archive.relative_to(ROOT)}: {archive.stat().st_size:,} bytes")
+
+
+def make_archives(text, doubles, target):
+    """The archives of a target, for speed and for size, and where it has no doubles those with the compiler's own."""
+    shutil.rmtree(OUT / target, ignore_errors=True)
+    for purpose in PURPOSES:
+        folder, plain = OUT / target / FOLDERS[purpose], OUT / target / "plain" / FOLDERS[purpose]
+        folder.mkdir(parents=True, exist_ok=True)
+        objects = [compiled(text, target, purpose, folder / f"{CRATE}.o")]
+        if target in HELPERS:
+            plain.mkdir(parents=True, exist_ok=True)
+            make_archive(plain, [compiled(text, target, purpose, plain / f"{CRATE}.o", own=False)])
+            objects += doubles_of(doubles, target, purpose, folder)
+        make_archive(folder, objects)
 
 
 def main():
@@ -87,10 +136,9 @@ def main():
     if unknown:
         sys.exit(f"make_archives.py TARGET..., of {' '.join(TARGETS)}; not {' '.join(unknown)}")
     text = of_archive(CRATE)
+    doubles = of_archive(DOUBLES) if set(targets) & set(HELPERS) else ""
     for target in targets:
-        shutil.rmtree(OUT / target, ignore_errors=True)
-        for purpose in PURPOSES:
-            make_archive(text, target, purpose)
+        make_archives(text, doubles, target)
 
 
 if __name__ == "__main__":

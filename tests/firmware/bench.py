@@ -12,10 +12,13 @@ HERE = Path(__file__).resolve().parent
 ROOT = HERE.parent.parent
 sys.path[:0] = [str(HERE), str(ROOT / "firmware")]
 from machines import ARCHIVES, MACHINES, WORK, built, emulated, want_tools  # noqa: E402
+from make_archives import HELPERS  # noqa: E402
 from run import RECORD, SOURCES, names  # noqa: E402
 
 STACK_CALLS = 20000
 COUNTED = ["-icount", "shift=0"]
+
+OPERATIONS = ["ADD", "SUB", "MUL", "DIV", "LT"]
 
 # How many nanoseconds a tick of a Cortex-M's timer takes on its board.
 TICKS = {"cortex-m0plus": 40, "cortex-m4f": 40, "cortex-m33": 50, "cortex-m7": 40}
@@ -46,6 +49,28 @@ def counted(target, archive):
     return [each for each, in struct.iter_unpack("<Q", emulated(target, program, COUNTED))]
 
 
+def operations(target, archive, names):
+    """The instructions of each operation on doubles, by the functions of these names."""
+    words = [f"-D{operation}={name}" for operation, name in zip(OPERATIONS, names)]
+    program = built(target, "operations", ["operations.c", "inputs.c"], [archive], [*words, f"-DTICK={TICKS.get(target, 1)}"])
+    return [each for each, in struct.iter_unpack("<Q", emulated(target, program, COUNTED))]
+
+
+def doubles_table(targets):
+    """Our doubles beside the compiler's, where the processor has none: each operation, and two calls that are made of them."""
+    print(f"\nDoubles in whole numbers:\n\n| Target | Doubles | {' | '.join(map(str.lower, OPERATIONS))} | quick_query | build |")
+    print(f"|---|---|{'--:|' * (len(OPERATIONS) + 2)}")
+    for target in targets:
+        helpers = {ours: helper for helper, ours in HELPERS[target].items()}
+        ours = [f"hullashlar_soft_{operation.lower()}" for operation in OPERATIONS]
+        theirs = [helpers.get(name) or helpers["hullashlar_soft_ltdf2"] for name in ours]
+        for whose, functions, folder in [("ours", ours, ""), ("libgcc's", theirs, "plain")]:
+            archive = ARCHIVES / target / folder / "libhullashlar.a"
+            calls = dict(zip(names(), counted(target, archive)))
+            cells = [*operations(target, archive, functions), calls["quick_query"], calls["build"]]
+            print(f"| {target} | {whose} | {' | '.join(f'{cell:,}' for cell in cells)} |")
+
+
 def table(title, columns):
     """A table with a row for each call and a column for each target."""
     print(f"\n{title}\n\n| Call | {' | '.join(columns)} |\n|---|{'--:|' * len(columns)}")
@@ -61,9 +86,12 @@ def main():
     for target in targets:
         (WORK / target).mkdir(parents=True, exist_ok=True)
     table("Bytes of code, for size:", {target: [code_bytes(target, small[target], name) for name in names()] for target in targets})
-    table("Stack, for size:", {target: deepest(target, small[target]) for target in targets})
+    table("Bytes of code, for speed:", {target: [code_bytes(target, fast[target], name) for name in names()] for target in targets})
+    stacks = {target: map(max, deepest(target, small[target]), deepest(target, fast[target])) for target in targets}
+    table("Bytes of stack, of both the deeper:", {target: list(column) for target, column in stacks.items()})
     table("Instructions, for size:", {target: counted(target, small[target]) for target in targets})
     table("Instructions, for speed:", {target: counted(target, fast[target]) for target in targets})
+    doubles_table([target for target in targets if target in HELPERS])
 
 
 if __name__ == "__main__":

@@ -1,16 +1,26 @@
 """Errors that the comparison must find: operations fused, subnormal numbers flushed to zero, another rounding. `make firmware` must
-refuse the first by itself, and the line of docs/FIRMWARE.md that looks at the settings must see the others."""
+refuse the first by itself, objdump must find it, and the line of docs/FIRMWARE.md that looks at the settings must see the others."""
 
 import re
+import subprocess
 import sys
 
 import make_archives
 import module
-from machines import ARCHIVES, WORK, built, emulated
+from machines import ARCHIVES, MACHINES, WORK, built, emulated
 
 # The processors that compute doubles themselves, and those of them that can flush.
 WITH_DOUBLES = ["cortex-m7", "aarch64", "rv32imafdc", "rv64gc"]
 FLUSHING = ["cortex-m7", "aarch64"]
+
+
+def hold_unfused(target, code):
+    """No instruction of an archive or an object fuses two operations, as the target's own objdump reads it."""
+    words = [MACHINES[target].prefix + "objdump", "-d", str(code)]
+    listing = subprocess.run(words, check=True, stdout=subprocess.PIPE, text=True).stdout
+    if not re.search(r"\t\w", listing):
+        sys.exit(f"{target}: nothing was disassembled")
+    make_archives.hold_unfused(target, listing)
 
 
 def refused(check, *given):
@@ -23,7 +33,7 @@ def refused(check, *given):
 
 
 def contracted(target):
-    """An archive's code of the module with leave to fuse, which is neither refused as text nor as a listing here."""
+    """The code of the module with leave to fuse, once it has been refused as text, as a listing and as an object."""
     text = re.sub(r"= (fadd|fsub|fmul) double", r"= \1 contract double", (ARCHIVES / "hullashlar.ll").read_text())
     listing = make_archives.listing_of(text, target, "speed")
     if not refused(module.hold_to_the_rules, "hullashlar", text):
@@ -32,6 +42,8 @@ def contracted(target):
         sys.exit(f"{target}: fused instructions were not refused")
     code = WORK / target / "contracted.o"
     make_archives.assemble(listing, target, code)
+    if not refused(hold_unfused, target, code):
+        sys.exit(f"{target}: fused instructions were not found by objdump")
     return code
 
 

@@ -11,10 +11,11 @@ ROOT = HERE.parent.parent
 ARCHIVES = ROOT / "target" / "firmware"
 WORK = ROOT / "target" / "firmware-test"
 
-SOURCE_WORDS = ["-std=gnu11", "-Wall", "-Wextra", "-Werror", "-O2", "-ffreestanding", "-ffunction-sections", "-fno-tree-loop-distribute-patterns",
-                f"-I{ROOT / 'include'}", f"-I{HERE}"]
+SOURCE_WORDS = ["-std=gnu11", "-Wall", "-Wextra", "-Werror", "-O2", "-ffreestanding", "-ffunction-sections",
+                "-fno-tree-loop-distribute-patterns", f"-I{ROOT / 'include'}", f"-I{HERE}"]
 LINK_WORDS = ["-nostdlib", "-static", "-Wl,--gc-sections", "-Wl,--no-warn-rwx-segments", "-Wl,--build-id=none", "-Wl,-z,noexecstack",
               "-T", HERE / "bare.ld"]
+NEWLIB = ["-Wl,--start-group", "-lc", "-lrdimon", "-lgcc", "-Wl,--end-group"]
 PACKAGES = "gcc-arm-none-eabi libnewlib-arm-none-eabi gcc-aarch64-linux-gnu gcc-riscv64-unknown-elf qemu-system-arm qemu-system-misc"
 
 
@@ -65,7 +66,7 @@ def built(target, name, sources, objects, words=(), hosted=False):
     program.parent.mkdir(parents=True, exist_ok=True)
     code, data = machine.addresses
     places = [f"-Wl,--defsym=code_start={code:#x}", f"-Wl,--defsym=data_start={data:#x}"]
-    layer, library = ("example.c", ["-Wl,--start-group", "-lc", "-lrdimon", "-lgcc", "-Wl,--end-group"]) if hosted else ("bare.c", machine.library)
+    layer, library = ("example.c", NEWLIB) if hosted else ("bare.c", machine.library)
     command = [machine.prefix + "gcc", *machine.words, *SOURCE_WORDS, *words, *LINK_WORDS, *places,
                *[HERE / source for source in [machine.start, layer, *sources]], *objects, *library, "-o", program]
     subprocess.run([str(word) for word in command], check=True)

@@ -1,8 +1,9 @@
 #!/usr/bin/env python3
 """Holds the archives of `make firmware` against the x86-64 archive, on every processor as the emulator has it: run.py [CALLS]
 [TARGET...] makes so many calls on each, half of them by the archive for speed and half by that for size, every exported call accepted
-and refused, and compares what each call returned and wrote. Then the replay list
-is run on each, and examples/firmware.c on those with a C library at hand. Errors that are put in must be found."""
+and refused, and compares what each call returned and wrote. Where the processor has no doubles, ours are compared pair by pair with
+those of x86-64, and it is said what the compiler's would give. Then the replay list is run on each, and examples/firmware.c on those
+with a C library at hand. Errors that are put in must be found."""
 
 import re
 import struct
@@ -17,10 +18,11 @@ sys.path[:0] = [str(HERE), str(ROOT / "firmware")]
 import errors  # noqa: E402
 import replay  # noqa: E402
 from machines import ARCHIVES, MACHINES, WORK, built, emulated, printed, want_tools  # noqa: E402
-from make_archives import FOLDERS, FUSED  # noqa: E402
+from make_archives import FOLDERS, HELPERS  # noqa: E402
 
 RECORD = struct.Struct("<QQQ")
 SOURCES = ["calls.c", "inputs.c"]
+PAIR_SOURCES = ["pairs.c", "inputs.c"]
 EXAMPLES = ["cortex-m4f", "cortex-m33", "cortex-m7"]
 ERROR_CALLS = 20000
 
@@ -47,28 +49,31 @@ def names():
     return re.findall(r"^uint64_t hullashlar_(\w+)\(", (ROOT / "include" / "hullashlar.h").read_text(), re.M)
 
 
-def here(calls, seed):
-    """The records of the x86-64 archive."""
+def here(sources, words):
+    """What a program emits on x86-64, by its archive."""
     WORK.mkdir(parents=True, exist_ok=True)
     program = WORK / "here"
     archive = ROOT / "target" / "staticlib" / "libhullashlar.a"
-    words = ["gcc", "-std=gnu11", "-Wall", "-Wextra", "-Werror", "-O2", *inputs(calls, seed), f"-I{ROOT / 'include'}", f"-I{HERE}"]
-    subprocess.run([*words, *[str(HERE / source) for source in [*SOURCES, "here.c"]], str(archive), "-o", str(program)], check=True)
+    words = ["gcc", "-std=gnu11", "-Wall", "-Wextra", "-Werror", "-O2", *words, f"-I{ROOT / 'include'}", f"-I{HERE}"]
+    subprocess.run([*words, *[str(HERE / source) for source in [*sources, "here.c"]], str(archive), "-o", str(program)], check=True)
     return subprocess.run([str(program)], check=True, stdout=subprocess.PIPE).stdout
+
+
+def refusal(name, answer):
+    """The number that a call refused by, and 0 where it did not."""
+    if name != "surface":
+        return answer
+    return answer - REFUSED_PATTERN if answer & REFUSED_PATTERN == REFUSED_PATTERN else 0
 
 
 def hold_reached(records):
     """Every call of the header was accepted, and refused by each of its numbers."""
-    reached = Counter()
-    for call, answer, _ in RECORD.iter_unpack(records):
-        name = names()[call]
-        pattern = name == "surface"
-        refused = answer - REFUSED_PATTERN if pattern and answer & REFUSED_PATTERN == REFUSED_PATTERN else 0 if pattern else answer
-        reached[name, refused] += 1
-    missing = [f"{name} {number}" for name in names() for number in [0, *REFUSALS.get(name, [99])] if not reached[name, number]]
+    calls = names()
+    reached = Counter((calls[call], refusal(calls[call], answer)) for call, answer, _ in RECORD.iter_unpack(records))
+    missing = [f"{name} {number}" for name in calls for number in [0, *REFUSALS.get(name, [99])] if not reached[name, number]]
     if missing:
         sys.exit(f"not reached: {', '.join(missing)}")
-    print(f"x86-64: {reached.total():,} calls of {len(names())}, each accepted and refused by every number of its list")
+    print(f"x86-64: {reached.total():,} calls of {len(calls)}, each accepted and refused by every number of its list")
 
 
 def differing(records, expected):
@@ -86,24 +91,31 @@ def records_of(target, name, archive, words):
     return emulated(target, built(target, name, SOURCES, [archive], words))
 
 
-def hold_unfused(target, archive):
-    """No instruction of the archive fuses two operations, as the target's own objdump reads it."""
-    listing = subprocess.run([MACHINES[target].prefix + "objdump", "-d", str(archive)], check=True, stdout=subprocess.PIPE, text=True).stdout
-    if not re.search(r"\t\w", listing):
-        sys.exit(f"{target}: nothing was disassembled")
-    if FUSED.search(listing):
-        sys.exit(f"{target}: a fused instruction: {FUSED.search(listing).group().strip()}")
-
-
 def compare(target, expected, calls):
     """Compares both archives of a target, each on inputs of its own; gives those with a difference."""
     for purpose, seed in SEEDS.items():
         archive = ARCHIVES / target / FOLDERS[purpose] / "libhullashlar.a"
-        hold_unfused(target, archive)
+        errors.hold_unfused(target, archive)
         count = differing(records_of(target, f"calls_{purpose}", archive, inputs(calls, seed)), expected[purpose])
         print(f"{target}, for {purpose}: {len(expected[purpose]) // RECORD.size:,} calls, {count} differ", flush=True)
         if count:
             yield f"{target} for {purpose}"
+
+
+def pairs_of(target, name, count, objects, words):
+    return emulated(target, built(target, name, PAIR_SOURCES, objects, [f"-DPAIRS={count}", *words]))
+
+
+def compare_doubles(target, calls, expected):
+    """Compares our doubles with those of x86-64, pair by pair, and says what the compiler's own would have given; gives the target
+    where ours differ."""
+    pairs, archives = here(PAIR_SOURCES, [f"-DPAIRS={calls}"]), ARCHIVES / target
+    ours = differing(pairs_of(target, "pairs", calls, [archives / "libhullashlar.a"], ["-DOURS"]), pairs)
+    theirs = differing(pairs_of(target, "plain_pairs", calls, [], []), pairs)
+    plain = records_of(target, "plain_calls", archives / "plain" / "libhullashlar.a", inputs(calls, SEEDS["speed"]))
+    print(f"{target}, doubles: {calls:,} pairs, {ours} differ; of the compiler's {theirs}, and with these in place of ours "
+          f"{differing(plain, expected)} of {len(expected) // RECORD.size:,} calls", flush=True)
+    return [f"{target}'s doubles"] if ours else []
 
 
 def hold_the_example(target):
@@ -118,7 +130,7 @@ def hold_the_example(target):
 
 def hold_errors_found():
     given = inputs(ERROR_CALLS, SEEDS["speed"])
-    expected = here(ERROR_CALLS, SEEDS["speed"])
+    expected = here(SOURCES, given)
 
     def differences(target, name, archive, words):
         return differing(records_of(target, name, archive, [*given, *words]), expected)
@@ -133,9 +145,10 @@ def main():
     calls = (int(sys.argv[1]) if len(sys.argv) > 1 else 500000) // len(SEEDS)
     targets = sys.argv[2:] or list(MACHINES)
     want_tools()
-    expected = {purpose: here(calls, seed) for purpose, seed in SEEDS.items()}
+    expected = {purpose: here(SOURCES, inputs(calls, seed)) for purpose, seed in SEEDS.items()}
     hold_reached(b"".join(expected.values()))
     wrong = [name for target in targets for name in compare(target, expected, calls)]
+    wrong += [name for target in targets if target in HELPERS for name in compare_doubles(target, calls, expected["speed"])]
     replay.hold(targets)
     for target in targets:
         if target in EXAMPLES:
