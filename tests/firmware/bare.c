@@ -66,10 +66,32 @@ void fault(void)
     leave(2);
 }
 
+/* Sets the float settings of an error that the test must find, where FLUSH_TO_ZERO or ROUND_UP asks for it. */
+static void set_float_settings(void)
+{
+#if defined(FLUSH_TO_ZERO) || defined(ROUND_UP)
+#ifdef FLUSH_TO_ZERO
+    const uintptr_t settings = UINT32_C(1) << 24;
+#else
+    const uintptr_t settings = UINT32_C(1) << 22;
+#endif
+#if defined(__aarch64__)
+    __asm volatile("msr fpcr, %0" : : "r"(settings));
+#elif defined(__riscv_flen) && defined(ROUND_UP)
+    (void)settings;
+    __asm volatile("fsrmi 3");
+#elif defined(__ARM_FP) && (__ARM_FP & 8)
+    __asm volatile("vmsr fpscr, %0" : : "r"(settings));
+#else
+#error "this processor has no such setting"
+#endif
+#endif
+}
+
 void started(void);
 void started(void)
 {
-#include "float_settings.h"
+    set_float_settings();
     const int status = program();
     hand_over();
     leave((uintptr_t)status);

@@ -72,25 +72,31 @@ def doubles_table(targets):
 
 
 def table(title, columns):
-    """A table with a row for each call and a column for each target."""
-    print(f"\n{title}\n\n| Call | {' | '.join(columns)} |\n|---|{'--:|' * len(columns)}")
+    """A table with a row for each call and a column for each target, of one number or of two."""
+    print(f"\n{title}\n\n| Call | {' | '.join(f'`{target}`' for target in columns)} |\n|---|{'--:|' * len(columns)}")
     for number, name in enumerate(names()):
-        print(f"| `{name}` | {' | '.join(f'{column[number]:,}' for column in columns.values())} |")
+        cells = [" / ".join(f"{figure:,}" for figure in column[number]) for column in columns.values()]
+        print(f"| `{name}` | {' | '.join(cells)} |")
+
+
+def of_both(measure, targets):
+    """What is measured of each call, by the archive for size and by that for speed."""
+    archives = {target: [ARCHIVES / target / folder / "libhullashlar.a" for folder in ["size", ""]] for target in targets}
+    return {target: list(zip(*[measure(target, archive) for archive in archives[target]])) for target in targets}
+
+
+def all_code_bytes(target, archive):
+    return [code_bytes(target, archive, name) for name in names()]
 
 
 def main():
     targets = sys.argv[1:] or list(MACHINES)
     want_tools()
-    small = {target: ARCHIVES / target / "size" / "libhullashlar.a" for target in targets}
-    fast = {target: ARCHIVES / target / "libhullashlar.a" for target in targets}
     for target in targets:
         (WORK / target).mkdir(parents=True, exist_ok=True)
-    table("Bytes of code, for size:", {target: [code_bytes(target, small[target], name) for name in names()] for target in targets})
-    table("Bytes of code, for speed:", {target: [code_bytes(target, fast[target], name) for name in names()] for target in targets})
-    stacks = {target: map(max, deepest(target, small[target]), deepest(target, fast[target])) for target in targets}
-    table("Bytes of stack, of both the deeper:", {target: list(column) for target, column in stacks.items()})
-    table("Instructions, for size:", {target: counted(target, small[target]) for target in targets})
-    table("Instructions, for speed:", {target: counted(target, fast[target]) for target in targets})
+    table("Bytes of code, for size / for speed:", of_both(all_code_bytes, targets))
+    table("Bytes of stack, for size / for speed:", of_both(deepest, targets))
+    table("Instructions, for size / for speed:", of_both(counted, targets))
     doubles_table([target for target in targets if target in HELPERS])
 
 
