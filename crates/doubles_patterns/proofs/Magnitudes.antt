@@ -63,7 +63,6 @@ units-some p h g =
     subst (λ (x : ℕ). 0 < x) (sym (units-is p (exponent-of p) refl))
     (mul-pos (some-digits p (exponent-of p) (p - exponent-of p * leading) (fields-of p (exponent-of p) h refl) g) (pow-pos (exponent-of p)))
 
-
 -- ---- the digits with the leading one in its place: a normal number has it there
 one-more : (x : ℕ) → 0 < x → x + 51 ≡ x - 1 + 52
 one-more x h = omega arith

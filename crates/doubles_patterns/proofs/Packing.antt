@@ -239,4 +239,3 @@ unfolding pattern
 pattern-same f a b c d B D e =
     ap (λ (z : ℕ). capped f (z * hid f + kept (prec f) a b)) (drop-same (prec f) a b c d B D e)
     ∙ ap (λ (z : ℕ). capped f (drop (prec f) c d * hid f + z)) (kept-same (prec f) a b c d B D e)
-

@@ -159,4 +159,3 @@ at-zero p o h e = go (le-or-lt infinity p)
     go : (infinity ≤ p) ⊎ (p < infinity) → infinity ≤ p
     go (inl x) = x
     go (inr x) = let y = h x in absurd (let q : ⊥ = omega arith in q)
-

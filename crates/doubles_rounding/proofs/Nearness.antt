@@ -122,4 +122,3 @@ module _ (n u v w : ℕ) (near : Near n u v) (some : 0 < v) (W : 0 < w) where
   near-closest =
       let out = either (n / (4 * w)) (n % (4 * w)) w v u near-odd (mod-lt n (four w W)) some near-above near-below (le-or-lt (2 * w) (n % (4 * w))) in
       closest-at n (4 * w) (n / (4 * w)) (n % (4 * w)) (out .0) refl refl (out .1) ∙ sym (out .2)
-

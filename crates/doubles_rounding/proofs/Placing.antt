@@ -140,4 +140,3 @@ standing-lost n v some h =
   where
     less : (a b r : ℕ) → a + r ≡ b → (a ≡ b → ⊥) → a < b
     less a b r e h = omega arith
-

@@ -160,4 +160,3 @@ packed-one s e h = sym (moved s e 1 h ∙ ap (λ (x : ℕ). capped binary64 (x *
   where
     back : (e : ℕ) → e + 1 - 1 ≡ e
     back e = omega arith
-

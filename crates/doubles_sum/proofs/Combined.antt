@@ -179,4 +179,3 @@ module _ (p o e f : ℕ) (a : (e ≡ exponent-of p) × Fields p e (p - e * leadi
         subtracted-pattern p e (p - e * leading) o f (o - f * leading) (e - f) r (a .1) (b .1) meets al h
         ∙ ap (λ (x : ℕ). pattern binary64 (x - (o - f * leading) * 2 ^ f) 1) (sym (units-is p e (a .0)))
         ∙ ap (λ (x : ℕ). pattern binary64 (units-of p - x) 1) (sym (units-is o f (b .0)))
-

@@ -219,4 +219,3 @@ module _ (a b r : ℕ) (small : a < word) (ia : magnitude a ≡ infinity) where
 pub sub-is : (x y z : Float) → z ≡ neg y → toBits binary64 (add binary64 x z) ≡ toBits binary64 (sub binary64 x y)
 unfolding sub
 sub-is x y z h = ap (λ (w : Float). toBits binary64 (add binary64 x w)) h
-

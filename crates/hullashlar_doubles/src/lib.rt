@@ -47,7 +47,11 @@ pub extern "C" fn hullashlar_soft_lt(a: u64, b: u64) -> u32
 pub extern "C" fn hullashlar_soft_le(a: u64, b: u64) -> u32
     ensures { λ r. ⌜ LeExport a b r ⌝ }
 {
-    if doubles_compared::at_most(a, b) { 1 } else { 0 }
+    if doubles_compared::at_most(a, b) {
+        1
+    } else {
+        0
+    }
 }
 
 // 1 where a == b, and else 0.
@@ -71,7 +75,11 @@ pub extern "C" fn hullashlar_soft_gt(a: u64, b: u64) -> u32
 pub extern "C" fn hullashlar_soft_ge(a: u64, b: u64) -> u32
     ensures { λ r. ⌜ GeExport a b r ⌝ }
 {
-    if doubles_compared::at_most(b, a) { 1 } else { 0 }
+    if doubles_compared::at_most(b, a) {
+        1
+    } else {
+        0
+    }
 }
 
 // 1 where one of the two is a NaN, and else 0.
@@ -79,5 +87,9 @@ pub extern "C" fn hullashlar_soft_ge(a: u64, b: u64) -> u32
 pub extern "C" fn hullashlar_soft_un(a: u64, b: u64) -> u32
     ensures { λ r. ⌜ UnExport a b r ⌝ }
 {
-    if doubles_compared::unordered(a, b) { 1 } else { 0 }
+    if doubles_compared::unordered(a, b) {
+        1
+    } else {
+        0
+    }
 }
