@@ -2,13 +2,13 @@
 use mathlib.Core.Path.{_≡_, refl, sym, ap, _∙_}
 use mathlib.Core.Bool.{Bool, true, false, not, _&&_, _||_, Bool·beq, true≢false}
 use mathlib.Core.Logic.{_⊎_, inl, inr}
-use Prim.Native.Nat.{ℕ, _+_, _*_, _/_, _%_, _^_, _≤_, _<_}
+use Prim.Native.Nat.{ℕ, _+_, _*_, _/_, _^_, _≤_, _<_}
 use native.Mathlib.Nat.{zero-mul, mul-comm, mul-assoc, mul-right-comm, mul-pos, eq-or-lt-of-le}
 use native.Mathlib.Omega.{arith}
 use lib.Dec.{ltb, leb, eqb}
 use lib.IntN.{ℤ}
 use lib.Pow.{pow-pos}
-use borrow.Author.Tests.{le-leb, lt-leb, lt-ltb, le-ltb, eq-eqb, ne-eqb, ltb-true, ltb-false, eqb-true, eqb-false}
+use borrow.Author.Tests.{le-leb, lt-leb, lt-ltb, le-ltb, eq-eqb, ne-eqb, ltb-false, eqb-true, eqb-false}
 use lib.Ieee.{Float, nan, inf, fin, binary64, low, up, down, lt, le, eq, below, level, ofBits, isNan}
 use lib.Ieee.Bits.{nanBits-is, nanBits-above}
 use lib.Ieee.Fits.{down-pos}
@@ -49,15 +49,18 @@ eqb-by-order A B X Y p q = go (eqb X Y) refl
 level-by : (s t : Bool) (A B X Y : ℕ) → eqb A B ≡ eqb X Y → eqb A 0 ≡ eqb X 0 → level s A t B ≡ level s X t Y
 level-by s t A B X Y p q = ap (λ (b : Bool). b && (Bool·beq s t || eqb A 0)) p ∙ ap (λ (b : Bool). eqb X Y && (Bool·beq s t || b)) q
 
-lt-opened : (s : Bool) (m : ℕ) (e : ℤ) (t : Bool) (n : ℕ) (d : ℤ) → lt (fin s m e) (fin t n d) ≡ below s (m * up e * down d) t (n * up d * down e)
+lt-opened : (s : Bool) (m : ℕ) (e : ℤ) (t : Bool) (n : ℕ) (d : ℤ)
+    → lt (fin s m e) (fin t n d) ≡ below s (m * up e * down d) t (n * up d * down e)
 unfolding lt
 lt-opened s m e t n d = refl
 
-eq-opened : (s : Bool) (m : ℕ) (e : ℤ) (t : Bool) (n : ℕ) (d : ℤ) → eq (fin s m e) (fin t n d) ≡ level s (m * up e * down d) t (n * up d * down e)
+eq-opened : (s : Bool) (m : ℕ) (e : ℤ) (t : Bool) (n : ℕ) (d : ℤ)
+    → eq (fin s m e) (fin t n d) ≡ level s (m * up e * down d) t (n * up d * down e)
 unfolding eq
 eq-opened s m e t n d = refl
 
-values : (x y : Float) (s : Bool) (X : ℕ) (t : Bool) (Y L : ℕ) → 0 < L → HasValue x s X L → HasValue y t Y L → (lt x y ≡ below s X t Y) × (eq x y ≡ level s X t Y)
+values : (x y : Float) (s : Bool) (X : ℕ) (t : Bool) (Y L : ℕ) → 0 < L → HasValue x s X L → HasValue y t Y L
+    → (lt x y ≡ below s X t Y) × (eq x y ≡ level s X t Y)
 values nan y s X t Y L l h k = absurd h
 values (inf u) y s X t Y L l h k = absurd h
 values (fin u m e) nan s X t Y L l h k = absurd k
@@ -68,11 +71,15 @@ values (fin u m e) (fin v n d) s X t Y L l h k =
     let c = down e * down d in
     let C : 0 < c = mul-pos (down-pos e) (down-pos d) in
     let x : A * L ≡ X * c = mul-right-comm (m * up e) (down d) L ∙ ap (λ (z : ℕ). z * down d) (h .1) ∙ mul-assoc X (down e) (down d) in
-    let y : B * L ≡ Y * c = mul-right-comm (n * up d) (down e) L ∙ ap (λ (z : ℕ). z * down e) (k .1) ∙ mul-assoc Y (down d) (down e) ∙ ap (λ (z : ℕ). Y * z) (mul-comm (down d) (down e)) in
+    let y : B * L ≡ Y * c =
+    mul-right-comm (n * up d) (down e) L ∙ ap (λ (z : ℕ). z * down e) (k .1) ∙ mul-assoc Y (down d) (down e)
+    ∙ ap (λ (z : ℕ). Y * z) (mul-comm (down d) (down e)) in
     let o : 0 * L ≡ 0 * c = zero-mul L ∙ sym (zero-mul c) in (
-      lt-opened u m e v n d ∙ ap (λ (b : Bool). below b A v B) (h .0) ∙ ap (λ (b : Bool). below s A b B) (k .0) ∙ below-scale s t A B c X Y L C l x y,
+      lt-opened u m e v n d ∙ ap (λ (b : Bool). below b A v B) (h .0) ∙ ap (λ (b : Bool). below s A b B) (k .0)
+      ∙ below-scale s t A B c X Y L C l x y,
       eq-opened u m e v n d ∙ ap (λ (b : Bool). level b A v B) (h .0) ∙ ap (λ (b : Bool). level s A b B) (k .0)
-          ∙ level-by s t A B X Y (eqb-by-order A B X Y (less A B c X Y L C l x y) (less B A c Y X L C l y x)) (eqb-by-order A 0 X 0 (less A 0 c X 0 L C l x o) (less 0 A c 0 X L C l o x)),
+          ∙ level-by s t A B X Y (eqb-by-order A B X Y (less A B c X Y L C l x y) (less B A c Y X L C l y x))
+          (eqb-by-order A 0 X 0 (less A 0 c X 0 L C l x o) (less 0 A c 0 X L C l o x)),
     )
 
 -- ---- units are in the patterns' order
@@ -101,8 +108,10 @@ units-some-order p o hp ho = go (le-or-lt 1 p) (le-or-lt 1 o)
 
     go : (1 ≤ p) ⊎ (p < 1) → (1 ≤ o) ⊎ (o < 1) → ltb 0 (units-of p + units-of o) ≡ ltb 0 (p + o)
     go (inl a) y = let h = units-some p hp a in lt-ltb 0 (units-of p + units-of o) (omega arith) ∙ sym (lt-ltb 0 (p + o) (omega arith))
-    go (inr a) (inl b) = let h = units-some o ho b in lt-ltb 0 (units-of p + units-of o) (omega arith) ∙ sym (lt-ltb 0 (p + o) (omega arith))
-    go (inr a) (inr b) = let h = none p a in let k = none o b in le-ltb 0 (units-of p + units-of o) (omega arith) ∙ sym (le-ltb 0 (p + o) (omega arith))
+    go (inr a) (inl b) =
+        let h = units-some o ho b in lt-ltb 0 (units-of p + units-of o) (omega arith) ∙ sym (lt-ltb 0 (p + o) (omega arith))
+    go (inr a) (inr b) =
+        let h = none p a in let k = none o b in le-ltb 0 (units-of p + units-of o) (omega arith) ∙ sym (le-ltb 0 (p + o) (omega arith))
 
 below-units : (s t : Bool) (p o : ℕ) → p < infinity → o < infinity → below s (units-of p) t (units-of o) ≡ below s p t o
 below-units false false p o hp ho = units-order p o hp ho
@@ -113,15 +122,19 @@ below-units true true p o hp ho = units-order o p ho hp
 level-units : (s t : Bool) (p o : ℕ) → p < infinity → o < infinity → level s (units-of p) t (units-of o) ≡ level s p t o
 level-units s t p o hp ho =
     level-by s t (units-of p) (units-of o) p o (eqb-by-order (units-of p) (units-of o) p o (units-order p o hp ho) (units-order o p ho hp))
-    (ap (eqb (units-of p)) (sym units-zero) ∙ eqb-by-order (units-of p) (units-of 0) p 0 (units-order p 0 hp (omega arith)) (units-order 0 p (omega arith) hp))
+    (ap (eqb (units-of p)) (sym units-zero)
+    ∙ eqb-by-order (units-of p) (units-of 0) p 0 (units-order p 0 hp (omega arith)) (units-order 0 p (omega arith) hp))
 
 -- ---- infinities
 inf-fin : (s t : Bool) (y : Float) (Y L o : ℕ) → HasValue y t Y L → o < infinity
-    → (lt (inf s) y ≡ below s infinity t o) × (eq (inf s) y ≡ level s infinity t o) × (lt y (inf s) ≡ below t o s infinity) × (eq y (inf s) ≡ level t o s infinity)
+    → (lt (inf s) y ≡ below s infinity t o) × (eq (inf s) y ≡ level s infinity t o) × (lt y (inf s) ≡ below t o s infinity) ×
+    (eq y (inf s) ≡ level t o s infinity)
 unfolding lt eq
 inf-fin s t nan Y L o h g = absurd h
 inf-fin s t (inf u) Y L o h g = absurd h
-inf-fin s t (fin u n d) Y L o h g = (one s t, ap (λ (b : Bool). b && (Bool·beq s t || eqb infinity 0)) (sym (ne-eqb infinity o (λ e. apart o g e))), two t s, ap (λ (b : Bool). b && (Bool·beq t s || eqb o 0)) (sym (ne-eqb o infinity (λ e. apart o g (sym e)))))
+inf-fin s t (fin u n d) Y L o h g =
+    (one s t, ap (λ (b : Bool). b && (Bool·beq s t || eqb infinity 0)) (sym (ne-eqb infinity o (λ e. apart o g e))), two t s, ap
+    (λ (b : Bool). b && (Bool·beq t s || eqb o 0)) (sym (ne-eqb o infinity (λ e. apart o g (sym e)))))
   where
     apart : (o : ℕ) → o < infinity → infinity ≡ o → ⊥
     apart o g e = omega arith
@@ -155,24 +168,35 @@ compared a b ha hb = go (eq-or-lt-of-le ha) (eq-or-lt-of-le hb)
         → (is-less a b ≡ below (negative a) (magnitude a) (negative b) (magnitude b))
         × (is-equal a b ≡ level (negative a) (magnitude a) (negative b) (magnitude b))
     go (inr x) (inr y) =
-        let v = values (ofBits binary64 a) (ofBits binary64 b) (negative a) (units-of (magnitude a)) (negative b) (units-of (magnitude b)) (2 ^ low binary64) (pow-pos (low binary64)) (value-of a x) (value-of b y) in (
+        let v =
+        values (ofBits binary64 a) (ofBits binary64 b) (negative a) (units-of (magnitude a)) (negative b) (units-of (magnitude b))
+        (2 ^ low binary64) (pow-pos (low binary64)) (value-of a x) (value-of b y) in
+        (
           v .0 ∙ below-units (negative a) (negative b) (magnitude a) (magnitude b) x y,
           v .1 ∙ level-units (negative a) (negative b) (magnitude a) (magnitude b) x y,
         )
     go (inl x) (inl y) =
         let v = inf-inf (negative a) (negative b) in (
           ap (λ (z : Float). lt z (ofBits binary64 b)) (inf-of a x) ∙ ap (lt (inf (negative a))) (inf-of b y) ∙ v .0
-              ∙ ap (λ (z : ℕ). below (negative a) z (negative b) infinity) (sym x) ∙ ap (below (negative a) (magnitude a) (negative b)) (sym y),
+              ∙ ap (λ (z : ℕ). below (negative a) z (negative b) infinity) (sym x)
+              ∙ ap (below (negative a) (magnitude a) (negative b)) (sym y),
           ap (λ (z : Float). eq z (ofBits binary64 b)) (inf-of a x) ∙ ap (eq (inf (negative a))) (inf-of b y) ∙ v .1
-              ∙ ap (λ (z : ℕ). level (negative a) z (negative b) infinity) (sym x) ∙ ap (level (negative a) (magnitude a) (negative b)) (sym y),
+              ∙ ap (λ (z : ℕ). level (negative a) z (negative b) infinity) (sym x)
+              ∙ ap (level (negative a) (magnitude a) (negative b)) (sym y),
         )
     go (inl x) (inr y) =
-        let v = inf-fin (negative a) (negative b) (ofBits binary64 b) (units-of (magnitude b)) (2 ^ low binary64) (magnitude b) (value-of b y) y in (
-          ap (λ (z : Float). lt z (ofBits binary64 b)) (inf-of a x) ∙ v .0 ∙ ap (λ (z : ℕ). below (negative a) z (negative b) (magnitude b)) (sym x),
-          ap (λ (z : Float). eq z (ofBits binary64 b)) (inf-of a x) ∙ v .1 ∙ ap (λ (z : ℕ). level (negative a) z (negative b) (magnitude b)) (sym x),
+        let v =
+        inf-fin (negative a) (negative b) (ofBits binary64 b) (units-of (magnitude b)) (2 ^ low binary64) (magnitude b) (value-of b y) y in
+        (
+          ap (λ (z : Float). lt z (ofBits binary64 b)) (inf-of a x) ∙ v .0
+          ∙ ap (λ (z : ℕ). below (negative a) z (negative b) (magnitude b)) (sym x),
+          ap (λ (z : Float). eq z (ofBits binary64 b)) (inf-of a x) ∙ v .1
+          ∙ ap (λ (z : ℕ). level (negative a) z (negative b) (magnitude b)) (sym x),
         )
     go (inr x) (inl y) =
-        let v = inf-fin (negative b) (negative a) (ofBits binary64 a) (units-of (magnitude a)) (2 ^ low binary64) (magnitude a) (value-of a x) x in (
+        let v =
+        inf-fin (negative b) (negative a) (ofBits binary64 a) (units-of (magnitude a)) (2 ^ low binary64) (magnitude a) (value-of a x) x in
+        (
           ap (lt (ofBits binary64 a)) (inf-of b y) ∙ v .2 ∙ ap (below (negative a) (magnitude a) (negative b)) (sym y),
           ap (eq (ofBits binary64 a)) (inf-of b y) ∙ v .3 ∙ ap (level (negative a) (magnitude a) (negative b)) (sym y),
         )
@@ -191,11 +215,13 @@ nan-right (fin s m e) = (refl, refl)
 module _ (a b : ℕ) where
   pub nan-first : infinity < magnitude a → (false ≡ is-less a b) × (false ≡ is-equal a b)
   nan-first h =
-      (sym (ap (λ (z : Float). lt z (ofBits binary64 b)) (nan-of a h) ∙ nan-left (ofBits binary64 b) .0), sym (ap (λ (z : Float). eq z (ofBits binary64 b)) (nan-of a h) ∙ nan-left (ofBits binary64 b) .1))
+      (sym (ap (λ (z : Float). lt z (ofBits binary64 b)) (nan-of a h) ∙ nan-left (ofBits binary64 b) .0), sym
+      (ap (λ (z : Float). eq z (ofBits binary64 b)) (nan-of a h) ∙ nan-left (ofBits binary64 b) .1))
 
   pub nan-second : infinity < magnitude b → (false ≡ is-less a b) × (false ≡ is-equal a b)
   nan-second h =
-      (sym (ap (lt (ofBits binary64 a)) (nan-of b h) ∙ nan-right (ofBits binary64 a) .0), sym (ap (eq (ofBits binary64 a)) (nan-of b h) ∙ nan-right (ofBits binary64 a) .1))
+      (sym (ap (lt (ofBits binary64 a)) (nan-of b h) ∙ nan-right (ofBits binary64 a) .0), sym
+      (ap (eq (ofBits binary64 a)) (nan-of b h) ∙ nan-right (ofBits binary64 a) .1))
 
 -- ---- as the code has them
 module _ (a b : ℕ) (ha : magnitude a ≤ infinity) (hb : magnitude b ≤ infinity) where
@@ -261,16 +287,19 @@ module _ (a b : ℕ) (ha : magnitude a ≤ infinity) (hb : magnitude b ≤ infin
       go : (t : Bool) → eqb a b ≡ t → t ≡ level (negative a) (magnitude a) (negative b) (magnitude b)
       go true e =
           let x : a ≡ b = eqb-true a b e in
-          sym (ap (λ (y : Bool). y && (Bool·beq (negative a) (negative b) || eqb (magnitude a) 0)) (eq-eqb (magnitude a) (magnitude b) (ap (λ (y : ℕ). magnitude y) x))
+          sym (ap (λ (y : Bool). y && (Bool·beq (negative a) (negative b) || eqb (magnitude a) 0))
+          (eq-eqb (magnitude a) (magnitude b) (ap (λ (y : ℕ). magnitude y) x))
           ∙ beq-same (negative a) (negative b) (ap (leb top-place) x))
       go false e = sym (apart (eqb (magnitude a) (magnitude b)) refl)
         where
-          apart : (t : Bool) → eqb (magnitude a) (magnitude b) ≡ t → t && (Bool·beq (negative a) (negative b) || eqb (magnitude a) 0) ≡ false
+          apart : (t : Bool) → eqb (magnitude a) (magnitude b) ≡ t
+              → t && (Bool·beq (negative a) (negative b) || eqb (magnitude a) 0) ≡ false
           apart false f = refl
           apart true f =
               let p = eqb-true (magnitude a) (magnitude b) f in
               ap (λ (y : Bool). y || eqb (magnitude a) 0)
-              (beq-other (negative a) (negative b) (signs-unlike a b sa sb (λ (q : a / top-place ≡ b / top-place). eqb-false a b e (same a b q p))))
+              (beq-other (negative a) (negative b)
+              (signs-unlike a b sa sb (λ (q : a / top-place ≡ b / top-place). eqb-false a b e (same a b q p))))
               ∙ ne-eqb (magnitude a) 0 z
             where
               same : (a b : ℕ) → a / top-place ≡ b / top-place → magnitude a ≡ magnitude b → a ≡ b

@@ -2,7 +2,21 @@
 use mathlib.Core.Path.{_≡_, refl, sym, ap, _∙_, subst}
 use mathlib.Core.Logic.{_⊎_, inl, inr}
 use Prim.Native.Nat.{ℕ, zero, suc, _+_, _-_, _*_, _/_, _%_, _^_, _≤_, _<_}
-use native.Mathlib.Nat.{le-trans, le-of-eq, lt-of-lt-of-le, zero-lt-suc, mul-one, mul-comm, mul-assoc, mul-right-comm, mul-pos, mul-le-mul-right, mul-le-mul-left, mul-lt-mul-of-pos-right, eq-or-lt-of-le, mod-eq-of-lt, pow-succ'}
+use native.Mathlib.Nat.{
+  le-trans,
+  le-of-eq,
+  lt-of-lt-of-le,
+  zero-lt-suc,
+  mul-one,
+  mul-assoc,
+  mul-pos,
+  mul-le-mul-right,
+  mul-le-mul-left,
+  mul-lt-mul-of-pos-right,
+  eq-or-lt-of-le,
+  mod-eq-of-lt,
+  pow-succ',
+}
 use native.Mathlib.Omega.{arith}
 use lib.Count.{leadingZeros, leading-top}
 use lib.Pow.{pow-add, pow-pos, pow-mono}
@@ -27,7 +41,9 @@ pub larger : (p e m o f n : ℕ) → Fields p e m → Fields o f n → o < p →
 larger p e m o f n a b h = go (eq-or-lt-of-le (exponents p e m o f n a b (omega arith)))
   where
     go : (f ≡ e) ⊎ (f < e) → n * 2 ^ f < m * 2 ^ e
-    go (inl g) = subst (λ (x : ℕ). n * 2 ^ f < m * 2 ^ x) g (mul-lt-mul-of-pos-right (let x = a .whole in let y = b .whole in omega arith) (pow-pos f))
+    go (inl g) =
+        subst (λ (x : ℕ). n * 2 ^ f < m * 2 ^ x) g
+        (mul-lt-mul-of-pos-right (let x = a .whole in let y = b .whole in omega arith) (pow-pos f))
     go (inr g) =
         let l : leading ≤ m = a .long (omega arith) in
         let s : n < 2 * leading = b .short in

@@ -4,17 +4,40 @@ use mathlib.Core.Path.{_≡_, refl, sym, ap, _∙_, subst}
 use mathlib.Core.Bool.{Bool, true, false, cond}
 use mathlib.Core.Logic.{_⊎_, inl, inr}
 use Prim.Native.Nat.{ℕ, zero, suc, _+_, _-_, _*_, _/_, _^_, _≤_, _<_}
-use native.Mathlib.Nat.{le-trans, le-of-eq, lt-of-lt-of-le, lt-of-le-of-lt, mul-one, one-mul, mul-assoc, mul-comm, mul-right-comm, mul-le-mul-left, mul-left-comm, mul-pos, le-of-mul-le-mul-right, mul-le-mul-right, mul-lt-mul-of-pos-right, mul-div-cancel, div-one, eq-or-lt-of-le, zero-lt-suc, add-assoc, suc-mul, pow-suc, pow-succ', not-le-of-lt, lt-of-not-le}
+use native.Mathlib.Nat.{
+  le-trans,
+  le-of-eq,
+  lt-of-lt-of-le,
+  lt-of-le-of-lt,
+  mul-one,
+  one-mul,
+  mul-assoc,
+  mul-comm,
+  mul-le-mul-left,
+  mul-left-comm,
+  mul-pos,
+  le-of-mul-le-mul-right,
+  mul-le-mul-right,
+  mul-lt-mul-of-pos-right,
+  mul-div-cancel,
+  div-one,
+  eq-or-lt-of-le,
+  zero-lt-suc,
+  add-assoc,
+  suc-mul,
+  pow-succ',
+  not-le-of-lt,
+  lt-of-not-le,
+}
 use native.Mathlib.Omega.{arith}
-use lib.Dec.{T, ltb}
+use lib.Dec.{ltb}
 use lib.IntN.{ℤ, pos}
 use lib.Count.{trailingZeros}
 use lib.Pow.{pow-add, pow-pos, pow-mono, pow-lt}
 use borrow.Author.Tests.{ltb-true, ltb-false, lt-ltb, le-ltb}
-use lib.Ieee.{Float, nan, inf, fin, Format, prec, emax, low, hid, ones, top, up, down, minus, size, odd, units, round, toBits}
+use lib.Ieee.{inf, fin, Format, prec, emax, low, hid, ones, top, up, down, minus, size, odd, units, round, toBits}
 use lib.Ieee.Digits.{odd-val, size-le}
 use lib.Ieee.Fits.{down-pos, round-is, two, two-le-pos, reach}
-use lib.Ieee.Nearest.{closest}
 use lib.Ieee.Order.{drop, kept}
 use Rattle.doubles_patterns.specs.Patterns.{capped, pattern}
 use Rattle.doubles_patterns.proofs.Sizes.{le-or-lt, digits-between, drop-same, kept-same, kept-most, kept-least}
@@ -35,12 +58,14 @@ written-odd : (f : Format) (d : ℕ) (s : Bool) (q k : ℕ)
 unfolding odd
 written-odd f d s zero k = written-value f s 0 (pos 0) (0 * 2 ^ k) (odd-val d s zero k (low f))
 written-odd f d s (suc q) k =
-    written-value f s (suc q / 2 ^ trailingZeros d (suc q)) (minus (k + trailingZeros d (suc q)) (low f)) (suc q * 2 ^ k) (odd-val d s (suc q) k (low f))
+    written-value f s (suc q / 2 ^ trailingZeros d (suc q)) (minus (k + trailingZeros d (suc q)) (low f)) (suc q * 2 ^ k)
+    (odd-val d s (suc q) k (low f))
 
 digits-of-whole : (b n : ℕ) → 2 ^ b ≤ n → n < 2 ^ suc b → size n ≡ suc b
 digits-of-whole b n l h =
     ap size (sym (div-one n))
-    ∙ digits-between b n 1 (zero-lt-suc 0) (le-trans (le-of-eq (mul-one (2 ^ b))) l) (lt-of-lt-of-le h (le-of-eq (sym (mul-one (2 ^ suc b)))))
+    ∙ digits-between b n 1 (zero-lt-suc 0) (le-trans (le-of-eq (mul-one (2 ^ b))) l)
+    (lt-of-lt-of-le h (le-of-eq (sym (mul-one (2 ^ suc b)))))
 
 -- ---- its fields: k and q again, where q has p digits or k is 0; and one more and half of q, where q is 2 ^ p
 fields-at : (p q k n z r : ℕ) → size n - p ≡ z → n / 2 ^ z ≡ r → z * 2 ^ (p - 1) + r ≡ k * 2 ^ (p - 1) + q
@@ -78,21 +103,27 @@ fields p q k P most least = go (eq-or-lt-of-le most)
     short : (q k : ℕ) → q < 2 ^ p → (0 < k → 2 ^ (p - 1) ≤ q)
         → (size (q * 2 ^ k) - p) * 2 ^ (p - 1) + q * 2 ^ k / 2 ^ (size (q * 2 ^ k) - p) ≡ k * 2 ^ (p - 1) + q
     short q zero less least =
-        fields-at p q 0 (q * 2 ^ 0) 0 q (none (size (q * 1)) p (size-le (q * 1) p (subst (λ (x : ℕ). x < 2 ^ p) (sym (mul-one q)) less))) (div-one (q * 1) ∙ mul-one q) refl
+        fields-at p q 0 (q * 2 ^ 0) 0 q (none (size (q * 1)) p (size-le (q * 1) p (subst (λ (x : ℕ). x < 2 ^ p) (sym (mul-one q)) less)))
+        (div-one (q * 1) ∙ mul-one q) refl
     short q (suc k) less least =
         let n = q * 2 ^ suc k in
-        let low-end : 2 ^ (p - 1 + suc k) ≤ n = le-trans (le-of-eq (pow-add 2 (p - 1) (suc k))) (mul-le-mul-right (2 ^ suc k) (least (zero-lt-suc k))) in
+        let low-end : 2 ^ (p - 1 + suc k) ≤ n =
+        le-trans (le-of-eq (pow-add 2 (p - 1) (suc k))) (mul-le-mul-right (2 ^ suc k) (least (zero-lt-suc k))) in
         let high-end : n < 2 ^ suc (p - 1 + suc k) =
-        lt-of-lt-of-le (mul-lt-mul-of-pos-right less (pow-pos (suc k))) (le-of-eq (sym (pow-add 2 p (suc k)) ∙ ap (λ (x : ℕ). 2 ^ x) (doubled p (suc k) P))) in
-        fields-at p q (suc k) n (suc k) q (over (size n) p (suc k) P (digits-of-whole (p - 1 + suc k) n low-end high-end)) (mul-div-cancel q (pow-pos (suc k))) refl
+        lt-of-lt-of-le (mul-lt-mul-of-pos-right less (pow-pos (suc k)))
+        (le-of-eq (sym (pow-add 2 p (suc k)) ∙ ap (λ (x : ℕ). 2 ^ x) (doubled p (suc k) P))) in
+        fields-at p q (suc k) n (suc k) q (over (size n) p (suc k) P (digits-of-whole (p - 1 + suc k) n low-end high-end))
+        (mul-div-cancel q (pow-pos (suc k))) refl
 
     go : (q ≡ 2 ^ p) ⊎ (q < 2 ^ p) → (size (q * 2 ^ k) - p) * 2 ^ (p - 1) + q * 2 ^ k / 2 ^ (size (q * 2 ^ k) - p) ≡ k * 2 ^ (p - 1) + q
     go (inr less) = short q k less least
     go (inl e) =
         let n = q * 2 ^ k in
-        let is : n ≡ 2 ^ (p - 1) * 2 ^ suc k = ap (λ (x : ℕ). x * 2 ^ k) e ∙ sym (pow-add 2 p k) ∙ ap (λ (x : ℕ). 2 ^ x) (power p k P) ∙ pow-add 2 (p - 1) (suc k) in
+        let is : n ≡ 2 ^ (p - 1) * 2 ^ suc k =
+        ap (λ (x : ℕ). x * 2 ^ k) e ∙ sym (pow-add 2 p k) ∙ ap (λ (x : ℕ). 2 ^ x) (power p k P) ∙ pow-add 2 (p - 1) (suc k) in
         let low-end : 2 ^ (p - 1 + suc k) ≤ n = le-of-eq (pow-add 2 (p - 1) (suc k) ∙ sym is) in
-        let high-end : n < 2 ^ suc (p - 1 + suc k) = lt-of-le-of-lt (le-of-eq (is ∙ sym (pow-add 2 (p - 1) (suc k)))) (pow-lt (lt-suc (p - 1 + suc k))) in
+        let high-end : n < 2 ^ suc (p - 1 + suc k) =
+        lt-of-le-of-lt (le-of-eq (is ∙ sym (pow-add 2 (p - 1) (suc k)))) (pow-lt (lt-suc (p - 1 + suc k))) in
         fields-at p q k n (suc k) (2 ^ (p - 1)) (over (size n) p (suc k) P (digits-of-whole (p - 1 + suc k) n low-end high-end))
         (ap (λ (x : ℕ). x / 2 ^ suc k) is ∙ mul-div-cancel (2 ^ (p - 1)) (pow-pos (suc k))) (carry k (2 ^ (p - 1)) q (e ∙ twice p P))
       where
@@ -105,11 +136,15 @@ module _ (h q k E : ℕ) (most : q ≤ 2 * h) (least : 0 < k → h ≤ q) (H : 0
   over-values e = le-trans (mul-le-mul-left h (pow-mono e)) (mul-le-mul-right (2 ^ k) (least (omega arith)))
 
   next-values : suc k ≡ E → 2 * h ≤ q → h * 2 ^ E ≤ q * 2 ^ k
-  next-values e l = le-trans (le-of-eq (ap (λ (x : ℕ). h * 2 ^ x) (sym e) ∙ ap (λ (x : ℕ). h * x) (pow-succ' 2 k) ∙ mul-left-comm h 2 (2 ^ k) ∙ sym (mul-assoc 2 h (2 ^ k)))) (mul-le-mul-right (2 ^ k) l)
+  next-values e l =
+      le-trans (le-of-eq (ap (λ (x : ℕ). h * 2 ^ x) (sym e) ∙ ap (λ (x : ℕ). h * x) (pow-succ' 2 k) ∙ mul-left-comm h 2 (2 ^ k)
+      ∙ sym (mul-assoc 2 h (2 ^ k)))) (mul-le-mul-right (2 ^ k) l)
 
   next-back : suc k ≡ E → h * 2 ^ E ≤ q * 2 ^ k → 2 * h ≤ q
   next-back e l =
-      le-of-mul-le-mul-right (le-trans (le-of-eq (sym (ap (λ (x : ℕ). h * 2 ^ x) (sym e) ∙ ap (λ (x : ℕ). h * x) (pow-succ' 2 k) ∙ mul-left-comm h 2 (2 ^ k) ∙ sym (mul-assoc 2 h (2 ^ k))))) l) (pow-pos k)
+      le-of-mul-le-mul-right (le-trans
+      (le-of-eq (sym (ap (λ (x : ℕ). h * 2 ^ x) (sym e) ∙ ap (λ (x : ℕ). h * x) (pow-succ' 2 k) ∙ mul-left-comm h 2 (2 ^ k)
+      ∙ sym (mul-assoc 2 h (2 ^ k))))) l) (pow-pos k)
 
   under-values : suc (suc k) ≤ E → q * 2 ^ k < h * 2 ^ E
   under-values e =
@@ -210,8 +245,10 @@ module _ (f : Format) (s : Bool) (q k : ℕ) (most : q ≤ 2 ^ prec f) (least : 
           written-odd f (suc (prec f)) s q k
           ∙ add-assoc (cond s (top f) 0) ((size (q * 2 ^ k) - prec f) * hid f) (q * 2 ^ k / 2 ^ (size (q * 2 ^ k) - prec f))
           ∙ ap (λ (x : ℕ). cond s (top f) 0 + x)
-          (fields (prec f) q k (two-le-pos (prec f) (two f)) most least ∙ sym (capped-under (ltb-true (q * 2 ^ k) (2 ^ (low f + suc (emax f))) e)))
-      go false e = toBits-inf ∙ ap (λ (x : ℕ). cond s (top f) 0 + x) (sym (capped-over (ltb-false (q * 2 ^ k) (2 ^ (low f + suc (emax f))) e)))
+          (fields (prec f) q k (two-le-pos (prec f) (two f)) most least
+          ∙ sym (capped-under (ltb-true (q * 2 ^ k) (2 ^ (low f + suc (emax f))) e)))
+      go false e =
+          toBits-inf ∙ ap (λ (x : ℕ). cond s (top f) 0 + x) (sym (capped-over (ltb-false (q * 2 ^ k) (2 ^ (low f + suc (emax f))) e)))
 
 -- ---- n / d units, rounded, as `toBits` writes it
 round-units : (f : Format) (s : Bool) (n d : ℕ) → 0 < d → round f s n (d * 2 ^ low f) ≡ units f s (kept (prec f) n d) (drop (prec f) n d)
@@ -224,11 +261,13 @@ round-units f s n d h =
     ∙ ap (λ (z : ℕ). units f s z (drop p (n * l) (d * l))) (kept-same p (n * l) (d * l) n d L h e)
     ∙ ap (λ (z : ℕ). units f s (kept p n d) z) (drop-same p (n * l) (d * l) n d L h e)
 
-pub round-pattern-over : (f : Format) (s : Bool) (n d : ℕ) → 0 < d → toBits f (round f s n (d * 2 ^ low f)) ≡ cond s (top f) 0 + pattern f n d
+pub round-pattern-over : (f : Format) (s : Bool) (n d : ℕ) → 0 < d
+    → toBits f (round f s n (d * 2 ^ low f)) ≡ cond s (top f) 0 + pattern f n d
 unfolding pattern
 round-pattern-over f s n d h =
     ap (toBits f) (round-units f s n d h)
-    ∙ units-pattern f s (kept (prec f) n d) (drop (prec f) n d) (kept-most (prec f) n d) (kept-least (prec f) n d (two-le-pos (prec f) (two f)))
+    ∙ units-pattern f s (kept (prec f) n d) (drop (prec f) n d) (kept-most (prec f) n d)
+    (kept-least (prec f) n d (two-le-pos (prec f) (two f)))
 
 pub round-pattern : (f : Format) (s : Bool) (n : ℕ) → toBits f (round f s n (2 ^ low f)) ≡ cond s (top f) 0 + pattern f n 1
 round-pattern f s n = ap (λ (x : ℕ). toBits f (round f s n x)) (sym (one-mul (2 ^ low f))) ∙ round-pattern-over f s n 1 (zero-lt-suc 0)

@@ -1,11 +1,11 @@
 -- The sign of a pattern, the signs of two, the sign of their product, and the pattern of the opposite number.
-use mathlib.Core.Path.{_≡_, refl, sym, ap, _∙_, subst}
+use mathlib.Core.Path.{_≡_, refl, sym, ap, _∙_}
 use mathlib.Core.Bool.{Bool, true, false, not, cond, true≢false}
-use Prim.Native.Nat.{ℕ, zero, suc, _+_, _-_, _*_, _/_, _%_, _^_, _≤_, _<_}
+use Prim.Native.Nat.{ℕ, zero, suc, _+_, _-_, _/_, _%_, _≤_, _<_}
 use native.Mathlib.Omega.{arith}
-use lib.Dec.{leb, eqb}
+use lib.Dec.{eqb}
 use borrow.Author.Tests.{le-leb, lt-leb, leb-true, leb-false}
-use lib.Ieee.{Float, nan, inf, fin, Format, binary64, prec, low, hid, ones, top, odd, neg, ofFields, ofBits, unlike}
+use lib.Ieee.{Float, nan, inf, Format, binary64, prec, low, hid, ones, odd, neg, ofFields, ofBits, unlike}
 use Rattle.doubles_patterns.specs.Patterns.{word, top-place, leading, magnitude, negative, sign-weight}
 use Rattle.doubles_patterns.proofs.Values.{ofBits-is}
 
@@ -50,7 +50,8 @@ fields-opposite : (f : Format) (s : Bool) (x t : ℕ) → ofFields f (not s) x t
 unfolding ofFields
 fields-opposite f s zero t = odd-opposite (prec f) s t 0 (low f)
 fields-opposite f s (suc x) t =
-    cond-opposite (eqb (suc x) (ones f)) (eqb t 0) s (odd (prec f) (not s) (hid f + t) x (low f)) (odd (prec f) s (hid f + t) x (low f)) (odd-opposite (prec f) s (hid f + t) x (low f))
+    cond-opposite (eqb (suc x) (ones f)) (eqb t 0) s (odd (prec f) (not s) (hid f + t) x (low f)) (odd (prec f) s (hid f + t) x (low f))
+    (odd-opposite (prec f) s (hid f + t) x (low f))
 
 opposite-at : (a b : ℕ) → negative b ≡ not (negative a) → magnitude b ≡ magnitude a → b % leading ≡ a % leading
     → ofBits binary64 b ≡ neg (ofBits binary64 a)
@@ -64,11 +65,13 @@ opposite-at a b s p t =
 
 pub opposite-up : (a : ℕ) → a < top-place → ofBits binary64 (a + top-place) ≡ neg (ofBits binary64 a)
 opposite-up a h =
-    opposite-at a (a + top-place) (le-leb top-place (a + top-place) (omega arith) ∙ ap not (sym (lt-leb top-place a h))) (omega arith) (omega arith)
+    opposite-at a (a + top-place) (le-leb top-place (a + top-place) (omega arith) ∙ ap not (sym (lt-leb top-place a h))) (omega arith)
+    (omega arith)
 
 pub opposite-down : (a : ℕ) → top-place ≤ a → a < word → ofBits binary64 (a - top-place) ≡ neg (ofBits binary64 a)
 opposite-down a h g =
-    opposite-at a (a - top-place) (lt-leb top-place (a - top-place) (omega arith) ∙ ap not (sym (le-leb top-place a h))) (omega arith) (omega arith)
+    opposite-at a (a - top-place) (lt-leb top-place (a - top-place) (omega arith) ∙ ap not (sym (le-leb top-place a h))) (omega arith)
+    (omega arith)
 
 -- ---- the sign of a product or a quotient
 pub sign-alike : (a b : ℕ) → a < word → b < word → a / top-place ≡ b / top-place

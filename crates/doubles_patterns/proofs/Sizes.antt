@@ -1,8 +1,20 @@
 -- How many digits a number has, and what rounding keeps of a fraction: equal fractions alike, and never more digits than there is room for.
-use mathlib.Core.Path.{_≡_, refl, sym, ap, _∙_, subst}
+use mathlib.Core.Path.{_≡_, sym, ap, _∙_, subst}
 use mathlib.Core.Logic.{_⊎_, inl, inr}
 use Prim.Native.Nat.{ℕ, suc, _+_, _-_, _*_, _/_, _%_, _^_, _≤_, _<_, compare}
-use native.Mathlib.Nat.{le-trans, le-of-eq, le-antisymm, lt-of-lt-of-le, lt-of-le-of-lt, lt-of-not-le, lt-irrefl, mul-assoc, mul-pos, le-div-iff-mul-le, div-lt-iff-lt-mul, div-div-eq-div-mul}
+use native.Mathlib.Nat.{
+  le-trans,
+  le-of-eq,
+  le-antisymm,
+  lt-of-lt-of-le,
+  lt-of-not-le,
+  lt-irrefl,
+  mul-assoc,
+  mul-pos,
+  le-div-iff-mul-le,
+  div-lt-iff-lt-mul,
+  div-div-eq-div-mul,
+}
 use native.Mathlib.Decide.{decLe}
 use native.Mathlib.Omega.{arith}
 use lib.Pow.{pow-add, pow-pos, pow-mono}

@@ -1,16 +1,25 @@
 -- Patterns by their kind: the value of a finite one, NaN, an infinity with its sign; and when a value is zero.
 use mathlib.Core.Path.{_≡_, refl, sym, ap, _∙_, subst}
-use mathlib.Core.Bool.{Bool, true, false, cond, false≢true}
+use mathlib.Core.Bool.{Bool, true, false, false≢true}
 use mathlib.Core.Logic.{_⊎_, inl, inr}
-use Prim.Native.Nat.{ℕ, _+_, _*_, _/_, _%_, _^_, _≤_, _<_}
+use Prim.Native.Nat.{ℕ, _+_, _*_, _/_, _%_, _^_, _<_}
 use native.Mathlib.Nat.{lt-irrefl, eq-zero-or-pos, zero-mul, mul-pos}
 use native.Mathlib.Omega.{arith}
-use lib.Dec.{leb}
 use borrow.Author.Tests.{lt-ltb, leb-true, leb-false}
 use lib.Ieee.{Float, nan, inf, fin, binary64, low, ofFields, ofBits, toBits, isNan}
 use lib.Ieee.Bits.{nanBits-is, nanBits-above}
 use lib.Ieee.Exact.{HasValue}
-use Rattle.doubles_patterns.specs.Patterns.{word, top-place, leading, infinity, not-a-number, magnitude, negative, sign-weight, units-of}
+use Rattle.doubles_patterns.specs.Patterns.{
+  word,
+  top-place,
+  leading,
+  infinity,
+  not-a-number,
+  magnitude,
+  negative,
+  sign-weight,
+  units-of,
+}
 use Rattle.doubles_patterns.proofs.Values.{ofBits-is, finite-value}
 
 -- ---- a finite pattern
@@ -69,4 +78,6 @@ value-zero m u L Y d U l h z = go (eq-zero-or-pos m)
     go (inr p) = absurd (lt-irrefl 0 (subst (λ (x : ℕ). 0 < x) (h ∙ ap (λ (y : ℕ). y * d) z ∙ zero-mul d) (mul-pos (mul-pos p U) l)))
 
 pub value-some : (m u L Y d : ℕ) → 0 < Y → 0 < d → m * u * L ≡ Y * d → m ≡ 0 → ⊥
-value-some m u L Y d y D h z = lt-irrefl 0 (subst (λ (x : ℕ). 0 < x) (sym h ∙ ap (λ (k : ℕ). k * u * L) z ∙ ap (λ (k : ℕ). k * L) (zero-mul u) ∙ zero-mul L) (mul-pos y D))
+value-some m u L Y d y D h z =
+    lt-irrefl 0 (subst (λ (x : ℕ). 0 < x) (sym h ∙ ap (λ (k : ℕ). k * u * L) z ∙ ap (λ (k : ℕ). k * L) (zero-mul u) ∙ zero-mul L)
+    (mul-pos y D))

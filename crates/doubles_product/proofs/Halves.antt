@@ -2,7 +2,21 @@
 use mathlib.Core.Path.{_≡_, refl, sym, ap, _∙_}
 use mathlib.Core.Logic.{inl, inr}
 use Prim.Native.Nat.{ℕ, _+_, _*_, _/_, _%_, _≤_, _<_}
-use native.Mathlib.Nat.{le-trans, le-of-eq, lt-of-le-of-lt, mul-assoc, mul-right-comm, add-mul, mul-add, mul-le-mul-right, mul-le-mul-left, mul-lt-mul-of-pos-right, lt-of-mul-lt-mul-right, div-add-mod', mod-lt}
+use native.Mathlib.Nat.{
+  le-trans,
+  le-of-eq,
+  lt-of-le-of-lt,
+  mul-assoc,
+  mul-right-comm,
+  add-mul,
+  mul-add,
+  mul-le-mul-right,
+  mul-le-mul-left,
+  mul-lt-mul-of-pos-right,
+  lt-of-mul-lt-mul-right,
+  div-add-mod',
+  mod-lt,
+}
 use native.Mathlib.Omega.{arith}
 use lib.Dec.{lit<}
 use Rattle.doubles_patterns.specs.Patterns.{word}

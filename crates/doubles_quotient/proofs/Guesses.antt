@@ -1,8 +1,9 @@
--- A digit of eleven places guessed from the leading places of the rest and of the divisor, this one with one more: it is never too high, and
+-- A digit of eleven places guessed from the leading places of the rest and of the divisor, this one with one more: it is never too high,
+-- and
 -- by one too low at most.
-use mathlib.Core.Path.{_≡_, sym}
+use mathlib.Core.Path.{_≡_}
 use Prim.Native.Nat.{ℕ, _+_, _*_, _/_, _%_, _≤_, _<_}
-use native.Mathlib.Nat.{le-trans, lt-of-le-of-lt, mul-assoc, mul-add, mul-le-mul-left, lt-of-mul-lt-mul-right, div-mul-le-self, div-add-mod', mod-lt}
+use native.Mathlib.Nat.{mul-assoc, mul-add, mul-le-mul-left, lt-of-mul-lt-mul-right, div-mul-le-self, div-add-mod', mod-lt}
 use native.Mathlib.Omega.{arith}
 use Rattle.doubles_patterns.specs.Patterns.{leading}
 

@@ -2,12 +2,22 @@
 use mathlib.Core.Path.{_≡_, refl, sym, ap, _∙_}
 use mathlib.Core.Logic.{_⊎_, inl, inr}
 use Prim.Native.Nat.{ℕ, _+_, _*_, _^_, _≤_, _<_}
-use native.Mathlib.Nat.{le-trans, le-of-eq, lt-of-le-of-lt, lt-of-lt-of-le, mul-comm, mul-assoc, mul-left-comm, mul-right-comm, mul-pos, mul-le-mul-right, mul-le-mul-left, lt-of-mul-lt-mul-right}
+use native.Mathlib.Nat.{
+  le-trans,
+  le-of-eq,
+  mul-comm,
+  mul-assoc,
+  mul-left-comm,
+  mul-pos,
+  mul-le-mul-right,
+  mul-le-mul-left,
+  lt-of-mul-lt-mul-right,
+}
 use native.Mathlib.Omega.{arith}
 use lib.Dec.{lit<}
 use lib.Pow.{pow-add, pow-pos}
 use lib.Ieee.{binary64, low}
-use Rattle.doubles_patterns.specs.Patterns.{word, second-place, leading, pattern, units-of, quotient-of-units}
+use Rattle.doubles_patterns.specs.Patterns.{leading, pattern, units-of, quotient-of-units}
 use Rattle.doubles_patterns.specs.Finite.{Raised}
 use Rattle.doubles_patterns.proofs.Packing.{pattern-same}
 use Rattle.doubles_rounding.specs.Standing.{Near, StandsFor}
@@ -65,12 +75,15 @@ module _ (p o m n e f r : ℕ) (a : Raised p m e) (b : Raised o n f) (standing :
       ∙ ap (λ (x : ℕ). x * (units-of p * (2 ^ 1074 * 4))) (sym (b .units))
       ∙ sym (right-side n (2 ^ f) (units-of p) (2 ^ 1074) 4)
 
-  pub quotient-is : 0 < units-of o → pattern binary64 (r * 256 * 2 ^ (e + 1021)) (1024 * 2 ^ f) ≡ quotient-of-units (units-of p) (units-of o)
+  pub quotient-is : 0 < units-of o
+      → pattern binary64 (r * 256 * 2 ^ (e + 1021)) (1024 * 2 ^ f) ≡ quotient-of-units (units-of p) (units-of o)
   unfolding quotient-of-units
   quotient-is some =
       let u = m * 36028797018963968 in
       let x = e + 1021 in
       let below : 0 < 4 * 1 * 2 ^ f = mul-pos (lit< tt) (pow-pos f) in
-      pattern-same binary64 (r * 256 * 2 ^ x) (1024 * 2 ^ f) (r * 2 ^ x) (4 * 1 * 2 ^ f) (mul-pos (lit< tt) (pow-pos f)) below (scaled r (2 ^ x) (2 ^ f))
+      pattern-same binary64 (r * 256 * 2 ^ x) (1024 * 2 ^ f) (r * 2 ^ x) (4 * 1 * 2 ^ f) (mul-pos (lit< tt) (pow-pos f)) below
+      (scaled r (2 ^ x) (2 ^ f))
       ∙ standing-placed 1 r u n x f (lit< tt) some-digits quotient-large standing
-      ∙ pattern-same binary64 (u * 2 ^ x) (n * (4 * 1 * 2 ^ f)) (units-of p * 2 ^ low binary64) (units-of o) (mul-pos some-digits below) some crossed
+      ∙ pattern-same binary64 (u * 2 ^ x) (n * (4 * 1 * 2 ^ f)) (units-of p * 2 ^ low binary64) (units-of o)
+      (mul-pos some-digits below) some crossed

@@ -1,10 +1,23 @@
 -- Long division as a loop: after i digits the quotient so far times n, and what is left, are m moved up by eleven places for each.
-use mathlib.Core.Path.{_≡_, refl, sym, ap, _∙_}
+use mathlib.Core.Path.{_≡_, sym, ap, _∙_}
 use mathlib.Core.Logic.{inl, inr}
-use Prim.Native.Nat.{ℕ, _+_, _-_, _*_, _/_, _%_, _^_, _≤_, _<_}
-use native.Mathlib.Nat.{le-trans, le-of-eq, lt-of-le-of-lt, lt-of-lt-of-le, add-zero, zero-mul, mul-one, mul-assoc, mul-right-comm, add-mul, mul-le-mul-left, mul-le-mul-right, mul-lt-mul-of-pos-right, lt-of-mul-lt-mul-right}
+use Prim.Native.Nat.{ℕ, _+_, _-_, _*_, _/_, _^_, _≤_, _<_}
+use native.Mathlib.Nat.{
+  le-trans,
+  le-of-eq,
+  lt-of-le-of-lt,
+  lt-of-lt-of-le,
+  add-zero,
+  zero-mul,
+  mul-one,
+  mul-assoc,
+  mul-right-comm,
+  add-mul,
+  mul-le-mul-left,
+  mul-lt-mul-of-pos-right,
+  lt-of-mul-lt-mul-right,
+}
 use native.Mathlib.Omega.{arith}
-use lib.Dec.{lit<}
 use lib.Pow.{pow-add, pow-pos, pow-mono}
 use Rattle.doubles_patterns.specs.Patterns.{leading}
 use Rattle.doubles_rounding.specs.Standing.{StandsFor}

@@ -1,8 +1,29 @@
--- A fraction and the odd whole number near to it round alike where the unit that is rounded to is a multiple of four: ties are even numbers.
+-- A fraction and the odd whole number near to it round alike where the unit that is rounded to is a multiple of four: ties are even
+-- numbers.
 use mathlib.Core.Path.{_≡_, refl, sym, ap, _∙_, subst}
 use mathlib.Core.Logic.{_⊎_, inl, inr}
-use Prim.Native.Nat.{ℕ, zero, suc, _+_, _-_, _*_, _/_, _%_, _^_, _≤_, _<_, compare, Ordering, Ordering·lt, Ordering·eq, Ordering·gt, compare·zero-zero, compare·zero-suc, compare·suc-zero, compare·suc-suc}
-use native.Mathlib.Nat.{le-of-suc-le-suc, lt-irrefl, mul-comm, mul-assoc, mul-left-comm, mul-right-comm, add-mul, suc-mul, mul-pos, mul-le-mul-right, mul-lt-mul-of-pos-right, div-add-mod', mod-lt, eq-or-lt-of-le}
+use Prim.Native.Nat.{
+  ℕ,
+  zero,
+  suc,
+  _+_,
+  _-_,
+  _*_,
+  _/_,
+  _%_,
+  _≤_,
+  _<_,
+  compare,
+  Ordering,
+  Ordering·lt,
+  Ordering·eq,
+  Ordering·gt,
+  compare·zero-zero,
+  compare·zero-suc,
+  compare·suc-zero,
+  compare·suc-suc,
+}
+use native.Mathlib.Nat.{le-of-suc-le-suc, lt-irrefl, mul-assoc, mul-left-comm, add-mul, suc-mul, mul-le-mul-right, div-add-mod', mod-lt}
 use native.Mathlib.Omega.{arith}
 use lib.Arith.{digits-div, digits-mod}
 use lib.Ieee.{nearest}
@@ -44,7 +65,8 @@ closest-at a b q r o d m c =
 scaled : (a b v : ℕ) → a ≤ b → a * v ≤ b * v
 scaled a b v h = mul-le-mul-right v h
 
-module _ (Q R w v u : ℕ) (odd : R % 2 ≡ 1) (less : R < 4 * w) (some : 0 < v) (above : 4 * (Q * (w * v)) + R * v < u + v) (below : u < 4 * (Q * (w * v)) + R * v + v) where
+module _ (Q R w v u : ℕ) (odd : R % 2 ≡ 1) (less : R < 4 * w) (some : 0 < v) (above : 4 * (Q * (w * v)) + R * v < u + v)
+    (below : u < 4 * (Q * (w * v)) + R * v + v) where
   base-le : 4 * (Q * (w * v)) ≤ u
   base-le =
       let a : 1 * v ≤ R * v = scaled 1 R v (omega arith) in
@@ -86,10 +108,13 @@ module _ (Q R w v u : ℕ) (odd : R % 2 ≡ 1) (less : R < 4 * w) (some : 0 < v)
       omega arith
 
   either : (2 * w ≤ R) ⊎ (R < 2 * w) → (o : Ordering) × (compare (R * 2) (4 * w) ≡ o) × (closest u (4 * (w * v)) ≡ nearest Q o)
-  either (inr h) = (Ordering·lt, compare-lt (R * 2) (4 * w) (omega arith), closest-at u (4 * (w * v)) Q (u - 4 * (Q * (w * v))) Ordering·lt quotient remainder (compare-lt ((u - 4 * (Q * (w * v))) * 2) (4 * (w * v)) (lower h)))
+  either (inr h) =
+      (Ordering·lt, compare-lt (R * 2) (4 * w) (omega arith), closest-at u (4 * (w * v)) Q
+      (u - 4 * (Q * (w * v))) Ordering·lt quotient remainder (compare-lt ((u - 4 * (Q * (w * v))) * 2) (4 * (w * v)) (lower h)))
   either (inl g) =
       let h : 2 * w < R = omega arith in
-      (Ordering·gt, compare-gt (R * 2) (4 * w) (omega arith), closest-at u (4 * (w * v)) Q (u - 4 * (Q * (w * v))) Ordering·gt quotient remainder (compare-gt ((u - 4 * (Q * (w * v))) * 2) (4 * (w * v)) (upper h)))
+      (Ordering·gt, compare-gt (R * 2) (4 * w) (omega arith), closest-at u (4 * (w * v)) Q
+      (u - 4 * (Q * (w * v))) Ordering·gt quotient remainder (compare-gt ((u - 4 * (Q * (w * v))) * 2) (4 * (w * v)) (upper h)))
 
 odd-rest : (n z r : ℕ) → n ≡ 4 * z + r → n % 2 ≡ 1 → r % 2 ≡ 1
 odd-rest n z r s o = omega arith
@@ -120,5 +145,6 @@ module _ (n u v w : ℕ) (near : Near n u v) (some : 0 < v) (W : 0 < w) where
 
   pub near-closest : closest n (4 * w) ≡ closest u (4 * (w * v))
   near-closest =
-      let out = either (n / (4 * w)) (n % (4 * w)) w v u near-odd (mod-lt n (four w W)) some near-above near-below (le-or-lt (2 * w) (n % (4 * w))) in
+      let out =
+      either (n / (4 * w)) (n % (4 * w)) w v u near-odd (mod-lt n (four w W)) some near-above near-below (le-or-lt (2 * w) (n % (4 * w))) in
       closest-at n (4 * w) (n / (4 * w)) (n % (4 * w)) (out .0) refl refl (out .1) ∙ sym (out .2)

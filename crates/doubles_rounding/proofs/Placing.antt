@@ -1,13 +1,35 @@
--- What stands for a fraction has the fraction's pattern, times a power of two or over one; and what moving down makes stands for what was there.
-use mathlib.Core.Path.{_≡_, refl, sym, ap, _∙_, subst}
+-- What stands for a fraction has the fraction's pattern, times a power of two or over one; and what moving down makes stands for what was
+-- there.
+use mathlib.Core.Path.{_≡_, refl, sym, ap, _∙_}
 use mathlib.Core.Logic.{_⊎_, inl, inr}
-use Prim.Native.Nat.{ℕ, zero, suc, _+_, _-_, _*_, _/_, _%_, _^_, _≤_, _<_}
-use native.Mathlib.Nat.{le-trans, le-of-eq, lt-of-lt-of-le, lt-of-le-of-lt, mul-one, one-mul, zero-mul, mul-comm, mul-assoc, mul-left-comm, mul-right-comm, suc-mul, mul-pos, add-mul, mul-le-mul-right, mul-lt-mul-of-pos-right, lt-of-mul-lt-mul-right, le-of-mul-le-mul-right, le-div-iff-mul-le, div-mul-le-self, div-add-mod', mod-lt, mod-eq-of-lt, pow-succ'}
+use Prim.Native.Nat.{ℕ, suc, _+_, _-_, _*_, _/_, _%_, _^_, _≤_, _<_}
+use native.Mathlib.Nat.{
+  le-trans,
+  le-of-eq,
+  lt-of-le-of-lt,
+  mul-one,
+  one-mul,
+  zero-mul,
+  mul-comm,
+  mul-assoc,
+  mul-left-comm,
+  suc-mul,
+  mul-pos,
+  add-mul,
+  mul-le-mul-right,
+  lt-of-mul-lt-mul-right,
+  le-of-mul-le-mul-right,
+  le-div-iff-mul-le,
+  div-mul-le-self,
+  div-add-mod',
+  mod-lt,
+  mod-eq-of-lt,
+}
 use native.Mathlib.Omega.{arith}
-use lib.Dec.{lit<, lit≤}
+use lib.Dec.{lit<}
 use lib.Pow.{pow-add, pow-pos, pow-mono}
-use lib.Ieee.{Format, binary64, prec, size}
-use Rattle.doubles_patterns.specs.Patterns.{word, leading, second-place, pattern}
+use lib.Ieee.{Format, binary64, size}
+use Rattle.doubles_patterns.specs.Patterns.{word, leading, pattern}
 use Rattle.doubles_rounding.specs.Standing.{Near, StandsFor}
 use Rattle.doubles_patterns.proofs.Sizes.{le-or-lt, more-digits}
 use Rattle.doubles_patterns.proofs.Packing.{pattern-same}
@@ -86,12 +108,18 @@ module _ (w r u v x y : ℕ) (W : 0 < w) (some : 0 < v) (long : leading * (4 * w
           turn w P v = simp (mul-assoc, mul-comm)
 
 -- ---- the code's two answers: r moved up, and r moved down with what is lost made odd
-pub placed-down : (s r x y : ℕ) → StandsFor s r (2 ^ (y - x)) → x < y → pattern binary64 (s * 2 ^ 0) 1024 ≡ pattern binary64 (r * 2 ^ x) (1024 * 2 ^ y)
-placed-down s r x y j h = ap (λ (z : ℕ). pattern binary64 z 1024) (mul-one s) ∙ go (j .stands) ∙ sym (place-below binary64 r 1024 x y (lit< tt) (omega arith))
+pub placed-down : (s r x y : ℕ) → StandsFor s r (2 ^ (y - x)) → x < y
+    → pattern binary64 (s * 2 ^ 0) 1024 ≡ pattern binary64 (r * 2 ^ x) (1024 * 2 ^ y)
+placed-down s r x y j h =
+    ap (λ (z : ℕ). pattern binary64 z 1024) (mul-one s) ∙ go (j .stands) ∙ sym (place-below binary64 r 1024 x y (lit< tt) (omega arith))
   where
     go : (s * 2 ^ (y - x) ≡ r) ⊎ Near s r (2 ^ (y - x)) → pattern binary64 s 1024 ≡ pattern binary64 r (1024 * 2 ^ (y - x))
-    go (inl e) = pattern-same binary64 s 1024 r (1024 * 2 ^ (y - x)) (lit< tt) (mul-pos (lit< tt) (pow-pos (y - x))) (mul-left-comm s 1024 (2 ^ (y - x)) ∙ mul-comm 1024 (s * 2 ^ (y - x)) ∙ ap (λ (z : ℕ). z * 1024) e)
-    go (inr n) = near-over binary64 s r (2 ^ (y - x)) 256 n (pow-pos (y - x)) (lit< tt) ∙ ap (pattern binary64 r) (sym (mul-assoc 4 256 (2 ^ (y - x))))
+    go (inl e) =
+        pattern-same binary64 s 1024 r (1024 * 2 ^ (y - x)) (lit< tt) (mul-pos (lit< tt) (pow-pos (y - x)))
+        (mul-left-comm s 1024 (2 ^ (y - x)) ∙ mul-comm 1024 (s * 2 ^ (y - x)) ∙ ap (λ (z : ℕ). z * 1024) e)
+    go (inr n) =
+        near-over binary64 s r (2 ^ (y - x)) 256 n (pow-pos (y - x)) (lit< tt)
+        ∙ ap (pattern binary64 r) (sym (mul-assoc 4 256 (2 ^ (y - x))))
 
 -- ---- moved down
 module _ (n d : ℕ) (short : n < word) where

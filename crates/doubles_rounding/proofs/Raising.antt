@@ -1,7 +1,20 @@
 -- A fraction and the odd whole number near to it have one pattern; times a power of two also, where no digit that is kept is missing.
 use mathlib.Core.Path.{_≡_, refl, sym, ap, _∙_, subst}
 use Prim.Native.Nat.{ℕ, zero, suc, _+_, _-_, _*_, _/_, _^_, _≤_, _<_}
-use native.Mathlib.Nat.{le-trans, le-of-eq, lt-of-lt-of-le, mul-comm, mul-assoc, mul-left-comm, mul-right-comm, mul-pos, mul-le-mul-right, mul-lt-mul-of-pos-right, le-div-iff-mul-le, div-lt-iff-lt-mul}
+use native.Mathlib.Nat.{
+  le-trans,
+  le-of-eq,
+  lt-of-lt-of-le,
+  mul-comm,
+  mul-assoc,
+  mul-left-comm,
+  mul-right-comm,
+  mul-pos,
+  mul-le-mul-right,
+  mul-lt-mul-of-pos-right,
+  le-div-iff-mul-le,
+  div-lt-iff-lt-mul,
+}
 use native.Mathlib.Omega.{arith}
 use lib.Dec.{lit<}
 use lib.Pow.{pow-add, pow-pos}
@@ -78,7 +91,8 @@ module _ (f : Format) (n u v w t : ℕ) (near : Near n u v) (some : 0 < v) (W : 
       ∙ near-closest n u v (w * 2 ^ k) near some (mul-pos W (pow-pos k))
       ∙ ap (closest u) (ap (λ (x : ℕ). 4 * x) (mul-right-comm w (2 ^ k) v) ∙ sym (mul-assoc 4 (w * v) (2 ^ k)))
 
-  pub near-raised : (z : ℕ) → size (n / (4 * w)) ≡ z → prec f ≤ z → 0 < prec f → pattern f (n * 2 ^ t) (4 * w) ≡ pattern f (u * 2 ^ t) (4 * (w * v))
+  pub near-raised : (z : ℕ) → size (n / (4 * w)) ≡ z → prec f ≤ z → 0 < prec f
+      → pattern f (n * 2 ^ t) (4 * w) ≡ pattern f (u * 2 ^ t) (4 * (w * v))
   near-raised zero is enough some-kept = let z : ⊥ = omega arith in absurd z
   near-raised (suc b) is enough some-kept =
       let x = n / (4 * w) in

@@ -1,15 +1,29 @@
 -- The code's rounding: a number moved up until the digits that are kept stand above its last eleven places, and these rounded off.
 use mathlib.Core.Path.{_≡_, refl, sym, ap, _∙_, subst}
 use mathlib.Core.Logic.{_⊎_, inl, inr}
-use Prim.Native.Nat.{ℕ, zero, suc, _+_, _-_, _*_, _/_, _%_, _^_, _≤_, _<_, compare}
-use native.Mathlib.Nat.{le-trans, le-of-eq, lt-of-lt-of-le, lt-of-le-of-lt, mul-one, mul-comm, mul-assoc, mul-left-comm, mul-right-comm, mul-pos, mul-le-mul-right, mul-lt-mul-of-pos-right, div-lt-iff-lt-mul, eq-or-lt-of-le, mod-eq-of-lt, zero-lt-suc}
+use Prim.Native.Nat.{ℕ, zero, suc, _+_, _-_, _*_, _/_, _%_, _^_, _≤_, _<_}
+use native.Mathlib.Nat.{
+  le-trans,
+  le-of-eq,
+  lt-of-lt-of-le,
+  lt-of-le-of-lt,
+  mul-one,
+  mul-assoc,
+  mul-pos,
+  mul-le-mul-right,
+  mul-lt-mul-of-pos-right,
+  div-lt-iff-lt-mul,
+  eq-or-lt-of-le,
+  mod-eq-of-lt,
+  zero-lt-suc,
+}
 use native.Mathlib.Omega.{arith}
 use mathlib.Core.Bool.{Bool, cond}
 use borrow.Author.Tests.{lt-ltb, le-ltb}
 use lib.Dec.{lit<}
 use lib.Pow.{pow-add, pow-pos, pow-mono}
 use lib.Count.{leadingZeros, leading-top, leading-unique}
-use lib.Ieee.{Format, binary64, prec, hid, size, nearest}
+use lib.Ieee.{Format, binary64, prec, hid, size}
 use lib.Ieee.Digits.{size-le}
 use lib.Ieee.Nearest.{closest, closest-same}
 use lib.Ieee.Order.{drop, kept}
@@ -36,7 +50,9 @@ eleven t = go (t / 2048) (t % 2048) refl refl (le-or-lt 1024 (t % 2048))
     go q r d m (inl h) = over (eq-or-lt-of-le h)
       where
         over : (1024 ≡ r) ⊎ (1024 < r) → q + (r + q % 2 + 1023) / 2048 ≡ closest t 2048
-        over (inl e) = ap (λ (x : ℕ). q + (x + q % 2 + 1023) / 2048) (sym e) ∙ tie q ∙ sym (closest-at t 2048 q r _ d m (compare-eq (r * 2) 2048 (omega arith)))
+        over (inl e) =
+            ap (λ (x : ℕ). q + (x + q % 2 + 1023) / 2048) (sym e) ∙ tie q
+            ∙ sym (closest-at t 2048 q r _ d m (compare-eq (r * 2) 2048 (omega arith)))
         over (inr g) = upper q r (omega arith) g ∙ sym (closest-at t 2048 q r _ d m (compare-gt (r * 2) 2048 (omega arith)))
 
 -- ---- how many digits are dropped of a fraction over 1024, and its pattern then
@@ -49,13 +65,15 @@ drop-of p x a e g l h =
     powers : (x y : ℕ) → y + 10 ≡ x + e → 2 ^ y * 1024 ≡ 2 ^ x * 2 ^ e
     powers x y s = sym (pow-add 2 y 10) ∙ ap (λ (z : ℕ). 2 ^ z) s ∙ pow-add 2 x e
 
-pattern-at : (f : Format) (x k q : ℕ) → drop (prec f) x 1024 ≡ k → closest x (1024 * 2 ^ k) ≡ q → pattern f x 1024 ≡ capped f (k * hid f + q)
+pattern-at : (f : Format) (x k q : ℕ) → drop (prec f) x 1024 ≡ k → closest x (1024 * 2 ^ k) ≡ q
+    → pattern f x 1024 ≡ capped f (k * hid f + q)
 unfolding pattern
 pattern-at f x k q d e =
     ap (λ (z : ℕ). capped f (z * hid f + closest x (1024 * 2 ^ z))) d ∙ ap (λ (z : ℕ). capped f (k * hid f + z)) e
 
 -- ---- moved up by r places
-pub moved : (s e r : ℕ) → Shifted s e r → pattern binary64 (s * 2 ^ e) 1024 ≡ capped binary64 ((e + 1 - r) * hid binary64 + closest (s * 2 ^ r) 2048)
+pub moved : (s e r : ℕ) → Shifted s e r
+    → pattern binary64 (s * 2 ^ e) 1024 ≡ capped binary64 ((e + 1 - r) * hid binary64 + closest (s * 2 ^ r) 2048)
 moved s e r h =
     let k = e + 1 - r in
     let power : 2 ^ e * 2 ^ 11 ≡ 2 ^ r * (2 ^ 10 * 2 ^ k) =
@@ -76,9 +94,12 @@ shifted-high s e z some small count h =
     record {
       most = h;
       narrow = omega arith;
-      fits = lt-of-lt-of-le (mul-lt-mul-of-pos-right (t .3) (pow-pos z)) (le-of-eq (sym (pow-add 2 (suc j) z) ∙ ap (λ (x : ℕ). 2 ^ x) (turn z j sum)));
+      fits =
+          lt-of-lt-of-le (mul-lt-mul-of-pos-right (t .3) (pow-pos z))
+          (le-of-eq (sym (pow-add 2 (suc j) z) ∙ ap (λ (x : ℕ). 2 ^ x) (turn z j sum)));
       dropped =
-          drop-of 53 (s * 2 ^ e) j e (deep z j e sum h) (mul-le-mul-right (2 ^ e) (t .2)) (mul-lt-mul-of-pos-right (t .3) (pow-pos e)) ∙ count-is z j e sum h;
+          drop-of 53 (s * 2 ^ e) j e (deep z j e sum h) (mul-le-mul-right (2 ^ e) (t .2)) (mul-lt-mul-of-pos-right (t .3) (pow-pos e))
+          ∙ count-is z j e sum h;
     }
   where
     turn : (z j : ℕ) → z + suc j ≡ 64 → suc j + z ≡ 64
@@ -98,10 +119,13 @@ shifted-low s e z some small count h =
     record {
       most = omega arith;
       narrow = omega arith;
-      fits = lt-of-lt-of-le (mul-lt-mul-of-pos-right (t .3) (pow-pos (e + 1))) (le-trans (le-of-eq (sym (pow-add 2 (suc j) (e + 1)))) (pow-mono (under z j e sum h)));
+      fits =
+          lt-of-lt-of-le (mul-lt-mul-of-pos-right (t .3) (pow-pos (e + 1)))
+          (le-trans (le-of-eq (sym (pow-add 2 (suc j) (e + 1)))) (pow-mono (under z j e sum h)));
       dropped = none (size (s * 2 ^ e / 1024)) e
           (size-le (s * 2 ^ e / 1024) 52 (div-lt-iff-lt-mul (lit< tt) .1
-          (lt-of-lt-of-le (mul-lt-mul-of-pos-right (t .3) (pow-pos e)) (le-trans (le-of-eq (sym (pow-add 2 (suc j) e))) (pow-mono (few z j e sum h))))));
+          (lt-of-lt-of-le (mul-lt-mul-of-pos-right (t .3) (pow-pos e))
+          (le-trans (le-of-eq (sym (pow-add 2 (suc j) e))) (pow-mono (few z j e sum h))))));
     }
   where
     under : (z j e : ℕ) → z + suc j ≡ 64 → e + 1 < z → suc j + (e + 1) ≤ 64
@@ -116,7 +140,9 @@ shifted-low s e z some small count h =
 -- ---- with the word's end
 module _ (s e r q : ℕ) (h : Shifted s e r) (is : q ≡ closest (s * 2 ^ r % word) 2048) where
   pub moved-to : pattern binary64 (s * 2 ^ e) 1024 ≡ capped binary64 ((e + 1 - r) * leading + q)
-  moved-to = moved s e r h ∙ ap (λ (x : ℕ). capped binary64 ((e + 1 - r) * leading + x)) (ap (λ (x : ℕ). closest x 2048) (sym (mod-eq-of-lt (h .fits))) ∙ sym is)
+  moved-to =
+      moved s e r h ∙ ap (λ (x : ℕ). capped binary64 ((e + 1 - r) * leading + x))
+      (ap (λ (x : ℕ). closest x 2048) (sym (mod-eq-of-lt (h .fits))) ∙ sym is)
 
 -- ---- a sum of like signs: its highest digit is one of the two top places, or the exponent is 0
 pub shifted-none : (s e : ℕ) → top-place ≤ s → s < word → Shifted s e 0
@@ -127,7 +153,9 @@ shifted-one s zero h l = record {
   most = omega arith;
   narrow = omega arith;
   fits = omega arith;
-  dropped = none (size (s * 2 ^ 0 / 1024)) (size-le (s * 2 ^ 0 / 1024) 53 (div-lt-iff-lt-mul (lit< tt) .1 (lt-of-le-of-lt (le-of-eq (mul-one s)) h)));
+  dropped =
+      none (size (s * 2 ^ 0 / 1024))
+      (size-le (s * 2 ^ 0 / 1024) 53 (div-lt-iff-lt-mul (lit< tt) .1 (lt-of-le-of-lt (le-of-eq (mul-one s)) h)));
 }
   where
     none : (x : ℕ) → x ≤ 53 → x - 53 ≡ 0 + 1 - 1
@@ -150,7 +178,8 @@ module _ (k q c : ℕ) (is : q ≡ c) where
 
 pub packed-none : (s e : ℕ) → Shifted s e 0 → capped binary64 ((e + 1) * leading + closest s 2048) ≡ pattern binary64 (s * 2 ^ e) 1024
 packed-none s e h =
-    sym (moved s e 0 h ∙ ap (λ (x : ℕ). capped binary64 ((e + 1 - 0) * leading + closest x 2048)) (mul-one s) ∙ ap (λ (x : ℕ). capped binary64 (x * leading + closest s 2048)) (back (e + 1)))
+    sym (moved s e 0 h ∙ ap (λ (x : ℕ). capped binary64 ((e + 1 - 0) * leading + closest x 2048)) (mul-one s)
+    ∙ ap (λ (x : ℕ). capped binary64 (x * leading + closest s 2048)) (back (e + 1)))
   where
     back : (x : ℕ) → x - 0 ≡ x
     back x = omega arith

@@ -1,4 +1,5 @@
--- By how many places r a number s is moved up, so that of s * 2 ^ e / 1024 units the digits that are kept stand above the last eleven places.
+-- By how many places r a number s is moved up, so that of s * 2 ^ e / 1024 units the digits that are kept stand above the last eleven
+-- places.
 use mathlib.Core.Path.{_≡_}
 use Prim.Native.Nat.{ℕ, _+_, _-_, _*_, _^_, _<_, _≤_}
 use lib.Ieee.Order.{drop}

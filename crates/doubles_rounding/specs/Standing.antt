@@ -1,4 +1,5 @@
--- A whole number in place of a fraction, near enough to round alike. What is lost below a word's last place is kept as that place: an odd number
+-- A whole number in place of a fraction, near enough to round alike. What is lost below a word's last place is kept as that place: an odd
+-- number
 -- lies on the same side of every tie as the fraction that it stands for.
 use mathlib.Core.Path.{_≡_}
 use mathlib.Core.Logic.{_⊎_}

@@ -1,6 +1,7 @@
--- What stands for digits moved down, as sums and differences need it: by ten places or fewer nothing is lost, and by more what stands there is
+-- What stands for digits moved down, as sums and differences need it: by ten places or fewer nothing is lost, and by more what stands
+-- there is
 -- small.
-use mathlib.Core.Path.{_≡_, refl, sym, ap, _∙_}
+use mathlib.Core.Path.{_≡_, sym, ap, _∙_}
 use mathlib.Core.Logic.{_⊎_, inl, inr}
 use Prim.Native.Nat.{ℕ, suc, _+_, _-_, _*_, _^_, _≤_, _<_}
 use native.Mathlib.Nat.{le-trans, le-of-eq, lt-of-lt-of-le, mul-one, mul-assoc, suc-mul, mul-le-mul-left, lt-of-mul-lt-mul-right}
@@ -9,7 +10,7 @@ use lib.Pow.{pow-add, pow-pos, pow-mono}
 use Rattle.doubles_patterns.specs.Patterns.{leading}
 use Rattle.doubles_patterns.proofs.Sizes.{le-or-lt}
 use Rattle.doubles_rounding.specs.Standing.{Near, StandsFor}
-use Rattle.doubles_sum.specs.Aligned.{Lost, Aligned}
+use Rattle.doubles_sum.specs.Aligned.{Aligned}
 
 -- a multiple of v that lies less than v below another number's multiple
 under : (r k v : ℕ) → r * v < k * v + v → r ≤ k

@@ -1,11 +1,24 @@
--- The sum and the difference of two magnitudes: of the digits on one scale, what stands for the smaller one's included, the pattern is that of
+-- The sum and the difference of two magnitudes: of the digits on one scale, what stands for the smaller one's included, the pattern is
+-- that of
 -- the units.
 use mathlib.Core.Path.{_≡_, refl, sym, ap, _∙_, subst}
 use mathlib.Core.Logic.{_⊎_, inl, inr}
-use Prim.Native.Nat.{ℕ, zero, suc, _+_, _-_, _*_, _/_, _%_, _^_, _≤_, _<_}
-use native.Mathlib.Nat.{mul-one, mul-comm, mul-assoc, mul-left-comm, mul-right-comm, add-mul, mul-pos, mul-le-mul-right, mul-le-mul-left, mul-lt-mul-of-pos-right, le-div-iff-mul-le, pow-succ'}
+use Prim.Native.Nat.{ℕ, zero, suc, _+_, _-_, _*_, _/_, _^_, _≤_, _<_}
+use native.Mathlib.Nat.{
+  mul-one,
+  mul-assoc,
+  mul-left-comm,
+  mul-right-comm,
+  add-mul,
+  mul-pos,
+  mul-le-mul-right,
+  mul-le-mul-left,
+  mul-lt-mul-of-pos-right,
+  le-div-iff-mul-le,
+  pow-succ',
+}
 use native.Mathlib.Omega.{arith}
-use lib.Dec.{lit<, lit≤}
+use lib.Dec.{lit<}
 use lib.Pow.{pow-add, pow-pos, pow-mono}
 use lib.Ieee.{binary64, size}
 use Rattle.doubles_patterns.specs.Patterns.{leading, second-place, pattern, exponent-of, units-of}
@@ -23,8 +36,12 @@ use Rattle.doubles_sum.proofs.Alignments.{aligned}
 near-scaled : (n u v c : ℕ) → 0 < c → Near n u v → Near n (u * c) (v * c)
 near-scaled n u v c C near = record {
   odd = near .odd;
-  above = let a : n * v * c < (u + v) * c = mul-lt-mul-of-pos-right (near .above) C in subst (λ (x : ℕ). x < u * c + v * c) (mul-assoc n v c) (subst (λ (x : ℕ). n * v * c < x) (add-mul u v c) a);
-  below = let a : u * c < (n * v + v) * c = mul-lt-mul-of-pos-right (near .below) C in subst (λ (x : ℕ). u * c < x + v * c) (mul-assoc n v c) (subst (λ (x : ℕ). u * c < x) (add-mul (n * v) v c) a);
+  above =
+      let a : n * v * c < (u + v) * c = mul-lt-mul-of-pos-right (near .above) C in
+      subst (λ (x : ℕ). x < u * c + v * c) (mul-assoc n v c) (subst (λ (x : ℕ). n * v * c < x) (add-mul u v c) a);
+  below =
+      let a : u * c < (n * v + v) * c = mul-lt-mul-of-pos-right (near .below) C in
+      subst (λ (x : ℕ). u * c < x + v * c) (mul-assoc n v c) (subst (λ (x : ℕ). u * c < x) (add-mul (n * v) v c) a);
 }
 
 near-sum : (m n r v : ℕ) → Near r (n * 1024) v → Near (m * 1024 + r) ((m * v + n) * 1024) v
@@ -55,7 +72,8 @@ halved n x =
 unscaled : (u x : ℕ) → u * 1024 * x * 1 ≡ u * (4 * (128 * (2 * x)))
 unscaled u x = mul-one (u * 1024 * x) ∙ mul-assoc u 1024 x ∙ ap (λ (y : ℕ). u * y) (omega arith)
 
-near-units : (n u e : ℕ) → Near n (u * 1024) (2 ^ e) → 2305843009213693952 ≤ n → 0 < e → pattern binary64 (n * 2 ^ e) 1024 ≡ pattern binary64 u 1
+near-units : (n u e : ℕ) → Near n (u * 1024) (2 ^ e) → 2305843009213693952 ≤ n → 0 < e
+    → pattern binary64 (n * 2 ^ e) 1024 ≡ pattern binary64 u 1
 near-units n u zero near l g = let z : ⊥ = omega arith in absurd z
 near-units n u (suc t) near l g =
     let v = 2 ^ suc t in
@@ -73,17 +91,20 @@ powers e f d h = sym (pow-add 2 d f) ∙ ap (λ (x : ℕ). 2 ^ x) h
 -- r units of 2 ^ e / 1024 are n units of 2 ^ f, where nothing was lost
 exact-units : (n r e f d : ℕ) → d + f ≡ e → r * 2 ^ d ≡ n * 1024 → r * 2 ^ e ≡ n * 2 ^ f * 1024
 exact-units n r e f d h x =
-    ap (λ (y : ℕ). r * y) (sym (powers e f d h)) ∙ sym (mul-assoc r (2 ^ d) (2 ^ f)) ∙ ap (λ (y : ℕ). y * 2 ^ f) x ∙ mul-right-comm n 1024 (2 ^ f)
+    ap (λ (y : ℕ). r * y) (sym (powers e f d h)) ∙ sym (mul-assoc r (2 ^ d) (2 ^ f)) ∙ ap (λ (y : ℕ). y * 2 ^ f) x
+    ∙ mul-right-comm n 1024 (2 ^ f)
 
 scaled-sum : (m n e f d : ℕ) → d + f ≡ e → (m * 2 ^ d + n) * 1024 * 2 ^ f ≡ (m * 2 ^ e + n * 2 ^ f) * 1024
 scaled-sum m n e f d h =
     mul-right-comm (m * 2 ^ d + n) 1024 (2 ^ f)
-    ∙ ap (λ (y : ℕ). y * 1024) (add-mul (m * 2 ^ d) n (2 ^ f) ∙ ap (λ (y : ℕ). y + n * 2 ^ f) (mul-assoc m (2 ^ d) (2 ^ f) ∙ ap (λ (y : ℕ). m * y) (powers e f d h)))
+    ∙ ap (λ (y : ℕ). y * 1024) (add-mul (m * 2 ^ d) n (2 ^ f)
+    ∙ ap (λ (y : ℕ). y + n * 2 ^ f) (mul-assoc m (2 ^ d) (2 ^ f) ∙ ap (λ (y : ℕ). m * y) (powers e f d h)))
 
 scaled-difference : (m n e f d : ℕ) → d + f ≡ e → (m * 2 ^ d - n) * 1024 * 2 ^ f ≡ (m * 2 ^ e - n * 2 ^ f) * 1024
 scaled-difference m n e f d h =
     mul-right-comm (m * 2 ^ d - n) 1024 (2 ^ f)
-    ∙ ap (λ (y : ℕ). y * 1024) (sub-mul (m * 2 ^ d) n (2 ^ f) ∙ ap (λ (y : ℕ). y - n * 2 ^ f) (mul-assoc m (2 ^ d) (2 ^ f) ∙ ap (λ (y : ℕ). m * y) (powers e f d h)))
+    ∙ ap (λ (y : ℕ). y * 1024) (sub-mul (m * 2 ^ d) n (2 ^ f)
+    ∙ ap (λ (y : ℕ). y - n * 2 ^ f) (mul-assoc m (2 ^ d) (2 ^ f) ∙ ap (λ (y : ℕ). m * y) (powers e f d h)))
 
 module _ (p e m o f n d r : ℕ) (a : Fields p e m) (b : Fields o f n) (D : d + f ≡ e) (al : Aligned n d r) where
   -- the aligned digits are below those of the larger number
@@ -143,11 +164,13 @@ module _ (p e m o f n d r : ℕ) (a : Fields p e m) (b : Fields o f n) (D : d + 
           let near : Near (m * 1024 - r) ((m * 2 ^ e - n * 2 ^ f) * 1024) (2 ^ e) =
           subst (λ (z : ℕ). Near (m * 1024 - r) z (2 ^ e)) (scaled-difference m n e f d D)
           (subst (λ (z : ℕ). Near (m * 1024 - r) ((m * 2 ^ d - n) * 1024 * 2 ^ f) z) (powers e f d D)
-          (near-scaled (m * 1024 - r) ((m * 2 ^ d - n) * 1024) (2 ^ d) (2 ^ f) (pow-pos f) (near-difference m n r (2 ^ d) (omega arith) (omega arith) (x .near)))) in
+          (near-scaled (m * 1024 - r) ((m * 2 ^ d - n) * 1024) (2 ^ d) (2 ^ f) (pow-pos f)
+          (near-difference m n r (2 ^ d) (omega arith) (omega arith) (x .near)))) in
           near-units (m * 1024 - r) (m * 2 ^ e - n * 2 ^ f) e near (omega arith) (omega arith)
 
 -- ---- as the code has them
-module _ (p o e f : ℕ) (a : (e ≡ exponent-of p) × Fields p e (p - e * leading)) (b : (f ≡ exponent-of o) × Fields o f (o - f * leading)) (h : o ≤ p) where
+module _ (p o e f : ℕ) (a : (e ≡ exponent-of p) × Fields p e (p - e * leading)) (b : (f ≡ exponent-of o) × Fields o f (o - f * leading))
+    (h : o ≤ p) where
   pub exponents-of : f ≤ e
   exponents-of = exponents p e (p - e * leading) o f (o - f * leading) (a .1) (b .1) h
 

@@ -1,6 +1,6 @@
 -- A truth as a number: 1 where the test that was made holds, 0 where it fails.
 use mathlib.Core.Path.{_≡_, sym, ap, _∙_}
-use mathlib.Core.Bool.{Bool, true, false, cond}
+use mathlib.Core.Bool.{Bool, true, false}
 use Prim.Native.Nat.{ℕ}
 use Rattle.hullashlar_doubles.specs.DoublesExports.{truth}
 

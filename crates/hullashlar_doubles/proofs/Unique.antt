@@ -1,7 +1,18 @@
 -- Each export of double arithmetic has one answer: two numbers that satisfy its record, for the same patterns, are equal.
 use mathlib.Core.Path.{_≡_, sym, _∙_}
 use Prim.Native.Nat.{ℕ}
-use Rattle.hullashlar_doubles.specs.DoublesExports.{AddExport, SubExport, MulExport, DivExport, LtExport, LeExport, EqExport, GtExport, GeExport, UnExport}
+use Rattle.hullashlar_doubles.specs.DoublesExports.{
+  AddExport,
+  SubExport,
+  MulExport,
+  DivExport,
+  LtExport,
+  LeExport,
+  EqExport,
+  GtExport,
+  GeExport,
+  UnExport,
+}
 
 module _ (a b r r′ : ℕ) where
   pub add-export-unique : AddExport a b r → AddExport a b r′ → r ≡ r′

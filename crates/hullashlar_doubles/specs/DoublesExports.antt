@@ -3,7 +3,16 @@
 use mathlib.Core.Path.{_≡_}
 use mathlib.Core.Bool.{Bool, cond}
 use Prim.Native.Nat.{ℕ}
-use Rattle.doubles_patterns.specs.Doubles.{sum-pattern, difference-pattern, product-pattern, quotient-pattern, is-less, is-at-most, is-equal, is-unordered}
+use Rattle.doubles_patterns.specs.Doubles.{
+  sum-pattern,
+  difference-pattern,
+  product-pattern,
+  quotient-pattern,
+  is-less,
+  is-at-most,
+  is-equal,
+  is-unordered,
+}
 
 -- a truth as a number of 32 bits, since C's own bool has no width that all processors agree on
 abbrev pub truth : Bool → ℕ

@@ -1,6 +1,7 @@
-// The ten calls of double arithmetic for C: what a compiler calls where a processor has no double of its own. Each takes the bit patterns of
-// two doubles, whatever they are, and refuses nothing; a NaN out is 7FF8000000000000.
-ghost use Rattle.hullashlar_doubles.specs.DoublesExports.{AddExport, SubExport, MulExport, DivExport, LtExport, LeExport, EqExport, GtExport, GeExport, UnExport};
+// The ten calls of double arithmetic for C: what a compiler calls where a processor has no double of its own. Each takes the bit patterns
+// of two doubles, whatever they are, and refuses nothing; a NaN out is 7FF8000000000000.
+ghost use Rattle.hullashlar_doubles.specs.DoublesExports.{AddExport, SubExport, MulExport, DivExport, LtExport, LeExport, EqExport};
+ghost use Rattle.hullashlar_doubles.specs.DoublesExports.{GtExport, GeExport, UnExport};
 
 // The pattern of a + b.
 #[no_mangle]

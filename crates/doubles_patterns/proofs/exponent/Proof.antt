@@ -1,6 +1,6 @@
 -- The exponent field less one, and 0 for a field of 0, which subnormal numbers have.
 use mathlib.Core.Path.{_≡_}
-use Prim.Native.Nat.{ℕ, _-_, _/_}
+use Prim.Native.Nat.{_-_, _/_}
 use native.Mathlib.Omega.{arith}
 use Rattle.doubles_patterns.specs.Patterns.{leading, exponent-of}
 use Rattle.doubles_patterns.proofs.Magnitudes.{fields-of}

@@ -1,8 +1,16 @@
--- NaN with a NaN (`product-nan`, `product-nan-back`), and for an infinity and zero (`product-inf-zero`, `product-zero-inf`); else an infinity
+-- NaN with a NaN (`product-nan`, `product-nan-back`), and for an infinity and zero (`product-inf-zero`, `product-zero-inf`); else an
+-- infinity
 -- with the product's sign (`product-special`).
 use native.Mathlib.Omega.{arith}
 use Rattle.doubles_patterns.specs.Patterns.{magnitude}
-use Rattle.doubles_product.proofs.Answers.{product-nan, product-nan-back, product-zero-inf, product-inf-zero, product-special, at-zero}
+use Rattle.doubles_product.proofs.Answers.{
+  product-nan,
+  product-nan-back,
+  product-zero-inf,
+  product-inf-zero,
+  product-special,
+  at-zero,
+}
 use borrow.Author.Needs.{needs}
 use Rattle.doubles_product.proofs.infinite_product.Statement.{statement}
 use Rattle.doubles_product.proofs.infinite_product.Tie as tie

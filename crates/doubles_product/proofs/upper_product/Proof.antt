@@ -1,7 +1,18 @@
--- Four products of halves, each sum carrying its upper half to the next: what they make is the upper word (`product-exact`), or the odd number
+-- Four products of halves, each sum carrying its upper half to the next: what they make is the upper word (`product-exact`), or the odd
+-- number
 -- that stands for it and for what is below (`product-lost`).
 use native.Mathlib.Omega.{arith}
-use Rattle.doubles_product.proofs.Halves.{lowest-fits, middle-fits, other-fits, first-fits, high-fits, even-fits, odd-fits, product-exact, product-lost}
+use Rattle.doubles_product.proofs.Halves.{
+  lowest-fits,
+  middle-fits,
+  other-fits,
+  first-fits,
+  high-fits,
+  even-fits,
+  odd-fits,
+  product-exact,
+  product-lost,
+}
 use borrow.Author.Needs.{needs}
 use Rattle.doubles_product.proofs.upper_product.Statement.{statement}
 use Rattle.doubles_product.proofs.upper_product.Tie as tie

@@ -1,7 +1,6 @@
 -- What comes back when it is moved up again was moved down without loss (`standing-exact`); else the last place stands for what was lost
 -- (`standing-lost`). By 64 places or more nothing is left but that (`standing-far`).
-use mathlib.Core.Path.{_≡_}
-use Prim.Native.Nat.{_/_, _*_, _^_}
+use Prim.Native.Nat.{_^_}
 use native.Mathlib.Nat.{div-le-self}
 use native.Mathlib.Omega.{arith}
 use lib.Pow.{pow-pos}

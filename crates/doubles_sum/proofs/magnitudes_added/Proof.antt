@@ -1,4 +1,5 @@
--- The digits of both on the scale of the larger one: their sum stands for the sum of the units (`sum-is`), and has its highest digit in one of
+-- The digits of both on the scale of the larger one: their sum stands for the sum of the units (`sum-is`), and has its highest digit in
+-- one of
 -- the two top places unless the exponent is 0 (`sum-high`).
 use mathlib.Core.Path.{_∙_}
 use native.Mathlib.Omega.{arith}
@@ -12,7 +13,8 @@ sub-moved-down-2 c = exponents-of _ _ _ _ (c .before .exponent .ensures) (c .exp
 
 add-top-rounded : tie.Need-add-top-rounded
 add-top-rounded c =
-    let m = aligned-most _ _ _ _ (c .before .before .exponent .ensures) (c .before .exponent2 .ensures) (omega arith) _ (c .moved-down .ensures) in
+    let m =
+    aligned-most _ _ _ _ (c .before .before .exponent .ensures) (c .before .exponent2 .ensures) (omega arith) _ (c .moved-down .ensures) in
     omega (arith, m)
 
 top-rounded-requires : tie.Need-top-rounded-requires
