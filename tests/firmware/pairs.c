@@ -1,23 +1,11 @@
 /* Adds, subtracts, multiplies, divides and compares pairs of doubles: where OURS is asked for by our own doubles in whole numbers, else
  * by the compiler's. Hands over a record for each pair: its number, a hash of the four results and of the comparisons. */
+#include "hullashlar_doubles.h"
 #include "inputs.h"
 #include "machine.h"
 
 #ifndef PAIRS
 #define PAIRS 10000
-#endif
-
-#ifdef OURS
-uint64_t hullashlar_soft_add(uint64_t a, uint64_t b);
-uint64_t hullashlar_soft_sub(uint64_t a, uint64_t b);
-uint64_t hullashlar_soft_mul(uint64_t a, uint64_t b);
-uint64_t hullashlar_soft_div(uint64_t a, uint64_t b);
-uint32_t hullashlar_soft_lt(uint64_t a, uint64_t b);
-uint32_t hullashlar_soft_le(uint64_t a, uint64_t b);
-uint32_t hullashlar_soft_eq(uint64_t a, uint64_t b);
-uint32_t hullashlar_soft_gt(uint64_t a, uint64_t b);
-uint32_t hullashlar_soft_ge(uint64_t a, uint64_t b);
-uint32_t hullashlar_soft_un(uint64_t a, uint64_t b);
 #endif
 
 static uint64_t hash;
