@@ -1,5 +1,5 @@
-/* Makes every exported call on inputs of its own, accepted and refused, and hands over a record of each: the number of the call
- * in the order of hullashlar.h, what it returned, and a hash of all that it was lent to write. */
+/* Makes every exported call on inputs of its own, accepted and refused, and hands over a record of each: the number of the call,
+ * what it returned, and a hash of all that it was lent to write. */
 #include "inputs.h"
 #include "machine.h"
 #include "stack.h"
@@ -13,6 +13,7 @@
 /* A slot has a place more than it is lent with. */
 enum { SLOT = 2 };
 
+/* The calls of hullashlar.h. */
 enum call {
     MOMENTS, CURVE, SLOPES, BUILD, CHANGE, VERIFY, QUERY, QUICK_QUERY, EVEN_QUERY, READ, READ_EDITION_1, SHEET_TENSOR, WRITE,
     EXACT_INDEX, LOCATE_AXIS, LOCATE_STEP_INDEX, STEPPED, CELL_VALUE, CURSOR_NEXT, SURFACE

@@ -1,5 +1,5 @@
 /* How many instructions each exported call takes on inputs of a usual size: a grid of 16 by 16, an axis of 16, for the firmware's
- * call a sheet of 5 by 5, for the device a curve of 8 cells. Hands over one number for each, in the order of hullashlar.h. */
+ * call a sheet of 5 by 5, for the device a curve of 8 cells. Hands over one number for each, in the order of calls.c. */
 #include "inputs.h"
 #include "instructions.h"
 #include "machine.h"

@@ -45,8 +45,13 @@ REFUSED_PATTERN = 0x7FF8000000000000
 
 
 def names():
-    """The calls in the order of the header, which is that of their numbers."""
-    return re.findall(r"^uint64_t hullashlar_(\w+)\(", (ROOT / "include" / "hullashlar.h").read_text(), re.M)
+    """The calls in the order of their numbers; every call of the header is among them."""
+    numbered = re.search(r"enum call \{([^}]*)\}", (HERE / "calls.c").read_text()).group(1).lower().replace(",", " ").split()
+    declared = re.findall(r"^uint64_t hullashlar_(\w+)\(", (ROOT / "include" / "hullashlar.h").read_text(), re.M)
+    missing = set(declared) ^ set(numbered)
+    if missing:
+        sys.exit(f"tests/firmware/calls.c and the header have not the same calls: {' '.join(sorted(missing))}")
+    return numbered
 
 
 def here(sources, words):
