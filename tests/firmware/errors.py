@@ -32,6 +32,19 @@ def refused(check, *given):
     return False
 
 
+def hold_make_firmware_fails():
+    """`make firmware` ends where no module is kept, where it is another than the archive's, and at each word that it must not have."""
+    if not refused(module.kept, "no_module", ["version"]):
+        sys.exit("a module that was not kept was not missed")
+    if not refused(module.hold_to_the_archive, "hullashlar", ARCHIVES / "hullashlar_doubles.bc"):
+        sys.exit("another module was taken for the archive's")
+    for line in ["%3 = fmul fast double %1, %2", "%4 = call double @llvm.fma.f64(double %1, double %2, double %3)",
+                 'target triple = "x86_64-unknown-linux-gnu"', "%2 = fpext float %1 to double"]:
+        if not refused(module.hold_to_the_rules, "hullashlar", line):
+            sys.exit(f"not refused: {line}")
+    print("make firmware ends where it must")
+
+
 def contracted(target):
     """The code of the module with leave to fuse, once it has been refused as text, as a listing and as an object."""
     text = re.sub(r"= (fadd|fsub|fmul) double", r"= \1 contract double", (ARCHIVES / "hullashlar.ll").read_text())

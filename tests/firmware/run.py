@@ -134,6 +134,7 @@ def hold_the_example(target):
 
 
 def hold_errors_found():
+    errors.hold_make_firmware_fails()
     given = inputs(ERROR_CALLS, SEEDS["speed"])
     expected = here(SOURCES, given)
 
