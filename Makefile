@@ -1,4 +1,5 @@
 .PHONY: run test differential report-largest deliberate-errors further-edits sheet-by-hand streams-fail docs-check rules-page oracle-test expected archive archive-here firmware firmware-test firmware-bench bench examples picture
+.PHONY: run test doubles doubles-test differential report-largest deliberate-errors further-edits sheet-by-hand streams-fail docs-check rules-page oracle-test expected archive archive-here bench examples picture
 
 # On another machine than x86-64, what links the archive takes one that is made for it, and our programs run on the kit's emulator.
 MACHINE := $(shell uname -m)
@@ -137,3 +138,15 @@ expected:
 	python3 tests/make_sheets.py
 	cd oracle && cargo run --offline --release -q -p cases --bin replay_list > ../crates/trial_replay/stdin
 	cd oracle && cargo run --offline --release -q -p printed -- ../crates
+
+# How many rounds of 628 pairs double arithmetic is tried on.
+ROUNDS = 80000
+
+# The archive of double arithmetic in whole numbers, target/staticlib/libhullashlar_doubles.a.
+doubles:
+	rt staticlib hullashlar_doubles
+
+# Holds double arithmetic in whole numbers against the machine's own operations, on directed and random pairs; fails where an answer differs,
+# and where a copy with a deliberate error is not found.
+doubles-test: doubles
+	python3 tests/doubles/run.py $(ROUNDS)

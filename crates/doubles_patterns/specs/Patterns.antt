@@ -46,8 +46,7 @@ abbrev pub capped : Format → ℕ → ℕ
 capped f x = cond (ltb x (ones f * hid f)) x (ones f * hid f)
 
 -- the pattern of n / d units, rounded to the nearest, a tie to the even one: what is kept, and a step of the exponent for each place that
--- is
--- dropped. The leading digit counts one step, so that subnormals, a carry into the exponent and overflow are no cases of their own.
+-- is dropped. The leading digit counts one step, so that subnormals, a carry into the exponent and overflow are no cases of their own.
 unfoldable pub pattern : Format → ℕ → ℕ → ℕ
 pattern f n d = capped f (drop (prec f) n d * hid f + kept (prec f) n d)
 

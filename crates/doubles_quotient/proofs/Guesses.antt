@@ -1,6 +1,5 @@
 -- A digit of eleven places guessed from the leading places of the rest and of the divisor, this one with one more: it is never too high,
--- and
--- by one too low at most.
+-- and by one too low at most.
 use mathlib.Core.Path.{_≡_}
 use Prim.Native.Nat.{ℕ, _+_, _*_, _/_, _%_, _≤_, _<_}
 use native.Mathlib.Nat.{mul-assoc, mul-add, mul-le-mul-left, lt-of-mul-lt-mul-right, div-mul-le-self, div-add-mod', mod-lt}

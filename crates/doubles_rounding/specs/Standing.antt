@@ -1,6 +1,5 @@
 -- A whole number in place of a fraction, near enough to round alike. What is lost below a word's last place is kept as that place: an odd
--- number
--- lies on the same side of every tie as the fraction that it stands for.
+-- number lies on the same side of every tie as the fraction that it stands for.
 use mathlib.Core.Path.{_≡_}
 use mathlib.Core.Logic.{_⊎_}
 use Prim.Native.Nat.{ℕ, _+_, _*_, _%_, _<_}

@@ -1,6 +1,5 @@
--- What stands for digits moved down, as sums and differences need it: by ten places or fewer nothing is lost, and by more what stands
--- there is
--- small.
+-- What stands for digits moved down, as sums and differences need it: by ten places or fewer nothing is lost, and by more what stands there
+-- is small.
 use mathlib.Core.Path.{_≡_, sym, ap, _∙_}
 use mathlib.Core.Logic.{_⊎_, inl, inr}
 use Prim.Native.Nat.{ℕ, suc, _+_, _-_, _*_, _^_, _≤_, _<_}

@@ -1,6 +1,5 @@
--- The sum and the difference of two magnitudes: of the digits on one scale, what stands for the smaller one's included, the pattern is
--- that of
--- the units.
+-- The sum and the difference of two magnitudes: of the digits on one scale, what stands for the smaller one's included, the pattern is that
+-- of the units.
 use mathlib.Core.Path.{_≡_, refl, sym, ap, _∙_, subst}
 use mathlib.Core.Logic.{_⊎_, inl, inr}
 use Prim.Native.Nat.{ℕ, zero, suc, _+_, _-_, _*_, _/_, _^_, _≤_, _<_}

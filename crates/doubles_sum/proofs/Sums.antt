@@ -12,6 +12,7 @@ use lib.Ieee.{Float, nan, inf, fin, Format, binary64, low, up, down, size, round
 use lib.Ieee.Fits.{down-pos}
 use lib.Ieee.Exact.{HasValue}
 use lib.Ieee.Scale.{round-same}
+use Rattle.base_floats.proofs.Operations.{difference-of-same}
 use Rattle.doubles_patterns.specs.Patterns.{word, infinity, not-a-number, magnitude, negative, sign-weight, pattern, units-of}
 use Rattle.doubles_patterns.proofs.Packing.{round-pattern}
 use Rattle.doubles_patterns.proofs.Values.{less, sums, differences}
@@ -72,18 +73,6 @@ unfolding sum
 sum-under f true x y l h = ap (λ (b : Bool). cond b (round f true (x - y) l) (round f false (y - x) l)) (lt-ltb y x h)
 sum-under f false x y l h = ap (λ (b : Bool). cond b (round f false (x - y) l) (round f (true && ltb x y) (y - x) l)) (lt-ltb y x h)
 
-none : (x : ℕ) → x - x ≡ 0
-none x = omega arith
-
-sum-nothing : (f : Format) (s : Bool) (x l : ℕ) → sum f s x (not s) x l ≡ round f false 0 l
-unfolding sum
-sum-nothing f true x l =
-    ap (λ (b : Bool). cond b (round f false (x - x) l) (round f b (x - x) l)) (le-ltb x x (omega arith))
-    ∙ ap (λ (z : ℕ). round f false z l) (none x)
-sum-nothing f false x l =
-    ap (λ (b : Bool). cond b (round f true (x - x) l) (round f false (x - x) l)) (le-ltb x x (omega arith))
-    ∙ ap (λ (z : ℕ). round f false z l) (none x)
-
 nothing : pattern binary64 0 1 ≡ 0
 unfolding pattern size
 nothing = refl
@@ -119,7 +108,7 @@ module _ (x y : Float) (s t : Bool) (X Y : ℕ) (h : HasValue x s X (2 ^ low bin
       ap (toBits binary64)
       (add-is ∙ ap (λ (b : Bool). sum binary64 s X b Y (2 ^ low binary64)) (unlike-is s t e)
       ∙ ap (λ (z : ℕ). sum binary64 s X (not s) z (2 ^ low binary64)) (sym l)
-      ∙ sum-nothing binary64 s X (2 ^ low binary64))
+      ∙ difference-of-same binary64 s X (2 ^ low binary64))
       ∙ round-pattern binary64 false 0 ∙ ap (λ (z : ℕ). 0 + z) nothing
 
 -- ---- the answers at finite patterns

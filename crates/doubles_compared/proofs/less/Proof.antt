@@ -1,6 +1,5 @@
 -- A NaN is less than nothing (`nan-first`, `nan-second`); else the magnitudes decide by the two signs, and where the first alone has a
--- minus
--- they must not both be zero (`lt-up`).
+-- minus they must not both be zero (`lt-up`).
 use native.Mathlib.Omega.{arith}
 use Rattle.doubles_compared.proofs.Compared.{nan-first, nan-second, lt-above, lt-down, lt-up, lt-below}
 use borrow.Author.Needs.{needs}

@@ -1,6 +1,5 @@
 -- Zero times a finite number is zero (`product-zero`, `product-zero-back`); else the magnitudes are multiplied. The sign is a minus where
--- the
--- signs are unlike.
+-- the signs are unlike.
 use native.Mathlib.Omega.{arith}
 use Rattle.doubles_product.proofs.Answers.{product-signed, product-nothing, product-zero, product-zero-back}
 use borrow.Author.Needs.{needs}

@@ -1,6 +1,5 @@
 -- NaN with a NaN (`product-nan`, `product-nan-back`), and for an infinity and zero (`product-inf-zero`, `product-zero-inf`); else an
--- infinity
--- with the product's sign (`product-special`).
+-- infinity with the product's sign (`product-special`).
 use native.Mathlib.Omega.{arith}
 use Rattle.doubles_patterns.specs.Patterns.{magnitude}
 use Rattle.doubles_product.proofs.Answers.{

@@ -1,6 +1,5 @@
 -- The upper word of the product of the digits, moved up to the tops of their words, has 62 places below its highest (`product-large`), and
--- in
--- its place it stands for the product of the units (`product-is`).
+-- in its place it stands for the product of the units (`product-is`).
 use mathlib.Core.Path.{_∙_}
 use native.Mathlib.Omega.{arith}
 use Rattle.doubles_product.proofs.Products.{product-large, product-is}

@@ -1,6 +1,5 @@
 -- Four products of halves, each sum carrying its upper half to the next: what they make is the upper word (`product-exact`), or the odd
--- number
--- that stands for it and for what is below (`product-lost`).
+-- number that stands for it and for what is below (`product-lost`).
 use native.Mathlib.Omega.{arith}
 use Rattle.doubles_product.proofs.Halves.{
   lowest-fits,

@@ -1,6 +1,5 @@
 -- By zero: NaN for zero (`quotient-zeros`), else an infinity (`quotient-by-zero`). Zero by another number is zero (`quotient-nothing`);
--- else the
--- magnitudes are divided. The sign is a minus where the signs are unlike.
+-- else the magnitudes are divided. The sign is a minus where the signs are unlike.
 use native.Mathlib.Omega.{arith}
 use Rattle.doubles_quotient.proofs.Answers.{quotient-zeros, quotient-by-zero, quotient-nothing, quotient-signed}
 use borrow.Author.Needs.{needs}

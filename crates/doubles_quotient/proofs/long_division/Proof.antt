@@ -1,7 +1,6 @@
 -- A digit a turn: the quotient so far times n, and what is left, are m moved up by eleven places for each (`Turn`); the measure is how many
 -- digits are missing. The guess fits (`fits`), and where it leaves n or more the digit is one more (`turn-more`). At the end nothing is
--- left
--- (`quotient-exact`), or the odd number stands for what is (`quotient-lost`).
+-- left (`quotient-exact`), or the odd number stands for what is (`quotient-lost`).
 use Prim.Native.Nat.{_-_}
 use native.Mathlib.Omega.{arith}
 use Rattle.doubles_quotient.proofs.Turns.{

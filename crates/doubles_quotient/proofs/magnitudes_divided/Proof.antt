@@ -1,6 +1,5 @@
 -- The quotient of the digits has 55 or 56 places (`quotient-large`, `quotient-small`), and in its place it stands for the quotient of the
--- units
--- (`quotient-is`).
+-- units (`quotient-is`).
 use mathlib.Core.Path.{_∙_}
 use native.Mathlib.Omega.{arith}
 use Rattle.doubles_patterns.proofs.Magnitudes.{units-some}

@@ -1,6 +1,5 @@
--- The digits of both on the scale of the larger one: their sum stands for the sum of the units (`sum-is`), and has its highest digit in
--- one of
--- the two top places unless the exponent is 0 (`sum-high`).
+-- The digits of both on the scale of the larger one: their sum stands for the sum of the units (`sum-is`), and has its highest digit in one
+-- of the two top places unless the exponent is 0 (`sum-high`).
 use mathlib.Core.Path.{_∙_}
 use native.Mathlib.Omega.{arith}
 use Rattle.doubles_sum.proofs.Combined.{exponents-of, aligned-most, sum-is, sum-high}

@@ -1,6 +1,5 @@
 -- The digits of both on the scale of the larger one: what stands for the smaller one is less (`less-of`), and the difference stands for
--- that of
--- the units (`difference-is`).
+-- that of the units (`difference-is`).
 use mathlib.Core.Path.{_∙_}
 use native.Mathlib.Omega.{arith}
 use Rattle.doubles_sum.proofs.Combined.{exponents-of, less-of, difference-is}
