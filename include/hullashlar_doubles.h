@@ -1,8 +1,9 @@
 /* Double arithmetic in whole numbers, proved: what a compiler calls where a processor has no double of its own (Cortex-M0+,
  * M4F, M33, rv32imac). docs/RULES.md says what each call computes, in its chapters Doubles and DoublesExports.
  *
- * The archive is libhullashlar_doubles.a. It wants nothing of its host: no library call, no memory but the stack. Nothing is
- * kept between calls, no rounding mode is read and no exception is raised.
+ * The archive is libhullashlar_doubles.a. It uses no memory but the stack, keeps nothing between calls, reads no rounding
+ * mode and raises no exception. Of its host it wants nothing, but on Cortex-M0+, which cannot divide or multiply so far by
+ * itself, the compiler's functions for whole numbers (__aeabi_uidiv, __aeabi_lmul, __aeabi_llsl, __aeabi_llsr, __clzsi2).
  *
  * Each call takes the bit patterns of two doubles, whatever they are, and gives the answer of IEEE 754, rounded to the
  * nearest, a tie to the even one: zeros of both signs, subnormal numbers, infinities, every NaN in; a NaN out is
