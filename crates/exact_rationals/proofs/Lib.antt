@@ -1,0 +1,3 @@
+pub mod RationalLaws
+pub mod OrderedField
+pub mod Comparisons

@@ -1,0 +1,13 @@
+pub mod Numbers
+pub mod Ends
+pub mod Sizes
+pub mod Steps
+pub mod Solve
+pub mod Moments
+pub mod Curve
+pub mod Tensor
+pub mod Query
+pub mod Derivatives
+pub mod Spline
+pub mod Pieces
+pub mod Nested
