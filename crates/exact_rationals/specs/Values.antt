@@ -1,6 +1,6 @@
 -- The chapter Values of docs/RULES.md: the exact value of a float, as a rational number.
 use mathlib.Core.Bool.{true, false}
-use Prim.Native.Nat.{ℕ, suc, _*_, _<_}
+use Prim.Native.Nat.{suc, _*_, _<_}
 use native.Mathlib.Omega.{arith}
 use lib.IntN.{ℤ, pos, negsuc}
 use lib.Ieee.{Float, nan, inf, fin, up, down}

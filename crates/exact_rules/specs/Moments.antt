@@ -7,16 +7,7 @@ use lib.Dec.{leb, eqb}
 use Rattle.exact_arithmetic.specs.Arithmetic.{Arithmetic}
 use Rattle.rules.specs.Numbers.{table}
 use Rattle.exact_rules.specs.Numbers.{at}
-use Rattle.exact_rules.specs.Ends.{
-  End,
-  NotAKnot,
-  FirstDerivative,
-  SecondDerivative,
-  Condition,
-  Endpoints,
-  Periodic,
-  dropped,
-}
+use Rattle.exact_rules.specs.Ends.{End, NotAKnot, FirstDerivative, SecondDerivative, Condition, Endpoints, Periodic, dropped}
 use Rattle.exact_rules.specs.Steps as Steps
 use Rattle.exact_rules.specs.Solve as Solve
 

@@ -1,7 +1,7 @@
 -- The chapter Tensor of docs/RULES.md, over any arithmetic: a tensor's numbers as a function of the samples, by place and mask.
 use mathlib.Core.Bool.{true, false}
 use mathlib.Core.List.{List}
-use Prim.Native.Nat.{ℕ, zero, suc, _+_, _-_, _*_, _/_, _%_, _^_}
+use Prim.Native.Nat.{ℕ, zero, suc, _-_, _*_, _/_, _%_, _^_}
 use lib.Dec.{ltb}
 use Rattle.rules.specs.Numbers.{table}
 use Rattle.rules.specs.Sizes.{Place, moved, flat, unflat, product-below}
