@@ -1,0 +1,2 @@
+pub mod AcceptedAxis
+pub mod AcceptedGrid
