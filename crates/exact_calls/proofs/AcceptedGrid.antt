@@ -10,10 +10,8 @@ use Rattle.rules.specs.Refusals.{knots-refused, some-knots-refused, fewness-ref
 use Rattle.base_numbers.proofs.Scan.{any-at}
 use Rattle.exact_rationals.specs.Rationals.{ℚ, rationals}
 use Rattle.exact_rationals.proofs.OrderedField.{rationals-are-a-field, rationals-are-ordered}
-use Rattle.exact_rules.specs.Numbers.{at}
-use Rattle.exact_rules.specs.Sizes.{spot}
-use Rattle.exact_rules.specs.Tensor.{tensor, sample}
-use Rattle.exact_rules.specs.Query.{value-in}
+use Rattle.exact_rules.specs.Tensor.{sample}
+use Rattle.exact_rules.specs.Query.{value-from}
 use Rattle.exact_rules.specs.Nested.{Sound, nested-splines}
 use Rattle.exact_spline.proofs.TheSurface.{the-surface-is-the-spline-of-splines}
 use Rattle.exact_calls.specs.Exactly.{values, exact-grid}
@@ -38,11 +36,7 @@ module _ (g : Sizes.Grid) (eight : some-knots-refused g ≡ false) (nine : some-
 
   pub accepted-surface :
       (samples : List Float) (cells : Sizes.Place) → Inside g cells → (point : ℕ → ℚ)
-      → value-in rationals (exact-grid g)
-      (λ p mask.
-      at rationals (tensor rationals (exact-grid g) (sample rationals (exact-grid g) (values samples)))
-      (spot rationals (exact-grid g) p mask))
-      cells point
+      → value-from rationals (exact-grid g) (sample rationals (exact-grid g) (values samples)) cells point
       ≡ nested-splines rationals (g .axes) (exact-grid g) (sample rationals (exact-grid g) (values samples)) cells point
   accepted-surface samples cells inside =
       the-surface-is-the-spline-of-splines rationals rationals-are-a-field rationals-are-ordered (exact-grid g) (values samples) cells

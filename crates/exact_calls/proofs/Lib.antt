@@ -1,2 +1,3 @@
 pub mod AcceptedAxis
 pub mod AcceptedGrid
+pub mod Located

@@ -146,8 +146,7 @@ whole-curve-same x n c y i p =
 
 pub whole-surface-same : (g : Sizes.Grid) (samples : List Float) (cells : Sizes.Place) (point : ℕ → Float)
     → RulesQ.value-in g (RulesT.tensor g samples) cells point
-    ≡ ExactQ.value-in floats (grid g)
-    (λ p mask. at (ExactT.tensor floats (grid g) (ExactT.sample floats (grid g) samples)) (Sizes.spot g p mask)) cells point
+    ≡ ExactQ.value-from floats (grid g) (ExactT.sample floats (grid g) samples) cells point
 whole-surface-same g samples cells point =
     ap (λ t. RulesQ.value-in g t cells point) (tensor-same g samples)
     ∙ value-in-same g (ExactT.tensor floats (grid g) (ExactT.sample floats (grid g) samples)) cells point

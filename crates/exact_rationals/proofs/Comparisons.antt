@@ -9,7 +9,8 @@ use lib.Ieee.Scale.{finite}
 use borrow.Author.Tests.{ltb-true, ltb-false, eqb-true}
 use Rattle.exact_rationals.specs.Rationals.{Positive, Least, minus}
 use Rattle.exact_rationals.specs.Values.{value}
-use Rattle.exact_rationals.proofs.RationalLaws.{positive-difference, least-difference, positive-least}
+use Rattle.exact_rationals.proofs.RationalLaws.{positive-difference}
+use Rattle.exact_rationals.proofs.Order.{least-difference, positive-least}
 
 -- less
 pub less-is-less : (a b : Float) → finite a ≡ true → finite b ≡ true → lt a b ≡ true → Positive (minus (value b) (value a))

@@ -2,7 +2,7 @@
 use mathlib.Core.Path.{_≡_, refl, sym, _∙_, ap, ap₂, subst}
 use mathlib.Core.Quot.{Quot·sound, ind}
 use mathlib.Core.HLevel.{Π-prop}
-use Prim.Native.Nat.{ℕ, _+_, _-_, _*_, _<_, _≤_}
+use Prim.Native.Nat.{ℕ, _+_, _-_, _*_, _<_}
 use native.Mathlib.Nat.{mul-le-mul-right}
 use native.Mathlib.Decide.{decLt}
 use native.Mathlib.Omega.{arith}
@@ -26,8 +26,6 @@ use Rattle.exact_rationals.specs.Rationals.{
   over,
   Positive,
   positive-prop,
-  Least,
-  least-prop,
 }
 
 -- the laws of a field, on three numbers by their fractions
@@ -190,13 +188,3 @@ positive-not-nought x h e = let z : 0 < 0 = subst Positive e h in omega arith
 pub positive-difference : (a b : Ratio) → a .p * b .d + b .n * a .d < b .p * a .d + a .n * b .d → Positive (minus (mk b) (mk a))
 unfolding Positive minus plus negative
 positive-difference a b h = omega arith
-
--- a difference is nought or more where the fractions say so, and where it is positive
-pub least-difference : (a b : Ratio) → a .p * b .d + b .n * a .d ≤ b .p * a .d + a .n * b .d → Least (minus (mk b) (mk a))
-unfolding Least minus plus negative
-least-difference a b h = omega arith
-
-pub positive-least : (x : ℚ) → Positive x → Least x
-unfolding Positive Least
-positive-least =
-    ind {0, 0, 0} {β = λ x. Positive x → Least x} (λ x. Π-prop (λ h. least-prop x)) (λ a h. omega (arith, h))

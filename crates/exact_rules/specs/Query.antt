@@ -4,7 +4,9 @@ use Prim.Native.Nat.{ℕ, zero, suc, _+_, _*_, _/_, _%_, _^_}
 use Rattle.rules.specs.Sizes.{Place}
 use Rattle.rules.specs.Query.{corner}
 use Rattle.exact_arithmetic.specs.Arithmetic.{Arithmetic}
-use Rattle.exact_rules.specs.Sizes.{Grid}
+use Rattle.exact_rules.specs.Sizes.{Grid, spot}
+use Rattle.exact_rules.specs.Numbers.{at}
+use Rattle.exact_rules.specs.Tensor.{tensor}
 use Rattle.exact_rules.specs.Steps as Steps
 
 module _ (A : Arithmetic) where
@@ -50,3 +52,7 @@ module _ (A : Arithmetic) where
       (λ i. Steps.h A (g .knots i) (cells i))
       (λ i. fraction (g .knots i) (cells i) (point i))
       (λ e. numbers (corner (g .axes) cells (e / 2 ^ g .axes)) (e % 2 ^ g .axes))
+
+  -- the same from the tensor of the samples, a list as the rules have it
+  abbrev pub value-from : Grid A → (Place → Number) → Place → (ℕ → Number) → Number
+  value-from g samples cells point = value-in g (λ p mask. at A (tensor A g samples) (spot A g p mask)) cells point

@@ -14,7 +14,7 @@ use Rattle.rules.proofs.Places.{OnGrid, flat-below, flat-ext, unflat-flat}
 use Rattle.exact_arithmetic.specs.Arithmetic.{Arithmetic, IsField, IsOrdered}
 use Rattle.exact_rules.specs.Steps as Steps
 use Rattle.exact_rules.specs.Curve.{curve-in-cell}
-use Rattle.exact_rules.specs.Query.{blend, fraction, value-in}
+use Rattle.exact_rules.specs.Query.{blend, fraction, value-in, value-from}
 use Rattle.exact_rules.specs.Sizes.{Grid, spot}
 use Rattle.exact_rules.specs.Numbers.{at}
 use Rattle.exact_rules.specs.Tensor.{entry, tensor, sample}
@@ -83,7 +83,7 @@ module _ (A : Arithmetic) (F : IsField A) where
         below f n m i j = omega (arith, mul-le-mul-right m i)
 
     pub value-from-the-tensor : (cells : Place) → ((i : ℕ) → i < g .axes → cells i + 1 < g .points i) → (point : ℕ → Number)
-        → value-in A g (λ p mask. at A (tensor A g samples) (spot A g p mask)) cells point
+        → value-from A g samples cells point
         ≡ value-in A g (λ p mask. entry A g samples (g .axes) mask p) cells point
     unfolding value-in corner
     value-from-the-tensor cells inside point =
@@ -102,8 +102,7 @@ module _ (A : Arithmetic) (F : IsField A) where
   -- splines through the samples
   pub the-surface-is-the-spline-of-splines : (O : IsOrdered A) (g : Grid A) (samples : List Number) (cells : Place) → Sound A O g cells
       → (point : ℕ → Number)
-      → value-in A g (λ p mask. at A (tensor A g (sample A g samples)) (spot A g p mask)) cells point
-      ≡ nested-splines A (g .axes) g (sample A g samples) cells point
+      → value-from A g (sample A g samples) cells point ≡ nested-splines A (g .axes) g (sample A g samples) cells point
   the-surface-is-the-spline-of-splines O g samples cells sound point =
       value-from-the-tensor g (sample A g samples) (sample-reads g samples) cells (sound .inside) point
       ∙ surface-is-nested-splines O (g .axes) g refl (sample A g samples) (sample-reads g samples) cells sound point
