@@ -1,4 +1,5 @@
--- What refusals 8 and 9 let pass on an axis is all that the exact spline asks for: its knots rise, and its points are enough. So there is one
+-- What refusals 8 and 9 let pass on an axis is all that the exact spline asks for: its knots rise, and its points are enough. So there is
+-- one
 -- spline through the exact values, and the rules computed without rounding give it.
 use mathlib.Core.Path.{_≡_, refl, ap₂}
 use mathlib.Core.Bool.{false}

@@ -1,3 +1,4 @@
 pub mod AcceptedAxis
 pub mod AcceptedGrid
 pub mod Located
+pub mod AcceptedQuery

@@ -1,7 +1,9 @@
--- The cell that `locate` finds, by exact values: inside it holds the point; below the knots it is the first cell, above them the last.
+-- The cell that `locate` finds, by exact values: inside it holds the point; below the knots it is the first cell, above them the last; and
+-- it
+-- holds the point that hold puts in its place.
 use mathlib.Core.Path.{_≡_, refl, sym, subst}
 use mathlib.Core.Bool.{Bool, true, false, cond}
-use mathlib.Core.List.{List}
+use mathlib.Core.List.{List, [], _∷_}
 use Prim.Native.Nat.{ℕ, zero, suc, _+_, _-_, _<_, _≤_}
 use native.Mathlib.Decide.{decLt}
 use native.Mathlib.Omega.{arith}
@@ -12,7 +14,8 @@ use Rattle.rules.specs.Locate.{first-at-or-above, locate}
 use Rattle.base_numbers.proofs.Scan.{neither}
 use Rattle.exact_rationals.specs.Rationals.{rationals, Positive, Least, minus}
 use Rattle.exact_rationals.specs.Values.{value}
-use Rattle.exact_rationals.proofs.Order.{positive-least, least-through}
+use Rattle.exact_rationals.proofs.Order.{positive-least, least-number, least-through, ring}
+use Rattle.exact_solver.specs.Expressions.{var, t0, sub}
 use Rattle.exact_rationals.proofs.Comparisons.{not-less, at-most}
 use Rattle.exact_rules.specs.Steps.{h}
 use Rattle.exact_calls.specs.Exactly.{exact, Holds}
@@ -21,6 +24,11 @@ use Rattle.exact_calls.specs.Exactly.{exact, Holds}
 not-at-most : (a b : Float) → le a b ≡ false → lt a b ≡ false
 unfolding le
 not-at-most a b e = neither (lt a b) (eq a b) e .0
+
+-- less, so at most
+less-at-most : (a b : Float) → lt a b ≡ true → le a b ≡ true
+unfolding le
+less-at-most a b e = rw e refl
 
 -- the first of the knots k, .., k + d that is at or above the point
 record First (x : List Float) (p : Float) (d k r : ℕ) : Type 0 where
@@ -49,7 +57,8 @@ first-found x p (suc d) k = go (le p (at x k)) refl (first-found x p d (suc k))
           from = omega (arith, later .from);
           to = omega (arith, later .to);
           here = λ l. later .here (omega (arith, l));
-          before = λ l. back (first-at-or-above x p d (suc k)) (later .from) (later .before) (decLt (suc k) (first-at-or-above x p d (suc k)));
+          before =
+              λ l. back (first-at-or-above x p d (suc k)) (later .from) (later .before) (decLt (suc k) (first-at-or-above x p d (suc k)));
         }
       where
         back : (r : ℕ) → suc k ≤ r → (suc k < r → le p (at x (r - 1)) ≡ false) → Dec (suc k < r) → le p (at x (r - 1)) ≡ false
@@ -72,6 +81,16 @@ module _
   pub locate-above : lt p (at x 0) ≡ false → le (at x n) p ≡ true → locate x n p ≡ n - 1
   unfolding locate
   locate-above not-below above = rw (not-below, above) refl
+
+  -- it is always a cell
+  pub locate-inside : locate x n p + 1 < n + 1
+  unfolding locate
+  locate-inside = go (lt p (at x 0)) (le (at x n) p)
+    where
+      go : (t u : Bool) → cond t 0 (cond u (n - 1) (first-at-or-above x p n 0 - 1)) + 1 < n + 1
+      go true u = omega arith
+      go false true = omega arith
+      go false false = omega (arith, first-found x p n 0 .to)
 
   -- between them the cell holds the point
   pub located : lt p (at x 0) ≡ false → lt (at x n) p ≡ false → Holds (exact x) (locate x n p) (value p)
@@ -123,3 +142,24 @@ module _
           → Holds (exact x) (cond t 0 (cond u (n - 1) (first-at-or-above x p n 0 - 1))) (value p)
       go t e true above = rw e (last above)
       go t e false below = rw e (among (first-at-or-above x p n 0) (first-found x p n 0))
+
+  -- so the point that hold puts in its place always lies in the cell: outside it is the end knot of that cell
+  pub held : Holds (exact x) (locate x n p) (value (cond (lt p (at x 0)) (at x 0) (cond (lt (at x n) p) (at x n) p)))
+  held = go (lt p (at x 0)) refl (lt (at x n) p) refl
+    where
+      at-a-knot : (k : ℕ) → Least (minus (exact x k) (exact x k))
+      at-a-knot k = subst Least (ring (exact x k ∷ []) t0 (sub (var 0) (var 0)) tt tt tt) (least-number 0)
+
+      go : (t : Bool) → lt p (at x 0) ≡ t → (u : Bool) → lt (at x n) p ≡ u
+          → Holds (exact x) (locate x n p) (value (cond t (at x 0) (cond u (at x n) p)))
+      go true e u f =
+          subst (λ l. Holds (exact x) l (exact x 0)) (sym (locate-below e))
+          (record { from-lower = at-a-knot 0; to-upper = step 0 some })
+      go false e true f =
+          let same : n ≡ n - 1 + 1 = omega arith in
+          subst (λ l. Holds (exact x) l (exact x n)) (sym (locate-above e (less-at-most (at x n) p f)))
+          (record {
+            from-lower = subst (λ k. Least (minus (exact x k) (exact x (n - 1)))) (sym same) (step (n - 1) (omega arith));
+            to-upper = subst (λ k. Least (minus (exact x k) (exact x n))) same (at-a-knot n);
+          })
+      go false e false f = located e f

@@ -9,7 +9,7 @@ use native.Mathlib.Omega.{arith}
 use lib.Dec.{T}
 use Rattle.exact_solver.specs.Expressions.{Term, var, add, sub, divides, same, meaning}
 use Rattle.exact_solver.proofs.Solver.{solve}
-use Rattle.exact_rationals.specs.Rationals.{ℚ, Ratio, mk, rationals, plus, minus, times, negative, Positive, Least, least-prop}
+use Rattle.exact_rationals.specs.Rationals.{ℚ, Ratio, mk, rationals, number, plus, minus, times, negative, Positive, Least, least-prop}
 use Rattle.exact_rationals.proofs.OrderedField.{rationals-are-a-field}
 
 pub least-plus : (x y : ℚ) → Least x → Least y → Least (plus x y)
@@ -50,6 +50,10 @@ pub positive-least : (x : ℚ) → Positive x → Least x
 unfolding Positive Least
 positive-least =
     ind {0, 0, 0} {β = λ x. Positive x → Least x} (λ x. Π-prop (λ h. least-prop x)) (λ a h. omega (arith, h))
+
+pub least-number : (k : ℕ) → Least (number k)
+unfolding Least number
+least-number k = omega arith
 
 -- an equation of expressions, none divided by a variable
 pub ring : (env : List ℚ) (a b : Term) → T (divides 0 a) → T (divides 0 b) → T (same a b) → meaning rationals env a ≡ meaning rationals env b
