@@ -21,10 +21,10 @@ use Rattle.grid_checks.proofs.Accepted.{knots-step}
 use Rattle.exact_rationals.specs.Rationals.{ℚ, rationals, Positive}
 use Rattle.exact_rationals.proofs.OrderedField.{rationals-are-a-field, rationals-are-ordered}
 use Rattle.exact_rationals.proofs.Comparisons.{less-is-less}
-use Rattle.exact_rules.specs.Ends as Exact
-use Rattle.exact_rules.specs.Steps.{h}
-use Rattle.exact_rules.specs.Moments.{moment}
-use Rattle.exact_rules.specs.Spline.{IsSplineUnder}
+use Rattle.exact_spline.specs.Ends as Exact
+use Rattle.exact_spline.specs.Steps.{h}
+use Rattle.exact_spline.specs.Moments.{moment}
+use Rattle.exact_spline.specs.Spline.{IsSplineUnder}
 use Rattle.exact_spline.proofs.TheSpline.{moments-are-a-spline, moments-are-the-only-spline}
 use Rattle.exact_calls.specs.Exactly.{exact, exact-end, exact-condition}
 

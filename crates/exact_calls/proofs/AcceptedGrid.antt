@@ -10,9 +10,9 @@ use Rattle.rules.specs.Refusals.{knots-refused, some-knots-refused, fewness-ref
 use Rattle.base_numbers.proofs.Scan.{any-at}
 use Rattle.exact_rationals.specs.Rationals.{ℚ, rationals}
 use Rattle.exact_rationals.proofs.OrderedField.{rationals-are-a-field, rationals-are-ordered}
-use Rattle.exact_rules.specs.Tensor.{sample}
-use Rattle.exact_rules.specs.Query.{value-from}
-use Rattle.exact_rules.specs.Nested.{Sound, nested-splines}
+use Rattle.exact_spline.specs.Tensor.{sample}
+use Rattle.exact_spline.specs.Query.{value-from}
+use Rattle.exact_spline.specs.Nested.{Sound, nested-splines}
 use Rattle.exact_spline.proofs.TheSurface.{the-surface-is-the-spline-of-splines}
 use Rattle.exact_calls.specs.Exactly.{values, exact-grid}
 use Rattle.exact_calls.proofs.AcceptedAxis.{knots-rise, points-enough}

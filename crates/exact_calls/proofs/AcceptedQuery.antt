@@ -26,9 +26,9 @@ use Rattle.grid.proofs.Knots.{knots-of-axis}
 use Rattle.grid_checks.proofs.Accepted.{knots-step}
 use Rattle.exact_rationals.specs.Rationals.{rationals}
 use Rattle.exact_rationals.specs.Values.{value}
-use Rattle.exact_rules.specs.Tensor.{sample}
-use Rattle.exact_rules.specs.Query.{value-from}
-use Rattle.exact_rules.specs.Nested.{nested-splines}
+use Rattle.exact_spline.specs.Tensor.{sample}
+use Rattle.exact_spline.specs.Query.{value-from}
+use Rattle.exact_spline.specs.Nested.{nested-splines}
 use Rattle.exact_calls.specs.Exactly.{exact, values, exact-grid, Holds}
 use Rattle.exact_calls.proofs.AcceptedAxis.{knots-rise}
 use Rattle.exact_calls.proofs.AcceptedGrid.{accepted-surface}

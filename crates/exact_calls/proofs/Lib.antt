@@ -2,3 +2,4 @@ pub mod AcceptedAxis
 pub mod AcceptedGrid
 pub mod Located
 pub mod AcceptedQuery
+pub mod Example

@@ -17,7 +17,7 @@ use Rattle.exact_rationals.specs.Values.{value}
 use Rattle.exact_rationals.proofs.Order.{positive-least, least-number, least-through, ring}
 use Rattle.exact_solver.specs.Expressions.{var, t0, sub}
 use Rattle.exact_rationals.proofs.Comparisons.{not-less, at-most}
-use Rattle.exact_rules.specs.Steps.{h}
+use Rattle.exact_spline.specs.Steps.{h}
 use Rattle.exact_calls.specs.Exactly.{exact, Holds}
 
 -- not at most, so not less

@@ -10,8 +10,8 @@ use Rattle.rules.specs.declared.Condition as DeclaredCondition
 use Rattle.rules.specs.declared.Condition.the-variants as Condition
 use Rattle.exact_rationals.specs.Rationals.{ℚ, Least, minus, rationals}
 use Rattle.exact_rationals.specs.Values.{value}
-use Rattle.exact_rules.specs.Ends as Exact
-use Rattle.exact_rules.specs.Sizes.{Grid}
+use Rattle.exact_spline.specs.Ends as Exact
+use Rattle.exact_spline.specs.Sizes.{Grid}
 
 -- a list of floats as a function of the index, by exact values; and as a list of these
 abbrev pub exact : List Float → ℕ → ℚ

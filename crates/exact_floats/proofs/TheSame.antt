@@ -20,13 +20,13 @@ use Rattle.rules.specs.declared.End.the-variants.{NotAKnot, FirstDerivative, Se
 use Rattle.rules.specs.declared.Condition.{Condition}
 use Rattle.rules.specs.declared.Condition.the-variants.{Endpoints, Periodic}
 use Rattle.rules.proofs.Cases.{arms-ext}
-use Rattle.exact_rules.specs.Ends as ExactE
-use Rattle.exact_rules.specs.Steps as Exact
-use Rattle.exact_rules.specs.Solve as ExactS
-use Rattle.exact_rules.specs.Moments as ExactM
-use Rattle.exact_rules.specs.Curve as ExactC
-use Rattle.exact_rules.specs.Tensor as ExactT
-use Rattle.exact_rules.specs.Query as ExactQ
+use Rattle.exact_spline.specs.Ends as ExactE
+use Rattle.exact_spline.specs.Steps as Exact
+use Rattle.exact_spline.specs.Solve as ExactS
+use Rattle.exact_spline.specs.Moments as ExactM
+use Rattle.exact_spline.specs.Curve as ExactC
+use Rattle.exact_spline.specs.Tensor as ExactT
+use Rattle.exact_spline.specs.Query as ExactQ
 use Rattle.exact_floats.specs.Floats.{floats, end, condition, grid}
 
 pub h-same : (x : List Float) (i : ℕ) → Rules.h x i ≡ Exact.h floats (at x) i

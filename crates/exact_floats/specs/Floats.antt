@@ -7,8 +7,8 @@ use Rattle.rules.specs.declared.End.the-variants.{NotAKnot, FirstDerivative, Se
 use Rattle.rules.specs.declared.Condition.{Condition}
 use Rattle.rules.specs.declared.Condition.the-variants.{Endpoints, Periodic}
 use Rattle.rules.specs.Sizes as Sizes
-use Rattle.exact_rules.specs.Ends as Exact
-use Rattle.exact_rules.specs.Sizes as ExactSizes
+use Rattle.exact_spline.specs.Ends as Exact
+use Rattle.exact_spline.specs.Sizes as ExactSizes
 
 -- binary64, each operation rounded once; a list gives NaN past its end
 abbrev pub floats : Arithmetic

@@ -9,7 +9,20 @@ use native.Mathlib.Omega.{arith}
 use lib.Dec.{T}
 use Rattle.exact_solver.specs.Expressions.{Term, var, add, sub, divides, same, meaning}
 use Rattle.exact_solver.proofs.Solver.{solve}
-use Rattle.exact_rationals.specs.Rationals.{ℚ, Ratio, mk, rationals, number, plus, minus, times, negative, Positive, Least, least-prop}
+use Rattle.exact_rationals.specs.Rationals.{
+  ℚ,
+  Ratio,
+  mk,
+  rationals,
+  number,
+  plus,
+  minus,
+  times,
+  negative,
+  Positive,
+  Least,
+  least-prop,
+}
 use Rattle.exact_rationals.proofs.OrderedField.{rationals-are-a-field}
 
 pub least-plus : (x y : ℚ) → Least x → Least y → Least (plus x y)
@@ -56,7 +69,8 @@ unfolding Least number
 least-number k = omega arith
 
 -- an equation of expressions, none divided by a variable
-pub ring : (env : List ℚ) (a b : Term) → T (divides 0 a) → T (divides 0 b) → T (same a b) → meaning rationals env a ≡ meaning rationals env b
+pub ring : (env : List ℚ) (a b : Term) → T (divides 0 a) → T (divides 0 b) → T (same a b)
+    → meaning rationals env a ≡ meaning rationals env b
 ring env a b = solve rationals rationals-are-a-field 0 env tt a b
 
 -- from a to b and on to c

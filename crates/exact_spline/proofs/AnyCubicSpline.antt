@@ -11,15 +11,25 @@ use Rattle.exact_arithmetic.specs.Arithmetic.{Arithmetic, IsField, IsOrdered}
 use Rattle.exact_solver.specs.Expressions.{Term, var, t0, t6, mul, terms}
 use Rattle.exact_solver.proofs.Solver.{solve}
 use Rattle.exact_arithmetic.proofs.FieldLaws as Laws
-use Rattle.exact_rules.specs.Steps as Steps
-use Rattle.exact_rules.specs.Ends.{End, NotAKnot, FirstDerivative, SecondDerivative, Condition, Endpoints, Periodic, fewest-points, dropped}
-use Rattle.exact_rules.specs.Moments.{moment}
-use Rattle.exact_rules.specs.Curve.{curve-in-cell, cubic}
-use Rattle.exact_rules.specs.Derivatives.{slope-in-cell, second-in-cell, third-in-cell, bend, twist}
-use Rattle.exact_rules.specs.Derivatives as D
-use Rattle.exact_rules.specs.Spline.{IsSpline, LowerEnd, UpperEnd, EndsHold}
-use Rattle.exact_rules.specs.Pieces as P
-use Rattle.exact_rules.specs.Pieces.{polynomial, first-derivative, second-derivative, IsCubicSpline}
+use Rattle.exact_spline.specs.Steps as Steps
+use Rattle.exact_spline.specs.Ends.{
+  End,
+  NotAKnot,
+  FirstDerivative,
+  SecondDerivative,
+  Condition,
+  Endpoints,
+  Periodic,
+  fewest-points,
+  dropped,
+}
+use Rattle.exact_spline.specs.Moments.{moment}
+use Rattle.exact_spline.specs.Curve.{curve-in-cell, cubic}
+use Rattle.exact_spline.specs.Derivatives.{slope-in-cell, second-in-cell, third-in-cell, bend, twist}
+use Rattle.exact_spline.specs.Derivatives as D
+use Rattle.exact_spline.specs.Spline.{IsSpline, LowerEnd, UpperEnd, EndsHold}
+use Rattle.exact_spline.specs.Pieces as P
+use Rattle.exact_spline.specs.Pieces.{polynomial, first-derivative, second-derivative, IsCubicSpline}
 use Rattle.exact_spline.proofs.Tests.{cond-true, cond-false}
 use Rattle.exact_spline.proofs.TheSpline.{moments-are-the-only-spline}
 

@@ -6,7 +6,7 @@ use native.Mathlib.Omega.{arith}
 use Rattle.exact_arithmetic.specs.Arithmetic.{Arithmetic, IsField, IsOrdered}
 use Rattle.exact_solver.specs.Expressions.{var, add, sub, mul, div}
 use Rattle.exact_solver.proofs.Solver.{solve}
-use Rattle.exact_rules.specs.Solve as Solve
+use Rattle.exact_spline.specs.Solve as Solve
 use Rattle.exact_spline.specs.Rows.{Dominant, Bounded}
 use Rattle.exact_spline.proofs.Thomas as Thomas
 

@@ -6,9 +6,9 @@ use mathlib.Core.List.{List, [], _∷_}
 use Rattle.exact_arithmetic.specs.Arithmetic.{Arithmetic, IsField}
 use Rattle.exact_solver.specs.Expressions.{Term, var, t0, t2, t6, add, sub, mul, div, terms}
 use Rattle.exact_solver.proofs.Solver.{solve}
-use Rattle.exact_rules.specs.Curve.{cubic, lower-slope, upper-slope}
-use Rattle.exact_rules.specs.Derivatives.{slope, bend, twist}
-use Rattle.exact_rules.specs.Query.{hermite}
+use Rattle.exact_spline.specs.Curve.{cubic, lower-slope, upper-slope}
+use Rattle.exact_spline.specs.Derivatives.{slope, bend, twist}
+use Rattle.exact_spline.specs.Query.{hermite}
 
 module _ (A : Arithmetic) (F : IsField A) where
   infixl 60 _⊕_

@@ -5,12 +5,12 @@ use Prim.Native.Nat.{ℕ, _+_, _-_, _<_, _≤_}
 use Rattle.exact_arithmetic.specs.Arithmetic.{Arithmetic, IsField, IsOrdered}
 use Rattle.exact_solver.specs.Expressions.{Term, var, t3, add, sub, mul, terms}
 use Rattle.exact_solver.proofs.Solver.{solve}
-use Rattle.exact_rules.specs.Steps as Steps
-use Rattle.exact_rules.specs.Ends.{End, NotAKnot, FirstDerivative, SecondDerivative, Endpoints, fewest-points}
-use Rattle.exact_rules.specs.Moments.{moment}
-use Rattle.exact_rules.specs.Curve.{curve-in-cell}
-use Rattle.exact_rules.specs.Pieces as P
-use Rattle.exact_rules.specs.Pieces.{polynomial, first-derivative, second-derivative}
+use Rattle.exact_spline.specs.Steps as Steps
+use Rattle.exact_spline.specs.Ends.{End, NotAKnot, FirstDerivative, SecondDerivative, Endpoints, fewest-points}
+use Rattle.exact_spline.specs.Moments.{moment}
+use Rattle.exact_spline.specs.Curve.{curve-in-cell}
+use Rattle.exact_spline.specs.Pieces as P
+use Rattle.exact_spline.specs.Pieces.{polynomial, first-derivative, second-derivative}
 use Rattle.exact_spline.proofs.AnyCubicSpline.{every-cubic-spline-is-the-rules}
 
 module _ (A : Arithmetic) (F : IsField A) (O : IsOrdered A) where

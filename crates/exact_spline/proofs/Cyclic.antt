@@ -11,7 +11,7 @@ use Rattle.exact_arithmetic.specs.Arithmetic.{Arithmetic, IsField}
 use Rattle.exact_solver.specs.Expressions.{var, t0, t1, add, sub, mul, div}
 use Rattle.exact_solver.proofs.Solver.{solve}
 use Rattle.exact_arithmetic.proofs.FieldLaws as Laws
-use Rattle.exact_rules.specs.Solve as Solve
+use Rattle.exact_spline.specs.Solve as Solve
 use Rattle.exact_spline.specs.Rows.{Solves, SolvesCyclic}
 use Rattle.exact_spline.proofs.Tests.{cond-true, cond-false}
 

@@ -7,11 +7,11 @@ use Rattle.exact_arithmetic.specs.Arithmetic.{Arithmetic, IsField}
 use Rattle.exact_solver.specs.Expressions.{Term, var, t2, t6, add, sub, mul, div, terms}
 use Rattle.exact_solver.proofs.Solver.{solve}
 use Rattle.exact_arithmetic.proofs.FieldLaws as Laws
-use Rattle.exact_rules.specs.Steps as Steps
-use Rattle.exact_rules.specs.Curve as Curve
-use Rattle.exact_rules.specs.Curve.{curve-in-cell, cubic, lower-slope, upper-slope}
-use Rattle.exact_rules.specs.Derivatives as Derivatives
-use Rattle.exact_rules.specs.Derivatives.{slope-in-cell, second-in-cell, slope, bend}
+use Rattle.exact_spline.specs.Steps as Steps
+use Rattle.exact_spline.specs.Curve as Curve
+use Rattle.exact_spline.specs.Curve.{curve-in-cell, cubic, lower-slope, upper-slope}
+use Rattle.exact_spline.specs.Derivatives as Derivatives
+use Rattle.exact_spline.specs.Derivatives.{slope-in-cell, second-in-cell, slope, bend}
 use Rattle.exact_spline.proofs.Cell as Cell
 
 module _ (A : Arithmetic) (F : IsField A) where

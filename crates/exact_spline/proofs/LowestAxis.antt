@@ -20,8 +20,8 @@ use Rattle.exact_arithmetic.specs.Arithmetic.{Arithmetic, IsField, IsOrdered}
 use Rattle.exact_solver.specs.Expressions.{Term, var, t1, t2, t3}
 use Rattle.exact_solver.specs.Expressions as Ring
 use Rattle.exact_solver.proofs.Solver.{solve}
-use Rattle.exact_rules.specs.Steps as Steps
-use Rattle.exact_rules.specs.Ends.{
+use Rattle.exact_spline.specs.Steps as Steps
+use Rattle.exact_spline.specs.Ends.{
   End,
   NotAKnot,
   FirstDerivative,
@@ -34,12 +34,12 @@ use Rattle.exact_rules.specs.Ends.{
   crossed,
   condition-at,
 }
-use Rattle.exact_rules.specs.Query.{hermite, without-lowest, blend, fraction, value-in}
-use Rattle.exact_rules.specs.Sizes.{Grid}
-use Rattle.exact_rules.specs.Numbers.{at}
-use Rattle.exact_rules.specs.Tensor.{entry, slope-along}
-use Rattle.exact_rules.specs.Curve.{lane-slope}
-use Rattle.exact_rules.specs.Nested.{on-axes, other-axes, lowest-lane, along-lowest}
+use Rattle.exact_spline.specs.Query.{hermite, without-lowest, blend, fraction, value-in}
+use Rattle.exact_spline.specs.Sizes.{Grid}
+use Rattle.exact_spline.specs.Numbers.{at}
+use Rattle.exact_spline.specs.Tensor.{entry, slope-along}
+use Rattle.exact_spline.specs.Curve.{lane-slope}
+use Rattle.exact_spline.specs.Nested.{on-axes, other-axes, lowest-lane, along-lowest}
 use Rattle.exact_spline.proofs.Positions.{four-power}
 use Rattle.exact_spline.proofs.OnALine.{entry-none, entry-one, lane-blend}
 use Rattle.exact_spline.proofs.Mixtures.{mix, lane-mix, fewest-same}

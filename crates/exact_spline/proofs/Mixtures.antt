@@ -9,8 +9,8 @@ use borrow.Author.Tests.{lt-ltb, le-ltb}
 use Rattle.exact_arithmetic.specs.Arithmetic.{Arithmetic, IsField, IsOrdered}
 use Rattle.exact_solver.specs.Expressions.{Term, var, t0, t1, t2, t6, add, sub, mul, div, neg, terms}
 use Rattle.exact_solver.proofs.Solver.{solve}
-use Rattle.exact_rules.specs.Steps as Steps
-use Rattle.exact_rules.specs.Ends.{
+use Rattle.exact_spline.specs.Steps as Steps
+use Rattle.exact_spline.specs.Ends.{
   End,
   NotAKnot,
   FirstDerivative,
@@ -23,11 +23,11 @@ use Rattle.exact_rules.specs.Ends.{
   zero-valued,
   crossed,
 }
-use Rattle.exact_rules.specs.Moments.{moment, moments}
-use Rattle.exact_rules.specs.Curve.{knot-slope, lower-slope, upper-slope, lane-slope}
-use Rattle.exact_rules.specs.Derivatives.{slope-in-cell, second-in-cell, third-in-cell, slope, bend, twist}
-use Rattle.exact_rules.specs.Spline.{IsSplineUnder, LowerEnd, UpperEnd, EndsHold}
-use Rattle.exact_rules.specs.Numbers.{at}
+use Rattle.exact_spline.specs.Moments.{moment, moments}
+use Rattle.exact_spline.specs.Curve.{knot-slope, lower-slope, upper-slope, lane-slope}
+use Rattle.exact_spline.specs.Derivatives.{slope-in-cell, second-in-cell, third-in-cell, slope, bend, twist}
+use Rattle.exact_spline.specs.Spline.{IsSplineUnder, LowerEnd, UpperEnd, EndsHold}
+use Rattle.exact_spline.specs.Numbers.{at}
 use Rattle.rules.specs.Numbers.{table}
 use Rattle.rules.proofs.Tables.{at-table}
 use Rattle.exact_spline.proofs.OneAxis as OneAxis

@@ -18,15 +18,15 @@ use Rattle.exact_arithmetic.specs.Arithmetic.{Arithmetic, IsField, IsOrdered}
 use Rattle.exact_solver.specs.Expressions.{var, t0, t1, div, terms}
 use Rattle.exact_solver.proofs.Solver.{solve}
 use Rattle.exact_arithmetic.proofs.FieldLaws as Laws
-use Rattle.exact_rules.specs.Steps as Steps
-use Rattle.exact_rules.specs.Ends.{Condition, fewest-points}
-use Rattle.exact_rules.specs.Moments.{moment, moments}
-use Rattle.exact_rules.specs.Curve.{curve-in-cell, cubic, lane-slope}
-use Rattle.exact_rules.specs.Derivatives.{slope-in-cell}
-use Rattle.exact_rules.specs.Query.{hermite, without-lowest, blend, fraction, value-in}
-use Rattle.exact_rules.specs.Sizes.{Grid}
-use Rattle.exact_rules.specs.Numbers.{at}
-use Rattle.exact_rules.specs.Tensor.{entry, slope-along}
+use Rattle.exact_spline.specs.Steps as Steps
+use Rattle.exact_spline.specs.Ends.{Condition, fewest-points}
+use Rattle.exact_spline.specs.Moments.{moment, moments}
+use Rattle.exact_spline.specs.Curve.{curve-in-cell, cubic, lane-slope}
+use Rattle.exact_spline.specs.Derivatives.{slope-in-cell}
+use Rattle.exact_spline.specs.Query.{hermite, without-lowest, blend, fraction, value-in}
+use Rattle.exact_spline.specs.Sizes.{Grid}
+use Rattle.exact_spline.specs.Numbers.{at}
+use Rattle.exact_spline.specs.Tensor.{entry, slope-along}
 use Rattle.exact_spline.proofs.Knots as Knots
 use Rattle.exact_spline.proofs.OneAxis as OneAxis
 use Rattle.exact_spline.proofs.TheSpline as TheSpline

@@ -6,10 +6,10 @@ use native.Mathlib.Omega.{arith}
 use lib.Dec.{ltb}
 use borrow.Author.Tests.{lt-ltb, le-ltb}
 use Rattle.exact_arithmetic.specs.Arithmetic.{Arithmetic, IsField}
-use Rattle.exact_rules.specs.Steps as Steps
-use Rattle.exact_rules.specs.Curve.{curve-in-cell, knot-slope, upper-slope}
-use Rattle.exact_rules.specs.Derivatives.{slope-in-cell}
-use Rattle.exact_rules.specs.Query.{hermite, fraction}
+use Rattle.exact_spline.specs.Steps as Steps
+use Rattle.exact_spline.specs.Curve.{curve-in-cell, knot-slope, upper-slope}
+use Rattle.exact_spline.specs.Derivatives.{slope-in-cell}
+use Rattle.exact_spline.specs.Query.{hermite, fraction}
 use Rattle.exact_spline.proofs.Cell as Cell
 use Rattle.exact_spline.proofs.Knots as Knots
 use Rattle.exact_spline.proofs.Tests.{cond-true, cond-false}

@@ -11,14 +11,14 @@ use Rattle.exact_arithmetic.specs.Arithmetic.{Arithmetic, IsField, IsOrdered}
 use Rattle.exact_solver.specs.Expressions.{Term, var, t0, t1, t2, t3, add, sub, mul, div, neg, terms}
 use Rattle.exact_solver.proofs.Solver.{solve}
 use Rattle.exact_arithmetic.proofs.FieldLaws as Laws
-use Rattle.exact_rules.specs.Steps as Steps
-use Rattle.exact_rules.specs.Solve as Solve
+use Rattle.exact_spline.specs.Steps as Steps
+use Rattle.exact_spline.specs.Solve as Solve
 use Rattle.exact_spline.specs.Rows.{Solves, SolvesCyclic, Dominant, Bounded}
-use Rattle.exact_rules.specs.Moments as Moments
-use Rattle.exact_rules.specs.Ends.{Periodic}
-use Rattle.exact_rules.specs.Curve.{lower-slope, upper-slope}
-use Rattle.exact_rules.specs.Derivatives.{slope-in-cell, second-in-cell}
-use Rattle.exact_rules.specs.Spline.{IsSpline, Closed}
+use Rattle.exact_spline.specs.Moments as Moments
+use Rattle.exact_spline.specs.Ends.{Periodic}
+use Rattle.exact_spline.specs.Curve.{lower-slope, upper-slope}
+use Rattle.exact_spline.specs.Derivatives.{slope-in-cell, second-in-cell}
+use Rattle.exact_spline.specs.Spline.{IsSpline, Closed}
 use Rattle.exact_spline.proofs.Thomas as Thomas
 use Rattle.exact_spline.proofs.Knots as Knots
 use Rattle.exact_spline.proofs.Bounds as Bounds

@@ -4,12 +4,12 @@ use mathlib.Core.Path.{_≡_}
 use Prim.Native.Nat.{ℕ, _+_, _<_, _≤_}
 use native.Mathlib.Omega.{arith}
 use Rattle.exact_arithmetic.specs.Arithmetic.{Arithmetic, IsField, IsOrdered}
-use Rattle.exact_rules.specs.Steps.{h}
-use Rattle.exact_rules.specs.Ends.{Condition, Endpoints, Periodic, fewest-points}
-use Rattle.exact_rules.specs.Moments.{moment}
-use Rattle.exact_rules.specs.Curve.{curve-in-cell, knot-slope}
-use Rattle.exact_rules.specs.Query.{hermite, fraction}
-use Rattle.exact_rules.specs.Spline.{IsSplineUnder}
+use Rattle.exact_spline.specs.Steps.{h}
+use Rattle.exact_spline.specs.Ends.{Condition, Endpoints, Periodic, fewest-points}
+use Rattle.exact_spline.specs.Moments.{moment}
+use Rattle.exact_spline.specs.Curve.{curve-in-cell, knot-slope}
+use Rattle.exact_spline.specs.Query.{hermite, fraction}
+use Rattle.exact_spline.specs.Spline.{IsSplineUnder}
 use Rattle.exact_spline.proofs.Endpoints as Ends
 use Rattle.exact_spline.proofs.Periodic as Per
 use Rattle.exact_spline.proofs.OnlyEndpoints as OnlyEnds

@@ -12,14 +12,14 @@ use Rattle.rules.specs.Query.{corner}
 use Rattle.rules.proofs.Tables.{at-table}
 use Rattle.rules.proofs.Places.{OnGrid, flat-below, flat-ext, unflat-flat}
 use Rattle.exact_arithmetic.specs.Arithmetic.{Arithmetic, IsField, IsOrdered}
-use Rattle.exact_rules.specs.Steps as Steps
-use Rattle.exact_rules.specs.Curve.{curve-in-cell}
-use Rattle.exact_rules.specs.Query.{blend, fraction, value-in, value-from}
-use Rattle.exact_rules.specs.Sizes.{Grid, spot}
-use Rattle.exact_rules.specs.Numbers.{at}
-use Rattle.exact_rules.specs.Tensor.{entry, tensor, sample}
-use Rattle.exact_rules.specs.Moments.{moments}
-use Rattle.exact_rules.specs.Nested.{on-axes, other-axes, along-lowest, nested-splines, Sound}
+use Rattle.exact_spline.specs.Steps as Steps
+use Rattle.exact_spline.specs.Curve.{curve-in-cell}
+use Rattle.exact_spline.specs.Query.{blend, fraction, value-in, value-from}
+use Rattle.exact_spline.specs.Sizes.{Grid, spot}
+use Rattle.exact_spline.specs.Numbers.{at}
+use Rattle.exact_spline.specs.Tensor.{entry, tensor, sample}
+use Rattle.exact_spline.specs.Moments.{moments}
+use Rattle.exact_spline.specs.Nested.{on-axes, other-axes, along-lowest, nested-splines, Sound}
 use Rattle.exact_spline.proofs.LowestAxis.{surface-is-a-spline-of-splines, entry-ext, blend-ext}
 
 module _ (A : Arithmetic) (F : IsField A) where

@@ -9,7 +9,7 @@ use Rattle.exact_arithmetic.specs.Arithmetic.{Arithmetic, IsField, IsOrdered}
 use Rattle.exact_solver.specs.Expressions.{Term, var, t2, add, sub, mul, div}
 use Rattle.exact_solver.proofs.Solver.{solve}
 use Rattle.exact_arithmetic.proofs.FieldLaws as Laws
-use Rattle.exact_rules.specs.Solve as Solve
+use Rattle.exact_spline.specs.Solve as Solve
 use Rattle.exact_spline.specs.Rows.{Solves, Dominant}
 
 module _ (A : Arithmetic) (F : IsField A) where

@@ -1,1 +1,1 @@
-// In exact arithmetic the rules give the cubic spline, on any number of axes, and there is no other. No code.
+// The rules over any arithmetic, what a cubic spline is, and that in exact arithmetic the rules give it, on any number of axes. No code.

@@ -6,10 +6,10 @@ use Prim.Native.Nat.{ℕ, _+_, _-_}
 use lib.Dec.{leb, eqb}
 use Rattle.exact_arithmetic.specs.Arithmetic.{Arithmetic}
 use Rattle.rules.specs.Numbers.{table}
-use Rattle.exact_rules.specs.Numbers.{at}
-use Rattle.exact_rules.specs.Ends.{End, NotAKnot, FirstDerivative, SecondDerivative, Condition, Endpoints, Periodic, dropped}
-use Rattle.exact_rules.specs.Steps as Steps
-use Rattle.exact_rules.specs.Solve as Solve
+use Rattle.exact_spline.specs.Numbers.{at}
+use Rattle.exact_spline.specs.Ends.{End, NotAKnot, FirstDerivative, SecondDerivative, Condition, Endpoints, Periodic, dropped}
+use Rattle.exact_spline.specs.Steps as Steps
+use Rattle.exact_spline.specs.Solve as Solve
 
 -- what an end's row has for its own knot, for the one neighbour it names, and on the right
 pub record Row (N : Type 0) : Type 0 where

@@ -3,7 +3,7 @@
 use mathlib.Core.Path.{_≡_}
 use Prim.Native.Nat.{ℕ, _+_, _-_, _<_}
 use Rattle.exact_arithmetic.specs.Arithmetic.{Arithmetic}
-use Rattle.exact_rules.specs.Ends.{End, NotAKnot, FirstDerivative, SecondDerivative, Condition, Endpoints, Periodic}
+use Rattle.exact_spline.specs.Ends.{End, NotAKnot, FirstDerivative, SecondDerivative, Condition, Endpoints, Periodic}
 
 module _ (A : Arithmetic) where
   infixl 60 _⊕_

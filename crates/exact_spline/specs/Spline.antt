@@ -2,9 +2,9 @@
 use mathlib.Core.Path.{_≡_}
 use Prim.Native.Nat.{ℕ, _+_, _-_, _<_}
 use Rattle.exact_arithmetic.specs.Arithmetic.{Arithmetic}
-use Rattle.exact_rules.specs.Ends.{End, NotAKnot, FirstDerivative, SecondDerivative, Condition, Endpoints, Periodic}
-use Rattle.exact_rules.specs.Curve.{curve-in-cell}
-use Rattle.exact_rules.specs.Derivatives.{slope-in-cell, second-in-cell, third-in-cell}
+use Rattle.exact_spline.specs.Ends.{End, NotAKnot, FirstDerivative, SecondDerivative, Condition, Endpoints, Periodic}
+use Rattle.exact_spline.specs.Curve.{curve-in-cell}
+use Rattle.exact_spline.specs.Derivatives.{slope-in-cell, second-in-cell, third-in-cell}
 
 -- the curve of knots x, samples y and moments m, n + 1 of each
 module _ (A : Arithmetic) (x y : ℕ → A .Number) (n : ℕ) (m : ℕ → A .Number) where

@@ -1,7 +1,7 @@
 -- The chapter Derivatives of docs/RULES.md: the derivatives of a cell's cubic.
 use Prim.Native.Nat.{ℕ, _+_}
 use Rattle.exact_arithmetic.specs.Arithmetic.{Arithmetic}
-use Rattle.exact_rules.specs.Steps as Steps
+use Rattle.exact_spline.specs.Steps as Steps
 
 module _ (A : Arithmetic) where
   infixl 60 _⊕_

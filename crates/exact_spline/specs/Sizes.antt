@@ -2,7 +2,7 @@
 use Prim.Native.Nat.{ℕ, _+_, _*_, _^_}
 use Rattle.rules.specs.Sizes.{Place, flat}
 use Rattle.exact_arithmetic.specs.Arithmetic.{Arithmetic}
-use Rattle.exact_rules.specs.Ends.{Condition}
+use Rattle.exact_spline.specs.Ends.{Condition}
 
 module _ (A : Arithmetic) where
   open Arithmetic A using (Number)

@@ -5,10 +5,10 @@ use mathlib.Core.List.{List}
 use Prim.Native.Nat.{ℕ, _+_, _-_}
 use lib.Dec.{ltb}
 use Rattle.exact_arithmetic.specs.Arithmetic.{Arithmetic}
-use Rattle.exact_rules.specs.Numbers.{at}
-use Rattle.exact_rules.specs.Ends.{Condition}
-use Rattle.exact_rules.specs.Steps as Steps
-use Rattle.exact_rules.specs.Moments.{moments}
+use Rattle.exact_spline.specs.Numbers.{at}
+use Rattle.exact_spline.specs.Ends.{Condition}
+use Rattle.exact_spline.specs.Steps as Steps
+use Rattle.exact_spline.specs.Moments.{moments}
 
 module _ (A : Arithmetic) where
   infixl 60 _⊕_

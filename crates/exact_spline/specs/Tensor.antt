@@ -6,10 +6,10 @@ use lib.Dec.{ltb}
 use Rattle.rules.specs.Numbers.{table}
 use Rattle.rules.specs.Sizes.{Place, moved, flat, unflat, product-below}
 use Rattle.exact_arithmetic.specs.Arithmetic.{Arithmetic}
-use Rattle.exact_rules.specs.Numbers.{at}
-use Rattle.exact_rules.specs.Ends.{condition-at}
-use Rattle.exact_rules.specs.Sizes.{Grid}
-use Rattle.exact_rules.specs.Curve.{lane-slope}
+use Rattle.exact_spline.specs.Numbers.{at}
+use Rattle.exact_spline.specs.Ends.{condition-at}
+use Rattle.exact_spline.specs.Sizes.{Grid}
+use Rattle.exact_spline.specs.Curve.{lane-slope}
 
 module _ (A : Arithmetic) where
   open Arithmetic A using (Number)

@@ -4,12 +4,12 @@ use Prim.Native.Nat.{ℕ, zero, suc, _+_, _-_, _<_, _≤_}
 use Rattle.rules.specs.Numbers.{table}
 use Rattle.rules.specs.Sizes.{Place}
 use Rattle.exact_arithmetic.specs.Arithmetic.{Arithmetic, IsOrdered}
-use Rattle.exact_rules.specs.Curve.{curve-in-cell}
-use Rattle.exact_rules.specs.Ends.{fewest-points}
-use Rattle.exact_rules.specs.Sizes.{Grid}
-use Rattle.exact_rules.specs.Steps as Steps
-use Rattle.exact_rules.specs.Numbers.{at}
-use Rattle.exact_rules.specs.Moments.{moments}
+use Rattle.exact_spline.specs.Curve.{curve-in-cell}
+use Rattle.exact_spline.specs.Ends.{fewest-points}
+use Rattle.exact_spline.specs.Sizes.{Grid}
+use Rattle.exact_spline.specs.Steps as Steps
+use Rattle.exact_spline.specs.Numbers.{at}
+use Rattle.exact_spline.specs.Moments.{moments}
 
 -- a place by its index on the lowest axis and the place on the others
 abbrev pub on-axes : ℕ → Place → Place

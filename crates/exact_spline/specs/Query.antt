@@ -4,10 +4,10 @@ use Prim.Native.Nat.{ℕ, zero, suc, _+_, _*_, _/_, _%_, _^_}
 use Rattle.rules.specs.Sizes.{Place}
 use Rattle.rules.specs.Query.{corner}
 use Rattle.exact_arithmetic.specs.Arithmetic.{Arithmetic}
-use Rattle.exact_rules.specs.Sizes.{Grid, spot}
-use Rattle.exact_rules.specs.Numbers.{at}
-use Rattle.exact_rules.specs.Tensor.{tensor}
-use Rattle.exact_rules.specs.Steps as Steps
+use Rattle.exact_spline.specs.Sizes.{Grid, spot}
+use Rattle.exact_spline.specs.Numbers.{at}
+use Rattle.exact_spline.specs.Tensor.{tensor}
+use Rattle.exact_spline.specs.Steps as Steps
 
 module _ (A : Arithmetic) where
   infixl 60 _⊕_
