@@ -29,7 +29,7 @@ use Rattle.exact_rationals.specs.Values.{value}
 use Rattle.exact_spline.specs.Tensor.{sample}
 use Rattle.exact_spline.specs.Query.{value-from}
 use Rattle.exact_spline.specs.Nested.{nested-splines}
-use Rattle.exact_calls.specs.Exactly.{exact, values, exact-grid, Holds}
+use Rattle.exact_calls.specs.Exactly.{exact, values, exact-grid, HoldsPoint}
 use Rattle.exact_calls.proofs.AcceptedAxis.{knots-rise}
 use Rattle.exact_calls.proofs.AcceptedGrid.{accepted-surface}
 use Rattle.exact_calls.proofs.Located as Located
@@ -98,7 +98,7 @@ module _
         (λ k l. knots-rise x (n + 1) knots-passed k (omega arith)) (seven i used))
 
     -- inside, the cell holds the coordinate
-    pub cell-holds : outside (side x (point i)) ≡ false → Holds (exact x) (cell-of g point i) (value (point i))
+    pub cell-holds : outside (side x (point i)) ≡ false → HoldsPoint (exact x) (cell-of g point i) (value (point i))
     unfolding cell-of side
     cell-holds inside =
         let tests = inside-tests (lt (point i) (at x 0)) (lt (at x (length x - 1)) (point i)) inside in
@@ -107,13 +107,13 @@ module _
         (tests .0) (subst (λ k. lt (at x k) (point i) ≡ false) last (tests .1))
 
     -- hold leaves it there, or moves it to the end knot of the cell
-    pub held-in-cell : mode-at g i ≡ Hold → Holds (exact x) (cell-of g point i) (value (placed-on g point i))
+    pub held-in-cell : mode-at g i ≡ Hold → HoldsPoint (exact x) (cell-of g point i) (value (placed-on g point i))
     unfolding cell-of side
     held-in-cell mode =
         rw mode
-        (subst (λ v. Holds (exact x) (cell-of g point i) (value v))
+        (subst (λ v. HoldsPoint (exact x) (cell-of g point i) (value v))
         (sym (nearest-is (lt (point i) (at x 0)) (lt (at x (length x - 1)) (point i)) x (point i)))
-        (subst (λ k. Holds (exact x) (cell-of g point i)
+        (subst (λ k. HoldsPoint (exact x) (cell-of g point i)
         (value (cond (lt (point i) (at x 0)) (at x 0) (cond (lt (at x k) (point i)) (at x k) (point i)))))
         (sym last)
         (Located.held x n (point i) some (finite-knots x n some knots-passed)

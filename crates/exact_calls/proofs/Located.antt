@@ -18,7 +18,7 @@ use Rattle.exact_rationals.proofs.Order.{positive-least, least-number, least-th
 use Rattle.exact_solver.specs.Expressions.{var, t0, sub}
 use Rattle.exact_rationals.proofs.Comparisons.{not-less, at-most}
 use Rattle.exact_spline.specs.Steps.{h}
-use Rattle.exact_calls.specs.Exactly.{exact, Holds}
+use Rattle.exact_calls.specs.Exactly.{exact, HoldsPoint}
 
 -- not at most, so not less
 not-at-most : (a b : Float) → le a b ≡ false → lt a b ≡ false
@@ -93,7 +93,7 @@ module _
       go false false = omega (arith, first-found x p n 0 .to)
 
   -- between them the cell holds the point
-  pub located : lt p (at x 0) ≡ false → lt (at x n) p ≡ false → Holds (exact x) (locate x n p) (value p)
+  pub located : lt p (at x 0) ≡ false → lt (at x n) p ≡ false → HoldsPoint (exact x) (locate x n p) (value p)
   unfolding locate
   located not-below not-above = go (lt p (at x 0)) not-below (le (at x n) p) refl
     where
@@ -103,7 +103,7 @@ module _
       lowest : Least (minus (value p) (exact x 0))
       lowest = not-less p (at x 0) point (knots 0 (omega arith)) not-below
 
-      last : le (at x n) p ≡ true → Holds (exact x) (n - 1) (value p)
+      last : le (at x n) p ≡ true → HoldsPoint (exact x) (n - 1) (value p)
       last above =
           let e : n ≡ n - 1 + 1 = omega arith in
           record {
@@ -113,7 +113,7 @@ module _
             to-upper = subst (λ k. Least (minus (exact x k) (value p))) e upmost;
           }
 
-      among : (r : ℕ) → First x p n 0 r → Holds (exact x) (r - 1) (value p)
+      among : (r : ℕ) → First x p n 0 r → HoldsPoint (exact x) (r - 1) (value p)
       among zero first =
           record {
             from-lower = lowest;
@@ -139,25 +139,25 @@ module _
               subst (λ k. Least (minus (exact x k) (value p))) same upmost
 
       go : (t : Bool) → t ≡ false → (u : Bool) → le (at x n) p ≡ u
-          → Holds (exact x) (cond t 0 (cond u (n - 1) (first-at-or-above x p n 0 - 1))) (value p)
+          → HoldsPoint (exact x) (cond t 0 (cond u (n - 1) (first-at-or-above x p n 0 - 1))) (value p)
       go t e true above = rw e (last above)
       go t e false below = rw e (among (first-at-or-above x p n 0) (first-found x p n 0))
 
   -- so the point that hold puts in its place always lies in the cell: outside it is the end knot of that cell
-  pub held : Holds (exact x) (locate x n p) (value (cond (lt p (at x 0)) (at x 0) (cond (lt (at x n) p) (at x n) p)))
+  pub held : HoldsPoint (exact x) (locate x n p) (value (cond (lt p (at x 0)) (at x 0) (cond (lt (at x n) p) (at x n) p)))
   held = go (lt p (at x 0)) refl (lt (at x n) p) refl
     where
       at-a-knot : (k : ℕ) → Least (minus (exact x k) (exact x k))
       at-a-knot k = subst Least (ring (exact x k ∷ []) t0 (sub (var 0) (var 0)) tt tt tt) (least-number 0)
 
       go : (t : Bool) → lt p (at x 0) ≡ t → (u : Bool) → lt (at x n) p ≡ u
-          → Holds (exact x) (locate x n p) (value (cond t (at x 0) (cond u (at x n) p)))
+          → HoldsPoint (exact x) (locate x n p) (value (cond t (at x 0) (cond u (at x n) p)))
       go true e u f =
-          subst (λ l. Holds (exact x) l (exact x 0)) (sym (locate-below e))
+          subst (λ l. HoldsPoint (exact x) l (exact x 0)) (sym (locate-below e))
           (record { from-lower = at-a-knot 0; to-upper = step 0 some })
       go false e true f =
           let same : n ≡ n - 1 + 1 = omega arith in
-          subst (λ l. Holds (exact x) l (exact x n)) (sym (locate-above e (less-at-most (at x n) p f)))
+          subst (λ l. HoldsPoint (exact x) l (exact x n)) (sym (locate-above e (less-at-most (at x n) p f)))
           (record {
             from-lower = subst (λ k. Least (minus (exact x k) (exact x (n - 1)))) (sym same) (step (n - 1) (omega arith));
             to-upper = subst (λ k. Least (minus (exact x k) (exact x n))) same (at-a-knot n);

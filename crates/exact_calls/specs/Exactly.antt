@@ -41,6 +41,6 @@ exact-grid g =
     }
 
 -- the point lies between the knots of cell l, ends included
-pub record Holds (x : ℕ → ℚ) (l : ℕ) (point : ℚ) : Type 0 where
+pub record HoldsPoint (x : ℕ → ℚ) (l : ℕ) (point : ℚ) : Type 0 where
   pub from-lower : Least (minus point (x l))
   pub to-upper : Least (minus (x (l + 1)) point)

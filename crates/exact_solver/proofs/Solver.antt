@@ -1,11 +1,12 @@
 -- Two expressions that come to the same fraction mean the same number in every field, where nothing that they divide by is nought: `solve`.
 use mathlib.Core.Path.{_≡_, refl, sym, _∙_, ap, ap₂, subst}
-use mathlib.Core.Bool.{Bool, true, false, _&&_}
+use mathlib.Core.Bool.{_&&_}
 use mathlib.Core.List.{List, [], _∷_}
 use Prim.Native.Nat.{ℕ, zero, suc, _+_ as _+ₙ_, _*_ as _*ₙ_, _<_, compare, Ordering, Ordering·lt, Ordering·eq, Ordering·gt}
 use native.Mathlib.Nat.{add-zero, add-suc, mul-zero, mul-suc}
 use native.Mathlib.Omega.{arith}
 use lib.Dec.{eqb, isEq, T, ltb→lt, eqb→eq}
+use lib.Ieee.Fits.{and-l, and-r}
 use Rattle.exact_arithmetic.specs.Arithmetic.{Arithmetic, IsField}
 use Rattle.exact_solver.specs.Expressions.{
   Term,
@@ -44,10 +45,6 @@ use Rattle.exact_solver.specs.Expressions.{
   divides,
 }
 use Rattle.exact_arithmetic.proofs.FieldLaws as Laws
-
-both : (a b : Bool) → T (a && b) → T a × T b
-both true b t = (tt, t)
-both false b t = absurd t
 
 then-eq : (o p : Ordering) → T (isEq (then o p)) → T (isEq o) × T (isEq p)
 then-eq Ordering·lt p t = absurd t
@@ -269,7 +266,7 @@ module _ (A : Arithmetic) (F : IsField A) where
     unfolding value
     vanishes-value none t = refl
     vanishes-value (term m p n rest) t =
-        let h : T (eqb p n) × T (vanishes rest) = both (eqb p n) (vanishes rest) t in
+        let h : T (eqb p n) × T (vanishes rest) = (and-l (eqb p n) (vanishes rest) t, and-r (eqb p n) (vanishes rest) t) in
         ap₂ _+_ (ap (λ x. x * powers ρ m) (whole-of-same p n (eqb→eq p n (h .0))) ∙ nought-times (powers ρ m)) (vanishes-value rest (h .1))
         ∙ plus-nought 𝟘
 
@@ -370,10 +367,10 @@ module _ (A : Arithmetic) (F : IsField A) where
     unit-inverse (add a b) t = absurd t
     unit-inverse (sub a b) t = absurd t
     unit-inverse (mul a b) t =
-        let h : T (unit u a) × T (unit u b) = both (unit u a) (unit u b) t in
+        let h : T (unit u a) × T (unit u b) = (and-l (unit u a) (unit u b) t, and-r (unit u a) (unit u b) t) in
         Laws.inverse-times A F (meaning A env a) (meaning A env b) (unit-inverse a (h .0)) (unit-inverse b (h .1))
     unit-inverse (div a b) t =
-        let h : T (unit u a) × T (unit u b) = both (unit u a) (unit u b) t in
+        let h : T (unit u a) × T (unit u b) = (and-l (unit u a) (unit u b) t, and-r (unit u a) (unit u b) t) in
         inverse-over (meaning A env a) (meaning A env b) (unit-inverse a (h .0)) (unit-inverse b (h .1))
     unit-inverse (neg a) t = inverse-negative (meaning A env a) (unit-inverse a t)
 
@@ -449,19 +446,20 @@ module _ (A : Arithmetic) (F : IsField A) where
     meant t3 t = meant-whole 3 (A .three) whole-three
     meant t6 t = meant-whole 6 (A .six) whole-six
     meant (add a b) t =
-        let h : T (divides u a) × T (divides u b) = both (divides u a) (divides u b) t in
+        let h : T (divides u a) × T (divides u b) = (and-l (divides u a) (divides u b) t, and-r (divides u a) (divides u b) t) in
         meant-sum (meaning A env a) (meaning A env b) (fraction a) (fraction b) (meant a (h .0)) (meant b (h .1))
     meant (sub a b) t =
-        let h : T (divides u a) × T (divides u b) = both (divides u a) (divides u b) t in
+        let h : T (divides u a) × T (divides u b) = (and-l (divides u a) (divides u b) t, and-r (divides u a) (divides u b) t) in
         meant-difference (meaning A env a) (meaning A env b) (fraction a) (fraction b) (meant a (h .0)) (meant b (h .1))
     meant (mul a b) t =
-        let h : T (divides u a) × T (divides u b) = both (divides u a) (divides u b) t in
+        let h : T (divides u a) × T (divides u b) = (and-l (divides u a) (divides u b) t, and-r (divides u a) (divides u b) t) in
         meant-product (meaning A env a) (meaning A env b) (fraction a) (fraction b) (meant a (h .0)) (meant b (h .1))
     meant (div a b) t =
-        let h : T (divides u a) × T (divides u b && unit u b) = both (divides u a) (divides u b && unit u b) t in
-        let k : T (divides u b) × T (unit u b) = both (divides u b) (unit u b) (h .1) in
-        meant-quotient (meaning A env a) (meaning A env b) (fraction a) (fraction b) (unit-inverse b (k .1)) (meant a (h .0))
-        (meant b (k .0))
+        let divisor : T (divides u b && unit u b) = and-r (divides u a) (divides u b && unit u b) t in
+        meant-quotient (meaning A env a) (meaning A env b) (fraction a) (fraction b)
+        (unit-inverse b (and-r (divides u b) (unit u b) divisor))
+        (meant a (and-l (divides u a) (divides u b && unit u b) t))
+        (meant b (and-l (divides u b) (unit u b) divisor))
     meant (neg a) t = meant-opposite (meaning A env a) (fraction a) (meant a t)
 
     -- where the fractions are the same, the numbers are

@@ -40,7 +40,7 @@ use Rattle.exact_spline.specs.Numbers.{at}
 use Rattle.exact_spline.specs.Tensor.{entry, slope-along}
 use Rattle.exact_spline.specs.Curve.{lane-slope}
 use Rattle.exact_spline.specs.Nested.{on-axes, other-axes, lowest-lane, along-lowest}
-use Rattle.exact_spline.proofs.Positions.{four-power}
+use Rattle.rules.proofs.Cells.{four-power}
 use Rattle.exact_spline.proofs.OnALine.{entry-none, entry-one, lane-blend}
 use Rattle.exact_spline.proofs.Mixtures.{mix, lane-mix, fewest-same}
 

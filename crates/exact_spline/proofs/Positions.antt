@@ -2,12 +2,13 @@
 use mathlib.Core.Path.{_≡_, refl, sym, _∙_, ap, ap₂}
 use mathlib.Core.Bool.{Bool, true, false, cond}
 use Prim.Native.Nat.{ℕ, zero, suc, _+_, _-_, _*_, _/_, _%_, _^_, _<_, _≤_}
-use native.Mathlib.Nat.{pow-suc, mul-mul-mul-comm, mul-add-div, mul-add-mod-self-left, div-eq-of-lt}
+use native.Mathlib.Nat.{pow-suc, mul-add-div, mul-add-mod-self-left, div-eq-of-lt}
 use native.Mathlib.Omega.{arith}
 use lib.Dec.{eqb}
 use borrow.Author.Tests.{eq-eqb, ne-eqb}
 use lib.Arith.{digits-div, digits-mod}
 use lib.Pow.{pow-pos, pow-add, pow-lt}
+use Rattle.rules.proofs.Cells.{four-power}
 
 -- a bit of a corner
 abbrev pub bit : Bool → ℕ
@@ -37,10 +38,6 @@ free (suc d) rest lowest b c m = 2 * 4 ^ total d rest * bit (b lowest) + 2 * fre
 abbrev pub number : ℕ → ℕ → (ℕ → ℕ) → ℕ
 number zero lowest b = 0
 number (suc axes) lowest b = 2 ^ axes * b lowest + number axes (suc lowest) b
-
-pub four-power : (axes : ℕ) → 4 ^ axes ≡ 2 ^ axes * 2 ^ axes
-four-power zero = refl
-four-power (suc axes) = rw (pow-suc 4 axes, pow-suc 2 axes, four-power axes, mul-mul-mul-comm (2 ^ axes) 2 (2 ^ axes) 2) refl
 
 one-more : (p b k m : ℕ) → 2 * (p * p) * b + 2 * (k * p + m) ≡ (p * b + k) * (p * 2) + 2 * m
 one-more p b k m = omega arith
