@@ -1,0 +1,5 @@
+pub mod AcceptedAxis
+pub mod AcceptedGrid
+pub mod Located
+pub mod AcceptedQuery
+pub mod Example

@@ -1,0 +1,47 @@
+-- The chapter Nested of docs/RULES.md: the spline of splines on several axes, and what is asked of a grid for it.
+use mathlib.Core.List.{List}
+use Prim.Native.Nat.{ℕ, zero, suc, _+_, _-_, _<_, _≤_}
+use Rattle.rules.specs.Numbers.{table}
+use Rattle.rules.specs.Sizes.{Place}
+use Rattle.exact_arithmetic.specs.Arithmetic.{Arithmetic, IsOrdered}
+use Rattle.exact_spline.specs.Curve.{curve-in-cell}
+use Rattle.exact_spline.specs.Ends.{fewest-points}
+use Rattle.exact_spline.specs.Sizes.{Grid}
+use Rattle.exact_spline.specs.Steps as Steps
+use Rattle.exact_spline.specs.Numbers.{at}
+use Rattle.exact_spline.specs.Moments.{moments}
+
+-- a place by its index on the lowest axis and the place on the others
+abbrev pub on-axes : ℕ → Place → Place
+on-axes k p zero = k
+on-axes k p (suc i) = p i
+
+module _ (A : Arithmetic) where
+  open Arithmetic A using (Number)
+
+  -- the other axes, of which there are so many
+  abbrev pub other-axes : Grid A → ℕ → Grid A
+  other-axes g axes =
+      record { axes = axes; points = λ i. g .points (suc i); knots = λ i. g .knots (suc i); condition = λ i. g .condition (suc i) }
+
+  -- the samples along the lowest axis at a place of the others
+  abbrev pub lowest-lane : Grid A → (Place → Number) → Place → List Number
+  lowest-lane g samples p = table (g .points 0) (λ k. samples (on-axes k p))
+
+  -- the value there of the spline along the lowest axis
+  unfoldable pub along-lowest : Grid A → (Place → Number) → ℕ → Number → Place → Number
+  along-lowest g samples cell coordinate p =
+      curve-in-cell A (g .knots 0) (at A (lowest-lane g samples p))
+      (at A (moments A (g .knots 0) (g .points 0 - 1) (g .condition 0) (lowest-lane g samples p))) cell coordinate
+
+  -- the spline of splines: along the lowest axis first, then along the next, each under the condition of its axis
+  unfoldable pub nested-splines : ℕ → Grid A → (Place → Number) → Place → (ℕ → Number) → Number
+  nested-splines zero g samples cells point = samples cells
+  nested-splines (suc axes) g samples cells point =
+      nested-splines axes (other-axes g axes) (along-lowest g samples (cells 0) (point 0)) (λ i. cells (suc i)) (λ i. point (suc i))
+
+  -- what is asked of a grid: knots that rise, points enough for the condition, and on each axis a cell
+  pub record Sound (O : IsOrdered A) (g : Grid A) (cells : Place) : Type 0 where
+    pub rising : (i : ℕ) → i < g .axes → (k : ℕ) → k + 1 < g .points i → O .Positive (Steps.h A (g .knots i) k)
+    pub enough : (i : ℕ) → i < g .axes → fewest-points (g .condition i) ≤ g .points i
+    pub inside : (i : ℕ) → i < g .axes → cells i + 1 < g .points i
