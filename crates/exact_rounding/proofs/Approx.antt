@@ -12,11 +12,11 @@ use Rattle.exact_solver.specs.Expressions.{var, t1, t2, add, sub, mul, div, neg
 use Rattle.exact_rationals.proofs.RationalLaws as Q
 use Rattle.exact_rationals.specs.Rationals.{ℚ, number, rationals, plus, minus, times, over, negative, Positive, Least}
 use Rattle.exact_rationals.specs.Values.{value}
-use Rattle.exact_rounding.specs.Near.{size, Near, Within}
+use Rattle.exact_rounding.specs.Near.{size, Near, Within, share, tiny}
 use Rattle.exact_rounding.specs.Errors as Errors
 use Rattle.exact_rationals.proofs.Order.{least-plus, least-times, positive-least, ring}
 use Rattle.exact_rounding.proofs.Nearness.{near-wider}
-use Rattle.exact_rounding.proofs.Operations.{share, tiny, mul-bound, add-bound, sub-bound}
+use Rattle.exact_rounding.proofs.Operations.{mul-bound, add-bound, sub-bound, never-finite}
 
 positive-two : Positive (number 2)
 unfolding Positive number
@@ -143,18 +143,14 @@ pub sub-finite : (x y : Float) → T (finite (Ieee.sub binary64 x y)) → T (fin
 unfolding Ieee.sub
 sub-finite x y h = let a : T (finite x) × T (finite (Ieee.neg y)) = add-finite x (Ieee.neg y) h in (a .0, neg-finite y (a .1))
 
-no-product : (b : Bool) (s : Bool) → T (finite (cond b nan (inf s))) → ⊥
-no-product true s h = h
-no-product false s h = h
-
 pub mul-finite : (x y : Float) → T (finite (Ieee.mul binary64 x y)) → T (finite x) × T (finite y)
 unfolding Ieee.mul
 mul-finite nan y h = absurd h
 mul-finite (inf s) nan h = absurd h
 mul-finite (inf s) (inf t) h = absurd h
-mul-finite (inf s) (fin t n d) h = absurd (no-product (eqb n 0) (unlike s t) h)
+mul-finite (inf s) (fin t n d) h = absurd (never-finite (eqb n 0) (unlike s t) h)
 mul-finite (fin s m e) nan h = absurd h
-mul-finite (fin s m e) (inf t) h = absurd (no-product (eqb m 0) (unlike s t) h)
+mul-finite (fin s m e) (inf t) h = absurd (never-finite (eqb m 0) (unlike s t) h)
 mul-finite (fin s m e) (fin t n d) h = (tt, tt)
 
 module _ (x x′ : Float) (y b e y′ b′ e′ : ℚ) (p : Approx x y b e) (q : Approx x′ y′ b′ e′) (c : ℚ) where

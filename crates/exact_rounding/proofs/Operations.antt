@@ -9,7 +9,6 @@ use native.Mathlib.Nat.{mul-pos, mul-comm, add-mul, mul-sub}
 use native.Mathlib.Omega.{arith}
 use lib.Dec.{T, ltb, eqb, ltb→lt, nltb→le}
 use lib.IntN.{ℤ}
-use lib.Pow.{pow-pos}
 use lib.Ieee.{Float, nan, inf, fin, Format, prec, low, up, down, unlike, round, sum, fits}
 use lib.Ieee as Ieee
 use lib.Ieee.Fits.{up-pos}
@@ -18,28 +17,15 @@ use lib.Ieee.Scale.{finite}
 use Rattle.exact_solver.specs.Expressions.{var, add, sub, mul, div, neg}
 use Rattle.exact_solver.proofs.Solver.{solve}
 use Rattle.exact_rationals.proofs.RationalLaws as Q
-use Rattle.exact_rationals.specs.Rationals.{ℚ, mk, number, rationals, plus, minus, times, over, negative, Positive, Least}
+use Rattle.exact_rationals.specs.Rationals.{ℚ, number, rationals, plus, minus, times, over, negative, Positive, Least}
 use Rattle.exact_rationals.proofs.OrderedField.{rationals-are-a-field}
 use Rattle.base_floats.specs.Place.{magnitude}
 use Rattle.base_floats.proofs.Units.{magnitude-across}
 use Rattle.exact_rationals.specs.Values.{value, down-positive}
-use Rattle.exact_rounding.specs.Near.{Near, Within}
+use Rattle.exact_rounding.specs.Near.{Near, Within, share-below, tiny-below, share, tiny}
 use Rattle.exact_rationals.proofs.Order.{least-times, ring}
 use Rattle.exact_rounding.proofs.Nearness.{near-wider}
 use Rattle.exact_rounding.proofs.Rounded.{signed, below, round-near, round-near-whole}
-
-pub share-below : (f : Format) → 0 < 2 * 2 ^ (prec f - 1)
-share-below f = mul-pos (omega arith) (pow-pos (prec f - 1))
-
-pub tiny-below : (f : Format) → 0 < 2 * 2 ^ low f
-tiny-below f = mul-pos (omega arith) (pow-pos (low f))
-
--- 2 to the -53, and 2 to the -1075
-abbrev pub share : Format → ℚ
-share f = mk (record { p = 1; n = 0; d = 2 * 2 ^ (prec f - 1); below = share-below f })
-
-abbrev pub tiny : Format → ℚ
-tiny f = mk (record { p = 1; n = 0; d = 2 * 2 ^ low f; below = tiny-below f })
 
 share-least : (f : Format) → Least (share f)
 unfolding Least
@@ -305,7 +291,7 @@ div-rounds : (f : Format) (s : Bool) (m : ℕ) (e : ℤ) (t : Bool) (n : ℕ) (d
 unfolding Ieee.div
 div-rounds f s m e t n d = rw (ne-eqb (suc n) 0 (λ z. omega arith)) refl
 
-never-finite : (b : Bool) (s : Bool) → T (finite (cond b nan (inf s))) → ⊥
+pub never-finite : (b : Bool) (s : Bool) → T (finite (cond b nan (inf s))) → ⊥
 never-finite true s h = h
 never-finite false s h = h
 
