@@ -17,3 +17,4 @@ pub mod Positions
 pub mod OnALine
 pub mod LowestAxis
 pub mod TheSurface
+pub mod Smooth

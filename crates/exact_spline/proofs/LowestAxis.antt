@@ -167,23 +167,23 @@ module _ (A : Arithmetic) (F : IsField A) where
 
   -- the weights of the blend
   module _ (w t : Number) where
-    abbrev w0 : Number
+    abbrev pub w0 : Number
     w0 = two ⊗ (t ⊗ t ⊗ t) ⊖ three ⊗ (t ⊗ t) ⊕ one
 
-    abbrev w1 : Number
+    abbrev pub w1 : Number
     w1 = (t ⊗ t ⊗ t ⊖ two ⊗ (t ⊗ t) ⊕ t) ⊗ w
 
-    abbrev w2 : Number
+    abbrev pub w2 : Number
     w2 = ~ two ⊗ (t ⊗ t ⊗ t) ⊕ three ⊗ (t ⊗ t)
 
-    abbrev w3 : Number
+    abbrev pub w3 : Number
     w3 = (t ⊗ t ⊗ t ⊖ t ⊗ t) ⊗ w
 
-    hermite-mix : (p0 m0 p1 m1 : Number) → hermite A p0 m0 p1 m1 w t ≡ mix A F w0 w1 w2 w3 p0 m0 p1 m1
+    pub hermite-mix : (p0 m0 p1 m1 : Number) → hermite A p0 m0 p1 m1 w t ≡ mix A F w0 w1 w2 w3 p0 m0 p1 m1
     unfolding hermite
     hermite-mix p0 m0 p1 m1 = refl
 
-    unity : w0 ⊕ w2 ≡ one
+    pub unity : w0 ⊕ w2 ≡ one
     unity =
         solve A F 0 (t ∷ []) tt
         (Ring.add (Ring.add (Ring.sub (Ring.mul t2 cube) (Ring.mul t3 square)) t1)

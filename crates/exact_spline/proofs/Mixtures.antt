@@ -49,7 +49,7 @@ module _ (A : Arithmetic) (F : IsField A) where
   mix-term a b c d p q r s = add (add (add (mul a p) (mul b q)) (mul c r)) (mul d s)
 
   -- a mixture of mixtures
-  exchange : (a b c d e f g h p0 p1 p2 p3 q0 q1 q2 q3 r0 r1 r2 r3 s0 s1 s2 s3 : Number)
+  pub exchange : (a b c d e f g h p0 p1 p2 p3 q0 q1 q2 q3 r0 r1 r2 r3 s0 s1 s2 s3 : Number)
       → mix a b c d (mix e f g h p0 p1 p2 p3) (mix e f g h q0 q1 q2 q3) (mix e f g h r0 r1 r2 r3) (mix e f g h s0 s1 s2 s3)
       ≡ mix e f g h (mix a b c d p0 q0 r0 s0) (mix a b c d p1 q1 r1 s1) (mix a b c d p2 q2 r2 s2) (mix a b c d p3 q3 r3 s3)
   exchange a b c d e f g h p0 p1 p2 p3 q0 q1 q2 q3 r0 r1 r2 r3 s0 s1 s2 s3 =
@@ -101,7 +101,7 @@ module _ (A : Arithmetic) (F : IsField A) where
         (mix-term t0 t0 (div (neg t1) (var 0)) (div t1 (var 0)) (var 2) (var 3) (var 4) (var 5))
         tt tt tt
 
-  mix-ap : (a b c d : Number) {p p′ q q′ r r′ s s′ : Number} → p ≡ p′ → q ≡ q′ → r ≡ r′ → s ≡ s′
+  pub mix-ap : (a b c d : Number) {p p′ q q′ r r′ s s′ : Number} → p ≡ p′ → q ≡ q′ → r ≡ r′ → s ≡ s′
       → mix a b c d p q r s ≡ mix a b c d p′ q′ r′ s′
   mix-ap a b c d e f g h = λ i. mix a b c d (e i) (f i) (g i) (h i)
 
