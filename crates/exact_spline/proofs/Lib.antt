@@ -18,3 +18,4 @@ pub mod OnALine
 pub mod LowestAxis
 pub mod TheSurface
 pub mod Smooth
+pub mod MixedDerivatives

@@ -10,7 +10,7 @@ use Rattle.rules.specs.Numbers.{table}
 use Rattle.rules.specs.Sizes.{Place, moved}
 use Rattle.rules.proofs.Tables.{at-table}
 use Rattle.exact_arithmetic.specs.Arithmetic.{Arithmetic, IsField, IsOrdered}
-use Rattle.exact_solver.specs.Expressions.{Term, var, t0, t1, t2, t6, add, sub, mul, div}
+use Rattle.exact_solver.specs.Expressions.{var, t0, t1, t2, t6, add, sub, mul, div}
 use Rattle.exact_solver.proofs.Solver.{solve}
 use Rattle.exact_spline.specs.Numbers.{at}
 use Rattle.exact_spline.specs.Ends.{Condition, crossed, fewest-points}
@@ -18,7 +18,7 @@ use Rattle.exact_spline.specs.Sizes.{Grid}
 use Rattle.exact_spline.specs.Steps as Steps
 use Rattle.exact_spline.specs.Moments.{moments}
 use Rattle.exact_spline.specs.Curve.{cubic, curve-in-cell, lane-slope}
-use Rattle.exact_spline.specs.Query.{hermite, fraction}
+use Rattle.exact_spline.specs.Query.{fraction}
 use Rattle.exact_spline.specs.Derivatives.{slope-in-cell, second-in-cell, third-in-cell}
 use Rattle.exact_spline.specs.Nested.{
   on-axes,
@@ -34,7 +34,7 @@ use Rattle.exact_spline.proofs.Cell as Cell
 use Rattle.exact_spline.proofs.Knots as Knots
 use Rattle.exact_spline.proofs.Mixtures.{mix, exchange, mix-ap, lane-mix, fewest-same}
 use Rattle.exact_spline.proofs.OnALine as OnALine
-use Rattle.exact_spline.proofs.LowestAxis.{w0, w1, w2, w3, hermite-mix, unity}
+use Rattle.exact_spline.proofs.LowestAxis.{w0, w1, w2, w3, hermite-mix}
 
 module _ (A : Arithmetic) (F : IsField A) (O : IsOrdered A) where
   infixl 60 _⊕_
@@ -95,7 +95,7 @@ module _ (A : Arithmetic) (F : IsField A) (O : IsOrdered A) where
     pub enough : (i : ℕ) → i < axes → fewest-points (g .condition i) ≤ g .points i
     pub inside : (i : ℕ) → i < axes → cells i + 1 < g .points i
 
-  others : (axes : ℕ) (g : Grid A) (cells : Place) → On (suc axes) g cells → On axes (other-axes A g axes) (λ i. cells (suc i))
+  pub others : (axes : ℕ) (g : Grid A) (cells : Place) → On (suc axes) g cells → On axes (other-axes A g axes) (λ i. cells (suc i))
   others axes g cells on =
       record {
         rising = λ i h. on .rising (suc i) (omega arith);
@@ -103,7 +103,7 @@ module _ (A : Arithmetic) (F : IsField A) (O : IsOrdered A) where
         inside = λ i h. on .inside (suc i) (omega arith);
       }
 
-  crossed-on : (axes : ℕ) (g : Grid A) (cells : Place) → On axes g cells → On axes (crossed-grid A g) cells
+  pub crossed-on : (axes : ℕ) (g : Grid A) (cells : Place) → On axes g cells → On axes (crossed-grid A g) cells
   crossed-on axes g cells on =
       record {
         rising = on .rising;

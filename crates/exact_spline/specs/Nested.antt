@@ -1,10 +1,13 @@
 -- The chapter Nested of docs/RULES.md: the spline of splines on several axes, and what is asked of a grid for it.
+use mathlib.Core.Bool.{cond}
 use mathlib.Core.List.{List}
-use Prim.Native.Nat.{ℕ, zero, suc, _+_, _-_, _<_, _≤_}
+use Prim.Native.Nat.{ℕ, zero, suc, _+_, _-_, _/_, _%_, _<_, _≤_}
+use lib.Dec.{eqb}
 use Rattle.rules.specs.Numbers.{table}
 use Rattle.rules.specs.Sizes.{Place}
 use Rattle.exact_arithmetic.specs.Arithmetic.{Arithmetic, IsOrdered}
 use Rattle.exact_spline.specs.Curve.{curve-in-cell}
+use Rattle.exact_spline.specs.Derivatives.{slope-in-cell}
 use Rattle.exact_spline.specs.Ends.{fewest-points, crossed}
 use Rattle.exact_spline.specs.Sizes.{Grid}
 use Rattle.exact_spline.specs.Steps as Steps
@@ -66,6 +69,17 @@ module _ (A : Arithmetic) where
   nested-derivative D (suc axis) (suc axes) g samples cells point =
       nested-derivative D axis axes (other-axes g axes) (along-lowest g samples (cells 0) (point 0)) (λ i. cells (suc i))
       (λ i. point (suc i))
+
+  -- the mixed derivative that a mask names: the slope along each axis of the mask, one after the other, and along the others the value
+  unfoldable pub nested-mixed : ℕ → ℕ → Grid A → (Place → Number) → Place → (ℕ → Number) → Number
+  unfolding of-lowest along-lowest
+  nested-mixed mask zero g samples cells point = samples cells
+  nested-mixed mask (suc axes) g samples cells point =
+      cond (eqb (mask % 2) 1)
+      (nested-mixed (mask / 2) axes (crossed-grid (other-axes g axes)) (of-lowest (slope-in-cell A) g samples (cells 0) (point 0))
+      (λ i. cells (suc i)) (λ i. point (suc i)))
+      (nested-mixed (mask / 2) axes (other-axes g axes) (along-lowest g samples (cells 0) (point 0))
+      (λ i. cells (suc i)) (λ i. point (suc i)))
 
   -- what is asked of a grid: knots that rise, points enough for the condition, and on each axis a cell
   pub record Sound (O : IsOrdered A) (g : Grid A) (cells : Place) : Type 0 where
