@@ -48,7 +48,8 @@ module _ (A : Arithmetic) (F : IsField A) where
     without-it (suc i) mask b p = go (decLt mask (2 ^ i)) (λ m h q. without-it i m h q)
       where
         go : Dec (mask < 2 ^ i)
-            → ((m : ℕ) → m < 2 ^ i → (q : Place) → entry A g samples (suc i) (2 * m) (on-axes c q) ≡ entry A (other-axes A g axes) there i m q)
+            → ((m : ℕ) → m < 2 ^ i → (q : Place) → entry A g samples (suc i) (2 * m) (on-axes c q) ≡ entry A
+            (other-axes A g axes) there i m q)
             → entry A g samples (suc (suc i)) (2 * mask) (on-axes c p) ≡ entry A (other-axes A g axes) there (suc i) mask p
         go (yes k) ih =
             entry-low A F g samples (suc i) (2 * mask) (on-axes c p) (omega (arith, pow-suc 2 i))
@@ -162,7 +163,8 @@ module _ (A : Arithmetic) (F : IsField A) where
         sym
         (ap (curve-in-cell A (g .knots 0) (at A lane) (at A (moments A (g .knots 0) (g .points 0 - 1) (g .condition 0) lane)) (cells 0))
         (here .lies 0 (omega arith))
-        ∙ value-at-knot O (g .knots 0) lane (g .points 0 - 1) rising (g .condition 0) few (cells 0) inside (p 0) (here .corner 0 (omega arith))
+        ∙ value-at-knot O (g .knots 0) lane (g .points 0 - 1) rising (g .condition 0) few (cells 0) inside (p 0)
+        (here .corner 0 (omega arith))
         ∙ at-table (g .points 0) (λ k. samples (on-axes k q)) (p 0) (A .absent) index)
 
     slopes-here : (q : Place)
@@ -175,7 +177,8 @@ module _ (A : Arithmetic) (F : IsField A) where
         ∙ sym
         (ap (slope-in-cell A (g .knots 0) (at A lane) (at A (moments A (g .knots 0) (g .points 0 - 1) (g .condition 0) lane)) (cells 0))
         (here .lies 0 (omega arith))
-        ∙ slope-at-knot O (g .knots 0) lane (g .points 0 - 1) rising (g .condition 0) few (cells 0) inside (p 0) (here .corner 0 (omega arith)))
+        ∙ slope-at-knot O (g .knots 0) lane (g .points 0 - 1) rising (g .condition 0) few (cells 0) inside (p 0)
+        (here .corner 0 (omega arith)))
 
     others-here : AtPlace axes (other-axes A g axes) (λ i. cells (suc i)) (λ i. p (suc i)) (λ i. point (suc i))
     others-here =

@@ -76,7 +76,8 @@ module _ (A : Arithmetic) (F : IsField A) (O : IsOrdered A) where
         ≡ mix A F a b c d (value-of e f0) (value-of (crossed A e) g0) (value-of e f1) (value-of (crossed A e) g1)
     value-mix a b c d whole f0 g0 f1 g1 =
         sym (blended e enough (λ k. mix A F a b c d (f0 k) (g0 k) (f1 k) (g1 k)))
-        ∙ mix-ap A F (w0 A F W t) (w1 A F W t) (w2 A F W t) (w3 A F W t) refl (slope cell (omega arith)) refl (slope (cell + 1) (omega arith))
+        ∙ mix-ap A F (w0 A F W t) (w1 A F W t) (w2 A F W t) (w3 A F W t) refl (slope cell (omega arith)) refl
+        (slope (cell + 1) (omega arith))
         ∙ exchange A F (w0 A F W t) (w1 A F W t) (w2 A F W t) (w3 A F W t) a b c d _ _ _ _ _ _ _ _ _ _ _ _ _ _ _ _
         ∙ mix-ap A F a b c d (blended e enough f0) (blended (crossed A e) few g0) (blended e enough f1) (blended (crossed A e) few g1)
       where
@@ -238,7 +239,8 @@ module _ (A : Arithmetic) (F : IsField A) (O : IsOrdered A) where
   lowest-meets D meets axes g samples cells on next coordinate knot =
       fun-ext (λ p.
       ap (lane p (cells 0)) knot
-      ∙ meets (g .knots 0) (lowest-lane A g samples p) (g .points 0 - 1) (λ i h. on .rising 0 (omega arith) i (omega arith)) (g .condition 0)
+      ∙ meets (g .knots 0) (lowest-lane A g samples p) (g .points 0 - 1) (λ i h. on .rising 0 (omega arith) i (omega arith))
+      (g .condition 0)
       (omega (arith, on .enough 0 (omega arith), next)) (cells 0) (omega arith)
       ∙ sym (ap (lane p (cells 0 + 1)) knot))
     where

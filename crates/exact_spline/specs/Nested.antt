@@ -58,7 +58,8 @@ module _ (A : Arithmetic) where
       D (g .knots 0) (at A (lowest-lane g samples p))
       (at A (moments A (g .knots 0) (g .points 0 - 1) (g .condition 0) (lowest-lane g samples p))) cell coordinate
 
-  -- a derivative of the spline of splines along one of its axes: at that axis the derivatives of its lanes stand for their values, and along
+  -- a derivative of the spline of splines along one of its axes: at that axis the derivatives of its lanes stand for their values, and
+  -- along
   -- the axes after it lie splines through them
   unfoldable pub nested-derivative : OfLane → ℕ → ℕ → Grid A → (Place → Number) → Place → (ℕ → Number) → Number
   unfolding of-lowest along-lowest nested-splines
