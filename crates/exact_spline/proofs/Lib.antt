@@ -19,3 +19,4 @@ pub mod LowestAxis
 pub mod TheSurface
 pub mod Smooth
 pub mod MixedDerivatives
+pub mod EitherAxisFirst

@@ -118,7 +118,7 @@ module _ (A : Arithmetic) (F : IsField A) where
     value-at-knot k (inr e) =
         ap (λ j. curve-in-cell A x (at A y) m c (x j)) e ∙ Knots.at-upper-knot A F x (at A y) m c (wide c inside) ∙ ap (at A y) (sym e)
 
-    slope-at-knot : (k : ℕ) → (k ≡ c) ⊎ (k ≡ c + 1) → slope-in-cell A x (at A y) m c (x k) ≡ lane-slope A x n condition y k
+    pub slope-at-knot : (k : ℕ) → (k ≡ c) ⊎ (k ≡ c + 1) → slope-in-cell A x (at A y) m c (x k) ≡ lane-slope A x n condition y k
     unfolding lane-slope
     slope-at-knot k (inl e) =
         ap (λ j. slope-in-cell A x (at A y) m c (x j)) e

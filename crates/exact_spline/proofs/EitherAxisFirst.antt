@@ -1,0 +1,209 @@
+-- The order of two axes does not matter: slopes along one axis of slopes along the other are the same either way, and so are the values of
+-- splines of splines. A slope is linear in what its lane holds, so it takes the rows of the other axis's splines to rows of one spline.
+use mathlib.Core.Path.{_≡_, refl, sym, _∙_, ap, ap₂, fun-ext}
+use mathlib.Core.List.{List, [], _∷_}
+use mathlib.Core.Logic.{_⊎_, inl, inr}
+use Prim.Native.Nat.{ℕ, zero, suc, _+_, _-_, _<_, _≤_}
+use native.Mathlib.Decide.{decLt}
+use native.Mathlib.Omega.{arith}
+use Rattle.rules.specs.Numbers.{table}
+use Rattle.rules.proofs.Tables.{at-table}
+use Rattle.exact_arithmetic.specs.Arithmetic.{Arithmetic, IsField, IsOrdered}
+use Rattle.exact_arithmetic.proofs.FieldLaws as Laws
+use Rattle.exact_solver.specs.Expressions.{Term, var, t0, t1, t2, t6, add, sub, mul, div, neg, terms}
+use Rattle.exact_solver.proofs.Solver.{solve}
+use Rattle.exact_spline.specs.Numbers.{at}
+use Rattle.exact_spline.specs.Ends.{
+  End,
+  NotAKnot,
+  FirstDerivative,
+  SecondDerivative,
+  Condition,
+  Endpoints,
+  Periodic,
+  zero-valued,
+  crossed,
+  dropped,
+  fewest-points,
+}
+use Rattle.exact_spline.specs.Steps as Steps
+use Rattle.exact_spline.specs.Moments.{moment, moments}
+use Rattle.exact_spline.specs.Curve.{lane-slope}
+use Rattle.exact_spline.specs.Derivatives.{slope, bend, twist, slope-in-cell, second-in-cell, third-in-cell}
+use Rattle.exact_spline.specs.Spline.{IsSpline, IsSplineUnder, LowerEnd, UpperEnd, EndsHold, Closed}
+use Rattle.exact_spline.proofs.Knots as Knots
+use Rattle.exact_spline.proofs.Mixtures.{mix, mix-ap, lane-mix, fewest-same, s0, s1, s2, s3, slope-mix, bend-mix, twist-mix}
+use Rattle.exact_spline.proofs.TheSpline.{moments-are-a-spline, moments-are-the-only-spline}
+use Rattle.exact_spline.proofs.OnALine as OnALine
+use Rattle.exact_spline.proofs.MixedDerivatives.{slope-at-knot}
+
+module _ (A : Arithmetic) (F : IsField A) (O : IsOrdered A) where
+  infixl 60 _⊕_
+  infixl 60 _⊖_
+  infixl 70 _⊗_
+  infixl 70 _⊘_
+  open Arithmetic A using (Number, nought, one, two, six, plus as _⊕_, minus as _⊖_, times as _⊗_, over as _⊘_, negative as ~)
+
+  abbrev mix-term : Term → Term → Term → Term → Term → Term → Term → Term → Term
+  mix-term a b c d p q r s = add (add (add (mul a p) (mul b q)) (mul c r)) (mul d s)
+
+  -- ---- a flat cell
+
+  module _ (w v dx : Number) (wide : ¬ (w ≡ nought)) where
+    flat-slope : slope A w v v nought nought dx ≡ nought
+    flat-slope = solve A F 1 (w ∷ v ∷ dx ∷ []) (wide, tt) (slope terms (var 0) (var 1) (var 1) t0 t0 (var 2)) t0 tt tt tt
+
+    flat-bend : bend A w nought nought dx ≡ nought
+    flat-bend = solve A F 1 (w ∷ v ∷ dx ∷ []) (wide, tt) (bend terms (var 0) t0 t0 (var 2)) t0 tt tt tt
+
+    flat-twist : twist A w nought nought ≡ nought
+    flat-twist = solve A F 1 (w ∷ v ∷ dx ∷ []) (wide, tt) (twist terms (var 0) t0 t0) t0 tt tt tt
+
+  -- ---- the slope of a lane at a knot, as a function of what the lane holds
+
+  module _ (x : ℕ → Number) (n size : ℕ) (full : size ≡ n + 1) (some : 1 ≤ n)
+      (rising : (i : ℕ) → i < n → O .Positive (Steps.h A x i))
+      (e : Condition Number) (enough : fewest-points e ≤ n + 1) (i : ℕ) (within : i ≤ n) where
+    -- under the condition itself, and under the crossed one
+    abbrev own : (ℕ → Number) → Number
+    own f = lane-slope A x n e (table size f) i
+
+    abbrev linear : (ℕ → Number) → Number
+    linear f = lane-slope A x n (crossed A e) (table size f) i
+
+    unit-whole : one ⊕ nought ≡ one
+    unit-whole = solve A F 0 [] tt (add t1 t0) t1 tt tt tt
+
+    -- where the shares of samples sum to nought
+    linear-of : (a b c d : Number) → a ⊕ b ≡ nought → (f0 f1 g0 g1 : ℕ → Number)
+        → linear (λ k. mix A F a b c d (f0 k) (f1 k) (g0 k) (g1 k)) ≡ mix A F a b c d (own f0) (own f1) (linear g0) (linear g1)
+    linear-of a b c d none f0 f1 g0 g1 =
+        alone (own f0) (linear H)
+        ∙ ap (λ z. z ⊖ own f0)
+        (sym (lane-mix A F O x n rising one one nought nought unit-whole e enough size full some f0 H f0 H i within)
+        ∙ ap (λ f. own f) (fun-ext (λ k. regrouped (f0 k) (f1 k) (g0 k) (g1 k)))
+        ∙ lane-mix A F O x n rising (one ⊕ a) c b d whole e enough size full some f0 g0 f1 g1 i within)
+        ∙ left (own f0) (own f1) (linear g0) (linear g1)
+      where
+        H : ℕ → Number
+        H k = mix A F a b c d (f0 k) (f1 k) (g0 k) (g1 k)
+
+        whole : one ⊕ a ⊕ b ≡ one
+        whole =
+            solve A F 0 (a ∷ b ∷ []) tt (add (add t1 (var 0)) (var 1)) (add t1 (add (var 0) (var 1))) tt tt tt
+            ∙ ap (λ z. one ⊕ z) none
+            ∙ unit-whole
+
+        alone : (p l : Number) → l ≡ mix A F one one nought nought p l p l ⊖ p
+        alone p l =
+            solve A F 0 (p ∷ l ∷ []) tt (var 1)
+            (sub (mix-term t1 t1 t0 t0 (var 0) (var 1) (var 0) (var 1)) (var 0)) tt tt tt
+
+        regrouped : (p r q s : Number)
+            → mix A F one one nought nought p (mix A F a b c d p r q s) p (mix A F a b c d p r q s) ≡ mix A F (one ⊕ a) c b d p q r s
+        regrouped p r q s =
+            solve A F 0 (a ∷ b ∷ c ∷ d ∷ p ∷ q ∷ r ∷ s ∷ []) tt
+            (mix-term t1 t1 t0 t0 (var 4) inner (var 4) inner)
+            (mix-term (add t1 (var 0)) (var 2) (var 1) (var 3) (var 4) (var 5) (var 6) (var 7)) tt tt tt
+          where
+            inner : Term
+            inner = mix-term (var 0) (var 1) (var 2) (var 3) (var 4) (var 6) (var 5) (var 7)
+
+        left : (p r q s : Number) → mix A F (one ⊕ a) c b d p q r s ⊖ p ≡ mix A F a b c d p r q s
+        left p r q s =
+            solve A F 0 (a ∷ b ∷ c ∷ d ∷ p ∷ q ∷ r ∷ s ∷ []) tt
+            (sub (mix-term (add t1 (var 0)) (var 2) (var 1) (var 3) (var 4) (var 5) (var 6) (var 7)) (var 4))
+            (mix-term (var 0) (var 1) (var 2) (var 3) (var 4) (var 6) (var 5) (var 7)) tt tt tt
+
+    wide : (k : ℕ) → k < n → ¬ (Steps.h A x k ≡ nought)
+    wide k h = O .positive-not-nought _ (rising k h)
+
+    few : fewest-points (crossed A e) ≤ n + 1
+    few = omega (arith, enough, fewest-same A F e)
+
+    -- a cell at one of whose knots i stands
+    abbrev Beside : ℕ → Type 0
+    Beside c = (c < n) × ((i ≡ c) ⊎ (i ≡ c + 1))
+
+    cell-beside : (c : ℕ) × Beside c
+    cell-beside = go (decLt i n)
+      where
+        go : Dec (i < n) → (c : ℕ) × Beside c
+        go (yes h) = (i, (h, inl refl))
+        go (no h) = (n - 1, (omega arith, inr (omega arith)))
+
+    -- the slope, from the cell beside it, by any moments that are the rules'
+    slope-from : (c : ℕ) → Beside c → (condition : Condition Number) → fewest-points condition ≤ n + 1 → (y : List Number) (m : ℕ → Number)
+        → ((k : ℕ) → k ≤ n → m k ≡ moment A x (at A y) n condition k)
+        → slope-in-cell A x (at A y) m c (x i) ≡ lane-slope A x n condition y i
+    unfolding slope-in-cell
+    slope-from c beside condition ok y m are =
+        ap₂ (λ p q. slope A (Steps.h A x c) (at A y c) (at A y (c + 1)) p q (x i ⊖ x c))
+        (are c (omega (arith, beside .0)) ∙ sym (OnALine.moment-at A F O x y n rising condition ok c (omega (arith, beside .0))))
+        (are (c + 1) (omega (arith, beside .0)) ∙ sym (OnALine.moment-at A F O x y n rising condition ok (c + 1) (omega (arith, beside .0))))
+        ∙ slope-at-knot A F O x y n rising condition ok c (beside .0) i (beside .1)
+
+    -- a lane of one number has no slope under the crossed condition
+    module _ (v : Number) where
+      abbrev lane : List Number
+      lane = table size (λ k. v)
+
+      abbrev none : ℕ → Number
+      none k = nought
+
+      read : (k : ℕ) → k ≤ n → at A lane k ≡ v
+      read k h = at-table size (λ j. v) k (A .absent) (omega arith)
+
+      no-slope : (k : ℕ) → k < n → (t : Number) → slope-in-cell A x (at A lane) none k t ≡ nought
+      unfolding slope-in-cell
+      no-slope k h t =
+          ap₂ (λ p q. slope A (Steps.h A x k) p q nought nought (t ⊖ x k)) (read k (omega arith)) (read (k + 1) (omega arith))
+          ∙ flat-slope (Steps.h A x k) v (t ⊖ x k) (wide k h)
+
+      no-second : (k : ℕ) → k < n → (t : Number) → second-in-cell A x (at A lane) none k t ≡ nought
+      unfolding second-in-cell
+      no-second k h t = flat-bend (Steps.h A x k) v (t ⊖ x k) (wide k h)
+
+      no-third : (k : ℕ) → k < n → third-in-cell A x (at A lane) none k ≡ nought
+      unfolding third-in-cell
+      no-third k h = flat-twist (Steps.h A x k) v v (wide k h)
+
+      flat-lower : (end : End Number) → 2 + dropped end ≤ n + 1
+          → LowerEnd A x (at A lane) n none (zero-valued A end)
+      flat-lower NotAKnot h = no-third 0 (omega arith) ∙ sym (no-third 1 (omega arith))
+      flat-lower (FirstDerivative u) h = no-slope 0 (omega arith) (x 0)
+      flat-lower (SecondDerivative u) h = no-second 0 (omega arith) (x 0)
+
+      flat-upper : (end : End Number) → 2 + dropped end ≤ n + 1
+          → UpperEnd A x (at A lane) n none (zero-valued A end)
+      flat-upper NotAKnot h = no-third (n - 2) (omega arith) ∙ sym (no-third (n - 1) (omega arith))
+      flat-upper (FirstDerivative u) h = no-slope (n - 1) (omega arith) (x n)
+      flat-upper (SecondDerivative u) h = no-second (n - 1) (omega arith) (x n)
+
+      flat-ends : (condition : Condition Number) → fewest-points condition ≤ n + 1 → EndsHold A x (at A lane) n none (crossed A condition)
+      flat-ends (Endpoints lower upper) h = (flat-lower lower (omega arith), flat-upper upper (omega arith))
+      flat-ends Periodic h =
+          record {
+            slopes-close = no-slope (n - 1) (omega arith) (x n) ∙ sym (no-slope 0 (omega arith) (x 0));
+            seconds-close = no-second (n - 1) (omega arith) (x n) ∙ sym (no-second 0 (omega arith) (x 0));
+          }
+
+      flat : IsSplineUnder A x (at A lane) n none (crossed A e)
+      flat =
+          record {
+            spline =
+                record {
+                  lower-sample = λ k h. Knots.at-lower-knot A F x (at A lane) none k (wide k h);
+                  upper-sample = λ k h. Knots.at-upper-knot A F x (at A lane) none k (wide k h);
+                  slopes-meet = λ k h. no-slope k (omega arith) (x (k + 1)) ∙ sym (no-slope (k + 1) h (x (k + 1)));
+                  seconds-meet = λ k h. no-second k (omega arith) (x (k + 1)) ∙ sym (no-second (k + 1) h (x (k + 1)));
+                };
+            ends = flat-ends e enough;
+          }
+
+      linear-constant : linear (λ k. v) ≡ nought
+      linear-constant =
+          let c : (c : ℕ) × Beside c = cell-beside in
+          sym (slope-from (c .0) (c .1) (crossed A e) few lane none
+          (moments-are-the-only-spline A F O x (at A lane) n rising (crossed A e) few none flat))
+          ∙ no-slope (c .0) (c .1 .0) (x i)
