@@ -207,3 +207,162 @@ module _ (A : Arithmetic) (F : IsField A) (O : IsOrdered A) where
           sym (slope-from (c .0) (c .1) (crossed A e) few lane none
           (moments-are-the-only-spline A F O x (at A lane) n rising (crossed A e) few none flat))
           ∙ no-slope (c .0) (c .1 .0) (x i)
+
+    -- ---- lanes of another axis, and the slopes across them
+
+    module _ (x1 : ℕ → Number) (n1 size1 : ℕ) (full1 : size1 ≡ n1 + 1) (some1 : 1 ≤ n1)
+        (rising1 : (i : ℕ) → i < n1 → O .Positive (Steps.h A x1 i))
+        (e1 : Condition Number) (enough1 : fewest-points e1 ≤ n1 + 1) (Y : ℕ → ℕ → Number) where
+      abbrev row : ℕ → List Number
+      row j = table size1 (λ k. Y j k)
+
+      abbrev N : ℕ → ℕ → Number
+      N j = moment A x1 (at A (row j)) n1 e1
+
+      abbrev across : List Number
+      across = table size1 (λ k. own (λ j. Y j k))
+
+      abbrev α : ℕ → Number
+      α k = linear (λ j. N j k)
+
+      row-spline : (j : ℕ) → IsSplineUnder A x1 (at A (row j)) n1 (N j) e1
+      row-spline j = moments-are-a-spline A F O x1 (at A (row j)) n1 rising1 e1 enough1
+
+      read-row : (j k : ℕ) → k ≤ n1 → at A (row j) k ≡ Y j k
+      read-row j k h = at-table size1 (λ k. Y j k) k (A .absent) (omega arith)
+
+      read-across : (k : ℕ) → k ≤ n1 → at A across k ≡ own (λ j. Y j k)
+      read-across k h = at-table size1 (λ k. own (λ j. Y j k)) k (A .absent) (omega arith)
+
+      wide1 : (k : ℕ) → k < n1 → ¬ (Steps.h A x1 k ≡ nought)
+      wide1 k h = O .positive-not-nought _ (rising1 k h)
+
+      few1 : fewest-points (crossed A e1) ≤ n1 + 1
+      few1 = omega (arith, enough1, fewest-same A F e1)
+
+      -- a derivative of the lane across, by these moments, is the slope across the derivatives of the rows
+      take : (a b c d : Number) → a ⊕ b ≡ nought → (k : ℕ) → k < n1
+          → mix A F a b c d (at A across k) (at A across (k + 1)) (α k) (α (k + 1))
+          ≡ linear (λ j. mix A F a b c d (at A (row j) k) (at A (row j) (k + 1)) (N j k) (N j (k + 1)))
+      take a b c d balanced k h =
+          mix-ap A F a b c d (read-across k (omega arith)) (read-across (k + 1) (omega arith)) refl refl
+          ∙ sym (linear-of a b c d balanced (λ j. Y j k) (λ j. Y j (k + 1)) (λ j. N j k) (λ j. N j (k + 1)))
+          ∙ ap (λ f. linear f)
+          (fun-ext (λ j. mix-ap A F a b c d (sym (read-row j k (omega arith))) (sym (read-row j (k + 1) (omega arith))) refl refl))
+
+      take-slope : (k : ℕ) → k < n1 → (t : Number)
+          → slope-in-cell A x1 (at A across) α k t ≡ linear (λ j. slope-in-cell A x1 (at A (row j)) (N j) k t)
+      unfolding slope-in-cell
+      take-slope k h t =
+          slope-mix A F w dx (wide1 k h) _ _ _ _
+          ∙ take (s0 A F w dx (wide1 k h)) (s1 A F w dx (wide1 k h)) (s2 A F w dx (wide1 k h)) (s3 A F w dx (wide1 k h)) balanced k h
+          ∙ ap (λ f. linear f) (fun-ext (λ j. sym (slope-mix A F w dx (wide1 k h) _ _ _ _)))
+        where
+          w : Number
+          w = Steps.h A x1 k
+
+          dx : Number
+          dx = t ⊖ x1 k
+
+          balanced : ~ one ⊘ Steps.h A x1 k ⊕ one ⊘ Steps.h A x1 k ≡ nought
+          balanced =
+              solve A F 1 (Steps.h A x1 k ∷ []) (wide1 k h, tt) (add (div (neg t1) (var 0)) (div t1 (var 0))) t0 tt tt tt
+
+      nothing : nought ⊕ nought ≡ nought
+      nothing = solve A F 0 [] tt (add t0 t0) t0 tt tt tt
+
+      take-second : (k : ℕ) → k < n1 → (t : Number)
+          → second-in-cell A x1 (at A across) α k t ≡ linear (λ j. second-in-cell A x1 (at A (row j)) (N j) k t)
+      unfolding second-in-cell
+      take-second k h t =
+          bend-mix A F (Steps.h A x1 k) (t ⊖ x1 k) (wide1 k h) (at A across k) (at A across (k + 1)) _ _
+          ∙ take nought nought _ _ nothing k h
+          ∙ ap (λ f. linear f)
+          (fun-ext (λ j. sym (bend-mix A F (Steps.h A x1 k) (t ⊖ x1 k) (wide1 k h) (at A (row j) k) (at A (row j) (k + 1)) _ _)))
+
+      take-third : (k : ℕ) → k < n1
+          → third-in-cell A x1 (at A across) α k ≡ linear (λ j. third-in-cell A x1 (at A (row j)) (N j) k)
+      unfolding third-in-cell
+      take-third k h =
+          twist-mix A F (Steps.h A x1 k) nought (wide1 k h) (at A across k) (at A across (k + 1)) _ _
+          ∙ take nought nought _ _ nothing k h
+          ∙ ap (λ f. linear f)
+          (fun-ext (λ j. sym (twist-mix A F (Steps.h A x1 k) nought (wide1 k h) (at A (row j) k) (at A (row j) (k + 1)) _ _)))
+
+      -- so its ends are as the crossed condition has them
+      lower-across : (end : End Number) → 2 + dropped end ≤ n1 + 1 → ((j : ℕ) → LowerEnd A x1 (at A (row j)) n1 (N j) end)
+          → LowerEnd A x1 (at A across) n1 α (zero-valued A end)
+      lower-across NotAKnot h holds =
+          take-third 0 (omega arith) ∙ ap (λ f. linear f) (fun-ext holds) ∙ sym (take-third 1 (omega arith))
+      lower-across (FirstDerivative v) h holds =
+          take-slope 0 (omega arith) (x1 0) ∙ ap (λ f. linear f) (fun-ext holds) ∙ linear-constant v
+      lower-across (SecondDerivative v) h holds =
+          take-second 0 (omega arith) (x1 0) ∙ ap (λ f. linear f) (fun-ext holds) ∙ linear-constant v
+
+      upper-across : (end : End Number) → 2 + dropped end ≤ n1 + 1 → ((j : ℕ) → UpperEnd A x1 (at A (row j)) n1 (N j) end)
+          → UpperEnd A x1 (at A across) n1 α (zero-valued A end)
+      upper-across NotAKnot h holds =
+          take-third (n1 - 2) (omega arith) ∙ ap (λ f. linear f) (fun-ext holds) ∙ sym (take-third (n1 - 1) (omega arith))
+      upper-across (FirstDerivative v) h holds =
+          take-slope (n1 - 1) (omega arith) (x1 n1) ∙ ap (λ f. linear f) (fun-ext holds) ∙ linear-constant v
+      upper-across (SecondDerivative v) h holds =
+          take-second (n1 - 1) (omega arith) (x1 n1) ∙ ap (λ f. linear f) (fun-ext holds) ∙ linear-constant v
+
+      ends-across : (condition : Condition Number) → fewest-points condition ≤ n1 + 1
+          → ((j : ℕ) → EndsHold A x1 (at A (row j)) n1 (N j) condition) → EndsHold A x1 (at A across) n1 α (crossed A condition)
+      ends-across (Endpoints lower upper) h holds =
+          (lower-across lower (omega arith) (λ j. holds j .0), upper-across upper (omega arith) (λ j. holds j .1))
+      ends-across Periodic h holds =
+          record {
+            slopes-close =
+                take-slope (n1 - 1) (omega arith) (x1 n1)
+                ∙ ap (λ f. linear f) (fun-ext (λ j. holds j .slopes-close))
+                ∙ sym (take-slope 0 (omega arith) (x1 0));
+            seconds-close =
+                take-second (n1 - 1) (omega arith) (x1 n1)
+                ∙ ap (λ f. linear f) (fun-ext (λ j. holds j .seconds-close))
+                ∙ sym (take-second 0 (omega arith) (x1 0));
+          }
+
+      across-spline : IsSplineUnder A x1 (at A across) n1 α (crossed A e1)
+      across-spline =
+          record {
+            spline =
+                record {
+                  lower-sample = λ k h. Knots.at-lower-knot A F x1 (at A across) α k (wide1 k h);
+                  upper-sample = λ k h. Knots.at-upper-knot A F x1 (at A across) α k (wide1 k h);
+                  slopes-meet =
+                      λ k h.
+                      take-slope k (omega arith) (x1 (k + 1))
+                      ∙ ap (λ f. linear f) (fun-ext (λ j. row-spline j .spline .slopes-meet k h))
+                      ∙ sym (take-slope (k + 1) h (x1 (k + 1)));
+                  seconds-meet =
+                      λ k h. Knots.seconds-always-meet A F x1 (at A across) α k (wide1 k (omega arith)) (wide1 (k + 1) h);
+                };
+            ends = ends-across e1 enough1 (λ j. row-spline j .ends);
+          }
+
+  -- slopes along one axis of slopes along the other, either way
+  slopes-commute : (x : ℕ → Number) (n size : ℕ) (full : size ≡ n + 1) (some : 1 ≤ n)
+      (rising : (i : ℕ) → i < n → O .Positive (Steps.h A x i)) (e : Condition Number) (enough : fewest-points e ≤ n + 1)
+      (i : ℕ) (within : i ≤ n)
+      (x1 : ℕ → Number) (n1 size1 : ℕ) (full1 : size1 ≡ n1 + 1) (some1 : 1 ≤ n1)
+      (rising1 : (i : ℕ) → i < n1 → O .Positive (Steps.h A x1 i)) (e1 : Condition Number) (enough1 : fewest-points e1 ≤ n1 + 1)
+      (Y : ℕ → ℕ → Number) (d : ℕ) (within1 : d ≤ n1)
+      → lane-slope A x1 n1 (crossed A e1) (table size1 (λ k. lane-slope A x n e (table size (λ j. Y j k)) i)) d
+      ≡ lane-slope A x n (crossed A e) (table size (λ j. lane-slope A x1 n1 e1 (table size1 (λ k. Y j k)) d)) i
+  slopes-commute x n size full some rising e enough i within x1 n1 size1 full1 some1 rising1 e1 enough1 Y d within1 =
+      let c : (c : ℕ) × Beside x1 n1 size1 full1 some1 rising1 e1 enough1 d within1 c =
+      cell-beside x1 n1 size1 full1 some1 rising1 e1 enough1 d within1 in
+      sym
+      (slope-from x1 n1 size1 full1 some1 rising1 e1 enough1 d within1 (c .0) (c .1) (crossed A e1)
+      (few x1 n1 size1 full1 some1 rising1 e1 enough1 d within1)
+      (table size1 (λ k. lane-slope A x n e (table size (λ j. Y j k)) i))
+      (α x n size full some rising e enough i within x1 n1 size1 full1 some1 rising1 e1 enough1 Y)
+      (moments-are-the-only-spline A F O x1 _ n1 rising1 (crossed A e1) (few x1 n1 size1 full1 some1 rising1 e1 enough1 d within1) _
+      (across-spline x n size full some rising e enough i within x1 n1 size1 full1 some1 rising1 e1 enough1 Y)))
+      ∙ take-slope x n size full some rising e enough i within x1 n1 size1 full1 some1 rising1 e1 enough1 Y (c .0) (c .1 .0) (x1 d)
+      ∙ ap (λ f. lane-slope A x n (crossed A e) (table size f) i)
+      (fun-ext (λ j.
+      slope-from x1 n1 size1 full1 some1 rising1 e1 enough1 d within1 (c .0) (c .1) e1 enough1 (table size1 (λ k. Y j k))
+      (moment A x1 (at A (table size1 (λ k. Y j k))) n1 e1) (λ k h. refl)))

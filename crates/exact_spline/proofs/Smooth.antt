@@ -49,19 +49,19 @@ module _ (A : Arithmetic) (F : IsField A) (O : IsOrdered A) where
   module _ (x : ℕ → Number) (n size : ℕ) (full : size ≡ n + 1) (some : 1 ≤ n)
       (rising : (i : ℕ) → i < n → O .Positive (Steps.h A x i))
       (e : Condition Number) (enough : fewest-points e ≤ n + 1) (cell : ℕ) (inside : cell < n) (coordinate : Number) where
-    abbrev value-of : Condition Number → (ℕ → Number) → Number
+    abbrev pub value-of : Condition Number → (ℕ → Number) → Number
     value-of c f = curve-in-cell A x (at A (table size f)) (at A (moments A x n c (table size f))) cell coordinate
 
-    abbrev W : Number
+    abbrev pub W : Number
     W = Steps.h A x cell
 
-    abbrev t : Number
+    abbrev pub t : Number
     t = fraction A x cell coordinate
 
     read : (f : ℕ → Number) (k : ℕ) → k ≤ n → at A (table size f) k ≡ f k
     read f k h = at-table size f k (A .absent) (omega arith)
 
-    blended : (c : Condition Number) → fewest-points c ≤ n + 1 → (f : ℕ → Number)
+    pub blended : (c : Condition Number) → fewest-points c ≤ n + 1 → (f : ℕ → Number)
         → mix A F (w0 A F W t) (w1 A F W t) (w2 A F W t) (w3 A F W t) (f cell) (lane-slope A x n c (table size f) cell)
         (f (cell + 1)) (lane-slope A x n c (table size f) (cell + 1))
         ≡ value-of c f
@@ -71,7 +71,7 @@ module _ (A : Arithmetic) (F : IsField A) (O : IsOrdered A) where
         ∙ sym (hermite-mix A F W t _ _ _ _)
         ∙ OnALine.lane-blend A F O x (table size f) n rising c few cell inside coordinate
 
-    value-mix : (a b c d : Number) → a ⊕ c ≡ one → (f0 g0 f1 g1 : ℕ → Number)
+    pub value-mix : (a b c d : Number) → a ⊕ c ≡ one → (f0 g0 f1 g1 : ℕ → Number)
         → value-of e (λ k. mix A F a b c d (f0 k) (g0 k) (f1 k) (g1 k))
         ≡ mix A F a b c d (value-of e f0) (value-of (crossed A e) g0) (value-of e f1) (value-of (crossed A e) g1)
     value-mix a b c d whole f0 g0 f1 g1 =
