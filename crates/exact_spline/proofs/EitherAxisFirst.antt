@@ -7,10 +7,11 @@ use Prim.Native.Nat.{ℕ, zero, suc, _+_, _-_, _<_, _≤_}
 use native.Mathlib.Decide.{decLt}
 use native.Mathlib.Omega.{arith}
 use Rattle.rules.specs.Numbers.{table}
+use Rattle.rules.specs.Sizes.{Place}
 use Rattle.rules.proofs.Tables.{at-table}
 use Rattle.exact_arithmetic.specs.Arithmetic.{Arithmetic, IsField, IsOrdered}
 use Rattle.exact_arithmetic.proofs.FieldLaws as Laws
-use Rattle.exact_solver.specs.Expressions.{Term, var, t0, t1, t2, t6, add, sub, mul, div, neg, terms}
+use Rattle.exact_solver.specs.Expressions.{Term, var, t0, t1, add, sub, mul, div, neg, terms}
 use Rattle.exact_solver.proofs.Solver.{solve}
 use Rattle.exact_spline.specs.Numbers.{at}
 use Rattle.exact_spline.specs.Ends.{
@@ -28,13 +29,18 @@ use Rattle.exact_spline.specs.Ends.{
 }
 use Rattle.exact_spline.specs.Steps as Steps
 use Rattle.exact_spline.specs.Moments.{moment, moments}
-use Rattle.exact_spline.specs.Curve.{lane-slope}
+use Rattle.exact_spline.specs.Sizes.{Grid}
+use Rattle.exact_spline.specs.Curve.{curve-in-cell, lane-slope}
+use Rattle.exact_spline.specs.Query.{fraction}
+use Rattle.exact_spline.specs.Nested.{on-axes, other-axes, along-lowest, nested-splines, exchanged, exchanged-grid}
 use Rattle.exact_spline.specs.Derivatives.{slope, bend, twist, slope-in-cell, second-in-cell, third-in-cell}
-use Rattle.exact_spline.specs.Spline.{IsSpline, IsSplineUnder, LowerEnd, UpperEnd, EndsHold, Closed}
+use Rattle.exact_spline.specs.Spline.{IsSplineUnder, LowerEnd, UpperEnd, EndsHold}
 use Rattle.exact_spline.proofs.Knots as Knots
 use Rattle.exact_spline.proofs.Mixtures.{mix, mix-ap, lane-mix, fewest-same, s0, s1, s2, s3, slope-mix, bend-mix, twist-mix}
 use Rattle.exact_spline.proofs.TheSpline.{moments-are-a-spline, moments-are-the-only-spline}
 use Rattle.exact_spline.proofs.OnALine as OnALine
+use Rattle.exact_spline.proofs.LowestAxis.{w0, w1, w2, w3, unity}
+use Rattle.exact_spline.proofs.Smooth as Smooth
 use Rattle.exact_spline.proofs.MixedDerivatives.{slope-at-knot}
 
 module _ (A : Arithmetic) (F : IsField A) (O : IsOrdered A) where
@@ -140,7 +146,8 @@ module _ (A : Arithmetic) (F : IsField A) (O : IsOrdered A) where
     slope-from c beside condition ok y m are =
         ap₂ (λ p q. slope A (Steps.h A x c) (at A y c) (at A y (c + 1)) p q (x i ⊖ x c))
         (are c (omega (arith, beside .0)) ∙ sym (OnALine.moment-at A F O x y n rising condition ok c (omega (arith, beside .0))))
-        (are (c + 1) (omega (arith, beside .0)) ∙ sym (OnALine.moment-at A F O x y n rising condition ok (c + 1) (omega (arith, beside .0))))
+        (are (c + 1) (omega (arith, beside .0)) ∙ sym
+        (OnALine.moment-at A F O x y n rising condition ok (c + 1) (omega (arith, beside .0))))
         ∙ slope-at-knot A F O x y n rising condition ok c (beside .0) i (beside .1)
 
     -- a lane of one number has no slope under the crossed condition
@@ -366,3 +373,134 @@ module _ (A : Arithmetic) (F : IsField A) (O : IsOrdered A) where
       (fun-ext (λ j.
       slope-from x1 n1 size1 full1 some1 rising1 e1 enough1 d within1 (c .0) (c .1) e1 enough1 (table size1 (λ k. Y j k))
       (moment A x1 (at A (table size1 (λ k. Y j k))) n1 e1) (λ k h. refl)))
+
+  -- ---- values
+
+  -- an axis with a coordinate in one of its cells
+  record Lane : Type 0 where
+    x : ℕ → Number
+    n : ℕ
+    size : ℕ
+    full : size ≡ n + 1
+    some : 1 ≤ n
+    rising : (i : ℕ) → i < n → O .Positive (Steps.h A x i)
+    e : Condition Number
+    enough : fewest-points e ≤ n + 1
+    cell : ℕ
+    inside : cell < n
+    coordinate : Number
+
+  -- the value there of the spline through what a lane holds, and its slope at a knot
+  abbrev value-on : Lane → Condition Number → (ℕ → Number) → Number
+  value-on L c f =
+      curve-in-cell A (L .x) (at A (table (L .size) f)) (at A (moments A (L .x) (L .n) c (table (L .size) f))) (L .cell) (L .coordinate)
+
+  abbrev slope-on : Lane → Condition Number → ℕ → (ℕ → Number) → Number
+  slope-on L c i f = lane-slope A (L .x) (L .n) c (table (L .size) f) i
+
+  module _ (L : Lane) where
+    abbrev width : Number
+    width = Steps.h A (L .x) (L .cell)
+
+    abbrev part : Number
+    part = fraction A (L .x) (L .cell) (L .coordinate)
+
+    abbrev weighted : Number → Number → Number → Number → Number
+    weighted = mix A F (w0 A F width part) (w1 A F width part) (w2 A F width part) (w3 A F width part)
+
+    blended-on : (c : Condition Number) → fewest-points c ≤ L .n + 1 → (f : ℕ → Number)
+        → weighted (f (L .cell)) (slope-on L c (L .cell) f) (f (L .cell + 1)) (slope-on L c (L .cell + 1) f) ≡ value-on L c f
+    blended-on =
+        Smooth.blended A F O (L .x) (L .n) (L .size) (L .full) (L .some) (L .rising) (L .e) (L .enough) (L .cell) (L .inside)
+        (L .coordinate)
+
+    fewer : fewest-points (crossed A (L .e)) ≤ L .n + 1
+    fewer = omega (arith, L .enough, fewest-same A F (L .e))
+
+  module _ (L K : Lane) (Y : ℕ → ℕ → Number) where
+    -- a slope along one axis of values along the other
+    slope-of-values : (i : ℕ) → i ≤ L .n
+        → value-on K (crossed A (K .e)) (λ k. slope-on L (L .e) i (λ j. Y j k)) ≡ slope-on L (L .e) i (λ j. value-on K (K .e) (λ k. Y j k))
+    slope-of-values i within =
+        sym (blended-on K (crossed A (K .e)) (fewer K) (λ k. slope-on L (L .e) i (λ j. Y j k)))
+        ∙ mix-ap A F _ _ _ _ refl (either (K .cell) (omega (arith, K .inside))) refl (either (K .cell + 1) (omega (arith, K .inside)))
+        ∙ sym
+        (lane-mix A F O (L .x) (L .n) (L .rising) _ _ _ _ (unity A F (width K) (part K)) (L .e) (L .enough) (L .size) (L .full) (L .some)
+        (λ j. Y j (K .cell)) (λ j. slope-on K (K .e) (K .cell) (λ k. Y j k))
+        (λ j. Y j (K .cell + 1)) (λ j. slope-on K (K .e) (K .cell + 1) (λ k. Y j k)) i within)
+        ∙ ap (λ f. slope-on L (L .e) i f) (fun-ext (λ j. blended-on K (K .e) (K .enough) (λ k. Y j k)))
+      where
+        either : (d : ℕ) → d ≤ K .n
+            → slope-on K (crossed A (K .e)) d (λ k. slope-on L (L .e) i (λ j. Y j k))
+            ≡ slope-on L (crossed A (L .e)) i (λ j. slope-on K (K .e) d (λ k. Y j k))
+        either d within1 =
+            slopes-commute (L .x) (L .n) (L .size) (L .full) (L .some) (L .rising) (L .e) (L .enough) i within
+            (K .x) (K .n) (K .size) (K .full) (K .some) (K .rising) (K .e) (K .enough) Y d within1
+
+    -- values along one axis of values along the other, either way
+    values-commute : value-on K (K .e) (λ k. value-on L (L .e) (λ j. Y j k)) ≡ value-on L (L .e) (λ j. value-on K (K .e) (λ k. Y j k))
+    values-commute =
+        ap (λ f. value-on K (K .e) f) (fun-ext (λ k. sym (blended-on L (L .e) (L .enough) (λ j. Y j k))))
+        ∙ Smooth.value-mix A F O (K .x) (K .n) (K .size) (K .full) (K .some) (K .rising) (K .e) (K .enough) (K .cell) (K .inside)
+        (K .coordinate) _ _ _ _ (unity A F (width L) (part L))
+        (λ k. Y (L .cell) k) (λ k. slope-on L (L .e) (L .cell) (λ j. Y j k))
+        (λ k. Y (L .cell + 1) k) (λ k. slope-on L (L .e) (L .cell + 1) (λ j. Y j k))
+        ∙ mix-ap A F _ _ _ _ refl (slope-of-values (L .cell) (omega (arith, L .inside))) refl
+        (slope-of-values (L .cell + 1) (omega (arith, L .inside)))
+        ∙ blended-on L (L .e) (L .enough) (λ j. value-on K (K .e) (λ k. Y j k))
+
+  -- ---- two neighbouring axes of a grid
+
+  lane-of : (i axes : ℕ) → i < axes → (g : Grid A) (cells : Place) → Smooth.On A F O axes g cells → (point : ℕ → Number) → Lane
+  lane-of i axes used g cells on point =
+      record {
+        x = g .knots i;
+        n = g .points i - 1;
+        size = g .points i;
+        full = omega (arith, on .inside i used);
+        some = omega (arith, on .inside i used);
+        rising = λ k h. on .rising i used k (omega arith);
+        e = g .condition i;
+        enough = omega (arith, on .enough i used, on .inside i used);
+        cell = cells i;
+        inside = omega (arith, on .inside i used);
+        coordinate = point i;
+      }
+
+  -- the spline of splines is the same with any two neighbouring axes exchanged, and so in any order of the axes
+  pub axes-in-either-order : (d axes : ℕ) → d + 1 < axes → (g : Grid A) (samples : Place → Number) (cells : Place)
+      → Smooth.On A F O axes g cells → (point : ℕ → Number)
+      → nested-splines A axes g samples cells point
+      ≡ nested-splines A axes (exchanged-grid A d g) (λ p. samples (exchanged d p)) (exchanged d cells) (exchanged d point)
+  unfolding nested-splines along-lowest lane-of
+  axes-in-either-order d zero h g samples cells on point = let z : ⊥ = omega arith in absurd z
+  axes-in-either-order zero (suc zero) h g samples cells on point = let z : ⊥ = omega arith in absurd z
+  axes-in-either-order zero (suc (suc axes)) h g samples cells on point =
+      ap (λ s. nested-splines A axes (other-axes A (other-axes A g (suc axes)) axes) s (λ i. cells (suc (suc i)))
+      (λ i. point (suc (suc i))))
+      (fun-ext (λ q.
+      values-commute (lane-of 0 (suc (suc axes)) (omega arith) g cells on point) (lane-of 1 (suc (suc axes)) (omega arith) g cells on point)
+      (λ j k. samples (on-axes j (on-axes k q)))
+      ∙ ap (λ (Y : ℕ → ℕ → Number).
+      value-on (lane-of 0 (suc (suc axes)) (omega arith) g cells on point) (g .condition 0)
+      (λ j. value-on (lane-of 1 (suc (suc axes)) (omega arith) g cells on point) (g .condition 1) (λ k. Y j k)))
+      (fun-ext (λ j. fun-ext (λ k. ap samples (fun-ext (places j k q)))))))
+    where
+      places : (j k : ℕ) (q : Place) (i : ℕ) → on-axes j (on-axes k q) i ≡ exchanged 0 (on-axes k (on-axes j q)) i
+      places j k q zero = refl
+      places j k q (suc zero) = refl
+      places j k q (suc (suc i)) = refl
+  axes-in-either-order (suc d) (suc axes) h g samples cells on point =
+      axes-in-either-order d axes (omega arith) (other-axes A g axes) (along-lowest A g samples (cells 0) (point 0)) (λ i. cells (suc i))
+      (Smooth.others A F O axes g cells on) (λ i. point (suc i))
+      ∙ ap (λ s. nested-splines A axes (exchanged-grid A d (other-axes A g axes)) s (exchanged d (λ i. cells (suc i)))
+      (exchanged d (λ i. point (suc i))))
+      (fun-ext (λ q.
+      ap (λ (f : ℕ → Number).
+      curve-in-cell A (g .knots 0) (at A (table (g .points 0) f))
+      (at A (moments A (g .knots 0) (g .points 0 - 1) (g .condition 0) (table (g .points 0) f))) (cells 0) (point 0))
+      (fun-ext (λ k. ap samples (fun-ext (places k q))))))
+    where
+      places : (k : ℕ) (q : Place) (i : ℕ) → on-axes k (exchanged d q) i ≡ exchanged (suc d) (on-axes k q) i
+      places k q zero = refl
+      places k q (suc i) = refl

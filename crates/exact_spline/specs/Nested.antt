@@ -19,6 +19,14 @@ abbrev pub on-axes : ℕ → Place → Place
 on-axes k p zero = k
 on-axes k p (suc i) = p i
 
+-- what stands at axis d and at the next, exchanged
+abbrev pub exchanged : {X : Type 0} → ℕ → (ℕ → X) → ℕ → X
+exchanged zero f zero = f 1
+exchanged zero f (suc zero) = f 0
+exchanged zero f (suc (suc i)) = f (suc (suc i))
+exchanged (suc d) f zero = f 0
+exchanged (suc d) f (suc i) = exchanged d (λ i. f (suc i)) i
+
 module _ (A : Arithmetic) where
   open Arithmetic A using (Number, nought)
 
@@ -42,6 +50,16 @@ module _ (A : Arithmetic) where
   nested-splines zero g samples cells point = samples cells
   nested-splines (suc axes) g samples cells point =
       nested-splines axes (other-axes g axes) (along-lowest g samples (cells 0) (point 0)) (λ i. cells (suc i)) (λ i. point (suc i))
+
+  -- a grid with two of its axes exchanged
+  abbrev pub exchanged-grid : ℕ → Grid A → Grid A
+  exchanged-grid d g =
+      record {
+        axes = g .axes;
+        points = exchanged d (g .points);
+        knots = exchanged d (g .knots);
+        condition = exchanged d (g .condition);
+      }
 
   -- the grid with the crossed conditions: under them the splines through derivatives lie
   abbrev pub crossed-grid : Grid A → Grid A
