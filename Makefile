@@ -1,4 +1,4 @@
-.PHONY: run test differential report-largest deliberate-errors further-edits sheet-by-hand streams-fail docs-check rules-page oracle-test expected archive archive-here bench examples picture
+.PHONY: run test differential report-largest deliberate-errors further-edits sheet-by-hand streams-fail docs-check rules-page oracle-test expected archive archive-here exact-error bench examples picture
 
 # On another machine than x86-64, what links the archive takes one that is made for it, and our programs run on the kit's emulator.
 MACHINE := $(shell uname -m)
@@ -59,6 +59,10 @@ sheet-by-hand:
 streams-fail:
 	rt check sheet_tensor sheet_report
 	python3 tests/streams_fail.py
+
+# Measures how far the values of the archive lie from the exact spline, worked out in fractions.
+exact-error: archive-here
+	python3 tests/exact_error.py
 
 # Holds docs/RULES.md against the definitions: each definition is named in its chapter; and the table of forms in docs/DECISIONS.md against the code.
 rules-page:

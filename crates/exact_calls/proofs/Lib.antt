@@ -3,3 +3,4 @@ pub mod AcceptedGrid
 pub mod Located
 pub mod AcceptedQuery
 pub mod Example
+pub mod TheCalls

@@ -17,3 +17,6 @@ pub mod Positions
 pub mod OnALine
 pub mod LowestAxis
 pub mod TheSurface
+pub mod Smooth
+pub mod MixedDerivatives
+pub mod EitherAxisFirst

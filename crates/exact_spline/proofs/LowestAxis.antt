@@ -45,14 +45,14 @@ use Rattle.exact_spline.proofs.OnALine.{entry-none, entry-one, lane-ble
 use Rattle.exact_spline.proofs.Mixtures.{mix, lane-mix, fewest-same}
 
 -- a place moved on one of the other axes, or on the lowest
-moved-other : (k : ℕ) (p : Place) (i j : ℕ) → on-axes k (moved p i j) ≡ moved (on-axes k p) (suc i) j
+pub moved-other : (k : ℕ) (p : Place) (i j : ℕ) → on-axes k (moved p i j) ≡ moved (on-axes k p) (suc i) j
 moved-other k p i j = fun-ext go
   where
     go : (a : ℕ) → on-axes k (moved p i j) a ≡ moved (on-axes k p) (suc i) j a
     go zero = rw (eqb·zero-suc i) refl
     go (suc a) = rw (eqb·suc-suc a i) refl
 
-moved-lowest : (k : ℕ) (p : Place) (j : ℕ) → moved (on-axes k p) 0 j ≡ on-axes j p
+pub moved-lowest : (k : ℕ) (p : Place) (j : ℕ) → moved (on-axes k p) 0 j ≡ on-axes j p
 moved-lowest k p j = fun-ext go
   where
     go : (a : ℕ) → moved (on-axes k p) 0 j a ≡ on-axes j p a
@@ -129,12 +129,12 @@ module _ (A : Arithmetic) (F : IsField A) where
   infixl 70 _⊗_
   open Arithmetic A using (Number, nought, one, two, three, plus as _⊕_, minus as _⊖_, times as _⊗_, negative as ~)
 
-  entry-low : (g : Grid A) (samples : Place → Number) (i mask : ℕ) (p : Place) → mask < 2 ^ i
+  pub entry-low : (g : Grid A) (samples : Place → Number) (i mask : ℕ) (p : Place) → mask < 2 ^ i
       → entry A g samples (suc i) mask p ≡ entry A g samples i mask p
   unfolding entry
   entry-low g samples i mask p h = arms-one (ltb mask (2 ^ i)) (λ f. refl) (λ f. not-both (ltb mask (2 ^ i)) (lt-ltb mask (2 ^ i) h) f)
 
-  entry-high : (g : Grid A) (samples : Place → Number) (i mask : ℕ) (p : Place) → 2 ^ i ≤ mask
+  pub entry-high : (g : Grid A) (samples : Place → Number) (i mask : ℕ) (p : Place) → 2 ^ i ≤ mask
       → entry A g samples (suc i) mask p ≡ slope-along A g i (mask - 2 ^ i) (entry A g samples i (mask - 2 ^ i)) p
   unfolding entry
   entry-high g samples i mask p h = arms-one (ltb mask (2 ^ i)) (λ f. not-both (ltb mask (2 ^ i)) f (le-ltb mask (2 ^ i) h)) (λ f. refl)
@@ -153,11 +153,11 @@ module _ (A : Arithmetic) (F : IsField A) where
   condition-later zero c h = let z : ⊥ = omega arith in absurd z
   condition-later (suc mask) c h = refl
 
-  condition-even : (mask : ℕ) (c : Condition Number) → condition-at A (2 * mask) c ≡ condition-at A mask c
+  pub condition-even : (mask : ℕ) (c : Condition Number) → condition-at A (2 * mask) c ≡ condition-at A mask c
   condition-even zero c = refl
   condition-even (suc mask) c = condition-later (2 * suc mask) c (omega arith)
 
-  condition-odd : (mask : ℕ) (c : Condition Number) → condition-at A (2 * mask + 1) c ≡ crossed A (condition-at A mask c)
+  pub condition-odd : (mask : ℕ) (c : Condition Number) → condition-at A (2 * mask + 1) c ≡ crossed A (condition-at A mask c)
   condition-odd zero c = refl
   condition-odd (suc mask) c = condition-later (2 * suc mask + 1) c (omega arith) ∙ sym (crossed-twice c)
 
@@ -167,23 +167,23 @@ module _ (A : Arithmetic) (F : IsField A) where
 
   -- the weights of the blend
   module _ (w t : Number) where
-    abbrev w0 : Number
+    abbrev pub w0 : Number
     w0 = two ⊗ (t ⊗ t ⊗ t) ⊖ three ⊗ (t ⊗ t) ⊕ one
 
-    abbrev w1 : Number
+    abbrev pub w1 : Number
     w1 = (t ⊗ t ⊗ t ⊖ two ⊗ (t ⊗ t) ⊕ t) ⊗ w
 
-    abbrev w2 : Number
+    abbrev pub w2 : Number
     w2 = ~ two ⊗ (t ⊗ t ⊗ t) ⊕ three ⊗ (t ⊗ t)
 
-    abbrev w3 : Number
+    abbrev pub w3 : Number
     w3 = (t ⊗ t ⊗ t ⊖ t ⊗ t) ⊗ w
 
-    hermite-mix : (p0 m0 p1 m1 : Number) → hermite A p0 m0 p1 m1 w t ≡ mix A F w0 w1 w2 w3 p0 m0 p1 m1
+    pub hermite-mix : (p0 m0 p1 m1 : Number) → hermite A p0 m0 p1 m1 w t ≡ mix A F w0 w1 w2 w3 p0 m0 p1 m1
     unfolding hermite
     hermite-mix p0 m0 p1 m1 = refl
 
-    unity : w0 ⊕ w2 ≡ one
+    pub unity : w0 ⊕ w2 ≡ one
     unity =
         solve A F 0 (t ∷ []) tt
         (Ring.add (Ring.add (Ring.sub (Ring.mul t2 cube) (Ring.mul t3 square)) t1)

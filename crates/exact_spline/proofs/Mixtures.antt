@@ -49,7 +49,7 @@ module _ (A : Arithmetic) (F : IsField A) where
   mix-term a b c d p q r s = add (add (add (mul a p) (mul b q)) (mul c r)) (mul d s)
 
   -- a mixture of mixtures
-  exchange : (a b c d e f g h p0 p1 p2 p3 q0 q1 q2 q3 r0 r1 r2 r3 s0 s1 s2 s3 : Number)
+  pub exchange : (a b c d e f g h p0 p1 p2 p3 q0 q1 q2 q3 r0 r1 r2 r3 s0 s1 s2 s3 : Number)
       → mix a b c d (mix e f g h p0 p1 p2 p3) (mix e f g h q0 q1 q2 q3) (mix e f g h r0 r1 r2 r3) (mix e f g h s0 s1 s2 s3)
       ≡ mix e f g h (mix a b c d p0 q0 r0 s0) (mix a b c d p1 q1 r1 s1) (mix a b c d p2 q2 r2 s2) (mix a b c d p3 q3 r3 s3)
   exchange a b c d e f g h p0 p1 p2 p3 q0 q1 q2 q3 r0 r1 r2 r3 s0 s1 s2 s3 =
@@ -68,19 +68,19 @@ module _ (A : Arithmetic) (F : IsField A) where
 
   -- the derivatives of a cell are mixtures of its samples and moments
   module _ (w t : Number) (wide : ¬ (w ≡ nought)) where
-    abbrev s0 : Number
+    abbrev pub s0 : Number
     s0 = ~ one ⊘ w
 
-    abbrev s1 : Number
+    abbrev pub s1 : Number
     s1 = one ⊘ w
 
-    abbrev s2 : Number
+    abbrev pub s2 : Number
     s2 = w ⊘ six ⊖ (w ⊖ t) ⊗ (w ⊖ t) ⊘ (two ⊗ w)
 
-    abbrev s3 : Number
+    abbrev pub s3 : Number
     s3 = t ⊗ t ⊘ (two ⊗ w) ⊖ w ⊘ six
 
-    slope-mix : (y0 y1 m0 m1 : Number) → slope A w y0 y1 m0 m1 t ≡ mix s0 s1 s2 s3 y0 y1 m0 m1
+    pub slope-mix : (y0 y1 m0 m1 : Number) → slope A w y0 y1 m0 m1 t ≡ mix s0 s1 s2 s3 y0 y1 m0 m1
     slope-mix y0 y1 m0 m1 =
         solve A F 1 (w ∷ t ∷ y0 ∷ y1 ∷ m0 ∷ m1 ∷ []) (wide, tt) (slope terms (var 0) (var 2) (var 3) (var 4) (var 5) (var 1))
         (mix-term (div (neg t1) (var 0)) (div t1 (var 0))
@@ -89,19 +89,19 @@ module _ (A : Arithmetic) (F : IsField A) where
         (var 2) (var 3) (var 4) (var 5))
         tt tt tt
 
-    bend-mix : (y0 y1 m0 m1 : Number) → bend A w m0 m1 t ≡ mix nought nought ((w ⊖ t) ⊘ w) (t ⊘ w) y0 y1 m0 m1
+    pub bend-mix : (y0 y1 m0 m1 : Number) → bend A w m0 m1 t ≡ mix nought nought ((w ⊖ t) ⊘ w) (t ⊘ w) y0 y1 m0 m1
     bend-mix y0 y1 m0 m1 =
         solve A F 1 (w ∷ t ∷ y0 ∷ y1 ∷ m0 ∷ m1 ∷ []) (wide, tt) (bend terms (var 0) (var 4) (var 5) (var 1))
         (mix-term t0 t0 (div (sub (var 0) (var 1)) (var 0)) (div (var 1) (var 0)) (var 2) (var 3) (var 4) (var 5))
         tt tt tt
 
-    twist-mix : (y0 y1 m0 m1 : Number) → twist A w m0 m1 ≡ mix nought nought (~ one ⊘ w) (one ⊘ w) y0 y1 m0 m1
+    pub twist-mix : (y0 y1 m0 m1 : Number) → twist A w m0 m1 ≡ mix nought nought (~ one ⊘ w) (one ⊘ w) y0 y1 m0 m1
     twist-mix y0 y1 m0 m1 =
         solve A F 1 (w ∷ t ∷ y0 ∷ y1 ∷ m0 ∷ m1 ∷ []) (wide, tt) (twist terms (var 0) (var 4) (var 5))
         (mix-term t0 t0 (div (neg t1) (var 0)) (div t1 (var 0)) (var 2) (var 3) (var 4) (var 5))
         tt tt tt
 
-  mix-ap : (a b c d : Number) {p p′ q q′ r r′ s s′ : Number} → p ≡ p′ → q ≡ q′ → r ≡ r′ → s ≡ s′
+  pub mix-ap : (a b c d : Number) {p p′ q q′ r r′ s s′ : Number} → p ≡ p′ → q ≡ q′ → r ≡ r′ → s ≡ s′
       → mix a b c d p q r s ≡ mix a b c d p′ q′ r′ s′
   mix-ap a b c d e f g h = λ i. mix a b c d (e i) (f i) (g i) (h i)
 

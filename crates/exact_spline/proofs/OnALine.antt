@@ -165,7 +165,7 @@ module _ (A : Arithmetic) (F : IsField A) where
     wide : (i : ℕ) → i < n → ¬ (Steps.h A x i ≡ nought)
     wide i h = O .positive-not-nought _ (rising i h)
 
-    meet : (i : ℕ) → i + 1 < n → slope-in-cell A x (at A y) m i (x (i + 1)) ≡ slope-in-cell A x (at A y) m (i + 1) (x (i + 1))
+    pub meet : (i : ℕ) → i + 1 < n → slope-in-cell A x (at A y) m i (x (i + 1)) ≡ slope-in-cell A x (at A y) m (i + 1) (x (i + 1))
     meet i h =
         Knots.meet-of-interior A F x (at A y) m i (wide i (omega arith)) (wide (i + 1) h)
         (ap₂ (A .plus)

@@ -1,0 +1,5 @@
+pub mod Weights
+pub mod OneAxis
+pub mod AnyAxes
+pub mod InClosedForm
+pub mod Fraction
