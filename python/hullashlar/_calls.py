@@ -52,7 +52,7 @@ class Rows(NamedTuple):
         if not isinstance(parameter, Slice):
             return self.array.tolist()
         start, step = self.array.ctypes.data, self.array.strides[0]
-        return range(start, start + len(self.array) * step, step)
+        return (start + row * step for row in range(len(self.array)))
 
 
 COUNT, PATTERN = ctypes.c_uint64, ctypes.c_uint64

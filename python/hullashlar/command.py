@@ -119,8 +119,10 @@ def report(options: argparse.Namespace) -> int:
 
 
 def draw(options: argparse.Namespace) -> int:
-    from .pictures import draw_surface
-
+    try:
+        from .pictures import draw_surface
+    except ImportError:
+        raise ValueError("drawing wants matplotlib: on Debian the package python3-matplotlib") from None
     if options.stale and not options.change:
         raise ValueError("--stale shows what a change leaves behind: say which with --change")
     changed = None

@@ -163,8 +163,8 @@ class Lines:
     def __init__(self, text: str) -> None:
         lines = [(number, line.partition("#")[0].split()) for number, line in enumerate(text.splitlines(), 1)]
         self._lines = [(number, words) for number, words in lines if words]
-        self.number = self._lines[0][0] if self._lines else 1
         self._end = len(lines) + 1
+        self.number = self._lines[0][0] if self._lines else self._end
 
     @property
     def word(self) -> str:

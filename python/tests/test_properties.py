@@ -1,0 +1,135 @@
+"""What holds of any surface: of changes, of sheets and their texts, of many points."""
+
+import copy
+import pickle
+
+import numpy as np
+from grids import changes, parts, points, surfaces
+from hypothesis import given, settings
+from hypothesis import strategies as st
+
+from hullashlar import Refused, Surface, stepped
+from hullashlar.sheets import read
+from hullashlar.text import sheet_of_text, tensor_of_text, text_of_sheet, text_of_tensor
+
+settings.register_profile("hullashlar", max_examples=150, deadline=None)
+settings.load_profile("hullashlar")
+
+
+def fresh(surface):
+    """A build from the samples that stand now."""
+    return Surface(surface.axes, surface.samples, list(surface.ends), list(surface.outside))
+
+
+@given(st.data())
+def test_any_list_of_changes_equals_a_fresh_build(data):
+    surface = data.draw(surfaces())
+    for place, value in data.draw(changes(surface)):
+        before = surface.tensor.tobytes()
+        try:
+            assert surface.change(place, value) > 0
+        except Refused:
+            assert surface.tensor.tobytes() == before
+        assert surface.tensor.tobytes() == fresh(surface).tensor.tobytes()
+    assert surface.verify().whole
+
+
+@given(surfaces())
+def test_write_then_read(surface):
+    again = Surface.read(surface.write())
+    assert again.tensor.tobytes() == surface.tensor.tobytes()
+    assert all(np.array_equal(one, other) for one, other in zip(again.axes, surface.axes))
+    assert (again.outside, again.edition) == (surface.outside, 2)
+    assert again.write() == surface.write()
+
+
+@given(parts(), st.sampled_from([1, 2]))
+def test_show_then_pack(said, edition):
+    knots, samples, ends, outside = said
+    outside = outside if edition == 2 else "extend"
+    sheet = Surface(knots, samples, ends, outside).write(edition=edition)
+    assert sheet_of_text(text_of_sheet(read(sheet))) == sheet
+
+
+@given(surfaces())
+def test_a_tensor_s_text_reads_back(surface):
+    axes, tensor = tensor_of_text(text_of_tensor(read(surface.write()), surface.tensor))
+    assert tensor.tobytes() == surface.tensor.tobytes()
+    assert Surface.of_tensor(tensor=tensor, **axes).verify().whole
+
+
+@given(st.data())
+def test_many_points_equal_one_by_one(data):
+    surface = data.draw(surfaces())
+    asked = data.draw(points(surface))
+    for how in ("quick", "full"):
+        many = surface(asked, how=how, on_refusal="nan")
+        single = np.array([surface(point, how=how, on_refusal="nan") for point in asked])
+        assert many.tobytes() == single.tobytes()
+    assert surface(asked, on_refusal="nan").tobytes() == surface(asked, how="full", on_refusal="nan").tobytes()
+
+
+@given(st.data())
+def test_direct_is_the_quick_value_but_for_the_cell(data):
+    lower = data.draw(st.integers(-5, 5))
+    axes = [np.arange(lower, lower + data.draw(st.integers(4, 9)), dtype=float) for _ in range(2)]
+    samples = np.fromfunction(lambda row, column: np.sin(row) * column, [len(axis) for axis in axes])
+    surface = Surface(axes, samples, outside="hold")
+    asked = data.draw(points(surface))
+    single = np.array([surface(point, how="direct") for point in asked])
+    assert surface(asked, how="direct").tobytes() == single.tobytes()
+    np.testing.assert_allclose(surface(asked, how="direct"), surface(asked), rtol=1e-9, atol=1e-9)
+
+
+@given(st.data())
+def test_labels_name_the_cell(data):
+    surface = data.draw(surfaces())
+    free = Surface(surface.axes, surface.samples, list(surface.ends), "extend")
+    asked = data.draw(points(free))
+    labels = free.label(asked)
+    assert labels.shape == asked.shape
+    for axis, row in enumerate(free.axes):
+        coordinates, cells = asked[:, axis], labels[:, axis]
+        inside = (row[0] <= coordinates) & (coordinates <= row[-1])
+        assert np.all((row[cells] <= coordinates)[inside]) and np.all((coordinates <= row[cells + 1])[inside])
+
+
+@given(st.data())
+def test_steps_of_many_points_equal_one_by_one(data):
+    surface = data.draw(surfaces())
+    asked = data.draw(points(surface))
+    many = stepped(surface.axes, surface.samples, asked, "upper")
+    single = [stepped(surface.axes, surface.samples, point, "upper") for point in asked]
+    np.testing.assert_array_equal(many, single)
+    assert np.all(np.isin(many, surface.samples))
+
+
+@given(surfaces())
+def test_copies_are_apart(surface):
+    for other in (surface.copy(), copy.deepcopy(surface), pickle.loads(pickle.dumps(surface))):
+        before = surface.tensor.tobytes()
+        assert other.tensor.tobytes() == before
+        other.change((0,) * len(surface.axes), 0.25)
+        assert surface.tensor.tobytes() == before
+
+
+@given(surfaces())
+def test_views_are_read_only_and_follow_changes(surface):
+    samples, tensor = surface.samples, surface.tensor
+    place = (0,) * len(surface.axes)
+    for view in (samples, tensor, *surface.axes):
+        assert not view.flags.writeable
+    surface.change(place, 0.25)
+    assert samples[place] == tensor[(*place, 0)] == 0.25
+
+
+def test_points_of_any_shape_and_layout():
+    surface = Surface([[0.0, 1.0, 2.0, 3.0]] * 2, np.arange(16.0).reshape(4, 4))
+    points = np.random.default_rng(1).uniform(0.0, 3.0, (3, 4, 5, 2))
+    values = surface(points)
+    assert values.shape == (3, 4, 5)
+    for same in (np.asfortranarray(points), points[::-1][::-1], points.tolist(), points.astype(">f8")):
+        assert surface(same).tobytes() == values.tobytes()
+    assert surface(points[1, 2, 3]) == values[1, 2, 3]
+    assert surface(np.empty((0, 2))).shape == (0,)
+    assert surface([[1, 2]]).shape == (1,)
