@@ -1,4 +1,4 @@
-.PHONY: run test differential report-largest deliberate-errors further-edits sheet-by-hand streams-fail docs-check rules-page oracle-test expected archive archive-here bench examples picture
+.PHONY: run test differential report-largest deliberate-errors further-edits sheet-by-hand streams-fail docs-check rules-page oracle-test expected archive archive-here bench examples picture python python-test python-bench python-pictures
 
 # On another machine than x86-64, what links the archive takes one that is made for it, and our programs run on the kit's emulator.
 MACHINE := $(shell uname -m)
@@ -122,3 +122,29 @@ expected:
 	python3 tests/make_sheets.py
 	cd oracle && cargo run --offline --release -q -p cases --bin replay_list > ../crates/trial_replay/stdin
 	cd oracle && cargo run --offline --release -q -p printed -- ../crates
+
+# A Python that has numpy: Debian's packages belong to /usr/bin/python3, which need not be the first on the path.
+PYTHON = $(shell for python in python3 /usr/bin/python3; do $$python -c 'import numpy' 2> /dev/null && echo $$python && break; done)
+
+# What the Python package hands numbers to: the proved archive as a shared library, and the program that reports.
+python: archive-here
+	rt check sheet_report
+	mkdir -p python/hullashlar/proved
+	gcc -shared -nostartfiles -Wl,--whole-archive $(ARCHIVES)/libhullashlar.a -Wl,--no-whole-archive -Wl,--no-undefined \
+	    -o python/hullashlar/proved/libhullashlar.so
+	cp target/bin/sheet_report python/hullashlar/proved/
+
+# The package's tests; README.md says which packages they want.
+python-test: python
+	cd python && PYTHONPATH=. $(PYTHON) -B -m pytest -q -p no:cacheprovider
+
+# A million points by one call from Python, beside a loop in C and beside SciPy.
+python-bench: python
+	PYTHONPATH=python $(PYTHON) -B python/bench/queries.py
+
+# Draws the pictures of the package anew: the map of README.md and the wrong scale of docs/TUTORIAL.md.
+python-pictures: python
+	PYTHONPATH=python $(PYTHON) -B -m hullashlar draw examples/gain.sheet --names "frequency, kHz" "level, dB" "gain, dB" \
+	    -o docs/picture/gain-map.png
+	PYTHONPATH=python $(PYTHON) -B -m hullashlar draw examples/scales.sheet --change 2 2 1.05 --stale --names "noise, dB" speech scale \
+	    -o docs/picture/wrong-scale.png
