@@ -7,7 +7,7 @@ answers is its refusal, 0 for none; :func:`hullashlar.refusals.accept` turns it 
 from __future__ import annotations
 
 import ctypes
-from collections.abc import Iterable
+from collections.abc import Iterator
 from pathlib import Path
 from typing import Any, NamedTuple
 
@@ -47,12 +47,13 @@ class Rows(NamedTuple):
 
     array: NDArray[Any]
 
-    def turns(self, parameter: Any) -> Iterable[Any]:
+    def turns(self, parameter: Any) -> Iterator[Any]:
         """The first word of each row: where it lies, or for a parameter that is a number the number itself."""
         if not isinstance(parameter, Slice):
-            return self.array.tolist()
+            yield from self.array
+            return
         start, step = self.array.ctypes.data, self.array.strides[0]
-        return (start + row * step for row in range(len(self.array)))
+        yield from (start + row * step for row in range(len(self.array)))
 
 
 COUNT, PATTERN = ctypes.c_uint64, ctypes.c_uint64
@@ -107,7 +108,7 @@ class Call:
         """What the call returns for each point, for calls that take one point alone: `Rows` are lent one row after the other."""
         no_flushing()
         words: list[Any] = []
-        moving: dict[int, Iterable[Any]] = {}
+        moving: dict[int, Iterator[Any]] = {}
         for parameter, argument in zip(self._parameters, arguments, strict=True):
             if isinstance(argument, Rows):
                 moving[len(words)] = argument.turns(parameter)

@@ -67,7 +67,7 @@ def ends_of_axes(ends: Any, axes: int) -> list[AxisEnds]:
     Two ends of which one is an order and a value are the two ends of every axis; any other sequence has one for each axis.
     """
     if not isinstance(ends, str) and len(ends) == 2 and any(is_number_pair(end) for end in ends):
-        return [tuple(ends)] * axes
+        return [(ends[0], ends[1])] * axes
     return for_each_axis(ends, axes, "ends")
 
 
@@ -133,8 +133,7 @@ class Axes:
             if axis.ndim != 1:
                 raise ValueError(f"an axis is a row of knots, and not an array of {axis.ndim} dimensions")
         points = np.zeros(_calls.AXES, np.uint64)
-        for axis, row in enumerate(knots[: _calls.AXES]):
-            points[axis] = len(row)
+        points[: len(knots)] = [len(row) for row in knots[: _calls.AXES]]
         kinds, values = end_slots(ends, len(knots), _calls.ENDS)
         modes = code_slots(outside, len(knots), MODES, "outside")
         return cls(len(knots), points, kinds, values, modes, np.concatenate([np.empty(0), *knots]))

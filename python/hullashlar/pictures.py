@@ -4,6 +4,7 @@ from __future__ import annotations
 
 from collections.abc import Sequence
 from dataclasses import dataclass, field
+from functools import partial
 from pathlib import Path
 from typing import Any
 
@@ -24,6 +25,9 @@ KINDS = (".svg", ".png")
 
 # How many points a curve is drawn by, and a map along each axis.
 FINE, MAP = 601, 161
+
+# A difference of nothing at all is drawn as if this were its most.
+SMALLEST = 2.0**-1022
 
 # How much of an axis is drawn beyond its knots, as a part of its length.
 BEYOND = 0.08
@@ -64,12 +68,13 @@ class Scene:
     point: list[float]
     names: Sequence[str]
     changed: tuple[int, ...] | None = None
-    figure: Figure = field(default_factory=lambda: Figure(layout="constrained"))
+    figure: Figure = field(default_factory=partial(Figure, layout="constrained"))
 
     @property
     def last(self) -> Surface:
         """The surface as it stands in the end."""
-        return list(self.surfaces.values())[-1]
+        *_, last = self.surfaces.values()
+        return last
 
     def name(self, axis: int) -> str:
         """What an axis is called."""
@@ -121,7 +126,8 @@ def on_cut(surface: Surface, point: Sequence[float], axis: int) -> Values | None
         if other != axis and here.size == 0:
             return None
         place.append(slice(None) if other == axis else here[0])
-    return surface.samples[tuple(place)]
+    samples: Values = surface.samples[tuple(place)]
+    return samples
 
 
 def drawn_range(row: Values) -> tuple[float, float]:
@@ -191,7 +197,8 @@ def map_of(surface: Surface) -> tuple[Values, Values, Values]:
 def levels_of(*maps: Values) -> Values:
     """Round levels that all maps share."""
     low, high = min(np.nanmin(values) for values in maps), max(np.nanmax(values) for values in maps)
-    return MaxNLocator(10).tick_values(low, high)
+    levels: Values = MaxNLocator(10).tick_values(low, high)
+    return levels
 
 
 def draw_map(scene: Scene, panel: Panel, values: Values, levels: Values, title: str) -> Any:
@@ -207,7 +214,7 @@ def draw_map(scene: Scene, panel: Panel, values: Values, levels: Values, title: 
 def draw_map_difference(scene: Scene, panel: Panel, difference: Values, title: str) -> None:
     """A map of a difference, white where there is none."""
     across, up, _ = map_of(scene.last)
-    most = max(float(np.nanmax(np.abs(difference))), np.finfo(float).tiny)
+    most = max(float(np.nanmax(np.abs(difference))), SMALLEST)
     ticks = MaxNLocator(12, symmetric=True).tick_values(-most, most)
     half = (ticks[1] - ticks[0]) / 2
     filled = panel.contourf(across, up, difference.T, np.append(ticks - half, ticks[-1] + half), cmap=DIFFERENCES)

@@ -7,7 +7,7 @@ import shlex
 import subprocess
 from collections.abc import Callable
 from dataclasses import dataclass
-from typing import BinaryIO, Union
+from typing import BinaryIO, Union, cast
 
 import numpy as np
 
@@ -61,7 +61,7 @@ def text_of_report(stream: Union[bytes, BinaryIO], progress: Callable[[int], Non
     command = [*shlex.split(os.environ.get(RUNNER, "")), str(PROGRAM)]
     with subprocess.Popen(command, stdin=subprocess.PIPE, stdout=subprocess.PIPE, stderr=subprocess.PIPE) as program:
         try:
-            feed(stream, program.stdin, progress)
+            feed(stream, cast(BinaryIO, program.stdin), progress)
         except BrokenPipeError:
             pass  # the report stopped, and wants no more
         printed, said = program.communicate()

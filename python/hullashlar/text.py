@@ -63,7 +63,7 @@ def decimals(number: float) -> str:
     return repr(float(number))
 
 
-def wrapped(word: str, numbers: Sequence[float]) -> Iterator[str]:
+def wrapped(word: str, numbers: NDArray[np.float64]) -> Iterator[str]:
     """A word and its numbers, on as many lines as they need."""
     line = word
     for text in map(decimals, numbers):
