@@ -30,10 +30,16 @@ WORDS: dict[str, tuple[int, float]] = {
 
 def floats(numbers: ArrayLike) -> NDArray[np.float64]:
     """The numbers as doubles that lie as calls take them; refuses what is no real number."""
-    array = np.asarray(numbers)
-    if array.size == 0:
-        array = array.astype(np.float64)
-    return np.require(array.astype(np.float64, casting="same_kind", copy=False), requirements=["C", "A"])
+    doubles = np.asarray(numbers).astype(np.float64, casting="same_kind", copy=False)
+    return np.require(doubles, requirements=["C", "A"])
+
+
+def row_of(numbers: ArrayLike, what: str) -> NDArray[np.float64]:
+    """Numbers that stand in one row."""
+    row = floats(numbers)
+    if row.ndim != 1:
+        raise ValueError(f"{what} stand in a row, and not in an array of {row.ndim} dimensions")
+    return row
 
 
 def is_number_pair(end: Any) -> bool:
@@ -128,10 +134,7 @@ class Axes:
     @classmethod
     def of(cls, axes: Sequence[ArrayLike], ends: Any = "natural", outside: Any = "extend") -> Axes:
         """The axes that words say."""
-        knots = [floats(axis) for axis in axes]
-        for axis in knots:
-            if axis.ndim != 1:
-                raise ValueError(f"an axis is a row of knots, and not an array of {axis.ndim} dimensions")
+        knots = [row_of(axis, "the knots of an axis") for axis in axes]
         points = np.zeros(_calls.AXES, np.uint64)
         points[: len(knots)] = [len(row) for row in knots[: _calls.AXES]]
         kinds, values = end_slots(ends, len(knots), _calls.ENDS)

@@ -10,7 +10,7 @@ from numpy.typing import ArrayLike, NDArray
 from . import _calls
 from ._calls import Rows
 from .asked import as_points, settled
-from .axes import end_slots, floats
+from .axes import end_slots, floats, row_of
 from .refusals import accept
 
 Values = NDArray[np.float64]
@@ -21,7 +21,7 @@ class Curve:
     are read only."""
 
     def __init__(self, knots: ArrayLike, samples: ArrayLike, ends: Any = "not-a-knot") -> None:
-        self.knots, self.samples = floats(knots).reshape(-1).copy(), floats(samples).reshape(-1).copy()
+        self.knots, self.samples = row_of(knots, "knots").copy(), row_of(samples, "samples").copy()
         self.moments, self.slopes = np.zeros(self.knots.size), np.zeros(self.knots.size)
         lane = (self.knots.size, self.knots, self.samples)
         accept(_calls.moments(*lane, *end_slots(ends, 1, _calls.AXIS_ENDS), self.moments, np.zeros(_calls.SCRATCH)))

@@ -26,6 +26,9 @@ class Found(NamedTuple):
     mask: int
     many: int
 
+    def __bool__(self) -> bool:
+        return self.whole
+
     def __str__(self) -> str:
         if self.whole:
             return "whole: every number has the bits of a fresh build"
@@ -146,7 +149,8 @@ class Surface:
         return sheets.write(sheets.Parts(operator.index(edition), self._axes, np.ascontiguousarray(self.samples)))
 
     def __call__(self, points: ArrayLike, how: str = "quick", on_refusal: str = "raise") -> Any:
-        """The surface's values at points: one point, or an array of any shape whose last axis is the coordinates.
+        """The surface's values at points: one point, or an array of any shape whose last axis is the coordinates. Of one axis, a point may be a
+        number.
 
         `how` is ``"quick"``, ``"full"``, which looks at all knots each time and gives the same, or on evenly spaced axes ``"direct"``, which
         finds the cell by a division. Where a point is refused this raises, or with ``on_refusal="nan"`` its value is NaN.

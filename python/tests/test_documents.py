@@ -46,6 +46,15 @@ def test_the_tutorial_runs(root, tmp_path, monkeypatch):
         assert done.stdout + done.stderr == said, line
 
 
+def test_the_code_of_the_readme_runs(root):
+    section = (root / "README.md").read_text(encoding="utf-8").split("## From Python")[1].split("\n## ")[0]
+    code = re.search(r"(?:^    .*\n)+", section, flags=re.MULTILINE).group()
+    place = {}
+    exec(re.sub(r"^    ", "", code, flags=re.MULTILINE), place)
+    assert (place["values"].shape, place["lanes"]) == ((2,), 4)
+    assert hullashlar.Surface.read(place["sheet"]).verify()
+
+
 def commands(root):
     """The commands of the tutorial, each with what it prints."""
     for block in blocks(root, "console"):

@@ -123,7 +123,7 @@ def test_a_stale_tensor():
         Surface.of_tensor(LINE, stale, "natural")
     assert (caught.value.found.whole, caught.value.found.place, caught.value.found.mask, caught.value.found.many) == (False, (0,), 1, 2)
     kept = Surface.of_tensor(LINE, stale, "natural", stale="keep")
-    assert not kept.verify().whole
+    assert not kept.verify() and not kept.verify().whole
     kept.change((1,), 5.0)
     assert kept.verify().whole
     assert kept.tensor.tobytes() == Surface(LINE, [0.0, 5.0, 0.0], "natural").tensor.tobytes()
@@ -133,6 +133,7 @@ def test_wrong_usage_is_no_refusal():
     wrong = [
         lambda: Surface(LINE, [[0.0, 1.0, 0.0]], "natural"),
         lambda: Surface([[[0.0, 1.0, 2.0]]], HILL, "natural"),
+        lambda: curve([[0.0, 1.0]], [0.0, 1.0], "natural"),
         lambda: Surface(LINE, HILL, "natrual"),
         lambda: Surface(LINE, HILL, ["natural", "natural"]),
         lambda: Surface(LINE, HILL, ((3, 0.0), (1, 0.0))),
