@@ -205,8 +205,10 @@ def draw_map(scene: Scene, panel: Panel, values: Values, levels: Values, title: 
     """A map with contour lines and the measured points; answers what a bar of its colours is made of."""
     across, up, _ = map_of(scene.last)
     filled = panel.contourf(across, up, values.T, levels, cmap=HEIGHTS)
-    lines = panel.contour(across, up, values.T, levels, colors=INK, linewidths=0.7, alpha=0.7)
-    panel.clabel(lines, fontsize=8, fmt="%g")
+    between = levels[(levels > np.nanmin(values)) & (levels < np.nanmax(values))]
+    if between.size > 0:
+        lines = panel.contour(across, up, values.T, between, colors=INK, linewidths=0.7, alpha=0.7)
+        panel.clabel(lines, fontsize=8, fmt="%g")
     finish_map(scene, panel, title)
     return filled
 

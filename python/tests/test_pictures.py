@@ -27,6 +27,15 @@ def test_pictures_are_drawn(tmp_path, axes, changed, stale, suffix):
     assert path.stat().st_size > 10_000
 
 
+@pytest.mark.filterwarnings("error")
+def test_flat_and_huge_surfaces_are_drawn(tmp_path):
+    row = np.arange(4.0)
+    for samples in (np.zeros((4, 4)), 1e300 * np.random.default_rng(1).normal(size=(4, 4))):
+        surface = Surface([row, row], samples)
+        draw_surface(surface, tmp_path / "map.png")
+        draw_surface(surface, tmp_path / "change.png", ((1, 1), float(samples[1, 1])), stale=True)
+
+
 def test_the_same_picture_has_the_same_bytes(tmp_path):
     for name in ("one.svg", "two.svg"):
         draw_surface(surface_of(2), tmp_path / name)
