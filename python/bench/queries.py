@@ -2,6 +2,7 @@
 """Measures a million quick queries on a grid of 16×16 by one array call, beside a loop in C over the exported call for many points and beside
 SciPy's RegularGridInterpolator(method="cubic"); fails where a goal is missed."""
 
+import os
 import statistics
 import subprocess
 import sys
@@ -32,7 +33,7 @@ def seconds(call):
 
 def seconds_in_c(surface, points):
     """The median of the rounds of loop.c."""
-    archive = ROOT / "target" / "staticlib" / "libhullashlar.a"
+    archive = Path(os.environ["HULLASHLAR_ARCHIVE_DIR"]) / "libhullashlar.a"
     with tempfile.TemporaryDirectory() as folder:
         np.concatenate(surface.axes).tofile(f"{folder}/knots")
         surface.tensor.tofile(f"{folder}/tensor")
