@@ -8,7 +8,7 @@ from grids import changes, parts, points, surfaces
 from hypothesis import given, settings
 from hypothesis import strategies as st
 
-from hullashlar import Refused, Surface, stepped
+from hullashlar import Refused, Surface, _calls, stepped
 from hullashlar.sheets import read
 from hullashlar.text import sheet_of_text, tensor_of_text, text_of_sheet, text_of_tensor
 
@@ -58,15 +58,25 @@ def test_a_tensor_s_text_reads_back(surface):
     assert Surface.of_tensor(tensor=tensor, **axes).verify().whole
 
 
+def one_by_one(call, surface, asked, *slots):
+    """Values by the exported call for one point, NaN where it is refused."""
+    values = []
+    for point in asked:
+        value, labels = np.zeros(1), np.zeros(_calls.AXES, np.uint64)
+        refusal = call(*surface._axes.asked, surface._tensor, point, value, labels, *slots)
+        values.append(value[0] if refusal == 0 else np.nan)
+    return np.array(values)
+
+
 @given(st.data())
 def test_many_points_equal_one_by_one(data):
     surface = data.draw(surfaces())
     asked = data.draw(points(surface))
-    for how in ("quick", "full"):
-        many = surface(asked, how=how, on_refusal="nan")
-        single = np.array([surface(point, how=how, on_refusal="nan") for point in asked])
-        assert many.tobytes() == single.tobytes()
-    assert surface(asked, on_refusal="nan").tobytes() == surface(asked, how="full", on_refusal="nan").tobytes()
+    quick, full = (surface(asked, how=how, on_refusal="nan") for how in ("quick", "full"))
+    assert quick.tobytes() == one_by_one(_calls.quick_query, surface, asked).tobytes()
+    assert full.tobytes() == one_by_one(_calls.query, surface, asked).tobytes()
+    assert quick.tobytes() == full.tobytes()
+    assert quick.tobytes() == np.array([surface(point, on_refusal="nan") for point in asked]).tobytes()
 
 
 @given(st.data())
@@ -76,7 +86,7 @@ def test_direct_is_the_quick_value_but_for_the_cell(data):
     samples = np.fromfunction(lambda row, column: np.sin(row) * column, [len(axis) for axis in axes])
     surface = Surface(axes, samples, outside="hold")
     asked = data.draw(points(surface))
-    single = np.array([surface(point, how="direct") for point in asked])
+    single = one_by_one(_calls.even_query, surface, asked, np.zeros(2, np.uint64))
     assert surface(asked, how="direct").tobytes() == single.tobytes()
     np.testing.assert_allclose(surface(asked, how="direct"), surface(asked), rtol=1e-9, atol=1e-9)
 
@@ -101,7 +111,8 @@ def test_steps_of_many_points_equal_one_by_one(data):
     many = stepped(surface.axes, surface.samples, asked, "upper")
     single = [stepped(surface.axes, surface.samples, point, "upper") for point in asked]
     np.testing.assert_array_equal(many, single)
-    assert np.all(np.isin(many, surface.samples))
+    upper = [np.searchsorted(row, coordinates).clip(coordinates < row[0], len(row) - 1) for row, coordinates in zip(surface.axes, asked.T)]
+    np.testing.assert_array_equal(many, surface.samples[tuple(upper)])
 
 
 @given(surfaces())
