@@ -1,5 +1,5 @@
-/* A loop in C over the exported call for many points: reads the knots, the tensor and the points of a surface of two axes from the files that
- * queries.py has written, and prints the seconds of each round. */
+/* A loop in C over the exported call for many points: reads the knots, the tensor and the points of a surface of two axes from the files
+ * that queries.py has written, and prints the seconds of each round. */
 #include "hullashlar.h"
 
 #include <stdio.h>

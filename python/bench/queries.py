@@ -1,6 +1,6 @@
 #!/usr/bin/env python3
-"""Measures a million quick queries on a grid of 16×16 by one array call, beside a loop in C over the exported call for many points and beside
-SciPy's RegularGridInterpolator(method="cubic"); fails where a goal is missed."""
+"""Measures a million quick queries on a grid of 16×16 by one array call, beside a loop in C over the exported call for many points and
+beside SciPy's RegularGridInterpolator(method="cubic"); fails where a goal is missed."""
 
 import os
 import statistics

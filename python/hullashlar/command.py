@@ -28,6 +28,7 @@ def read_sheet(path: str) -> Surface:
 
 
 def show(options: argparse.Namespace) -> int:
+    """A sheet as a text, of its samples or of its whole tensor."""
     sheet = Path(options.sheet).read_bytes()
     parts = sheets.read(sheet)
     said = text.text_of_tensor(parts, Surface.read(sheet).tensor) if options.tensor else text.text_of_sheet(parts)
@@ -39,12 +40,14 @@ def show(options: argparse.Namespace) -> int:
 
 
 def pack(options: argparse.Namespace) -> int:
+    """A text as the sheet that it says."""
     sheet = text.sheet_of_text(Path(options.text).read_text(encoding="utf-8"))
     Path(options.output).write_bytes(sheet)
     return ACCEPTED
 
 
 def query(options: argparse.Namespace) -> int:
+    """The value of a sheet's surface at a point."""
     print(text.decimals(read_sheet(options.sheet)(options.point, how=options.how)))
     return ACCEPTED
 
@@ -59,6 +62,7 @@ def moved(before: Surface, after: Surface) -> str:
 
 
 def change(options: argparse.Namespace) -> int:
+    """A sheet with one sample changed, and what that moved."""
     before = read_sheet(options.sheet)
     after = before.copy()
     lanes = after.change(options.at, options.to)
@@ -70,23 +74,32 @@ def change(options: argparse.Namespace) -> int:
 
 
 def verify(options: argparse.Namespace) -> int:
+    """Whether the tensor of a text is that of its own samples."""
     said, tensor = text.tensor_of_text(Path(options.tensor).read_text(encoding="utf-8"))
     print(Surface.of_tensor(tensor=tensor, **said).verify())
     return ACCEPTED
 
 
-def bar_on_terminal(path: str) -> Callable[[int], None]:
-    """Draws how far a long stream has gone in, where standard error is a terminal."""
-    size = Path(path).stat().st_size
-    if size <= LONG or not sys.stderr.isatty():
-        return lambda fed: None
+class Bar:
+    """How far a long stream has gone in, on standard error where that is a terminal."""
 
-    def draw(fed: int) -> None:
-        done = min(BAR, BAR * fed // size)
-        sys.stderr.write(f"\r{path} [{'#' * done}{'.' * (BAR - done)}]" if done < BAR else "\r\033[K")
-        sys.stderr.flush()
+    def __init__(self, path: str) -> None:
+        self._path, self._size = path, Path(path).stat().st_size
+        self._shown = self._size > LONG and sys.stderr.isatty()
 
-    return draw
+    def draw(self, fed: int) -> None:
+        """Shows that so many bytes went in."""
+        done = min(BAR, BAR * fed // self._size) if self._shown else 0
+        self._put(f"\r{self._path} [{'#' * done}{'.' * (BAR - done)}]")
+
+    def clear(self) -> None:
+        """Leaves the line as it was."""
+        self._put("\r\033[K")
+
+    def _put(self, letters: str) -> None:
+        if self._shown:
+            sys.stderr.write(letters)
+            sys.stderr.flush()
 
 
 def print_report(path: str, report: Report) -> None:
@@ -107,10 +120,13 @@ def why_stopped(report: Report) -> str:
 
 
 def report(options: argparse.Namespace) -> int:
+    """What each stream holds; a refusal where one stopped."""
     status = ACCEPTED
     for path in options.streams:
+        bar = Bar(path)
         with open(path, "rb") as stream:
-            found = Report.of(stream, bar_on_terminal(path))
+            found = Report.of(stream, bar.draw)
+        bar.clear()
         print_report(path, found)
         if found.stopped:
             print(f"{path}: stopped in sheet {found.sheets}: {why_stopped(found)}", file=sys.stderr)
@@ -119,6 +135,7 @@ def report(options: argparse.Namespace) -> int:
 
 
 def draw(options: argparse.Namespace) -> int:
+    """A picture of a sheet's surface."""
     try:
         from .pictures import draw_surface
     except ImportError:
@@ -141,7 +158,7 @@ class Commands:
         self._examples: list[str] = []
         self.parser = argparse.ArgumentParser(
             prog=program,
-            description="Proved cubic-spline surfaces for hearing aids: sheets shown, packed, asked, changed, verified, reported and drawn.",
+            description="Proved cubic-spline surfaces for hearing aids: sheets shown, packed, asked, changed, verified and drawn.",
             formatter_class=argparse.RawDescriptionHelpFormatter,
         )
         self._commands = self.parser.add_subparsers(metavar="COMMAND", required=True)
@@ -202,6 +219,7 @@ def kept_numbers(arguments: Sequence[str]) -> list[str]:
 
 
 def is_number(word: str) -> bool:
+    """Whether a word reads as a number."""
     try:
         float(word)
     except ValueError:
@@ -230,4 +248,5 @@ def main(arguments: Sequence[str] | None = None) -> int:
 
 
 def entry() -> NoReturn:
+    """The command as a program."""
     sys.exit(main())

@@ -312,8 +312,8 @@ def draw_surface(
     at: Sequence[float] | None = None,
     names: Sequence[str] | None = None,
 ) -> None:
-    """Draws a surface into an svg or a png. With `changed`, a place and a value, it shows before, after and the difference; with `stale` also
-    what a loader that keeps old derivatives would show. Cuts go through the point `at`; `names` are those of the axes and of the value."""
+    """Draws a surface into an svg or a png. With `changed`, a place and a value, it shows before, after and the difference; with `stale`
+    also what a loader that keeps old derivatives would show. Cuts go through the point `at`; `names` are of the axes and of the value."""
     if Path(path).suffix not in KINDS:
         raise ValueError(f"{path}: a picture is a file that ends in {' or '.join(KINDS)}")
     with matplotlib.rc_context(STYLE):

@@ -32,8 +32,8 @@ class Order:
 
 @dataclass(frozen=True)
 class Report:
-    """What a stream of sheets holds: how many `sheets`, how many `accepted`, how many `refused` by each number, the derivative `orders` 0 to
-    4, and whether it `stopped` in a sheet that could not be read.
+    """What a stream of sheets holds: how many `sheets`, how many `accepted`, how many `refused` by each number, the derivative `orders`
+    0 to 4, and whether it `stopped` in a sheet that could not be read.
 
     >>> from hullashlar import Surface
     >>> sheet = Surface([[0.0, 1.0]], [0.0, 1.0], ends="natural").write()

@@ -74,8 +74,8 @@ class Surface:
 
     `axes` has the knots of each axis, `samples` one number for each place of their grid.
 
-    `ends` says what holds at the two ends of an axis: ``"not-a-knot"``, ``"natural"``, ``"clamped"``, ``"periodic"``, or a lower and an upper
-    end, each a word or the order of a derivative and its value, as ``((1, 0.5), (2, 0.0))``; for all axes, or a sequence of one for each.
+    `ends` says what holds at the two ends of an axis: ``"not-a-knot"``, ``"natural"``, ``"clamped"``, ``"periodic"``, or a lower and an
+    upper end, each a word or the order of a derivative and its value, as ``((1, 0.5), (2, 0.0))``; for all axes, or one such for each.
 
     `outside` says what a point outside the knots gives: ``"extend"``, ``"hold"`` or ``"refuse"``; for all axes, or one for each.
 
@@ -149,11 +149,11 @@ class Surface:
         return sheets.write(sheets.Parts(operator.index(edition), self._axes, np.ascontiguousarray(self.samples)))
 
     def __call__(self, points: ArrayLike, how: str = "quick", on_refusal: str = "raise") -> Any:
-        """The surface's values at points: one point, or an array of any shape whose last axis is the coordinates. Of one axis, a point may be a
-        number.
+        """The surface's values at points: one point, or an array of any shape whose last axis is the coordinates. On one axis a point may
+        be a number.
 
-        `how` is ``"quick"``, ``"full"``, which looks at all knots each time and gives the same, or on evenly spaced axes ``"direct"``, which
-        finds the cell by a division. Where a point is refused this raises, or with ``on_refusal="nan"`` its value is NaN.
+        `how` is ``"quick"``, ``"full"``, which looks at all knots each time and gives the same, or on evenly spaced axes ``"direct"``,
+        which finds the cell by a division. Where a point is refused this raises, or with ``on_refusal="nan"`` its value is NaN.
 
         >>> surface = Surface([[0.0, 1.0, 2.0]], [0.0, 1.0, 0.0], ends="natural", outside="refuse")
         >>> surface([[1.0], [3.0]], on_refusal="nan")

@@ -15,9 +15,9 @@ A text has a line for the edition, four or five for each axis, and then the tabl
     11.0
 
 In place of ``ends`` an axis may have two lines, ``lower`` and ``upper``, each with ``not-a-knot``, ``natural``, ``clamped``, ``periodic``,
-``first-derivative V`` or ``second-derivative V``. On two axes the table has a row for each knot of axis 0; on more there is such a table for
-each slice, behind ``slice I`` or ``slice I J``. In the text of a tensor, ``tensor`` stands in place of ``samples``, and its table has a row
-for each place of the grid, in which the sample comes first and then the derivatives, mask after mask.
+``first-derivative V`` or ``second-derivative V``. On two axes the table has a row for each knot of axis 0; on more there is such a table
+for each slice, behind ``slice I`` or ``slice I J``. In the text of a tensor, ``tensor`` stands in place of ``samples``, and its table has a
+row for each place of the grid, in which the sample comes first and then the derivatives, mask after mask.
 """
 
 from __future__ import annotations

@@ -13,7 +13,8 @@ import pytest
 
 import hullashlar
 
-MODULES = [hullashlar.__name__, *(f"hullashlar.{module.name}" for module in pkgutil.iter_modules(hullashlar.__path__) if module.name != "__main__")]
+NAMES = [module.name for module in pkgutil.iter_modules(hullashlar.__path__)]
+MODULES = ["hullashlar", *(f"hullashlar.{name}" for name in NAMES if name != "__main__")]
 PUBLIC = ["Surface", "Refused", "curve", "stepped", "cell_value", "sheet_value", "Report"]
 
 
