@@ -1,0 +1,4 @@
+mod Answers
+pub mod Unique
+pub mod DirectIsEven
+pub mod DirectReads
