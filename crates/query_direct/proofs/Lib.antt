@@ -1,4 +1,4 @@
-mod Answers
+pub mod Answers
 pub mod Unique
 pub mod DirectIsEven
 pub mod DirectReads
