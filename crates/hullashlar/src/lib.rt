@@ -1,4 +1,4 @@
-// The twenty-one calls for C, over numbers and plain slices. Each but the firmware's returns its refusal's number, 0 for none: the host's own
+// The twenty-three calls for C, over numbers and plain slices. Each but the firmware's returns its refusal's number, 0 for none: the host's own
 // first, as c_refusals::own and the crates of exports have them, and then the call's.
 ghost use mathlib.Core.List.{[], _∷_};
 ghost use Rattle.rules.specs.Calls.{SlopesPromise};
@@ -9,6 +9,7 @@ ghost use Rattle.c_tensor.specs.TensorExports.{BuildExport, ChangeExport};
 ghost use Rattle.c_verify.specs.VerifyExports.{VerifyExport};
 ghost use Rattle.c_query.specs.QueryExports.{QueryExport, QuickQueryExport, EvenQueryExport};
 ghost use Rattle.c_direct.specs.DirectExports.{DirectQueryExport};
+ghost use Rattle.c_many.specs.ManyExports.{QuickQueriesExport, DirectQueriesExport};
 ghost use Rattle.c_sheet.specs.SheetExports.{ReadExport, ReadEdition1Export, SheetTensorExport, WriteExport};
 ghost use Rattle.c_device.specs.DeviceExports.{CellExport, NextExport};
 
@@ -271,6 +272,70 @@ pub extern "C" fn hullashlar_direct_query(
         coordinates,
         value,
         labels,
+    )
+}
+
+// The quick query at as many points as refusals are lent: a coordinate on each axis, a value, four labels and a refusal for each, one point
+// after the other. At each they are what the quick query gives for that point alone, and a point that is refused stops nothing. Refuses 1,
+// 4 for the points of the axes, 2, 3, 4 for every other slice, and 22, in this order, and then nothing is written.
+#[no_mangle]
+pub extern "C" fn hullashlar_quick_queries(
+    axes: usize,
+    points: &[usize],
+    modes: &[u8],
+    knots: &[f64],
+    tensor: &[f64],
+    coordinates: &[f64],
+    values: &mut [f64],
+    labels: &mut [usize],
+    refusals: &mut [usize],
+) -> usize
+    ensures { λ r.
+        ⌜ QuickQueriesExport axes (now (points .entry)) (now (modes .entry)) (now (knots .entry)) (now (tensor .entry))
+        (now (coordinates .entry)) (now (values .entry)) (now (labels .entry)) (now (refusals .entry)) r (now (values .exit))
+        (now (labels .exit)) (now (refusals .exit)) ⌝ }
+{
+    c_many::quick_queries(
+        axes,
+        points,
+        modes,
+        knots,
+        tensor,
+        coordinates,
+        values,
+        labels,
+        refusals,
+    )
+}
+
+// The direct query at as many points, in the same way. Refuses as the quick query of many points.
+#[no_mangle]
+pub extern "C" fn hullashlar_direct_queries(
+    axes: usize,
+    points: &[usize],
+    modes: &[u8],
+    knots: &[f64],
+    tensor: &[f64],
+    coordinates: &[f64],
+    values: &mut [f64],
+    labels: &mut [usize],
+    refusals: &mut [usize],
+) -> usize
+    ensures { λ r.
+        ⌜ DirectQueriesExport axes (now (points .entry)) (now (modes .entry)) (now (knots .entry)) (now (tensor .entry))
+        (now (coordinates .entry)) (now (values .entry)) (now (labels .entry)) (now (refusals .entry)) r (now (values .exit))
+        (now (labels .exit)) (now (refusals .exit)) ⌝ }
+{
+    c_many::direct_queries(
+        axes,
+        points,
+        modes,
+        knots,
+        tensor,
+        coordinates,
+        values,
+        labels,
+        refusals,
     )
 }
 

@@ -1,6 +1,6 @@
 mod Parts
 mod Labels
 mod Turns
-mod Refusing
+pub mod Refusing
 pub mod Answered
 pub mod Unique
