@@ -15,6 +15,9 @@ from .refusals import Refused, accept
 Values = NDArray[np.float64]
 Refusals = NDArray[np.uint64]
 
+# So many points go into one call, so that the labels that come with their values stay in the processor's cache.
+PIECE = 4096
+
 
 def as_points(points: ArrayLike, axes: int) -> tuple[Values, tuple[int, ...]]:
     """The points one after the other, and the shape in which they stood: the last axis is the coordinates."""
@@ -26,12 +29,16 @@ def as_points(points: ArrayLike, axes: int) -> tuple[Values, tuple[int, ...]]:
     return array.reshape(-1, axes), array.shape[:-1]
 
 
-def one_by_one(call: Call, axes: Axes, numbers: Values, points: Values, *slots: Any) -> tuple[Values, Refusals, Refusals]:
-    """Values, refusals and labels by a call that takes one point."""
-    values = np.zeros((len(points), 1))
-    labels = np.zeros((len(points), _calls.AXES), np.uint64)
-    refusals = call.of_each(len(points), *axes.asked, numbers, Rows(points), Rows(values), Rows(labels), *slots)
-    return values[:, 0], refusals, labels
+def by_pieces(call: Call, axes: Axes, numbers: Values, points: Values) -> tuple[Values, Refusals]:
+    """Values and refusals by a call for many points."""
+    values, refusals = np.empty(len(points)), np.empty(len(points), np.uint64)
+    labels = np.empty((PIECE, _calls.AXES), np.uint64)
+    for start in range(0, len(points), PIECE):
+        piece = slice(start, start + PIECE)
+        asked = points[piece]
+        slots = values[piece], labels[: len(asked)].reshape(-1), refusals[piece]
+        accept(call(*axes.asked, numbers, asked.reshape(-1), *slots))
+    return values, refusals
 
 
 def first_refused(refusals: Refusals, shape: tuple[int, ...]) -> Refused:
@@ -65,21 +72,19 @@ def look_for_even(axes: Axes, tensor: Values) -> None:
 
 def direct(axes: Axes, tensor: Values, points: Values) -> tuple[Values, Refusals]:
     """Values and refusals on even axes, where one division finds the cell."""
-    look_for_even(axes, tensor)
-    values, refusals, _ = one_by_one(_calls.even_query, axes, tensor, points, np.zeros(2, np.uint64))
-    return values, refusals
+    return by_pieces(_calls.direct_queries, axes, tensor, points)
 
 
 def quick(axes: Axes, tensor: Values, points: Values) -> tuple[Values, Refusals]:
     """Values and refusals on knots that were looked at."""
-    values, refusals, _ = one_by_one(_calls.quick_query, axes, tensor, points)
-    return values, refusals
+    return by_pieces(_calls.quick_queries, axes, tensor, points)
 
 
 def full(axes: Axes, tensor: Values, points: Values) -> tuple[Values, Refusals]:
-    """Values and refusals by the query that looks at all knots each time."""
-    values, refusals, _ = one_by_one(_calls.query, axes, tensor, points)
-    return values, refusals
+    """Values and refusals by the query that looks at all knots each time: it takes one point, so it is called for each."""
+    values, labels = np.zeros((len(points), 1)), np.zeros(_calls.AXES, np.uint64)
+    refusals = _calls.query.of_each(len(points), *axes.asked, tensor, Rows(points), Rows(values), labels)
+    return values[:, 0], refusals
 
 
 HOW = {"quick": quick, "full": full, "direct": direct}
@@ -97,7 +102,9 @@ def values_at(how: str, axes: Axes, tensor: Values, points: ArrayLike, on_refusa
 def labels_at(axes: Axes, tensor: Values, points: ArrayLike) -> NDArray[np.int64]:
     """The cell of each point on each axis."""
     rows, shape = as_points(points, axes.number)
-    _, refusals, labels = one_by_one(_calls.quick_query, axes, tensor, rows)
+    values, refusals = np.empty(len(rows)), np.empty(len(rows), np.uint64)
+    labels = np.empty((len(rows), _calls.AXES), np.uint64)
+    accept(_calls.quick_queries(*axes.asked, tensor, rows.reshape(-1), values, labels.reshape(-1), refusals))
     if refusals.any():
         raise first_refused(refusals, shape)
     return labels[:, : axes.number].astype(np.int64).reshape(*shape, axes.number)

@@ -5,10 +5,12 @@ from __future__ import annotations
 from collections.abc import Sequence
 from typing import Any
 
+import numpy as np
 from numpy.typing import ArrayLike
 
 from . import _calls
-from .asked import as_points, one_by_one, settled
+from ._calls import Rows
+from .asked import as_points, settled
 from .axes import DIRECTIONS, Axes, code_slots
 from .surface import grid_shape, in_shape
 
@@ -31,5 +33,6 @@ def stepped(
     grid.modes = code_slots(directions, grid.number, DIRECTIONS, "directions")
     numbers = in_shape(samples, grid_shape(axes), "samples")
     rows, shape = as_points(points, grid.number)
-    values, refusals, _ = one_by_one(_calls.stepped, grid, numbers, rows)
-    return settled(values, refusals, shape, on_refusal)
+    values, indices = np.zeros((len(rows), 1)), np.zeros(_calls.AXES, np.uint64)
+    refusals = _calls.stepped.of_each(len(rows), *grid.asked, numbers, Rows(rows), Rows(values), indices)
+    return settled(values[:, 0], refusals, shape, on_refusal)

@@ -10,7 +10,7 @@ import numpy as np
 from numpy.typing import ArrayLike, NDArray
 
 from . import _calls, sheets
-from .asked import labels_at, values_at
+from .asked import labels_at, look_for_even, values_at
 from .axes import Axes, AxisEnds, floats
 from .refusals import Stale, accept
 
@@ -89,7 +89,7 @@ class Surface:
 
     def __init__(self, axes: Sequence[ArrayLike], samples: ArrayLike, ends: Any = "not-a-knot", outside: Any = "extend") -> None:
         self._axes = Axes.of(axes, ends, outside)
-        self._edition = 2
+        self._edition, self._even = 2, False
         self._tensor = tensor_slots(self._axes)
         numbers = in_shape(samples, grid_shape(axes), "samples")
         accept(_calls.build(*self._axes.grid, numbers, self._tensor, scratch_for(self._tensor)))
@@ -97,7 +97,8 @@ class Surface:
     @classmethod
     def _of(cls, axes: Axes, tensor: Values, edition: int) -> Surface:
         surface = cls.__new__(cls)
-        surface._axes, surface._tensor, surface._edition = axes, tensor, edition
+        surface._axes, surface._tensor = axes, tensor
+        surface._edition, surface._even = edition, False
         return surface
 
     @classmethod
@@ -162,6 +163,9 @@ class Surface:
         Traceback (most recent call last):
         hullashlar.refusals.Refused: refused 18 (outside) at points[1], the first of 1 of 2: Ask between ...
         """
+        if how == "direct" and not self._even:
+            look_for_even(self._axes, self._tensor)
+            self._even = True
         return values_at(how, self._axes, self._tensor, points, on_refusal)
 
     def label(self, points: ArrayLike) -> NDArray[np.int64]:
