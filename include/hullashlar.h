@@ -1,7 +1,7 @@
-/* Hullashlar for C: its twenty calls over numbers and plain slices. docs/RULES.md says what each computes and when it
- * refuses, in its chapters Calls, Verify, EvenCalls, StepCalls, Read, SheetTensor, Write, SheetSurface, DeviceCell,
- * DeviceCurve, OwnRefusals, CurveExports, TensorExports, VerifyExports, QueryExports, SheetExports, StepExports and
- * DeviceExports.
+/* Hullashlar for C: its twenty-three calls over numbers and plain slices. docs/RULES.md says what each computes and when
+ * it refuses, in its chapters Calls, Verify, DirectCalls, ManyCalls, EvenCalls, StepCalls, Read, SheetTensor, Write,
+ * SheetSurface, DeviceCell, DeviceCurve, OwnRefusals, CurveExports, TensorExports, VerifyExports, QueryExports,
+ * DirectExports, ManyExports, SheetExports, StepExports and DeviceExports.
  *
  * The machine. The archive, target/staticlib/libhullashlar.a, is code for x86-64, with SSE2 and the System V calling
  * convention. Of its host it wants memcpy and memset, and nothing else. It computes under the caller's MXCSR, which
@@ -260,6 +260,53 @@ size_t hullashlar_even_query(size_t axes,
                              double *value, size_t value_length,
                              size_t *labels, size_t labels_length,
                              size_t *uneven, size_t uneven_length);
+
+/* The value and the labels as of hullashlar_quick_query, in the cells that a division finds, as hullashlar_even_query
+ * finds them: in hold the cell of the end knot. Of an axis it looks at the first two knots, at the two of the cell that is
+ * found, and in hold and refuse at the last one, whatever the others are; of the tensor at the corners of the cell. Where
+ * hullashlar_even_query refuses neither knots nor axes, by 7, 8 or 21, refusal, value and labels are the same: so axes
+ * are looked at once, where a sheet is loaded, and asked so afterwards. On any other knots the answer is still that of these
+ * rules; 8 is given where, of the cell that was found on some axis, a knot is infinite or NaN, or the upper one is not
+ * above the lower by a step that a double holds.
+ * Lengths: as of hullashlar_query.
+ * Written: value, labels. Refuses by 1, 2, 3, 4, 22, 7 for coordinates alone, 8, 18, 10. */
+size_t hullashlar_direct_query(size_t axes,
+                               const size_t *points, size_t points_length,
+                               const uint8_t *modes, size_t modes_length,
+                               const double *knots, size_t knots_length,
+                               const double *tensor, size_t tensor_length,
+                               const double *coordinates, size_t coordinates_length,
+                               double *value, size_t value_length,
+                               size_t *labels, size_t labels_length);
+
+/* Many points of one surface by one call: as many as refusals are lent, none too. The coordinates of a point stand after
+ * those of the point before it, and so do its four labels. The value, the labels and the refusal of each point are those
+ * that hullashlar_quick_query gives for that point alone, 0 for none; a point that is refused stops nothing.
+ * Lengths: points and modes 4; knots as many as the points of all axes together; tensor 2^axes for each place of the
+ * grid; for n refusals coordinates axes * n; values n; labels 4 * n.
+ * Written: values, labels, refusals. Refuses by 1, 2, 3, 4, 22, and then nothing is written. */
+size_t hullashlar_quick_queries(size_t axes,
+                                const size_t *points, size_t points_length,
+                                const uint8_t *modes, size_t modes_length,
+                                const double *knots, size_t knots_length,
+                                const double *tensor, size_t tensor_length,
+                                const double *coordinates, size_t coordinates_length,
+                                double *values, size_t values_length,
+                                size_t *labels, size_t labels_length,
+                                size_t *refusals, size_t refusals_length);
+
+/* The same of hullashlar_direct_query.
+ * Lengths: as of hullashlar_quick_queries.
+ * Written: values, labels, refusals. Refuses by 1, 2, 3, 4, 22, and then nothing is written. */
+size_t hullashlar_direct_queries(size_t axes,
+                                 const size_t *points, size_t points_length,
+                                 const uint8_t *modes, size_t modes_length,
+                                 const double *knots, size_t knots_length,
+                                 const double *tensor, size_t tensor_length,
+                                 const double *coordinates, size_t coordinates_length,
+                                 double *values, size_t values_length,
+                                 size_t *labels, size_t labels_length,
+                                 size_t *refusals, size_t refusals_length);
 
 /* The parts of a packed sheet of either edition: knots and samples in the first places of their buffers, whose other
  * places are as they were; how many axes there are; of each axis the points, the kinds and values of its ends, and its

@@ -90,6 +90,38 @@ extern "C" {
         labels: *mut usize, labels_length: usize,
         uneven: *mut usize, uneven_length: usize,
     ) -> usize;
+    pub fn hullashlar_direct_query(
+        axes: usize,
+        points: *const usize, points_length: usize,
+        modes: *const u8, modes_length: usize,
+        knots: *const f64, knots_length: usize,
+        tensor: *const f64, tensor_length: usize,
+        coordinates: *const f64, coordinates_length: usize,
+        value: *mut f64, value_length: usize,
+        labels: *mut usize, labels_length: usize,
+    ) -> usize;
+    pub fn hullashlar_quick_queries(
+        axes: usize,
+        points: *const usize, points_length: usize,
+        modes: *const u8, modes_length: usize,
+        knots: *const f64, knots_length: usize,
+        tensor: *const f64, tensor_length: usize,
+        coordinates: *const f64, coordinates_length: usize,
+        values: *mut f64, values_length: usize,
+        labels: *mut usize, labels_length: usize,
+        refusals: *mut usize, refusals_length: usize,
+    ) -> usize;
+    pub fn hullashlar_direct_queries(
+        axes: usize,
+        points: *const usize, points_length: usize,
+        modes: *const u8, modes_length: usize,
+        knots: *const f64, knots_length: usize,
+        tensor: *const f64, tensor_length: usize,
+        coordinates: *const f64, coordinates_length: usize,
+        values: *mut f64, values_length: usize,
+        labels: *mut usize, labels_length: usize,
+        refusals: *mut usize, refusals_length: usize,
+    ) -> usize;
     pub fn hullashlar_read(
         bytes: *const u8, bytes_length: usize,
         knots: *mut f64, knots_length: usize,
