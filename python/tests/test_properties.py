@@ -9,6 +9,7 @@ from hypothesis import given, settings
 from hypothesis import strategies as st
 
 from hullashlar import Refused, Surface, _calls, stepped
+from hullashlar.asked import PIECE
 from hullashlar.sheets import read
 from hullashlar.text import sheet_of_text, tensor_of_text, text_of_sheet, text_of_tensor
 
@@ -86,9 +87,10 @@ def test_direct_is_the_quick_value_but_for_the_cell(data):
     samples = np.fromfunction(lambda row, column: np.sin(row) * column, [len(axis) for axis in axes])
     surface = Surface(axes, samples, outside="hold")
     asked = data.draw(points(surface))
-    single = one_by_one(_calls.even_query, surface, asked, np.zeros(2, np.uint64))
-    assert surface(asked, how="direct").tobytes() == single.tobytes()
-    np.testing.assert_allclose(surface(asked, how="direct"), surface(asked), rtol=1e-9, atol=1e-9)
+    direct = surface(asked, how="direct")
+    assert direct.tobytes() == one_by_one(_calls.direct_query, surface, asked).tobytes()
+    assert direct.tobytes() == one_by_one(_calls.even_query, surface, asked, np.zeros(2, np.uint64)).tobytes()
+    np.testing.assert_allclose(direct, surface(asked), rtol=1e-9, atol=1e-9)
 
 
 @given(st.data())
@@ -132,6 +134,17 @@ def test_views_are_read_only_and_follow_changes(surface):
         assert not view.flags.writeable
     surface.change(place, 0.25)
     assert samples[place] == tensor[(*place, 0)] == 0.25
+
+
+def test_more_points_than_one_call_takes():
+    surface = Surface([np.arange(6.0)] * 2, np.random.default_rng(2).normal(size=(6, 6)), outside="refuse")
+    asked = np.random.default_rng(3).uniform(-0.01, 5.01, (3 * PIECE + 7, 2))
+    expected = one_by_one(_calls.quick_query, surface, asked)
+    assert 0 < np.isnan(expected).sum() < len(asked)
+    assert surface(asked, on_refusal="nan").tobytes() == expected.tobytes()
+    assert surface(asked, how="direct", on_refusal="nan").tobytes() == one_by_one(_calls.direct_query, surface, asked).tobytes()
+    inside = asked[~np.isnan(expected)]
+    np.testing.assert_array_equal(surface.label(inside), np.array([surface.label(point) for point in inside]))
 
 
 def test_points_of_any_shape_and_layout():
