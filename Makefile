@@ -1,4 +1,5 @@
 .PHONY: run test differential report-largest deliberate-errors further-edits sheet-by-hand streams-fail docs-check rules-page oracle-test expected archive archive-here exact-error bench examples picture
+.PHONY: run test differential report-largest deliberate-errors further-edits sheet-by-hand streams-fail docs-check rules-page oracle-test expected archive archive-here bench examples picture python python-test python-bench python-pictures
 
 # On another machine than x86-64, what links the archive takes one that is made for it, and our programs run on the kit's emulator.
 MACHINE := $(shell uname -m)
@@ -22,6 +23,7 @@ test:
 CASES = --moments 60000 --curve 60000 --slopes 60000 --build 50000 --change 50000 --verify 100000 \
     --change_list 20000 --either_order 60000 --query 400000 --quick_query 200000 --quick_beside_full 530000 \
     --even_query 240000 --at_every_place 5000 \
+    --direct_query 200000 --direct_beside_even 120000 --quick_queries 100000 --direct_queries 100000 \
     --read 240000 --read_edition_1 60000 --sheet_tensor 120000 --short_sheet 65793 \
     --write 240000 --written_back 120000 --surface 120000 \
     --exact_index 60000 --locate_axis 60000 --locate_step_index 100000 --stepped 100000 \
@@ -126,3 +128,29 @@ expected:
 	python3 tests/make_sheets.py
 	cd oracle && cargo run --offline --release -q -p cases --bin replay_list > ../crates/trial_replay/stdin
 	cd oracle && cargo run --offline --release -q -p printed -- ../crates
+
+# A Python that has numpy: Debian's packages belong to /usr/bin/python3, which need not be the first on the path.
+PYTHON = $(shell for python in python3 /usr/bin/python3; do $$python -c 'import numpy' 2> /dev/null && echo $$python && break; done)
+
+# What the Python package hands numbers to: the proved archive as a shared library, and the program that reports.
+python: archive-here
+	rt check sheet_report
+	mkdir -p python/hullashlar/proved
+	gcc -shared -nostartfiles -Wl,--whole-archive $(ARCHIVES)/libhullashlar.a -Wl,--no-whole-archive -Wl,--no-undefined \
+	    -o python/hullashlar/proved/libhullashlar.so
+	cp target/bin/sheet_report python/hullashlar/proved/
+
+# The package's tests; README.md says which packages they want.
+python-test: python
+	cd python && PYTHONPATH=. $(PYTHON) -B -m pytest -q -p no:cacheprovider
+
+# A million points by one call from Python, beside a loop in C and beside SciPy.
+python-bench: python
+	PYTHONPATH=python $(PYTHON) -B python/bench/queries.py
+
+# Draws the pictures of the package anew: the map of README.md and the wrong scale of docs/TUTORIAL.md.
+python-pictures: python
+	PYTHONPATH=python $(PYTHON) -B -m hullashlar draw examples/gain.sheet --names "frequency, kHz" "level, dB" "gain, dB" \
+	    -o docs/picture/gain-map.png
+	PYTHONPATH=python $(PYTHON) -B -m hullashlar draw examples/scales.sheet --change 2 2 1.05 --stale --names "noise, dB" speech scale \
+	    -o docs/picture/wrong-scale.png

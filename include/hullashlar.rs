@@ -96,6 +96,38 @@ extern "C" {
         labels: *mut Count, labels_length: Count,
         uneven: *mut Count, uneven_length: Count,
     ) -> Count;
+    pub fn hullashlar_direct_query(
+        axes: Count,
+        points: *const Count, points_length: Count,
+        modes: *const u8, modes_length: Count,
+        knots: *const f64, knots_length: Count,
+        tensor: *const f64, tensor_length: Count,
+        coordinates: *const f64, coordinates_length: Count,
+        value: *mut f64, value_length: Count,
+        labels: *mut Count, labels_length: Count,
+    ) -> Count;
+    pub fn hullashlar_quick_queries(
+        axes: Count,
+        points: *const Count, points_length: Count,
+        modes: *const u8, modes_length: Count,
+        knots: *const f64, knots_length: Count,
+        tensor: *const f64, tensor_length: Count,
+        coordinates: *const f64, coordinates_length: Count,
+        values: *mut f64, values_length: Count,
+        labels: *mut Count, labels_length: Count,
+        refusals: *mut Count, refusals_length: Count,
+    ) -> Count;
+    pub fn hullashlar_direct_queries(
+        axes: Count,
+        points: *const Count, points_length: Count,
+        modes: *const u8, modes_length: Count,
+        knots: *const f64, knots_length: Count,
+        tensor: *const f64, tensor_length: Count,
+        coordinates: *const f64, coordinates_length: Count,
+        values: *mut f64, values_length: Count,
+        labels: *mut Count, labels_length: Count,
+        refusals: *mut Count, refusals_length: Count,
+    ) -> Count;
     pub fn hullashlar_read(
         bytes: *const u8, bytes_length: Count,
         knots: *mut f64, knots_length: Count,

@@ -30,6 +30,9 @@ pub enum Call {
     Surface,
     ReportText,
     Verify,
+    DirectQuery,
+    QuickQueries,
+    DirectQueries,
 }
 
 impl Call {
@@ -48,7 +51,7 @@ impl Call {
                 "axes", "points", "kinds", "values", "knots", "tensor", "scratch", "place",
                 "sample", "lanes",
             ],
-            Call::Query | Call::QuickQuery => &[
+            Call::Query | Call::QuickQuery | Call::DirectQuery => &[
                 "axes",
                 "points",
                 "modes",
@@ -68,6 +71,17 @@ impl Call {
                 "value",
                 "labels",
                 "uneven",
+            ],
+            Call::QuickQueries | Call::DirectQueries => &[
+                "axes",
+                "points",
+                "modes",
+                "knots",
+                "tensor",
+                "coordinates",
+                "point_values",
+                "point_labels",
+                "refusals",
             ],
             Call::Read => &[
                 "bytes", "knots", "samples", "axes", "points", "kinds", "values", "modes",
@@ -116,7 +130,10 @@ impl Call {
             Call::Slopes => &["slopes"],
             Call::Build => &["tensor", "scratch"],
             Call::Change => &["tensor", "scratch", "lanes"],
-            Call::Query | Call::QuickQuery => &["value", "labels"],
+            Call::Query | Call::QuickQuery | Call::DirectQuery => &["value", "labels"],
+            Call::QuickQueries | Call::DirectQueries => {
+                &["point_values", "point_labels", "refusals"]
+            }
             Call::EvenQuery => &["value", "labels", "uneven"],
             Call::Read => &[
                 "knots", "samples", "axes", "points", "kinds", "values", "modes", "edition",
@@ -153,7 +170,10 @@ impl Call {
 
     /// Whether a tensor is asked at a point.
     pub fn is_query(self) -> bool {
-        matches!(self, Call::Query | Call::QuickQuery | Call::EvenQuery)
+        matches!(
+            self,
+            Call::Query | Call::QuickQuery | Call::EvenQuery | Call::DirectQuery
+        )
     }
 
     /// Whether the call is given a sheet.

@@ -33,7 +33,7 @@ const CHANGES_IN_A_LIST: u64 = 25;
 /// The same changes in two orders are some 8 calls.
 const CALLS_IN_TWO_ORDERS: u64 = 8;
 
-/// A quick query and a full one.
+/// A quick query and a full one, or a direct one and one of even axes.
 const CALLS_BESIDE: u64 = 2;
 
 /// A surface is asked at some 60 places, by 6 calls each.
@@ -49,7 +49,7 @@ impl Plan {
             Kind::DeviceCurve => calls.min(LENGTHS),
             Kind::ChangeList => calls.div_ceil(CHANGES_IN_A_LIST),
             Kind::EitherOrder => calls.div_ceil(CALLS_IN_TWO_ORDERS),
-            Kind::QuickBesideFull => calls.div_ceil(CALLS_BESIDE),
+            Kind::QuickBesideFull | Kind::DirectBesideEven => calls.div_ceil(CALLS_BESIDE),
             Kind::AtEveryPlace => calls.div_ceil(CALLS_AT_EVERY_PLACE),
             _ => calls,
         });
@@ -91,6 +91,7 @@ fn compare_kind(subject: &dyn Calls, plan: &Plan, kind: Kind, report: &mut Repor
                 run.either_order(random);
             }
             Kind::QuickBesideFull => run.quick_beside_full(random),
+            Kind::DirectBesideEven => run.direct_beside_even(random),
             Kind::AtEveryPlace => run.at_every_place(random),
             Kind::Write => run.write_and_read(random),
             Kind::WrittenBack => run.written_back(plan.seed, number),
@@ -177,6 +178,26 @@ impl Run<'_> {
             let title = format!("{}, held against the full query", self.title);
             self.report.difference(self.kind, || {
                 describe(&title, &given, (full_refusal, &full), (refusal, &quick))
+            });
+        }
+    }
+
+    /// A direct query and one of even axes: where that refuses neither knots nor axes the whole answers
+    /// are equal, and of an uneven axis nothing is told.
+    fn direct_beside_even(&mut self, random: &mut Random) {
+        let given = generator::direct_beside_even(random);
+        let mut arguments = given.arguments.clone();
+        arguments.push(Argument::of_numbers(&[75, 76]));
+        let even = Case::new(Call::EvenQuery, arguments);
+        let (refusal, direct, _) = self.compare(&given);
+        let (even_refusal, even, _) = self.compare(&even);
+        let accepted = !matches!(even_refusal, 7 | 8 | 21);
+        let beside = Case::new(Call::DirectQuery, even.arguments[..8].to_vec());
+        let told = even.argument("uneven").numbers().iter().any(|told| !matches!(told, 0 | 75 | 76));
+        if accepted && (refusal != even_refusal || told || !same_arguments(&beside, &direct)) {
+            let title = format!("{}, held against the query of even axes", self.title);
+            self.report.difference(self.kind, || {
+                describe(&title, &given, (even_refusal, &beside), (refusal, &direct))
             });
         }
     }

@@ -1,7 +1,7 @@
 //! One case of each kind from a sequence of random numbers.
 
 use crate::any_knots::disturb;
-use crate::case::Case;
+use crate::case::{Call, Case};
 use crate::device;
 use crate::even_knots::{far, make_even};
 use crate::faults::spoil;
@@ -16,7 +16,7 @@ use reading::{CURVE_SCRATCH, EDITIONS, EXTEND, LONGEST_TENSOR};
 
 /// The kinds of cases: the worked examples, one kind for each call, lists
 /// of changes, the sheets of up to two bytes, changes in two orders, quick queries
-/// beside full ones, the reader's sheets written back, surfaces asked at every place, the
+/// beside full ones, direct queries beside those of even axes, the reader's sheets written back, surfaces asked at every place, the
 /// device's program, and streams of sheets for the report.
 #[derive(Debug, Clone, Copy, PartialEq, Eq)]
 pub enum Kind {
@@ -49,10 +49,14 @@ pub enum Kind {
     Surface,
     Report,
     Verify,
+    DirectQuery,
+    DirectBesideEven,
+    QuickQueries,
+    DirectQueries,
 }
 
 /// Every kind, in the order of the report.
-pub const KINDS: [Kind; 29] = [
+pub const KINDS: [Kind; 33] = [
     Kind::Example,
     Kind::Moments,
     Kind::Curve,
@@ -82,6 +86,10 @@ pub const KINDS: [Kind; 29] = [
     Kind::Surface,
     Kind::Report,
     Kind::Verify,
+    Kind::DirectQuery,
+    Kind::DirectBesideEven,
+    Kind::QuickQueries,
+    Kind::DirectQueries,
 ];
 
 impl Kind {
@@ -117,6 +125,10 @@ impl Kind {
             Kind::Surface => "surface",
             Kind::Report => "report",
             Kind::Verify => "verify",
+            Kind::DirectQuery => "direct_query",
+            Kind::DirectBesideEven => "direct_beside_even",
+            Kind::QuickQueries => "quick_queries",
+            Kind::DirectQueries => "direct_queries",
         }
     }
 
@@ -133,6 +145,7 @@ impl Kind {
                 | Kind::AtEveryPlace
                 | Kind::DeviceCurve
                 | Kind::Report
+                | Kind::DirectBesideEven
         )
     }
 }
@@ -166,6 +179,9 @@ const FAULTY_BESIDE_DAMAGE: usize = 60;
 /// Axes that are not even are refused without another fault.
 const FAULTY_EVEN: usize = 18;
 
+/// Of many points a fault of a coordinate refuses that point alone.
+const FAULTY_MANY: usize = 44;
+
 /// Of the tensors to be verified some have samples that cannot be built.
 const FAULTY_TO_VERIFY: usize = 28;
 
@@ -192,6 +208,9 @@ pub fn single(kind: Kind, number: usize, random: &mut Random) -> Case {
         Kind::ReadEdition1 => read_edition_1(random, number),
         Kind::Surface => surface(random, number),
         Kind::Verify => verify(random),
+        Kind::DirectQuery => direct_query(random),
+        Kind::QuickQueries => queries(random, Call::QuickQueries),
+        Kind::DirectQueries => queries(random, Call::DirectQueries),
         Kind::Example
         | Kind::ChangeList
         | Kind::ShortSheet
@@ -200,7 +219,8 @@ pub fn single(kind: Kind, number: usize, random: &mut Random) -> Case {
         | Kind::WrittenBack
         | Kind::AtEveryPlace
         | Kind::DeviceCurve
-        | Kind::Report => {
+        | Kind::Report
+        | Kind::DirectBesideEven => {
             panic!("not one call: {}", kind.name())
         }
     }
@@ -318,6 +338,62 @@ fn even_query(random: &mut Random) -> Case {
     }
     let mut case = lending::even_query(random, &grid, &tensor, &point);
     if random.percent(FAULTY_EVEN) {
+        spoil(random, &mut case);
+    }
+    case
+}
+
+/// A direct query, on axes that are even or on any knots.
+fn direct_query(random: &mut Random) -> Case {
+    let mut grid = searched_grid(random);
+    let point = if random.percent(60) {
+        make_even(random, &mut grid);
+        Point::generate(random, &grid)
+    } else {
+        disturb(random, &mut grid)
+    };
+    let tensor = list(random, grid.tensor());
+    let mut case = lending::direct_query(random, &grid, &tensor, &point);
+    if random.percent(FAULTY_QUICK) {
+        spoil(random, &mut case);
+    }
+    case
+}
+
+/// A direct query on axes of which most are even, at times with another fault.
+pub fn direct_beside_even(random: &mut Random) -> Case {
+    let mut grid = Grid::generate(random);
+    make_even(random, &mut grid);
+    let tensor = tensor(random, &grid);
+    let point = Point::generate(random, &grid);
+    let mut case = lending::direct_query(random, &grid, &tensor, &point);
+    if random.percent(FAULTY_BESIDE) {
+        spoil(random, &mut case);
+    }
+    case
+}
+
+/// None to six points by one call, of which some are refused.
+fn queries(random: &mut Random, call: Call) -> Case {
+    let mut grid = Grid::generate(random);
+    if random.percent(50) {
+        make_even(random, &mut grid);
+    }
+    let mut points = if random.percent(30) {
+        disturb(random, &mut grid)
+    } else {
+        Point::generate(random, &grid)
+    };
+    let tensor = tensor(random, &grid);
+    let first = points.coordinates.clone();
+    points.coordinates.clear();
+    for number in 0..random.below(7) {
+        let at_first = number == 0 || random.percent(10);
+        let point = if at_first { first.clone() } else { grid.coordinates(random) };
+        points.coordinates.extend(point);
+    }
+    let mut case = lending::queries(random, call, &grid, &tensor, &points);
+    if random.percent(FAULTY_MANY) {
         spoil(random, &mut case);
     }
     case

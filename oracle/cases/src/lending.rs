@@ -154,6 +154,29 @@ pub fn even_query(random: &mut Random, grid: &Grid, tensor: &[f64], point: &Poin
     Case::new(Call::EvenQuery, arguments)
 }
 
+/// A direct query of a tensor on a grid.
+pub fn direct_query(random: &mut Random, grid: &Grid, tensor: &[f64], point: &Point) -> Case {
+    let arguments = query_arguments(random, grid, tensor, point);
+    Case::new(Call::DirectQuery, arguments)
+}
+
+/// A call at many points of a tensor on a grid, whose coordinates stand one point after the other.
+pub fn queries(random: &mut Random, call: Call, grid: &Grid, tensor: &[f64], points: &Point) -> Case {
+    let count = points.coordinates.len() / grid.axes;
+    let arguments = vec![
+        Argument::Number(grid.axes),
+        Argument::of_numbers(&grid.points),
+        Argument::of_bytes(&points.modes),
+        Argument::of_floats(&grid.knots),
+        Argument::of_floats(tensor),
+        Argument::of_floats(&points.coordinates),
+        room(random, count),
+        Argument::of_numbers(&vec![78; 4 * count]),
+        Argument::of_numbers(&vec![79; count]),
+    ];
+    Case::new(call, arguments)
+}
+
 /// What every query is given.
 fn query_arguments(
     random: &mut Random,

@@ -45,6 +45,10 @@ fn refusals(kind: Kind) -> &'static [usize] {
         // Those at which a report stops.
         Kind::Report => &STOPPING,
         Kind::Verify => &[1, 2, 3, 4, 5, 7, 8, 9, 10, 13],
+        Kind::DirectQuery => &[1, 2, 3, 4, 7, 8, 10, 18, 22],
+        Kind::DirectBesideEven => &[1, 2, 3, 4, 7, 8, 10, 18, 21, 22],
+        // From 7 on each point has its own.
+        Kind::QuickQueries | Kind::DirectQueries => &[1, 2, 3, 4, 22],
     }
 }
 
@@ -72,6 +76,7 @@ fn about_sixty_in_a_hundred_are_accepted() {
                 | Kind::AtEveryPlace
                 | Kind::DeviceCurve
                 | Kind::ReadEdition1
+                | Kind::DirectBesideEven
         )
     };
     let (mut calls, mut accepted) = (0, 0);

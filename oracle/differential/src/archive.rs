@@ -46,6 +46,9 @@ impl Calls for Archive {
             Call::Surface => surface(arguments),
             Call::ReportText => report_text(arguments),
             Call::Verify => verify(arguments),
+            Call::DirectQuery => direct_query(arguments),
+            Call::QuickQueries => quick_queries(arguments),
+            Call::DirectQueries => direct_queries(arguments),
         };
         Some(refusal)
     }
@@ -237,6 +240,76 @@ fn even_query(arguments: &mut [Argument]) -> usize {
             axes.number(), points.0, points.1, modes.0, modes.1, knots.0, knots.1,
             tensor.0, tensor.1, coordinates.0, coordinates.1, value.0, value.1,
             labels.0, labels.1, uneven.0, uneven.1,
+        )
+    }
+}
+
+#[rustfmt::skip]
+fn direct_query(arguments: &mut [Argument]) -> usize {
+    let [axes, points, modes, knots, tensor, coordinates, value, labels] = arguments else {
+        panic!("a case has the arguments of its call")
+    };
+    let points = lent(points.numbers());
+    let modes = lent(modes.bytes());
+    let knots = lent(knots.floats());
+    let tensor = lent(tensor.floats());
+    let coordinates = lent(coordinates.floats());
+    let value = lent_mut(value.floats_mut());
+    let labels = lent_mut(labels.numbers_mut());
+    // SAFETY: each pair is a live slice; no two of them overlap.
+    unsafe {
+        hullashlar_direct_query(
+            axes.number(), points.0, points.1, modes.0, modes.1, knots.0, knots.1,
+            tensor.0, tensor.1, coordinates.0, coordinates.1, value.0, value.1,
+            labels.0, labels.1,
+        )
+    }
+}
+
+#[rustfmt::skip]
+fn quick_queries(arguments: &mut [Argument]) -> usize {
+    let [axes, points, modes, knots, tensor, coordinates, values, labels, refusals] = arguments
+    else {
+        panic!("a case has the arguments of its call")
+    };
+    let points = lent(points.numbers());
+    let modes = lent(modes.bytes());
+    let knots = lent(knots.floats());
+    let tensor = lent(tensor.floats());
+    let coordinates = lent(coordinates.floats());
+    let values = lent_mut(values.floats_mut());
+    let labels = lent_mut(labels.numbers_mut());
+    let refusals = lent_mut(refusals.numbers_mut());
+    // SAFETY: each pair is a live slice; no two of them overlap.
+    unsafe {
+        hullashlar_quick_queries(
+            axes.number(), points.0, points.1, modes.0, modes.1, knots.0, knots.1,
+            tensor.0, tensor.1, coordinates.0, coordinates.1, values.0, values.1,
+            labels.0, labels.1, refusals.0, refusals.1,
+        )
+    }
+}
+
+#[rustfmt::skip]
+fn direct_queries(arguments: &mut [Argument]) -> usize {
+    let [axes, points, modes, knots, tensor, coordinates, values, labels, refusals] = arguments
+    else {
+        panic!("a case has the arguments of its call")
+    };
+    let points = lent(points.numbers());
+    let modes = lent(modes.bytes());
+    let knots = lent(knots.floats());
+    let tensor = lent(tensor.floats());
+    let coordinates = lent(coordinates.floats());
+    let values = lent_mut(values.floats_mut());
+    let labels = lent_mut(labels.numbers_mut());
+    let refusals = lent_mut(refusals.numbers_mut());
+    // SAFETY: each pair is a live slice; no two of them overlap.
+    unsafe {
+        hullashlar_direct_queries(
+            axes.number(), points.0, points.1, modes.0, modes.1, knots.0, knots.1,
+            tensor.0, tensor.1, coordinates.0, coordinates.1, values.0, values.1,
+            labels.0, labels.1, refusals.0, refusals.1,
         )
     }
 }

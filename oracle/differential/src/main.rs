@@ -24,7 +24,7 @@ const USAGE: &str = "differential [--seed N] [--cases N] [--KIND N]...
              quick_query, quick_beside_full, even_query, write, written_back,
              exact_index, locate_axis, locate_step_index, stepped, at_every_place,
              cell_value, cursor_next, device_curve, read_edition_1, surface, report,
-             verify;
+             verify, direct_query, direct_beside_even, quick_queries, direct_queries;
              or how often the worked examples are run: example
 Fails where there is a difference, nothing was compared of a kind whose number is not 0,
 or a refusal stands in no stream.";
