@@ -291,13 +291,13 @@ uint64_t hullashlar_even_query(uint64_t axes,
  * Lengths: as of hullashlar_query.
  * Written: value, labels. Refuses by 1, 2, 3, 4, 22, 7 for coordinates alone, 8, 18, 10. */
 uint64_t hullashlar_direct_query(uint64_t axes,
-                               const uint64_t *points, uint64_t points_length,
-                               const uint8_t *modes, uint64_t modes_length,
-                               const double *knots, uint64_t knots_length,
-                               const double *tensor, uint64_t tensor_length,
-                               const double *coordinates, uint64_t coordinates_length,
-                               double *value, uint64_t value_length,
-                               uint64_t *labels, uint64_t labels_length);
+                                 const uint64_t *points, uint64_t points_length,
+                                 const uint8_t *modes, uint64_t modes_length,
+                                 const double *knots, uint64_t knots_length,
+                                 const double *tensor, uint64_t tensor_length,
+                                 const double *coordinates, uint64_t coordinates_length,
+                                 double *value, uint64_t value_length,
+                                 uint64_t *labels, uint64_t labels_length);
 
 /* Many points of one surface by one call: as many as refusals are lent, none too. The coordinates of a point stand after
  * those of the point before it, and so do its four labels. The value, the labels and the refusal of each point are those
@@ -306,27 +306,27 @@ uint64_t hullashlar_direct_query(uint64_t axes,
  * grid; for n refusals coordinates axes * n; values n; labels 4 * n.
  * Written: values, labels, refusals. Refuses by 1, 2, 3, 4, 22, and then nothing is written. */
 uint64_t hullashlar_quick_queries(uint64_t axes,
-                                const uint64_t *points, uint64_t points_length,
-                                const uint8_t *modes, uint64_t modes_length,
-                                const double *knots, uint64_t knots_length,
-                                const double *tensor, uint64_t tensor_length,
-                                const double *coordinates, uint64_t coordinates_length,
-                                double *values, uint64_t values_length,
-                                uint64_t *labels, uint64_t labels_length,
-                                uint64_t *refusals, uint64_t refusals_length);
+                                  const uint64_t *points, uint64_t points_length,
+                                  const uint8_t *modes, uint64_t modes_length,
+                                  const double *knots, uint64_t knots_length,
+                                  const double *tensor, uint64_t tensor_length,
+                                  const double *coordinates, uint64_t coordinates_length,
+                                  double *values, uint64_t values_length,
+                                  uint64_t *labels, uint64_t labels_length,
+                                  uint64_t *refusals, uint64_t refusals_length);
 
 /* The same of hullashlar_direct_query.
  * Lengths: as of hullashlar_quick_queries.
  * Written: values, labels, refusals. Refuses by 1, 2, 3, 4, 22, and then nothing is written. */
 uint64_t hullashlar_direct_queries(uint64_t axes,
-                                 const uint64_t *points, uint64_t points_length,
-                                 const uint8_t *modes, uint64_t modes_length,
-                                 const double *knots, uint64_t knots_length,
-                                 const double *tensor, uint64_t tensor_length,
-                                 const double *coordinates, uint64_t coordinates_length,
-                                 double *values, uint64_t values_length,
-                                 uint64_t *labels, uint64_t labels_length,
-                                 uint64_t *refusals, uint64_t refusals_length);
+                                   const uint64_t *points, uint64_t points_length,
+                                   const uint8_t *modes, uint64_t modes_length,
+                                   const double *knots, uint64_t knots_length,
+                                   const double *tensor, uint64_t tensor_length,
+                                   const double *coordinates, uint64_t coordinates_length,
+                                   double *values, uint64_t values_length,
+                                   uint64_t *labels, uint64_t labels_length,
+                                   uint64_t *refusals, uint64_t refusals_length);
 
 /* The parts of a packed sheet of either edition: knots and samples in the first places of their buffers, whose other
  * places are as they were; how many axes there are; of each axis the points, the kinds and values of its ends, and its
