@@ -4,7 +4,7 @@ use crate::lent::{Lent, Word};
 use crate::report::NUMBERS;
 use reading::REFUSED;
 
-/// The calls of the archive, and the texts of the device's program and of the report. A whole number
+/// The calls of the archive, and the texts of the device's program, of the report and of the sheet program. A whole number
 /// with a sign is held by its 32 bits.
 #[derive(Debug, Clone, Copy, PartialEq, Eq)]
 pub enum Call {
@@ -30,6 +30,7 @@ pub enum Call {
     Surface,
     ReportText,
     Verify,
+    SheetText,
 }
 
 impl Call {
@@ -100,6 +101,7 @@ impl Call {
             Call::CellValue => &["p0", "p1", "d0", "d1", "k", "value"],
             Call::CursorNext => &["curve", "cursor", "value"],
             Call::DeviceText => &["curve", "text", "length"],
+            Call::SheetText => &["bytes", "text", "length"],
             Call::Surface => &["bytes", "c0", "c1", "c2", "c3"],
             Call::ReportText => &["stream", "piece", "text", "length"],
             Call::Verify => &[
@@ -133,7 +135,7 @@ impl Call {
             Call::Stepped => &["value", "indices"],
             Call::CellValue => &["value"],
             Call::CursorNext => &["cursor", "value"],
-            Call::DeviceText | Call::ReportText => &["text", "length"],
+            Call::DeviceText | Call::ReportText | Call::SheetText => &["text", "length"],
             Call::Surface => &[],
             Call::Verify => &["scratch", "place", "found"],
         }
@@ -353,6 +355,9 @@ impl Case {
 
 /// Something that answers calls.
 pub trait Calls {
+    /// Says which case comes next, and its number among those of its kind.
+    fn begin(&self, _title: &str, _number: u64) {}
+
     /// What the call returns, with the lent slices as it leaves them; or none where this call is
     /// not answered at all.
     fn run(&self, case: &mut Case) -> Option<usize>;

@@ -11,13 +11,15 @@ use crate::numbers::list;
 use crate::overflow::take_an_end_to_the_edge;
 use crate::random::Random;
 use crate::sheet::{damaged_sheet, good_sheet, length_of, swept_sheet};
+use crate::stream::STOPPING;
 use crate::verification;
 use reading::{CURVE_SCRATCH, EDITIONS, EXTEND, LONGEST_TENSOR};
 
 /// The kinds of cases: the worked examples, one kind for each call, lists
 /// of changes, the sheets of up to two bytes, changes in two orders, quick queries
 /// beside full ones, the reader's sheets written back, surfaces asked at every place, the
-/// device's program, and streams of sheets for the report.
+/// device's program, streams of sheets for the report, and sheets for the program that prints
+/// their tensors.
 #[derive(Debug, Clone, Copy, PartialEq, Eq)]
 pub enum Kind {
     Example,
@@ -49,10 +51,11 @@ pub enum Kind {
     Surface,
     Report,
     Verify,
+    SheetText,
 }
 
 /// Every kind, in the order of the report.
-pub const KINDS: [Kind; 29] = [
+pub const KINDS: [Kind; 30] = [
     Kind::Example,
     Kind::Moments,
     Kind::Curve,
@@ -82,6 +85,7 @@ pub const KINDS: [Kind; 29] = [
     Kind::Surface,
     Kind::Report,
     Kind::Verify,
+    Kind::SheetText,
 ];
 
 impl Kind {
@@ -117,6 +121,49 @@ impl Kind {
             Kind::Surface => "surface",
             Kind::Report => "report",
             Kind::Verify => "verify",
+            Kind::SheetText => "sheet_text",
+        }
+    }
+
+    /// Whether a case of the kind runs a program.
+    pub fn runs_a_program(self) -> bool {
+        matches!(self, Kind::DeviceCurve | Kind::Report | Kind::SheetText)
+    }
+
+    /// The refusals that the calls of the kind have.
+    pub fn refusals(self) -> &'static [usize] {
+        match self {
+            Kind::Example => &[
+                1, 3, 4, 6, 7, 8, 9, 10, 11, 12, 15, 16, 17, 18, 19, 20, 21, 22, 23,
+            ],
+            Kind::Moments => &[2, 4, 5, 7, 8, 9, 10, 13],
+            Kind::Curve | Kind::Slopes => &[2, 4, 7, 8, 10],
+            Kind::Build => &[1, 2, 3, 4, 5, 7, 8, 9, 10, 13],
+            Kind::Change | Kind::ChangeList | Kind::EitherOrder => {
+                &[1, 2, 3, 4, 5, 6, 7, 8, 9, 10, 13]
+            }
+            Kind::Query | Kind::QuickQuery => &[1, 2, 3, 4, 7, 8, 10, 18, 22],
+            Kind::Read => &[1, 2, 3, 4, 11, 12, 13, 14, 22],
+            Kind::ReadEdition1 => &[1, 2, 3, 4, 11, 12, 13, 14],
+            Kind::SheetTensor => &[1, 2, 3, 4, 5, 7, 8, 9, 10, 11, 12, 13, 14, 22],
+            Kind::ShortSheet => &[1, 11, 12],
+            Kind::EvenQuery => &[1, 2, 3, 4, 7, 8, 10, 18, 21, 22],
+            Kind::Write => &[1, 2, 3, 4, 7, 8, 9, 12, 13, 15, 22, 23],
+            Kind::WrittenBack => &[1, 2, 3, 4, 7, 8, 9, 11, 12, 13, 14, 15, 22, 23],
+            Kind::QuickBesideFull => &[1, 2, 3, 4, 7, 10, 18, 22],
+            Kind::ExactIndex => &[2, 4, 6, 7, 8],
+            Kind::LocateAxis => &[2, 4, 7, 8, 10],
+            Kind::LocateStepIndex => &[2, 4, 7, 8, 22],
+            Kind::Stepped => &[1, 2, 3, 4, 7, 8, 22],
+            Kind::AtEveryPlace => &[5, 6, 7, 10],
+            Kind::CellValue | Kind::CursorNext => &[4, 19, 20],
+            // What the program prints is compared, its refusals too.
+            Kind::DeviceCurve => &[],
+            Kind::Surface => &[1, 2, 3, 7, 8, 9, 10, 11, 12, 13, 14, 16, 17, 18, 22],
+            // Those at which a report stops.
+            Kind::Report => &STOPPING,
+            Kind::Verify => &[1, 2, 3, 4, 5, 7, 8, 9, 10, 13],
+            Kind::SheetText => &[1, 2, 3, 7, 8, 9, 10, 11, 12, 13, 14, 22],
         }
     }
 
@@ -133,6 +180,7 @@ impl Kind {
                 | Kind::AtEveryPlace
                 | Kind::DeviceCurve
                 | Kind::Report
+                | Kind::SheetText
         )
     }
 }
@@ -200,7 +248,8 @@ pub fn single(kind: Kind, number: usize, random: &mut Random) -> Case {
         | Kind::WrittenBack
         | Kind::AtEveryPlace
         | Kind::DeviceCurve
-        | Kind::Report => {
+        | Kind::Report
+        | Kind::SheetText => {
             panic!("not one call: {}", kind.name())
         }
     }
@@ -387,6 +436,11 @@ fn swept_or_generated(random: &mut Random, number: usize, lend: LendSheet) -> Ca
 /// A sheet to be read and built.
 fn sheet_tensor(random: &mut Random, number: usize) -> Case {
     sheet_case(random, number, FAULTY_TO_BUILD, lending::sheet_tensor)
+}
+
+/// A sheet for the program that prints its tensor.
+pub fn sheet_text(random: &mut Random, number: usize) -> Case {
+    swept_or_generated(random, number, |_, bytes, _| lending::sheet_text(bytes))
 }
 
 /// A sheet that is asked at a point: first the small one with all that a sweep does to it.

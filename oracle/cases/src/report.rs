@@ -89,6 +89,14 @@ impl Report {
         kinds
     }
 
+    /// The refusals of each kind that none of its calls was given.
+    pub fn not_refused(&self) -> Vec<(Kind, usize)> {
+        let refusals = |kind: Kind| kind.refusals().iter().map(move |number| (kind, *number));
+        let all = KINDS.into_iter().flat_map(refusals);
+        all.filter(|(kind, number)| self.of(*kind).refusals[*number] == 0)
+            .collect()
+    }
+
     /// The refusals that no stream of a plan has, though the plan has streams.
     pub fn not_in_streams(&self, plan: &Plan) -> Vec<usize> {
         if plan.cases[Kind::Report as usize] == 0 {

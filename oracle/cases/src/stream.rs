@@ -147,6 +147,11 @@ fn refusals(text: &str) -> impl Iterator<Item = usize> + '_ {
     refused.filter_map(|rest| rest.split(' ').next()?.parse().ok())
 }
 
+/// The first refusal that stands in a text, 0 where none does.
+pub fn refused_by(text: &str) -> usize {
+    refusals(text).next().unwrap_or(0)
+}
+
 /// The refusal that a report stops at by its text, 0 where it does not.
 pub fn stopped_by(text: &str) -> usize {
     let stopping = refusals(text).find(|number| STOPPING.contains(number));
