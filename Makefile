@@ -1,4 +1,4 @@
-.PHONY: run test differential soak memcheck threads float-settings mutants report-largest deliberate-errors further-edits sheet-by-hand streams-fail docs-check rules-page oracle-test expected archive archive-here bench examples picture
+.PHONY: run test differential soak memcheck threads float-settings fuzz mutants report-largest deliberate-errors further-edits sheet-by-hand streams-fail docs-check rules-page oracle-test expected archive archive-here bench examples picture
 
 # On another machine than x86-64, what links the archive takes one that is made for it, and our programs run on the kit's emulator.
 MACHINE := $(shell uname -m)
@@ -25,7 +25,7 @@ CASES = --moments 60000 --curve 60000 --slopes 60000 --build 50000 --change 5000
     --read 240000 --read_edition_1 60000 --sheet_tensor 120000 --short_sheet 65793 \
     --write 240000 --written_back 120000 --surface 120000 \
     --exact_index 60000 --locate_axis 60000 --locate_step_index 100000 --stepped 100000 \
-    --cell_value 8520460 --cursor_next 200000 --device_curve 4101 --report 24000
+    --cell_value 8520460 --cursor_next 200000 --device_curve 4101 --report 24000 --sheet_text 4000 --empty_slice 40000
 SEED = 20240917
 
 # Holds the exported calls against the Rust, bit for bit, and what the device's program and the report print; fails where there is a
@@ -63,6 +63,12 @@ float-settings: archive-here
 	target/examples/float_settings
 	target/examples/float_settings_fast
 	cd oracle && cargo run --offline --release -p differential -- --seed $(SEED) --settings 2000
+
+# Fuzzes the calls that take a sheet, and the programs, for FUZZ seconds, with the oracle as judge in the same process; FILE=... runs what it
+# has found alone. Wants clang with libclang-rt-14-dev; of x86-64.
+FUZZ = 300
+fuzz:
+	python3 tests/fuzz/run.py $(FUZZ) $(FILE)
 
 # Puts N random mutants to the prover, of the library's code and of its definitions by turns; fails where one is accepted that
 # tests/mutants/equal.txt does not know. Each takes as long as the check of its crate.

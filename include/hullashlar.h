@@ -12,7 +12,8 @@
  * docs/SAFETY.md says of which calls.
  *
  * Slices. A slice is a pointer and then its length, in elements. Pointers to double and to uint64_t are aligned to 8
- * bytes, those to int32_t and uint32_t to 4. A slice that a call writes overlaps no other slice of that call.
+ * bytes, those to int32_t and uint32_t to 4. A slice that a call writes overlaps no other slice of that call. The pointer
+ * of a slice of length 0 may be null.
  *
  * State. No call allocates memory, keeps a pointer, has data of its own, or writes anything but its stack and the
  * slices named as written. So calls may run at the same time, on threads or in handlers, where none writes a slice that

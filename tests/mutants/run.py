@@ -20,6 +20,9 @@ from rules_page import CRATES as DEFINING, NOT_RULES  # noqa: E402
 
 EQUAL = HERE / "equal.txt"
 
+# What the prover said of each mutant.
+SAID = ROOT / "target" / "mutants"
+
 # Crates that are no part of the library: programs, and what they print and are tried on.
 NOT_LIBRARY = re.compile(r"trial_|program_|sheet_tensor$|sheet_report$|device_curve$")
 
@@ -42,6 +45,9 @@ NAMED = re.compile(r"(?<![\w·.'-])(ltb|leb|eqb|true|false|one|two|three|six)(?!
 COMPARED = re.compile(r"(?<![\w·.'-])(ltb|leb) (\w+|\([^()]*\)) (\w+|\([^()]*\))(?![\w(\['·])")
 WHOLE = re.compile(r"(?<![\w.·'-])(\d+)(?![\w.·'-])")
 FLOAT = re.compile(r"(?<![\w.])(\d+\.\d+)(?![\w.])")
+
+# What a check leaves in target/ and goes by the next time.
+PROVED = ["rlib", "stamp", "log"]
 
 # What the front end says of a text that is no program: such a mutant says nothing about contracts.
 NO_PROGRAM = re.compile(
@@ -141,50 +147,81 @@ def mutants_of(path):
             yield Mutant(path, number, line, line[:start] + new + line[end:])
 
 
-def dependents():
+def stands_on():
     """The library's crates in the order of crates.txt, each with all that it stands on."""
     below = {}
     for line in (ROOT / "crates.txt").read_text().splitlines():
         if line.strip() and not line.startswith("#"):
             name, on = line.split(":")
-            below[name] = set(on.split()).union(*(below[other] for other in on.split()))
+            below[name] = set(on.split()).union(*(below.get(other, set()) for other in on.split()))
     return {name: on for name, on in below.items() if not NOT_LIBRARY.match(name)}
 
 
-def copied(folder):
+def climb(mutant, below):
+    """The crates above that of a mutant of a definition: first those that name its file, and of these and of the others those that stand
+    on the fewest."""
+    naming = re.compile(rf"Rattle\.{mutant.crate}\.specs\.{mutant.path.stem}\b")
+
+    def names_it(crate):
+        return any(naming.search(path.read_text()) for path in (ROOT / "crates" / crate).glob("**/*.*t"))
+
+    above = [crate for crate, on in below.items() if mutant.crate in on]
+    return sorted(above, key=lambda crate: (not names_it(crate), len(below[crate])))
+
+
+class Copy:
     """A copy of the crates, and of what is proved of them."""
-    copy = Path(folder)
-    shutil.copytree(ROOT / "crates", copy / "crates", ignore=shutil.ignore_patterns("must-fail"))
-    shutil.copy(ROOT / "crates.txt", copy)
-    kept = shutil.ignore_patterns("must-fail", "bin", "obj", "staticlib", "examples", "firmware", "mutants", "goals")
-    shutil.copytree(ROOT / "target", copy / "target", ignore=kept)
-    return copy
 
+    def __init__(self, folder):
+        self.folder = Path(folder)
+        shutil.copytree(ROOT / "crates", self.folder / "crates", ignore=shutil.ignore_patterns("must-fail"))
+        shutil.copy(ROOT / "crates.txt", self.folder)
+        for part in PROVED:
+            shutil.copytree(ROOT / "target" / part, self.folder / "target" / part)
 
-def refused_in(copy, crates):
-    """The first of the crates that is not proved, and what was said; or none where all are."""
-    for crate in crates:
-        done = subprocess.run(["rt", "check", crate], cwd=copy, text=True, stdout=subprocess.PIPE, stderr=subprocess.STDOUT)
-        if done.returncode:
-            return crate, done.stdout
-    return None, ""
+    def refuses(self, *words):
+        """What was said where the prover does not accept; nothing where it does."""
+        done = subprocess.run(["rt", *words], cwd=self.folder, text=True, stdout=subprocess.PIPE, stderr=subprocess.STDOUT)
+        return (done.stdout or "refused") if done.returncode else ""
 
+    def restore(self):
+        """Puts back what was proved of the crates whose stamp is another one now."""
+        for stamp in (ROOT / "target" / "stamp").iterdir():
+            here = self.folder / "target" / "stamp" / stamp.name
+            if here.exists() and here.read_bytes() == stamp.read_bytes():
+                continue
+            for kept in (ROOT / "target").glob(f"*/{stamp.name}*"):
+                if kept.parent.name in PROVED and kept.name.split(".")[0] == stamp.name:
+                    copy = self.folder / kept.relative_to(ROOT)
+                    if kept.is_dir():
+                        shutil.rmtree(copy, ignore_errors=True)
+                        shutil.copytree(kept, copy)
+                    else:
+                        shutil.copy2(kept, copy)
 
-def tried(copy, mutant, above):
-    """What came of a mutant: "refused" and where, "no program", or "accepted"; with what was said."""
-    path = copy / mutant.path.relative_to(ROOT)
-    whole = path.read_text()
-    lines = whole.splitlines(keepends=True)
-    lines[mutant.number - 1] = mutant.changed + "\n"
-    path.write_text("".join(lines))
-    of_code = mutant.path.suffix == ".rt"
-    crates = [mutant.crate] if of_code else [mutant.crate, *above[mutant.crate]]
-    refusing, said = refused_in(copy, crates)
-    path.write_text(whole)
-    if refusing is None:
-        return "accepted", ""
-    first = next((line for line in said.splitlines() if "error" in line), said.strip().splitlines()[-1])
-    return ("no program" if NO_PROGRAM.search(said) else f"refused in {refusing}"), first
+    def tried(self, mutant, below):
+        """What came of a mutant, "refused" and where, "no program" or "accepted"; and the first that was said."""
+        path = self.folder / mutant.path.relative_to(ROOT)
+        whole = path.read_text()
+        lines = whole.splitlines(keepends=True)
+        lines[mutant.number - 1] = mutant.changed + "\n"
+        path.write_text("".join(lines))
+        refusing, said = mutant.crate, self.refuses("dev", mutant.crate)
+        if not said:
+            # The verdict, and for a definition the crates above.
+            for refusing in [mutant.crate] if mutant.path.suffix == ".rt" else [mutant.crate, *climb(mutant, below)]:
+                said = self.refuses("check", refusing)
+                if said:
+                    break
+            path.write_text(whole)
+            self.restore()
+        path.write_text(whole)
+        SAID.mkdir(parents=True, exist_ok=True)
+        (SAID / f"{mutant.crate}_{mutant.path.stem}_{mutant.number}").write_text(f"{mutant.key()}\n{said}")
+        if not said:
+            return "accepted", ""
+        first = next((line for line in said.splitlines() if "error" in line), said.strip().splitlines()[-1])
+        return ("no program" if NO_PROGRAM.search(said) else f"refused in {refusing}"), first
 
 
 def chosen(number, seed, only):
@@ -198,23 +235,23 @@ def chosen(number, seed, only):
     print(f"seed {seed}; there are {' and '.join(str(len(pool)) for pool in pools)} to choose from", flush=True)
     for pool in pools:
         picks.shuffle(pool)
-    turns = [mutant for turn in zip(*pools) for mutant in turn]
-    return turns[:number]
+    turns = [mutant for turn in zip(*pools) for mutant in turn][:number]
+    # Those of a crate come together: the edit loop checks again what a mutant changes alone.
+    return sorted(turns, key=lambda mutant: mutant.crate)
 
 
 def main():
     number = int(sys.argv[1])
     seed = int(sys.argv[2]) if len(sys.argv) > 2 else random.SystemRandom().randrange(2**32)
     mutants = chosen(number, seed, sys.argv[3] if len(sys.argv) > 3 else "")
-    below = dependents()
-    above = {crate: [name for name, on in below.items() if crate in on] for crate in below}
+    below = stands_on()
     equal = {line.split(" -- ")[0] for line in EQUAL.read_text().splitlines() if not line.startswith("#")}
     counts = {".rt": [0, 0, 0, 0], ".antt": [0, 0, 0, 0]}
     new = 0
     with tempfile.TemporaryDirectory() as folder:
-        copy = copied(folder)
+        copy = Copy(folder)
         for mutant in mutants:
-            outcome, first = tried(copy, mutant, above)
+            outcome, first = copy.tried(mutant, below)
             of_kind = counts[mutant.path.suffix]
             if outcome == "no program":
                 of_kind[3] += 1

@@ -251,6 +251,11 @@ impl Argument {
         }
     }
 
+    /// Whether the argument is a lent slice.
+    pub fn is_slice(&self) -> bool {
+        !matches!(self, Argument::Number(_) | Argument::Float(_))
+    }
+
     /// The length of a lent slice.
     pub fn length(&self) -> usize {
         match self {
@@ -344,6 +349,18 @@ impl Case {
         let ends = self.argument("kinds").bytes().chunks(2);
         let axes = on_axes.into_iter().zip(ends);
         axes.filter(|axis| *axis == (points, &[3, 3])).count() as u64
+    }
+
+    /// The slices that are lent.
+    pub fn slices_mut(&mut self) -> impl Iterator<Item = &mut Argument> {
+        let arguments = self.arguments.iter_mut();
+        arguments.filter(|argument| argument.is_slice())
+    }
+
+    /// How many slices are lent.
+    pub fn slices(&self) -> usize {
+        let arguments = self.arguments.iter();
+        arguments.filter(|argument| argument.is_slice()).count()
     }
 
     /// The argument of this name, to be changed.

@@ -5,7 +5,7 @@ mod places;
 mod sheets;
 
 use crate::case::{Argument, Call, Calls, Case};
-use crate::device::{device_text, LENGTHS};
+use crate::device::{device_text, device_text_of, LENGTHS};
 use crate::examples::examples;
 use crate::faults::spoil;
 use crate::generator::{self, Kind, KINDS};
@@ -94,6 +94,43 @@ pub fn compare_more(subject: &dyn Calls, plan: &Plan, report: &mut Report) {
     }
 }
 
+/// What bytes that somebody else has chosen are taken for.
+#[derive(Debug, Clone, Copy)]
+pub enum Bytes {
+    Sheet,
+    Stream,
+    Curve,
+}
+
+/// Compares every call and program that takes such bytes.
+pub fn compare_bytes(subject: &dyn Calls, what: Bytes, bytes: &[u8]) -> Report {
+    let mut report = Report::default();
+    let random = &mut Random::new(bytes.len() as u64);
+    let mut run = Run {
+        subject,
+        kind: Kind::Example,
+        title: format!("bytes taken for a {what:?}"),
+        report: &mut report,
+    };
+    match what {
+        Bytes::Sheet => {
+            run.compare_sheet(random, bytes);
+            run.compare(&lending::surface(bytes, &[0.5, 0.25, 1.0, -0.75]));
+            run.compare(&lending::sheet_text(bytes));
+        }
+        Bytes::Stream => {
+            let pieces = [0, 1 + bytes.len() % 40];
+            for piece in pieces {
+                run.compare(&stream::report_of(bytes, piece));
+            }
+        }
+        Bytes::Curve => {
+            run.compare(&device_text_of(bytes));
+        }
+    }
+    report
+}
+
 /// Compares the cases of one kind.
 fn compare_kind(subject: &dyn Calls, plan: &Plan, kind: Kind, report: &mut Report) {
     for number in plan.first..plan.first + plan.cases[kind as usize] {
@@ -121,6 +158,9 @@ fn compare_kind(subject: &dyn Calls, plan: &Plan, kind: Kind, report: &mut Repor
             }
             Kind::Report => {
                 run.compare(&stream::report(random, number as usize));
+            }
+            Kind::EmptySlice => {
+                run.compare(&generator::empty_slice(random, number as usize));
             }
             Kind::SheetText => {
                 run.compare(&generator::sheet_text(random, number as usize));
@@ -160,7 +200,10 @@ impl Run<'_> {
                 counts.passed_over[number] += 1;
             }
         }
-        self.report.reached.count(given, &expected, refusal);
+        // What reaches an edge is counted of the cases that are made for it.
+        if self.kind != Kind::EmptySlice {
+            self.report.reached.count(given, &expected, refusal);
+        }
         let mut found = given.clone();
         let Some(answer) = self.subject.run(&mut found) else {
             return (refusal, expected, true);

@@ -1,7 +1,7 @@
 //! One case of each kind from a sequence of random numbers.
 
 use crate::any_knots::disturb;
-use crate::case::Case;
+use crate::case::{Calls, Case};
 use crate::device;
 use crate::even_knots::{far, make_even};
 use crate::faults::spoil;
@@ -10,6 +10,7 @@ use crate::lending::{self, Point};
 use crate::numbers::list;
 use crate::overflow::take_an_end_to_the_edge;
 use crate::random::Random;
+use crate::reading_calls::Reading;
 use crate::sheet::{damaged_sheet, good_sheet, length_of, swept_sheet};
 use crate::stream::STOPPING;
 use crate::verification;
@@ -18,8 +19,8 @@ use reading::{CURVE_SCRATCH, EDITIONS, EXTEND, LONGEST_TENSOR};
 /// The kinds of cases: the worked examples, one kind for each call, lists
 /// of changes, the sheets of up to two bytes, changes in two orders, quick queries
 /// beside full ones, the reader's sheets written back, surfaces asked at every place, the
-/// device's program, streams of sheets for the report, and sheets for the program that prints
-/// their tensors.
+/// device's program, streams of sheets for the report, sheets for the program that prints
+/// their tensors, and slices of no items.
 #[derive(Debug, Clone, Copy, PartialEq, Eq)]
 pub enum Kind {
     Example,
@@ -52,10 +53,11 @@ pub enum Kind {
     Report,
     Verify,
     SheetText,
+    EmptySlice,
 }
 
 /// Every kind, in the order of the report.
-pub const KINDS: [Kind; 30] = [
+pub const KINDS: [Kind; 31] = [
     Kind::Example,
     Kind::Moments,
     Kind::Curve,
@@ -86,6 +88,7 @@ pub const KINDS: [Kind; 30] = [
     Kind::Report,
     Kind::Verify,
     Kind::SheetText,
+    Kind::EmptySlice,
 ];
 
 impl Kind {
@@ -122,6 +125,7 @@ impl Kind {
             Kind::Report => "report",
             Kind::Verify => "verify",
             Kind::SheetText => "sheet_text",
+            Kind::EmptySlice => "empty_slice",
         }
     }
 
@@ -164,6 +168,7 @@ impl Kind {
             Kind::Report => &STOPPING,
             Kind::Verify => &[1, 2, 3, 4, 5, 7, 8, 9, 10, 13],
             Kind::SheetText => &[1, 2, 3, 7, 8, 9, 10, 11, 12, 13, 14, 22],
+            Kind::EmptySlice => &[4, 5, 11, 15, 20],
         }
     }
 
@@ -181,6 +186,7 @@ impl Kind {
                 | Kind::DeviceCurve
                 | Kind::Report
                 | Kind::SheetText
+                | Kind::EmptySlice
         )
     }
 }
@@ -249,7 +255,8 @@ pub fn single(kind: Kind, number: usize, random: &mut Random) -> Case {
         | Kind::AtEveryPlace
         | Kind::DeviceCurve
         | Kind::Report
-        | Kind::SheetText => {
+        | Kind::SheetText
+        | Kind::EmptySlice => {
             panic!("not one call: {}", kind.name())
         }
     }
@@ -438,9 +445,42 @@ fn sheet_tensor(random: &mut Random, number: usize) -> Case {
     sheet_case(random, number, FAULTY_TO_BUILD, lending::sheet_tensor)
 }
 
+/// A case of one of the calls, by the number, that would be accepted, and in which a lent slice has no
+/// item, or none has.
+pub fn empty_slice(random: &mut Random, number: usize) -> Case {
+    let mut kinds = KINDS.to_vec();
+    kinds.retain(|kind| kind.is_single_call());
+    let kind = kinds[number % kinds.len()];
+    let mut case = single(kind, number, random);
+    while case.call.refusal(
+        Reading
+            .run(&mut case.clone())
+            .expect("the reading answers all"),
+    ) != 0
+    {
+        case = single(kind, random.below(1 << 20), random);
+    }
+    let (all, chosen) = (random.percent(25), random.below(case.slices()));
+    for (at, slice) in case.slices_mut().enumerate() {
+        if all || at == chosen {
+            slice.resize(0);
+        }
+    }
+    case
+}
+
 /// A sheet for the program that prints its tensor.
 pub fn sheet_text(random: &mut Random, number: usize) -> Case {
-    swept_or_generated(random, number, |_, bytes, _| lending::sheet_text(bytes))
+    let swept = swept_sheet(number);
+    let bytes = swept.unwrap_or_else(|| {
+        let grid = Grid::generate(random);
+        if random.percent(FAULTY_TO_BUILD) {
+            damaged_sheet(random, number, &grid)
+        } else {
+            good_sheet(random, number, &grid)
+        }
+    });
+    lending::sheet_text(&bytes)
 }
 
 /// A sheet that is asked at a point: first the small one with all that a sweep does to it.

@@ -26,7 +26,7 @@ mod stream;
 mod verification;
 
 pub use case::{Argument, Call, Calls, Case};
-pub use comparison::{compare_all, compare_more, Plan};
+pub use comparison::{compare_all, compare_bytes, compare_more, Bytes, Plan};
 pub use device::{integer, LENGTHS};
 pub use generator::{Kind, KINDS};
 pub use lent::Lent;

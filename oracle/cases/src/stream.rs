@@ -43,7 +43,7 @@ pub fn report(random: &mut Random, number: usize) -> Case {
 }
 
 /// The report of a stream that is given in pieces of so many bytes, or whole where they have none.
-fn report_of(stream: &[u8], piece: usize) -> Case {
+pub fn report_of(stream: &[u8], piece: usize) -> Case {
     let arguments = vec![
         Argument::of_bytes(stream),
         Argument::Number(piece),

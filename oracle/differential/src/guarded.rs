@@ -1,5 +1,6 @@
 //! Slices that stand against a page which may not be touched, in turn at their end and at their
 //! start: what reads or writes one item too far on that side ends the run, and the case is named.
+//! A slice of no items has in turn the page itself and a null pointer.
 
 use std::cell::{Cell, RefCell};
 use std::ffi::{c_int, c_void};
@@ -117,8 +118,13 @@ impl Pages {
         // SAFETY: the slice and its margin lie in the room.
         let at = unsafe { room.start.add(skipped) };
         unsafe { margin(at, bytes, self.at_the_start).write_bytes(MARK, MARGIN) };
+        let is_null = bytes == 0 && self.at_the_start;
         self.lent.push(Lent { at, bytes, from });
-        at
+        if is_null {
+            ptr::null_mut()
+        } else {
+            at
+        }
     }
 
     /// Hands every slice back; none that is only read has changed, nor anything beside one.
@@ -254,7 +260,8 @@ mod tests {
         begin("a test", 0);
         let numbers = [1.0, 2.0, 3.0];
         for at_the_start in [false, true] {
-            for length in [3, 1, 0] {
+            assert_eq!(lent(&numbers[..0]).0.is_null(), at_the_start);
+            for length in [3, 1] {
                 let (at, items) = lent(&numbers[..length]);
                 assert_eq!(items, length);
                 assert!(at.is_aligned());
