@@ -12,6 +12,7 @@ import subprocess
 import sys
 import tempfile
 from pathlib import Path
+from zlib import crc32
 
 HERE = Path(__file__).resolve().parent
 ROOT = HERE.parent.parent
@@ -65,6 +66,10 @@ class Mutant:
     def place(self):
         return f"{self.path.relative_to(ROOT)}:{self.number}"
 
+    def name(self):
+        """The name of the file with what was said of it."""
+        return f"{self.crate}_{self.path.stem}_{self.number}_{crc32(self.changed.encode()):08x}"
+
     def key(self):
         """What a mutant is called in equal.txt: its file, and the line before and after."""
         return f"{self.path.relative_to(ROOT)}: {self.line.strip()} -> {self.changed.strip()}"
@@ -92,8 +97,8 @@ def code_alone(text):
     """The text of code with all else blank: comments, imports, attributes, contracts, signatures and the types of arrays."""
     text = re.sub(r"//.*", blanked, text)
     text = re.sub(r"^\s*(?:pub |ghost )?(?:use|mod) [^;]*;|^\s*#\[.*\]|^\s*(?:pub )?const [^=]*", blanked, text, flags=re.M)
-    text = re.sub(r"\b(?:pub )?(?:extern \"C\" )?fn \w+\([^{]*?\)(?: -> [^\n{]*?)?(?=\s*(?:\{|requires|ensures|ghost|decreases))", blanked, text)
-    clause = re.compile(r"\b(?:requires|ensures|ghost|decreases|invariant) \{")
+    text = re.sub(r"\b(?:pub )?(?:extern \"C\" )?fn \w+\([^{]*?\)(?: -> [^\n{]*?)?(?=\s*(?:\{|requires|ensures|ghost))", blanked, text)
+    clause = re.compile(r"\b(?:requires|ensures|ghost) \{")
     while found := clause.search(text):
         end, depth = found.end(), 1
         while depth:
@@ -217,7 +222,7 @@ class Copy:
             self.restore()
         path.write_text(whole)
         SAID.mkdir(parents=True, exist_ok=True)
-        (SAID / f"{mutant.crate}_{mutant.path.stem}_{mutant.number}").write_text(f"{mutant.key()}\n{said}")
+        (SAID / mutant.name()).write_text(f"{mutant.key()}\n{said}")
         if not said:
             return "accepted", ""
         first = next((line for line in said.splitlines() if "error" in line), said.strip().splitlines()[-1])

@@ -28,7 +28,8 @@ fn every_refusal_is_seen_and_no_other() {
 fn about_sixty_in_a_hundred_are_accepted() {
     let report = compare_all(&Nobody, &Plan::of_each_kind(2, 4000));
     // Quick queries beside full ones, and queries at places, are nearly all accepted, so that the
-    // answers are compared; the reader of edition 1 is given half of its sheets in edition 2.
+    // answers are compared; the reader of edition 1 is given half of its sheets in edition 2; a slice of
+    // no items is always refused.
     let generated = |kind: &Kind| {
         !matches!(
             kind,
@@ -38,6 +39,7 @@ fn about_sixty_in_a_hundred_are_accepted() {
                 | Kind::AtEveryPlace
                 | Kind::DeviceCurve
                 | Kind::ReadEdition1
+                | Kind::EmptySlice
         )
     };
     let (mut calls, mut accepted) = (0, 0);

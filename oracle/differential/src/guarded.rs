@@ -76,12 +76,12 @@ impl Drop for Room {
 struct Lent {
     at: *mut u8,
     bytes: usize,
-    from: From,
+    from: Origin,
 }
 
 /// What a lent slice came from: bytes that are only read, bytes that get what was written, or
 /// whole numbers of 32 bits that are held in as many places of a usize each.
-enum From {
+enum Origin {
     Read(*const u8),
     Written(*mut u8),
     Narrowed(*mut usize),
@@ -101,8 +101,8 @@ thread_local! {
 }
 
 impl Pages {
-    /// A place for so many bytes, each behind the one before in a room of its own.
-    fn place(&mut self, bytes: usize, from: From) -> *mut u8 {
+    /// A place for so many bytes, in a room that nothing else is lent in.
+    fn place(&mut self, bytes: usize, from: Origin) -> *mut u8 {
         let number = self.lent.len();
         if number == self.rooms.len() {
             self.rooms.push(Room::new(bytes));
@@ -143,12 +143,12 @@ impl Pages {
                 "what is beside a slice was written"
             );
             match from {
-                From::Read(given) => {
+                Origin::Read(given) => {
                     let given = unsafe { slice::from_raw_parts(given, bytes) };
                     assert!(found == given, "a slice that is only read was written");
                 }
-                From::Written(given) => unsafe { given.copy_from(at, bytes) },
-                From::Narrowed(given) => {
+                Origin::Written(given) => unsafe { given.copy_from(at, bytes) },
+                Origin::Narrowed(given) => {
                     for (number, word) in found.chunks(4).enumerate() {
                         let word = u32::from_ne_bytes(word.try_into().expect("four bytes"));
                         unsafe { *given.add(number) = word as usize };
@@ -172,7 +172,7 @@ unsafe fn margin(at: *mut u8, bytes: usize, at_the_start: bool) -> *mut u8 {
 /// A slice as the archive takes it to read: where it begins, and its length.
 pub fn lent<T>(slice: &[T]) -> (*const T, usize) {
     let (given, bytes) = (slice.as_ptr().cast::<u8>(), size_of_val(slice));
-    let at = PAGES.with_borrow_mut(|pages| pages.place(bytes, From::Read(given)));
+    let at = PAGES.with_borrow_mut(|pages| pages.place(bytes, Origin::Read(given)));
     // SAFETY: the place has so many bytes and is in another room than anything else.
     unsafe { at.copy_from(given, bytes) };
     (at.cast(), slice.len())
@@ -181,7 +181,7 @@ pub fn lent<T>(slice: &[T]) -> (*const T, usize) {
 /// A slice as the archive takes it to write. It has what was written when it is handed back.
 pub fn lent_mut<T>(slice: &mut [T]) -> (*mut T, usize) {
     let (given, bytes) = (slice.as_mut_ptr().cast::<u8>(), size_of_val(slice));
-    let at = PAGES.with_borrow_mut(|pages| pages.place(bytes, From::Written(given)));
+    let at = PAGES.with_borrow_mut(|pages| pages.place(bytes, Origin::Written(given)));
     // SAFETY: as above.
     unsafe { at.copy_from(given, bytes) };
     (at.cast(), slice.len())
@@ -191,7 +191,7 @@ pub fn lent_mut<T>(slice: &mut [T]) -> (*mut T, usize) {
 pub fn lent_narrowed<T>(slice: &mut [usize]) -> (*mut T, usize) {
     assert_eq!(size_of::<T>(), 4);
     let given = slice.as_mut_ptr();
-    let at = PAGES.with_borrow_mut(|pages| pages.place(4 * slice.len(), From::Narrowed(given)));
+    let at = PAGES.with_borrow_mut(|pages| pages.place(4 * slice.len(), Origin::Narrowed(given)));
     for (number, bits) in slice.iter().enumerate() {
         // SAFETY: the place has four bytes for each number, and begins at a multiple of four.
         unsafe { *at.cast::<u32>().add(number) = *bits as u32 };
@@ -245,7 +245,9 @@ extern "C" fn page_touched(_: c_int) {
 #[cfg(test)]
 mod tests {
     use super::*;
+    use std::env;
     use std::os::fd::AsRawFd;
+    use std::process::Command;
 
     /// Whether a byte may be read, by the word of the system, which gives an error where it may not.
     fn is_open(at: *const u8) -> bool {
@@ -271,6 +273,25 @@ mod tests {
             }
             hand_back();
         }
+    }
+
+    /// Runs this test once more in a process of its own, where it touches a page.
+    #[test]
+    fn a_touched_page_ends_the_run_and_names_the_case() {
+        if env::var_os("TOUCH_A_PAGE").is_some() {
+            name_the_case_at_a_fault();
+            begin("query 7 of seed 1", 0);
+            let (at, items) = lent(&[1u8, 2]);
+            unsafe { at.add(items).read_volatile() };
+            return;
+        }
+        let name = "guarded::tests::a_touched_page_ends_the_run_and_names_the_case";
+        let mut again = Command::new(env::current_exe().unwrap());
+        again.args(["--exact", name, "--nocapture"]);
+        let done = again.env("TOUCH_A_PAGE", "yes").output().unwrap();
+        let said = String::from_utf8_lossy(&done.stderr);
+        assert!(said.contains("A PAGE WAS TOUCHED that no slice has, in query 7 of seed 1"));
+        assert_eq!(done.status.code(), Some(1));
     }
 
     #[test]
