@@ -109,8 +109,8 @@ def code_alone(text):
 
 
 def definitions_alone(text):
-    """The text of definitions with comments and imports blank."""
-    return re.sub(r"--.*|^\s*(?:use|unfolding|module|open)\b.*", blanked, text, flags=re.M)
+    """The text of definitions with comments, imports and the levels of types blank."""
+    return re.sub(r"--.*|^\s*(?:use|unfolding|module|open)\b.*|\bType \d+", blanked, text, flags=re.M)
 
 
 def at_hand(text, word):
