@@ -162,16 +162,31 @@ def stands_on():
     return {name: on for name, on in below.items() if not NOT_LIBRARY.match(name)}
 
 
+def defined_in(path):
+    """The definitions of a file: the name of each, and its text."""
+    parts = re.split(r"^\s*(?:(?:unfoldable|abbrev)(?: pub)?|pub record) (\S+)", path.read_text(), flags=re.M)
+    return list(zip(parts[1::2], parts[2::2]))
+
+
+def mentions(text, name):
+    return re.search(rf"(?<![\w·-]){re.escape(name)}(?![\w·-])", text) is not None
+
+
 def climb(mutant, below):
-    """The crates above that of a mutant of a definition: first those that name its file, and of these and of the others those that stand
-    on the fewest."""
-    naming = re.compile(rf"Rattle\.{mutant.crate}\.specs\.{mutant.path.stem}\b")
+    """The crates above that of a mutant of a definition: first those that name it, then those that name what is made of it, then those that
+    name its file, and of each those first that stand on the fewest."""
+    before = mutant.path.read_text().splitlines()[:mutant.number]
+    name = re.findall(r"^\s*(?:(?:unfoldable|abbrev)(?: pub)?|pub record) (\S+)", "\n".join(before), flags=re.M)[-1]
+    beside = [found for path in mutant.path.parent.glob("*.antt") for found in defined_in(path)]
+    made_of_it = [other for other, text in beside if mentions(text, name)]
+    file = f"Rattle.{mutant.crate}.specs.{mutant.path.stem}"
 
-    def names_it(crate):
-        return any(naming.search(path.read_text()) for path in (ROOT / "crates" / crate).glob("**/*.*t"))
+    def distance(crate):
+        text = "".join(path.read_text() for path in (ROOT / "crates" / crate).glob("**/*.*t") if path.is_file())
+        tests = [mentions(text, name), any(mentions(text, other) for other in made_of_it), file in text, True]
+        return tests.index(True), len(below[crate])
 
-    above = [crate for crate, on in below.items() if mutant.crate in on]
-    return sorted(above, key=lambda crate: (not names_it(crate), len(below[crate])))
+    return sorted((crate for crate, on in below.items() if mutant.crate in on), key=distance)
 
 
 class Copy:
