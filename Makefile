@@ -1,5 +1,6 @@
 .PHONY: run test differential report-largest deliberate-errors further-edits sheet-by-hand streams-fail docs-check rules-page oracle-test expected archive archive-here exact-error bench examples picture
 .PHONY: run test differential report-largest deliberate-errors further-edits sheet-by-hand streams-fail docs-check rules-page oracle-test expected archive archive-here bench examples picture python python-test python-bench python-pictures
+.PHONY: run test differential soak memcheck threads float-settings fuzz mutants report-largest deliberate-errors further-edits sheet-by-hand streams-fail docs-check rules-page oracle-test expected archive archive-here bench examples picture
 
 # On another machine than x86-64, what links the archive takes one that is made for it, and our programs run on the kit's emulator.
 MACHINE := $(shell uname -m)
@@ -27,7 +28,7 @@ CASES = --moments 60000 --curve 60000 --slopes 60000 --build 50000 --change 5000
     --read 240000 --read_edition_1 60000 --sheet_tensor 120000 --short_sheet 65793 \
     --write 240000 --written_back 120000 --surface 120000 \
     --exact_index 60000 --locate_axis 60000 --locate_step_index 100000 --stepped 100000 \
-    --cell_value 8520460 --cursor_next 200000 --device_curve 4101 --report 24000
+    --cell_value 8520460 --cursor_next 200000 --device_curve 4101 --report 24000 --sheet_text 4000 --empty_slice 40000
 SEED = 20240917
 
 # Holds the exported calls against the Rust, bit for bit, and what the device's program and the report print; fails where there is a
@@ -35,6 +36,50 @@ SEED = 20240917
 differential: archive-here
 	rt check device_curve sheet_report
 	cd oracle && cargo run --offline --release -p differential -- --seed $(SEED) $(CASES)
+
+# The same in rounds of another seed each, for SOAK seconds, over every call and every program; prints the seeds, how often each refusal was
+# given, and each case that differs. SEED=N CASE=KIND:NUMBER runs such a case alone; SEED=N alone begins with that seed.
+SOAK = 300
+soak: SEED = 0
+soak: archive-here
+	rt check device_curve sheet_report sheet_tensor
+	cd oracle && cargo run --offline --release -p differential -- --seed $(SEED) $(if $(CASE),--case $(CASE),--soak $(SOAK))
+
+# Kinds of cases that run a program, which memcheck does not follow.
+NO_PROGRAMS = --device_curve 0 --report 0 --sheet_text 0
+
+# A round of every call under valgrind's memcheck: no error, and no use of what was not set.
+memcheck: archive-here
+	cd oracle && cargo build --offline --release -p differential
+	valgrind --quiet --error-exitcode=9 oracle/target/release/differential --seed $(SEED) --cases 2000 $(NO_PROGRAMS)
+
+# The same cases on four threads at once, each on slices of its own: all see the same.
+threads: archive-here
+	cd oracle && cargo run --offline --release -p differential -- --seed $(SEED) --cases 20000 $(NO_PROGRAMS) --threads 4
+
+# Which answers move where a host has set its floats otherwise; and that hullashlar_floats_ready tells each such setting, in a host that is
+# compiled with -ffast-math too. Of x86-64.
+float-settings: archive-here
+	mkdir -p target/examples
+	gcc -std=c11 -Wall -Wextra -Werror -O2 -Iinclude tests/float_settings.c -o target/examples/float_settings
+	gcc -std=c11 -Wall -Wextra -Werror -O3 -ffast-math -DFAST -Iinclude tests/float_settings.c -o target/examples/float_settings_fast
+	target/examples/float_settings
+	target/examples/float_settings_fast
+	cd oracle && cargo run --offline --release -p differential -- --seed $(SEED) --settings 2000
+
+# Fuzzes the calls that take a sheet, and the programs, for FUZZ seconds, with the oracle as judge in the same process; FILE=... runs what it
+# has found alone. Wants clang with libclang-rt-14-dev; of x86-64.
+FUZZ = 300
+fuzz:
+	python3 tests/fuzz/run.py $(FUZZ) $(FILE)
+
+# Puts N random mutants to the prover, of the library's code and of its definitions by turns; fails where one is accepted that
+# tests/mutants/equal.txt does not know. Each takes as long as the check of its crate.
+N = 20
+mutants: SEED =
+mutants:
+	rt check
+	python3 tests/mutants/run.py $(N) $(SEED)
 
 # Runs the report on a million sheets and a byte more, beside the oracle.
 report-largest:
@@ -56,10 +101,10 @@ sheet-by-hand:
 	python3 tests/sheet_by_hand/sheet.py | cmp - tests/sheet_by_hand/two_axes.sheet
 	$(HULLASHLAR_RUNNER) target/bin/sheet_tensor < tests/sheet_by_hand/two_axes.sheet | diff tests/sheet_by_hand/expected.txt -
 
-# Runs the sheet program and the report where their input or their output fails, and sees what they say; with strace also by how many
+# Runs the programs where their input or their output fails, and on sheets cut at every byte, and sees what they say; with strace also by how many
 # calls a tensor is printed and a long stream is read.
 streams-fail:
-	rt check sheet_tensor sheet_report
+	rt check sheet_tensor sheet_report device_curve
 	python3 tests/streams_fail.py
 
 # Measures how far the values of the archive lie from the exact spline, worked out in fractions.

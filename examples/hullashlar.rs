@@ -9,6 +9,7 @@
 #[path = "../include/hullashlar.rs"]
 mod declared;
 
+pub use declared::floats_ready;
 use declared::*;
 
 /// The number of a refusal, which is never 0.

@@ -6,6 +6,14 @@ pub type Count = usize;
 #[cfg(not(target_pointer_width = "64"))]
 pub type Count = u64;
 
+/// Whether floats are computed on this thread as the calls need it: to the nearest, and with subnormal numbers.
+#[allow(dead_code)]
+pub fn floats_ready() -> bool {
+    let asked = core::hint::black_box::<f64>;
+    let (least, little) = (asked(f64::MIN_POSITIVE), asked(f64::EPSILON / 4.0));
+    asked(least / 2.0) != 0.0 && asked(1.0 + little) == 1.0 && asked(1.0 - little) == 1.0
+}
+
 #[rustfmt::skip]
 extern "C" {
     pub fn hullashlar_moments(

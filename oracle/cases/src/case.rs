@@ -4,7 +4,7 @@ use crate::lent::{Lent, Word};
 use crate::report::NUMBERS;
 use reading::REFUSED;
 
-/// The calls of the archive, and the texts of the device's program and of the report. A whole number
+/// The calls of the archive, and the texts of the device's program, of the report and of the sheet program. A whole number
 /// with a sign is held by its 32 bits.
 #[derive(Debug, Clone, Copy, PartialEq, Eq)]
 pub enum Call {
@@ -33,6 +33,7 @@ pub enum Call {
     DirectQuery,
     QuickQueries,
     DirectQueries,
+    SheetText,
 }
 
 impl Call {
@@ -114,6 +115,7 @@ impl Call {
             Call::CellValue => &["p0", "p1", "d0", "d1", "k", "value"],
             Call::CursorNext => &["curve", "cursor", "value"],
             Call::DeviceText => &["curve", "text", "length"],
+            Call::SheetText => &["bytes", "text", "length"],
             Call::Surface => &["bytes", "c0", "c1", "c2", "c3"],
             Call::ReportText => &["stream", "piece", "text", "length"],
             Call::Verify => &[
@@ -150,7 +152,7 @@ impl Call {
             Call::Stepped => &["value", "indices"],
             Call::CellValue => &["value"],
             Call::CursorNext => &["cursor", "value"],
-            Call::DeviceText | Call::ReportText => &["text", "length"],
+            Call::DeviceText | Call::ReportText | Call::SheetText => &["text", "length"],
             Call::Surface => &[],
             Call::Verify => &["scratch", "place", "found"],
         }
@@ -269,6 +271,11 @@ impl Argument {
         }
     }
 
+    /// Whether the argument is a lent slice.
+    pub fn is_slice(&self) -> bool {
+        !matches!(self, Argument::Number(_) | Argument::Float(_))
+    }
+
     /// The length of a lent slice.
     pub fn length(&self) -> usize {
         match self {
@@ -364,6 +371,18 @@ impl Case {
         axes.filter(|axis| *axis == (points, &[3, 3])).count() as u64
     }
 
+    /// The slices that are lent.
+    pub fn slices_mut(&mut self) -> impl Iterator<Item = &mut Argument> {
+        let arguments = self.arguments.iter_mut();
+        arguments.filter(|argument| argument.is_slice())
+    }
+
+    /// How many slices are lent.
+    pub fn slices(&self) -> usize {
+        let arguments = self.arguments.iter();
+        arguments.filter(|argument| argument.is_slice()).count()
+    }
+
     /// The argument of this name, to be changed.
     pub fn argument_mut(&mut self, name: &str) -> &mut Argument {
         let position = self.position(name).expect("the call has this argument");
@@ -373,6 +392,9 @@ impl Case {
 
 /// Something that answers calls.
 pub trait Calls {
+    /// Says which case comes next, and its number among those of its kind.
+    fn begin(&self, _title: &str, _number: u64) {}
+
     /// What the call returns, with the lent slices as it leaves them; or none where this call is
     /// not answered at all.
     fn run(&self, case: &mut Case) -> Option<usize>;

@@ -171,7 +171,11 @@ fn faults_of(call: Call) -> &'static [Fault] {
         Call::LocateAxis => OF_CURVE,
         Call::LocateStepIndex => OF_STEP,
         Call::Stepped => OF_STEPPED,
-        Call::CellValue | Call::CursorNext | Call::DeviceText | Call::ReportText => &[],
+        Call::CellValue
+        | Call::CursorNext
+        | Call::DeviceText
+        | Call::ReportText
+        | Call::SheetText => &[],
     }
 }
 

@@ -6,6 +6,10 @@ use crate::numbers::{fill, ordinary};
 use crate::random::Random;
 use reading::{BUFFER, CURVE_SCRATCH, LONGEST_TENSOR};
 
+/// The length of a text that every tensor's text fits: a line with its length, and one of 17 bytes
+/// for each number.
+const TEXT: usize = 17 * (LONGEST_TENSOR + 1);
+
 /// Scratch that is just enough, or longer.
 fn scratch(random: &mut Random, needed: usize) -> Argument {
     let length = needed + random.pick(&[0, 0, 0, 1, 5, 300]);
@@ -348,6 +352,16 @@ pub fn write_parts(random: &mut Random, read: &Case, edition: usize, room: usize
         front("samples", samples),
     ];
     write_case(random, parts, edition, room)
+}
+
+/// The text of a sheet's tensor, for which there is room.
+pub fn sheet_text(bytes: &[u8]) -> Case {
+    let arguments = vec![
+        Argument::of_bytes(bytes),
+        Argument::of_bytes(&[0; TEXT]),
+        Argument::of_numbers(&[0]),
+    ];
+    Case::new(Call::SheetText, arguments)
 }
 
 /// The bytes are all alike before, and not all zero, so that what is cleared is seen.

@@ -2,7 +2,7 @@
 
 use crate::case::{Argument, Call, Calls, Case};
 use crate::device::{as_integers, as_words, integer};
-use crate::stream::stopped_by;
+use crate::stream::{refused_by, stopped_by};
 
 /// The reading, which answers every call.
 pub struct Reading;
@@ -27,6 +27,7 @@ impl Calls for Reading {
                 of_the_device(case.call, arguments)
             }
             Call::ReportText => of_a_stream(arguments),
+            Call::SheetText => text_of_a_sheet(arguments),
         };
         Some(refusal)
     }
@@ -183,6 +184,17 @@ fn of_a_stream(arguments: &mut [Argument]) -> usize {
     text.bytes_mut()[..printed.len()].copy_from_slice(printed.as_bytes());
     length.numbers_mut()[0] = printed.len();
     stopped_by(&printed)
+}
+
+/// What is returned is the refusal that is printed.
+fn text_of_a_sheet(arguments: &mut [Argument]) -> usize {
+    let [bytes, text, length] = arguments else {
+        panic!("a case has the arguments of its call")
+    };
+    let printed = reading::sheet_text(bytes.bytes());
+    text.bytes_mut()[..printed.len()].copy_from_slice(printed.as_bytes());
+    length.numbers_mut()[0] = printed.len();
+    refused_by(&printed)
 }
 
 #[rustfmt::skip]

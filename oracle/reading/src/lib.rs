@@ -31,7 +31,7 @@ pub use query::{direct_query, even_query, query, quick_query};
 pub use refusals::CURVE_SCRATCH;
 pub use report::{Order, Report, Stream, StreamSheet};
 pub use shape::{Shape, LONGEST_TENSOR};
-pub use sheet::{read, read_edition_1, sheet_tensor, BUFFER, EDITIONS};
+pub use sheet::{read, read_edition_1, sheet_tensor, sheet_text, BUFFER, EDITIONS};
 pub use step::{exact_index, locate_axis, locate_step_index, stepped};
 pub use surface::{surface, REFUSED, SURFACE_TENSOR};
 pub use tensor::{
