@@ -1,6 +1,8 @@
 .PHONY: run test differential report-largest deliberate-errors further-edits sheet-by-hand streams-fail docs-check rules-page oracle-test expected archive archive-here exact-error bench examples picture
 .PHONY: run test differential report-largest deliberate-errors further-edits sheet-by-hand streams-fail docs-check rules-page oracle-test expected archive archive-here bench examples picture python python-test python-bench python-pictures
 .PHONY: run test differential soak memcheck threads float-settings fuzz mutants report-largest deliberate-errors further-edits sheet-by-hand streams-fail docs-check rules-page oracle-test expected archive archive-here bench examples picture
+.PHONY: run test differential report-largest deliberate-errors further-edits sheet-by-hand streams-fail docs-check rules-page oracle-test expected archive archive-here firmware firmware-test firmware-bench bench examples picture
+.PHONY: run test doubles doubles-test differential report-largest deliberate-errors further-edits sheet-by-hand streams-fail docs-check rules-page oracle-test expected archive archive-here bench examples picture
 
 # On another machine than x86-64, what links the archive takes one that is made for it, and our programs run on the kit's emulator.
 MACHINE := $(shell uname -m)
@@ -136,6 +138,21 @@ ifneq ($(MACHINE),x86_64)
 	python3 firmware/make_archives.py $(MACHINE)
 endif
 
+# Archives of the proved module for the processors of aids, target/firmware/TARGET/libhullashlar.a; wants `rt` and Python alone.
+firmware:
+	python3 firmware/make_archives.py
+
+# How many calls are made on each processor.
+FIRMWARE_CALLS = 500000
+
+# Holds those archives against the x86-64 one, on each processor as the emulator has it; docs/FIRMWARE.md names the packages it wants.
+firmware-test: firmware
+	python3 tests/firmware/run.py $(FIRMWARE_CALLS)
+
+# Measures them, and prints the tables of docs/FIRMWARE.md.
+firmware-bench: firmware
+	python3 tests/firmware/bench.py
+
 # Measures the exported calls beside the Rust's functions, and beside the limit where the folder of its C is at hand (LIMIT_SRC, by default
 # ../shared/limit), adds up their stack from the archive's code, and measures the report on long streams; prints the tables of docs/BENCH.md;
 # wants valgrind and objdump.
@@ -199,3 +216,14 @@ python-pictures: python
 	    -o docs/picture/gain-map.png
 	PYTHONPATH=python $(PYTHON) -B -m hullashlar draw examples/scales.sheet --change 2 2 1.05 --stale --names "noise, dB" speech scale \
 	    -o docs/picture/wrong-scale.png
+# How many rounds of 628 pairs double arithmetic is tried on.
+ROUNDS = 80000
+
+# The archive of double arithmetic in whole numbers, target/staticlib/libhullashlar_doubles.a.
+doubles:
+	rt staticlib hullashlar_doubles
+
+# Holds double arithmetic in whole numbers against the machine's own operations, on directed and random pairs; fails where an answer differs,
+# and where a copy with a deliberate error is not found.
+doubles-test: doubles
+	python3 tests/doubles/run.py $(ROUNDS)

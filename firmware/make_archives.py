@@ -1,134 +1,144 @@
 #!/usr/bin/env python3
-"""Makes archives for other processors than x86-64 of the module that the proved archive is made of: make_archives.py TARGET...
-writes target/firmware/TARGET/libhullashlar.a.
+"""Makes archives for other processors than x86-64 of the module that the proved archive is made of: make_archives.py TARGET...,
+and without a target all of them. docs/FIRMWARE.md says what they are.
 
-`rt staticlib` proves the exports, hands a module to the kit's clang and has it make code for x86-64. Here it is run with a
-clang before the kit's own that keeps the module. Nothing of the kit is touched: a folder of links to it stands in its place.
-The module is held to the archive, byte for byte; then the words that name x86-64 are taken out of it, and it is compiled for
-each target. What could change a bit of an answer ends the run: a word that lets operations be fused or reordered in the
-module, a fused instruction in the code."""
+    target/firmware/TARGET/libhullashlar.a             for speed
+    target/firmware/TARGET/size/libhullashlar.a        for size
+    target/firmware/TARGET/plain/[size/]libhullashlar.a  the same with the compiler's own doubles, where the processor has none
 
-import os
-import platform
+Each target's code is written as text, looked through and then assembled: what is looked through is what is in the archive. A
+fused instruction in it ends the run."""
+
 import re
 import shutil
 import subprocess
 import sys
 from pathlib import Path
 
-ROOT = Path(__file__).resolve().parent.parent
-OUT = ROOT / "target" / "firmware"
+sys.path.insert(0, str(Path(__file__).resolve().parent))
+from module import OUT, ROOT, WORDS, of_archive, run, tool  # noqa: E402
+
 CRATE = "hullashlar"
 
 # What clang is told of each target.
-TARGETS = {"aarch64": ["--target=aarch64-linux-gnu", "-march=armv8-a", "-fPIC"]}
+TARGETS = {
+    "cortex-m0plus": ["--target=thumbv6m-none-eabi", "-mcpu=cortex-m0plus", "-mfloat-abi=soft"],
+    "cortex-m4f": ["--target=thumbv7em-none-eabihf", "-mcpu=cortex-m4", "-mfpu=fpv4-sp-d16", "-mfloat-abi=hard"],
+    "cortex-m33": ["--target=thumbv8m.main-none-eabihf", "-mcpu=cortex-m33", "-mfpu=fpv5-sp-d16", "-mfloat-abi=hard"],
+    "cortex-m7": ["--target=thumbv7em-none-eabihf", "-mcpu=cortex-m7", "-mfpu=fpv5-d16", "-mfloat-abi=hard"],
+    "aarch64": ["--target=aarch64-linux-gnu", "-march=armv8-a", "-fPIC"],
+    "rv32imac": ["--target=riscv32-unknown-elf", "-march=rv32imac", "-mabi=ilp32", "-mcmodel=medany"],
+    "rv32imafdc": ["--target=riscv32-unknown-elf", "-march=rv32imafdc", "-mabi=ilp32d", "-mcmodel=medany"],
+    "rv64gc": ["--target=riscv64-unknown-elf", "-march=rv64gc", "-mabi=lp64d", "-mcmodel=medany"],
+}
 
-# What it is told of every one; the kit's own words but for the processor.
-WORDS = ["--no-default-config", "-no-canonical-prefixes", "-fintegrated-cc1", "-fno-crash-diagnostics", "-Werror", "-ffunction-sections",
-         "-fdata-sections", "-mllvm", "-trap-unreachable", "-mllvm", "-no-trap-after-noreturn", "-O3"]
-X86_64 = ["--target=x86_64-unknown-linux-gnu", "-march=x86-64", "-fPIC"]
+# What is told of a target beside that where code is made for it: on the M7 no vmla.f64, which rounds twice but looks fused.
+MADE_WITH = {"cortex-m7": ["-Xclang", "-target-feature", "-Xclang", "+slowfpvmlx"]}
 
-# Lines that say for which machine a module is, and words of its functions that do.
-MACHINE = re.compile(r"^target (datalayout|triple) = .*\n", re.M)
-OF_X86_64 = re.compile(r' "(probe-stack"="inline-asm|target-cpu"="x86-64)"')
+# What an archive is made for: what clang is told, and the word that each function gets.
+PURPOSES = {"speed": ("-O3", ""), "size": ("-Os", " optsize")}
+FOLDERS = {"speed": "", "size": "size"}
 
-# What a module must not have: a word of x86-64, leave to fuse or to reorder, another float, an address as a number.
-UNWANTED = re.compile(r"x86|\b(fast|contract|reassoc|nnan|ninf|nsz|arcp|afn|float|ptrtoint|inttoptr|asm)\b|fmuladd|llvm\.fma")
+# The doubles of processors that have none: the crate of our own, and for each of the compiler's helpers the call of ours that stands in
+# its place. A comparison of Arm's says 1 or 0, as ours do; those of RISC-V say less, equal or greater, and firmware/comparisons.c makes
+# them of ours.
+DOUBLES = "hullashlar_doubles"
+ARM = {f"__aeabi_{helper}": f"hullashlar_soft_{ours}" for helper, ours in {
+    "dadd": "add", "dsub": "sub", "dmul": "mul", "ddiv": "div", "dcmplt": "lt", "dcmple": "le", "dcmpeq": "eq", "dcmpgt": "gt",
+    "dcmpge": "ge", "dcmpun": "un"}.items()}
+RISC_V = {f"__{helper}": f"hullashlar_soft_{ours}" for helper, ours in {
+    "adddf3": "add", "subdf3": "sub", "muldf3": "mul", "divdf3": "div", "ltdf2": "ltdf2", "ledf2": "ledf2", "eqdf2": "eqdf2",
+    "nedf2": "eqdf2", "gtdf2": "gtdf2", "gedf2": "gedf2", "unorddf2": "un"}.items()}
+HELPERS = {"cortex-m0plus": ARM, "cortex-m4f": ARM, "cortex-m33": ARM, "rv32imac": RISC_V}
+HELPER = re.compile(r"\b__(aeabi_d\w+|\w+df\w*)\b")
+
+# The words of a function's attributes begin so.
+ATTRIBUTES = re.compile(r"^(attributes #\d+ = \{)", re.M)
 
 # Instructions that round once where two operations are meant, or keep more digits between them.
-FUSED = re.compile(r"\t(fn?m(add|sub)|fml[as]|v?fn?m[as]|vml[as])\b")
+FUSED = re.compile(r"\t(fn?m(add|sub)|fml[as]|v?fn?m[as]|vn?ml[as])\b")
 
 
-def run(words, **more):
-    return subprocess.run([str(word) for word in words], check=True, **more)
+def listing_of(text, target, purpose):
+    """The target's code for the text of a module, as an assembler reads it."""
+    level, attribute = PURPOSES[purpose]
+    words = [tool("clang"), *TARGETS[target], *MADE_WITH.get(target, []), *WORDS, level, "-ffp-contract=off", "-Wno-override-module"]
+    text = ATTRIBUTES.sub(rf"\1{attribute}", text)
+    return run([*words, "-S", "-x", "ir", "-", "-o", "-"], input=text, stdout=subprocess.PIPE, text=True).stdout
 
 
-def kit():
-    """The folder of the kit, and in it that of the tools for this machine."""
-    home = Path(os.environ.get("RATTLE_HOME") or Path(shutil.which("rt")).resolve().parent.parent)
-    return home, home / "on" / platform.machine()
-
-
-def linked_home(clang, module):
-    """A folder that stands for the kit: links to all of it, and a clang that keeps the module it is given."""
-    home, tools = kit()
-    copy = OUT / "kit"
-    shutil.rmtree(copy, ignore_errors=True)
-    bin_folder = copy / "on" / platform.machine() / "toolchain" / "bin"
-    bin_folder.mkdir(parents=True)
-    for folder, taken in [(home, "on"), (tools, "toolchain"), (tools / "toolchain", "bin"), (tools / "toolchain" / "bin", "clang")]:
-        for entry in folder.iterdir():
-            if entry.name != taken:
-                (copy / folder.relative_to(home) / entry.name).symlink_to(entry.resolve())
-    keeping = bin_folder / "clang"
-    keeping.write_text(f"""#!/bin/sh
-for word in "$@"; do case $word in *.bc) cp "$word" "{module}" ;; esac; done
-exec "{clang}" "$@"
-""")
-    keeping.chmod(0o755)
-    return copy
-
-
-def keep_module(clang):
-    """The module that the proved archive is made of."""
-    OUT.mkdir(parents=True, exist_ok=True)
-    module = OUT / f"{CRATE}.bc"
-    module.unlink(missing_ok=True)
-    run(["rt", "staticlib", CRATE], cwd=ROOT, env={**os.environ, "RATTLE_HOME": str(linked_home(clang, module))})
-    if not module.is_file():
-        sys.exit("the kit hands its module to clang in another way: none was kept")
-    return module
-
-
-def hold_to_the_archive(clang, module):
-    """The archive is what clang makes of the kept module."""
-    again = OUT / f"{CRATE}.o"
-    run([clang, *X86_64, *WORDS, "-c", "-x", "ir", module, "-o", again])
-    archive = ROOT / "target" / "staticlib" / f"lib{CRATE}.a"
-    kept = run([clang.parent / "llvm-ar", "p", archive, f"{CRATE}.o"], stdout=subprocess.PIPE).stdout
-    if kept != again.read_bytes():
-        sys.exit("the kept module is not the archive's")
-
-
-def text_of(clang, module):
-    """The module as text for any machine."""
-    words = [clang, "--target=x86_64-unknown-linux-gnu", "--no-default-config", "-S", "-emit-llvm", "-O0", "-Xclang", "-disable-llvm-passes"]
-    text = run([*words, "-x", "ir", module, "-o", "-"], stdout=subprocess.PIPE, text=True).stdout
-    text = OF_X86_64.sub("", MACHINE.sub("", text))
-    for line in text.splitlines():
-        if UNWANTED.search(line):
-            sys.exit(f"the module has what it must not have: {line}")
-    path = OUT / f"{CRATE}.ll"
-    path.write_text(text)
-    return path
-
-
-def make_archive(clang, text, target):
-    folder = OUT / target
-    shutil.rmtree(folder, ignore_errors=True)
-    folder.mkdir()
-    code, archive = folder / f"{CRATE}.o", folder / f"lib{CRATE}.a"
-    compiled = [clang, *TARGETS[target], *WORDS, "-ffp-contract=off", "-Wno-override-module"]
-    listing = run([*compiled, "-S", "-x", "ir", text, "-o", "-"], stdout=subprocess.PIPE, text=True).stdout
+def hold_unfused(target, listing):
     fused = FUSED.search(listing)
     if fused:
         sys.exit(f"{target}: a fused instruction: {fused.group().strip()}")
-    run([*compiled, "-c", "-x", "ir", text, "-o", code])
-    run([clang.parent / "llvm-ar", "rcsD", "--format=gnu", archive, code])
-    print(f"{archive.relative_to(ROOT)}: {code.stat().st_size} bytes")
+
+
+def assemble(listing, target, code):
+    words = [tool("clang"), *TARGETS[target], "--no-default-config", "-Werror", "-Wno-unused-command-line-argument"]
+    run([*words, "-c", "-x", "assembler", "-", "-o", code], input=listing, text=True)
+
+
+def own_doubles(listing, target):
+    """The listing with our doubles in place of the compiler's; a helper that has none of ours ends the run."""
+    ours = HELPERS[target]
+    unknown = sorted({name.group() for name in HELPER.finditer(listing)} - set(ours))
+    if unknown:
+        sys.exit(f"{target}: doubles that are not ours: {' '.join(unknown)}")
+    return HELPER.sub(lambda name: ours[name.group()], listing)
+
+
+def compiled(text, target, purpose, code, own=True):
+    """A module's object for a target, at the path that is given, with our doubles or with the compiler's."""
+    listing = listing_of(text, target, purpose)
+    hold_unfused(target, listing)
+    assemble(own_doubles(listing, target) if own and target in HELPERS else listing, target, code)
+    return code
+
+
+def doubles_of(text, target, purpose, folder):
+    """The objects of our doubles for a target that has none; they use no double themselves."""
+    code = folder / f"{DOUBLES}.o"
+    listing = listing_of(text, target, purpose)
+    if HELPER.search(listing):
+        sys.exit(f"{target}: our doubles use the compiler's {HELPER.search(listing).group()}")
+    assemble(listing, target, code)
+    if HELPERS[target] is ARM:
+        return [code]
+    comparisons = folder / "comparisons.o"
+    words = [tool("clang"), *TARGETS[target], "--no-default-config", "-Werror", "-ffreestanding", "-ffunction-sections", "-Os"]
+    run([*words, "-c", Path(__file__).resolve().parent / "comparisons.c", "-o", comparisons])
+    return [code, comparisons]
+
+
+def make_archive(folder, objects):
+    archive = folder / f"lib{CRATE}.a"
+    run([tool("llvm-ar"), "rcsD", "--format=gnu", archive, *objects])
+    print(f"{archive.relative_to(ROOT)}: {archive.stat().st_size:,} bytes")
+
+
+def make_archives(text, doubles, target):
+    """The archives of a target, for speed and for size, and where it has no doubles those with the compiler's own."""
+    shutil.rmtree(OUT / target, ignore_errors=True)
+    for purpose in PURPOSES:
+        folder, plain = OUT / target / FOLDERS[purpose], OUT / target / "plain" / FOLDERS[purpose]
+        folder.mkdir(parents=True, exist_ok=True)
+        objects = [compiled(text, target, purpose, folder / f"{CRATE}.o")]
+        if target in HELPERS:
+            plain.mkdir(parents=True, exist_ok=True)
+            make_archive(plain, [compiled(text, target, purpose, plain / f"{CRATE}.o", own=False)])
+            objects += doubles_of(doubles, target, purpose, folder)
+        make_archive(folder, objects)
 
 
 def main():
-    targets = sys.argv[1:]
+    targets = sys.argv[1:] or list(TARGETS)
     unknown = [target for target in targets if target not in TARGETS]
-    if unknown or not targets:
+    if unknown:
         sys.exit(f"make_archives.py TARGET..., of {' '.join(TARGETS)}; not {' '.join(unknown)}")
-    clang = kit()[1] / "toolchain" / "bin" / "clang"
-    module = keep_module(clang)
-    hold_to_the_archive(clang, module)
-    text = text_of(clang, module)
+    text = of_archive(CRATE)
+    doubles = of_archive(DOUBLES) if set(targets) & set(HELPERS) else ""
     for target in targets:
-        make_archive(clang, text, target)
+        make_archives(text, doubles, target)
 
 
 if __name__ == "__main__":

@@ -4,12 +4,15 @@
  * DirectExports, ManyExports, SheetExports, StepExports and DeviceExports.
  *
  * The machine. One header serves every processor: what is counted has 64 bits on each of them, and a size_t is no part
- * of any call. The archive, target/staticlib/libhullashlar.a, is code for x86-64, with SSE2 and the System V calling
- * convention. Of its host it wants memcpy and memset, and nothing else. It computes under the caller's MXCSR, which
- * must be as a C program finds it at its start: rounding to nearest, subnormal numbers neither flushed to zero nor
- * taken for zero (FTZ and DAZ clear), all exceptions masked. No call changes these settings; exception flags may be set
- * when it returns. hullashlar_floats_ready below tells, where no exception traps; under other settings answers move, and
- * docs/SAFETY.md says of which calls.
+ * of any call. The archive target/staticlib/libhullashlar.a is code for x86-64, with SSE2 and the System V calling
+ * convention. `make firmware` compiles the same proved module for Cortex-M0+, M4F, M33 and M7, AArch64, RV32 and RV64, to
+ * target/firmware/TARGET/libhullashlar.a; docs/FIRMWARE.md says how to link it and what each call costs there. Of its
+ * host an archive wants memcpy and memset, on 32 bits also what the compiler divides 64-bit whole numbers by, and nothing
+ * else. It computes under the caller's float settings, which must be as a C program finds them at its start: rounding to
+ * nearest, subnormal numbers neither flushed to zero nor taken for zero (FTZ and DAZ clear in MXCSR; FZ in FPCR or
+ * FPSCR), all exceptions masked. No call changes these settings; exception flags may be set when it returns.
+ * hullashlar_floats_ready below tells, where no exception traps; under other settings answers move, and docs/SAFETY.md
+ * says of which calls.
  *
  * Slices. A slice is a pointer and then its length, in elements. Pointers to double and to uint64_t are aligned to 8
  * bytes, those to int32_t and uint32_t to 4. A slice that a call writes overlaps no other slice of that call. The pointer
@@ -21,7 +24,8 @@
  *
  * Memory for the largest grid: tensor 32,768 bytes, scratch 49,152, the two buffers of a sheet 16,384, together 98,304.
  * hullashlar_surface is lent nothing but the sheet, and has its memory on the stack.
- * No other call needs more than 3,176 bytes of stack, on any input, beside what the host's memcpy and memset take.
+ * No other call needs more than 3,176 bytes of stack on x86-64, on any input, beside what the host's memcpy and memset
+ * take.
  * docs/BENCH.md has the stack of each, the size of the code and what the archive's proofs rest on.
  *
  * Axes. Points, kinds, values, modes, directions, places, labels and indices are lent for four axes. What stands past

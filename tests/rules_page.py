@@ -46,6 +46,8 @@ CRATES = [
     "c_sheet",
     "c_step",
     "c_device",
+    "doubles_patterns",
+    "hullashlar_doubles",
     "exact_arithmetic",
     "exact_rationals",
     "exact_spline",
@@ -77,6 +79,8 @@ NOT_RULES = {
     "report_totals/Counting",
     "report/Feeding",
     "device_cell/CellWeights",
+    "doubles_patterns/Patterns",
+    "doubles_patterns/Finite",
     "exact_spline/Rows",
     "exact_rounding/Errors",
 }

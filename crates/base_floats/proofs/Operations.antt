@@ -95,7 +95,7 @@ mul-one-left f (fin s m e) t h = rw (unlike-false s, one-mul (m * up e), one-mul
 
 -- ---- the difference of equal numbers
 
-difference-of-same : (f : Format) (s : Bool) (a c : ℕ) → sum f s a (not s) a c ≡ round f false 0 c
+pub difference-of-same : (f : Format) (s : Bool) (a c : ℕ) → sum f s a (not s) a c ≡ round f false 0 c
 unfolding sum
 difference-of-same f true a c = rw (le-ltb a a (le-refl a), sub-self a) refl
 difference-of-same f false a c = rw (le-ltb a a (le-refl a), sub-self a) refl

@@ -1,0 +1,4 @@
+pub mod Guesses
+pub mod Turns
+pub mod Quotients
+pub mod Answers

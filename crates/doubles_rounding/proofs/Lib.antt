@@ -1,0 +1,4 @@
+pub mod Nearness
+pub mod Raising
+pub mod Shifts
+pub mod Placing

@@ -1,0 +1,3 @@
+pub mod Alignments
+pub mod Combined
+pub mod Sums

@@ -1,0 +1,14 @@
+-- Whether a is unordered with b, as a number.
+use Rattle.hullashlar_doubles.proofs.Truths.{as-one, as-none}
+use borrow.Author.Needs.{needs}
+use Rattle.hullashlar_doubles.proofs.hullashlar_soft_un.Statement.{statement}
+use Rattle.hullashlar_doubles.proofs.hullashlar_soft_un.Tie as tie
+
+returns : tie.Need-returns
+returns c = record { answer = as-one _ _ (c .before .unordered .ensures) (c .if1 .taken) }
+
+returns-2 : tie.Need-returns-2
+returns-2 c = record { answer = as-none _ _ (c .before .unordered .ensures) (c .if1 .left) }
+
+pub hullashlar-soft-un-spec : {M : Type 1} → statement M
+hullashlar-soft-un-spec = tie.close (tie.spec (λ c κs. search needs) returns returns-2)
