@@ -20,6 +20,21 @@ fewer-digits width next h g = go (size width) (size-lt width)
     go zero w = let e : 2 ^ 0 ≡ 1 = refl in absurd (let z : ⊥ = omega arith in z)
     go (suc d) w = let k = half d width w in let l = size-le next d (omega arith) in omega arith
 
+-- with each halving there is a digit less, so that digits and halvings together stay 8 or fewer
+pub counted : (width next halvings : ℕ) → 0 < width → next ≤ width / 2 → size width + halvings ≤ 8 → size next + (halvings + 1) ≤ 8
+counted width next halvings h g few = let f = fewer-digits width next h g in omega arith
+
+pub counted-first : (last : ℕ) → last < 256 → size last + 0 ≤ 8
+counted-first last few = let n = size-le last 8 (let e : 2 ^ 8 ≡ 256 = refl in omega arith) in omega arith
+
+-- after 8 halvings low and high have met
+pub met : (low high halvings : ℕ) → size (high - low) + halvings ≤ 8 → halvings ≡ 8 → high ≤ low
+met low high halvings few all = go (size (high - low)) (size-lt (high - low)) (omega arith)
+  where
+    go : (d : ℕ) → high - low < 2 ^ d → d ≤ 0 → high ≤ low
+    go zero w z = let e : 2 ^ 0 ≡ 1 = refl in omega arith
+    go (suc d) w z = absurd (let b : ⊥ = omega arith in b)
+
 module _ (knots : List Float) (point : Float) where
   -- what the loop keeps: the search goes on between low and high, and at most 8 halvings are left
   pub record Turn (last low high : ℕ) : Type 0 where

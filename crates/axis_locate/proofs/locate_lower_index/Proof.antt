@@ -1,21 +1,22 @@
 -- The measure is the number of binary digits of the width between low and high: at most 8 for 256 knots, and each halving takes one or
--- more.
-use Prim.Native.Nat.{_-_}
+-- more. What a turn keeps besides: digits and halvings together are at most 8.
+use Prim.Native.Nat.{_+_, _-_, _≤_}
 use native.Mathlib.Omega.{arith}
 use borrow.Author.Needs.{needs}
 use denote.Floats.{passes}
 use lib.ListN.{length}
 use lib.Ieee.{size}
-use Rattle.axis_locate.proofs.Halving.{fewer-digits, Turn, turn-first, turn-down, turn-up, turn-last}
+use Rattle.axis_locate.proofs.Halving.{fewer-digits, Turn, turn-first, turn-down, turn-up, turn-last, met, counted, counted-first}
 use Rattle.axis_locate.proofs.Answered.{below-all, above-all, inside, located}
 use Rattle.axis_locate.proofs.locate_lower_index.Statement.{statement}
 use Rattle.axis_locate.proofs.locate_lower_index.Tie as tie
 
 abbrev Inv-loop : tie.InvT-loop
-Inv-loop knots point low₀ high₀ low high = Turn knots point (length knots - 1) low high
+Inv-loop knots point low₀ high₀ halvings₀ low high halvings =
+    Turn knots point (length knots - 1) low high × (size (high - low) + halvings ≤ 8)
 
 abbrev μ-loop : tie.MeasureT-loop
-μ-loop knots point low₀ high₀ low high = size (high - low)
+μ-loop knots point low₀ high₀ halvings₀ low high halvings = size (high - low)
 
 returns : tie.Need-returns Inv-loop μ-loop
 returns c =
@@ -31,21 +32,27 @@ returns-2 c =
     (above-all _ _ (d .if1 .left) (c .if2 .taken))
 
 loop-holds : tie.Need-loop-holds Inv-loop μ-loop
-loop-holds c = turn-first _ _ _ (omega arith)
+loop-holds c = (turn-first _ _ _ (omega arith), counted-first _ (omega arith))
 
 loop-less : tie.Need-loop-less Inv-loop μ-loop
-loop-less c = let l = c .before .before .before .loop in fewer-digits (l .high - l .low) _ (omega arith) (omega arith)
+loop-less c = let l = c .before .before .before .before .loop in fewer-digits (l .high - l .low) _ (omega arith) (omega arith)
 
 loop-again : tie.Need-loop-again Inv-loop μ-loop
 loop-again c =
-    let l = c .before .before .before .loop in turn-down _ _ _ (l .low) (l .high) (l .inv) (omega arith) _ (omega arith) (c .if4 .taken)
+    let l = c .before .before .before .before .loop in (
+      turn-down _ _ _ (l .low) (l .high) (l .inv .0) (omega arith) _ (omega arith) (c .if5 .taken),
+      counted (l .high - l .low) _ _ (omega arith) (omega arith) (l .inv .1),
+    )
 
 loop-less-2 : tie.Need-loop-less-2 Inv-loop μ-loop
-loop-less-2 c = let l = c .before .before .before .loop in fewer-digits (l .high - l .low) _ (omega arith) (omega arith)
+loop-less-2 c = let l = c .before .before .before .before .loop in fewer-digits (l .high - l .low) _ (omega arith) (omega arith)
 
 loop-again-2 : tie.Need-loop-again-2 Inv-loop μ-loop
 loop-again-2 c =
-    let l = c .before .before .before .loop in turn-up _ _ _ (l .low) (l .high) (l .inv) (omega arith) _ (omega arith) (c .if4 .left)
+    let l = c .before .before .before .before .loop in (
+      turn-up _ _ _ (l .low) (l .high) (l .inv .0) (omega arith) _ (omega arith) (c .if5 .left),
+      counted (l .high - l .low) _ _ (omega arith) (omega arith) (l .inv .1),
+    )
 
 returns-3 : tie.Need-returns-3 Inv-loop μ-loop
 returns-3 c =
@@ -54,7 +61,18 @@ returns-3 c =
     let a = d .before .before .before in
     located _ _ (d .before .shared-slice-known2 .given) (passes _ (a .good .1 .0 .1)) (a .pre) _
     (inside _ _ (d .if1 .left) (l .before .if2 .left) (l .loop .low) (c .before .one-back .result) _
-    (turn-last _ _ _ _ (l .loop .high) (l .loop .inv) (c .before .before .if3 .taken)) (c .before .one-back .ensures) (c .held .ensures))
+    (turn-last _ _ _ _ (l .loop .high) (l .loop .inv .0) (met _ _ _ (l .loop .inv .1) (c .before .before .if3 .taken)))
+    (c .before .one-back .ensures) (c .held .ensures))
+
+returns-4 : tie.Need-returns-4 Inv-loop μ-loop
+returns-4 c =
+    let l = c .before .before .before .before in
+    let d = l .before .before .before in
+    let a = d .before .before .before in
+    located _ _ (d .before .shared-slice-known2 .given) (passes _ (a .good .1 .0 .1)) (a .pre) _
+    (inside _ _ (d .if1 .left) (l .before .if2 .left) (l .loop .low) (c .before .one-back2 .result) _
+    (turn-last _ _ _ _ (l .loop .high) (l .loop .inv .0) (c .before .before .if4 .taken))
+    (c .before .one-back2 .ensures) (c .held2 .ensures))
 
 pub locate-lower-index-spec : {M : Type 1} → statement M
 locate-lower-index-spec =
@@ -73,6 +91,9 @@ locate-lower-index-spec =
     loop-holds
     (λ c κs. search needs)
     (λ c κs. search needs)
+    (λ c κs. search needs)
+    (λ c κs. search needs)
+    (λ c. search needs)
     (λ c. search needs)
     (λ c. search needs)
     (λ c. search needs)
@@ -81,4 +102,5 @@ locate-lower-index-spec =
     (λ c. search needs)
     loop-less-2
     loop-again-2
-    returns-3)
+    returns-3
+    returns-4)
