@@ -102,7 +102,8 @@ returns-2 c =
     let n = 1792 + length (a .knots .now) - 1792 in
     moments-good (a .knots .now) (a .samples .now) (a .condition) (a .moments .now) (a .scratch .now) _ _ (start .pre .0 .0)
     (start .pre .1 .0) (rw (at-copy .copy .ensures, sub-zero)) (at-compute-m .compute-m .ensures)
-    n (omega arith) _ (at-any-of-many-not-finite .any-of-many-not-finite .ensures) (at-if1 .if1 .left) n (omega arith) _ _ (at-copy2 .copy2 .ensures)
+    n (omega arith) _ (at-any-of-many-not-finite .any-of-many-not-finite .ensures) (at-if1 .if1 .left) n (omega arith) _ _
+    (at-copy2 .copy2 .ensures)
     (at-clear2 .clear2 .ensures)
 
 pub work-moments-spec : {M : Type 1} → statement M
