@@ -1,14 +1,16 @@
 // A curve of cells as bytes, judged whole, and a cursor that walks its numbers. Nothing here knows a float.
 ghost use mathlib.Core.Path.{_≡_};
-ghost use mathlib.Core.Bool.{true};
+ghost use mathlib.Core.Bool.{true, not};
 ghost use Prim.Native.Nat.{_+_, _*_, _<_, _≤_};
 ghost use lib.ListN.{length};
-ghost use Rattle.device_cell.specs.DeviceCell.{cell-number, cell-in-range};
+ghost use Rattle.device_cell.specs.DeviceCell.{cell-number, value-in-range, slope-in-range, cell-in-range};
 ghost use Rattle.device_cursor.specs.DeviceCurve.{
   four-bytes,
   number-at,
   cell-at,
+  cells,
   whole-cells,
+  all-in-range,
   curve-refusal,
   last-cursor,
   cursor-number,
@@ -85,12 +87,47 @@ fn whole_cells(length: usize) -> bool
     }
 }
 
-// Whether cell i is in range: it requires that the cell is there.
-fn in_range_at(curve: &[u8], i: usize) -> bool
-    requires { ⌜ 16 * i + 16 ≤ length (now curve) ⌝ }
-    ensures { λ r. ⌜ r ≡ cell-in-range (cell-at (now (curve .entry)) i) ⌝ }
+// Whether the number in four bytes is out of the range of a value. Lifted by 32,768, without the carry, a number in range is below 65,536,
+// and no other is. It requires that the bytes are there, as the two after it do of theirs.
+fn value_refused(curve: &[u8], at: usize) -> bool
+    requires { ⌜ at + 4 ≤ length (now curve) ⌝ }
+    ensures { λ r. ⌜ r ≡ not (value-in-range (number-at (now (curve .entry)) at)) ⌝ }
 {
-    device_cell::cell_in_range(cell_at(curve, i))
+    (four_bytes(curve, at) + 32768) % 4294967296 >= 65536
+}
+
+// The same of a slope, whose range is four times as wide.
+fn slope_refused(curve: &[u8], at: usize) -> bool
+    requires { ⌜ at + 4 ≤ length (now curve) ⌝ }
+    ensures { λ r. ⌜ r ≡ not (slope-in-range (number-at (now (curve .entry)) at)) ⌝ }
+{
+    (four_bytes(curve, at) + 131072) % 4294967296 >= 262144
+}
+
+// Whether a number of cell i is out of range.
+fn cell_refused(curve: &[u8], i: usize) -> bool
+    requires { ⌜ 16 * i + 16 ≤ length (now curve) ⌝ }
+    ensures { λ r. ⌜ r ≡ not (cell-in-range (cell-at (now (curve .entry)) i)) ⌝ }
+{
+    let at = 16 * i;
+    value_refused(curve, at)
+        | value_refused(curve, at + 4)
+        | slope_refused(curve, at + 8)
+        | slope_refused(curve, at + 12)
+}
+
+// Whether a number of a cell is out of range. The flag is kept to the last cell, so the compiler looks at several cells at a time.
+fn some_cell_refused(curve: &[u8]) -> bool
+    ensures { λ r. ⌜ r ≡ not (all-in-range (now (curve .entry)) (cells (now (curve .entry)))) ⌝ }
+{
+    let cells = curve.len() / 16;
+    let mut refused = false;
+    let mut i = 0;
+    while i < cells {
+        refused = refused | cell_refused(curve, i);
+        i += 1;
+    }
+    refused
 }
 
 // The refusal of a curve, which is judged whole: 20 for its length, then 19 for its numbers.
@@ -98,16 +135,7 @@ pub fn curve_refusal(curve: &[u8]) -> usize
     ensures { λ r. ⌜ r ≡ curve-refusal (now (curve .entry)) ⌝ }
 {
     if whole_cells(curve.len()) {
-        let cells = curve.len() / 16;
-        let mut i = 0;
-        while i < cells {
-            if in_range_at(curve, i) {
-                i += 1;
-            } else {
-                return 19;
-            }
-        }
-        0
+        if some_cell_refused(curve) { 19 } else { 0 }
     } else {
         20
     }
