@@ -11,16 +11,16 @@ use Rattle.report.proofs.take_sheets.Statement.{statement}
 use Rattle.report.proofs.take_sheets.Tie as tie
 
 abbrev Inv-loop : tie.InvT-loop
-Inv-loop bytes least knots₀ samples₀ tensor₀ scratch₀ sum₀ at₀ knots samples tensor scratch sum at =
-    Turn sum₀ bytes least sum at × Alike knots₀ samples₀ tensor₀ scratch₀ knots samples tensor scratch
+Inv-loop bytes least knots₀ samples₀ scratch₀ sum₀ at₀ knots samples scratch sum at =
+    Turn sum₀ bytes least sum at × Alike knots₀ samples₀ scratch₀ knots samples scratch
 
 abbrev μ-loop : tie.MeasureT-loop
-μ-loop bytes least knots₀ samples₀ tensor₀ scratch₀ sum₀ at₀ knots samples tensor scratch sum at = length bytes - at
+μ-loop bytes least knots₀ samples₀ scratch₀ sum₀ at₀ knots samples scratch sum at = length bytes - at
 
 loop-holds : tie.Need-loop-holds Inv-loop μ-loop
 loop-holds c = (
   turn-first _ _ _ (c .before .before .before .before .before .pre .0),
-  record { knots-alike = refl; samples-alike = refl; tensor-alike = refl; scratch-alike = refl },
+  record { knots-alike = refl; samples-alike = refl; scratch-alike = refl },
 )
 
 take-sheet-requires : tie.Need-take-sheet-requires Inv-loop μ-loop
@@ -32,7 +32,7 @@ take-sheet-requires c κs =
     let part = turn-part _ _ _ _ _ turn (at-loop-test .loop-test .taken) in (
       turn .running,
       rw part (simp length-drop (omega arith)),
-      alike-buffers _ _ _ _ _ _ _ _ (start .pre .2) (head .loop .inv .1),
+      alike-buffers _ _ _ _ _ _ (start .pre .2) (head .loop .inv .1),
     )
 
 -- where the loop's turn begins, of a place where its sheet was taken
@@ -76,7 +76,7 @@ loop-again c =
     let alike = head b .loop .inv .1 in
     let kept = b .take-sheet .kept in (
       turn-next _ _ _ _ _ (head b .loop .inv .0) (at-loop-test .loop-test .taken) _ (stepped b) (c .if1 .left),
-      record { knots-alike = omega arith; samples-alike = omega arith; tensor-alike = omega arith; scratch-alike = omega arith },
+      record { knots-alike = omega arith; samples-alike = omega arith; scratch-alike = omega arith },
     )
 
 returns-2 : tie.Need-returns-2 Inv-loop μ-loop
