@@ -44,7 +44,7 @@ refused-alone totals later bytes refusal e met adds =
     let all-of = tensor-entries (axes bytes) (tensor (sheet-grid bytes) (sheet-samples bytes)) in
     record { refused = sym e; adds = rw (e, nothing-accepted refusal all-of met) adds }
 
-module _ (totals : Totals) (bytes : List ℕ) (sheet : ReadAnswer) (looked : Looked bytes sheet) where
+module _ (bytes : List ℕ) (sheet : ReadAnswer) (looked : Looked bytes sheet) where
   -- by its fault
   fault-alone : (sheet .refusal ≡ 0 → ⊥) → own-refusal bytes ≡ sheet .refusal
   unfolding own-refusal
@@ -54,9 +54,9 @@ module _ (totals : Totals) (bytes : List ℕ) (sheet : ReadAnswer) (looked : Loo
   pub fault-few : (sheet .refusal ≡ 0 → ⊥) → sheet .refusal < 24
   fault-few met = omega (arith, fault-alone met, own-few bytes)
 
-  pub fault-counted : (later : Totals) → (sheet .refusal ≡ 0 → ⊥) → Adds totals (sheet .refusal) [] later
+  pub fault-counted : (totals later : Totals) → (sheet .refusal ≡ 0 → ⊥) → Adds totals (sheet .refusal) [] later
       → SheetCounted totals bytes later (sheet .refusal)
-  fault-counted later met adds = refused-alone totals later bytes (sheet .refusal) (fault-alone met) met adds
+  fault-counted totals later met adds = refused-alone totals later bytes (sheet .refusal) (fault-alone met) met adds
 
   -- a sheet that was read
   module _ (none : sheet .refusal ≡ 0) where
@@ -65,6 +65,9 @@ module _ (totals : Totals) (bytes : List ℕ) (sheet : ReadAnswer) (looked : Loo
 
     abbrev g : Grid
     g = sheet-grid bytes
+
+    pub numbers-few : tensor-length g ≤ 4096
+    numbers-few = few-numbers bytes faultless
 
     built-alone : own-refusal bytes ≡ building-refusal bytes
     unfolding own-refusal
@@ -76,7 +79,7 @@ module _ (totals : Totals) (bytes : List ℕ) (sheet : ReadAnswer) (looked : Loo
       parts-room bytes (sheet .edition) (sheet .axes) (sheet .all) knots samples faultless (given-edition bytes sheet looked none)
           (given-axes bytes sheet looked none) (given-all bytes sheet looked none) (omega (arith, long .knots-long))
           (omega (arith, long .samples-long)),
-      omega (arith, few-numbers bytes faultless, long .scratch-long),
+      omega (arith, numbers-few, long .scratch-long),
     )
 
     pub tensor-counted : tensor-length (sizes-of (sheet .axes) (sheet .all)) ≡ tensor-length g
@@ -90,8 +93,8 @@ module _ (totals : Totals) (bytes : List ℕ) (sheet : ReadAnswer) (looked : Loo
       pub build-few : refusal < 24
       build-few = omega (arith, own-is, own-few bytes)
 
-      pub build-counted : (later : Totals) → (refusal ≡ 0 → ⊥) → Adds totals refusal [] later → SheetCounted totals bytes later refusal
-      build-counted later met adds = refused-alone totals later bytes refusal own-is met adds
+      pub build-counted : (totals later : Totals) → (refusal ≡ 0 → ⊥) → Adds totals refusal [] later → SheetCounted totals bytes later refusal
+      build-counted totals later met adds = refused-alone totals later bytes refusal own-is met adds
 
       -- and is accepted
       module _ (built : refusal ≡ 0) (end : ℕ) (end-is : end ≡ tensor-length g) where
@@ -110,17 +113,17 @@ module _ (totals : Totals) (bytes : List ℕ) (sheet : ReadAnswer) (looked : Loo
               some = omega (arith, few .0, own);
               few = omega (arith, few .1, own);
               whole = rw (long, own) (whole-places (samples-length g) (axes bytes));
-              small = omega (arith, long, few-numbers bytes faultless);
+              small = omega (arith, long, numbers-few);
               finite = rw taken (tensor-finite bytes (sym (stands .refused) ∙ built));
             }
           where
             whole-places : (places n : ℕ) → places * 2 ^ n ≡ places * 2 ^ n / 2 ^ n * 2 ^ n
             whole-places places n = ap (λ (k : ℕ). k * 2 ^ n) (sym (mul-div-cancel places (pow-pos n)))
 
-        pub accepted-counted : (later : Totals) → Adds totals 0 (tensor-entries (sheet .axes) (take end (drop 2048 scratch))) later
+        pub accepted-counted : (totals later : Totals) → Adds totals 0 (tensor-entries (sheet .axes) (take end (drop 2048 scratch))) later
             → SheetCounted totals bytes later 0
         unfolding sheet-at
-        accepted-counted later adds =
+        accepted-counted totals later adds =
             let zero-is : own-refusal bytes ≡ 0 = own-is ∙ built in
             record {
               refused = sym zero-is;

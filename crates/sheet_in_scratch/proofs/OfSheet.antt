@@ -68,22 +68,22 @@ module _ (bytes : List ℕ) (said n : ℕ) (all : List Axis) (knots-lent samples
   unfolding sheet-grid
   grid-is = rw (s .axes-said, s .found)
 
+  -- the first knots of their buffer are the sheet's
+  module _ (knots : List Float) (stand : knots ≡ over (g .flat-knots) knots-lent) (end : ℕ) (e : end ≡ knots-length (sizes-of n all)) where
+    pub knots-within : end ≤ length knots
+    knots-within = rw (stand, length-append) (omega (arith, knots-are, has .knots))
+
+    pub knots-taken : take (end - 0) knots ≡ g .flat-knots
+    knots-taken = rw (sub-zero end, e, knots-are, stand) (take-over (g .flat-knots) knots-lent (knots-length g) (has .knots))
+
   module _ (knots samples : List Float) (k : knots ≡ over (knots-below bytes (axes bytes)) knots-lent)
       (y : samples ≡ over (sheet-samples bytes) samples-lent) where
     pub knots-over : knots ≡ over (g .flat-knots) knots-lent
     unfolding sheet-grid
     knots-over = k
 
-    pub knots-within : (end : ℕ) → end ≡ knots-length (sizes-of n all) → end ≤ length knots
-    knots-within end e = rw (knots-over, length-append) (omega (arith, knots-are, has .knots))
-
     pub samples-within : (end : ℕ) → end ≡ samples-length (sizes-of n all) → end ≤ length samples
     samples-within end e = rw (y, length-append) (omega (arith, samples-are, has .samples))
-
-    -- the first knots of their buffer are the sheet's
-    pub knots-taken : (end : ℕ) → end ≡ knots-length (sizes-of n all) → take (end - 0) knots ≡ g .flat-knots
-    knots-taken end e =
-        rw (sub-zero end, e, knots-are, knots-over) (take-over (g .flat-knots) knots-lent (knots-length g) (has .knots))
 
     samples-taken : (end : ℕ) → end ≡ samples-length (sizes-of n all) → take (end - 0) samples ≡ sheet-samples bytes
     samples-taken end e =
@@ -97,7 +97,7 @@ module _ (bytes : List ℕ) (said n : ℕ) (all : List Axis) (knots-lent samples
     sheet-stands knots-end samples-end numbers r scratch later a b t enough stands =
         let count : numbers ≡ tensor-length g = t ∙ tensor-is in
         let p : InScratch g (sheet-samples bytes) (tensor-length g) scratch r later =
-        rw (knots-taken knots-end a, grid-is, samples-taken samples-end b, count) at stands in
+        rw (knots-taken knots knots-over knots-end a, grid-is, samples-taken samples-end b, count) at stands in
         record {
           refused = p .answer ∙ lent-build bytes (zeros (tensor-length g)) scratch (length-replicate (tensor-length g) plus-zero) enough;
           knots = knots-over;

@@ -2,11 +2,16 @@
 // out.
 ghost use mathlib.Core.Path.{_≡_};
 ghost use mathlib.Core.List.{[], _∷_};
+ghost use Prim.Native.Nat.{_≤_};
+ghost use lib.ListN.{length};
+ghost use Rattle.rules.specs.Sizes.{scratch-length};
 ghost use Rattle.rules.specs.Calls.{or-else};
 ghost use Rattle.sheet_patterns.specs.Patterns.{answer-pattern};
+ghost use Rattle.sheet_read.specs.Fields.{sheet-grid};
+ghost use Rattle.sheet_read.specs.FoundSoFar.{PartsRoom};
 ghost use Rattle.sheet_build.specs.SheetTensor.{building-refusal};
-ghost use Rattle.sheet_surface.specs.SheetSurface.{asked, SurfacePromise};
-ghost use Rattle.sheet_surface.specs.OnTheStack.{SmallSheet, Room, Built};
+ghost use Rattle.sheet_surface.specs.SheetSurface.{most-on-the-stack, asked, SurfacePromise};
+ghost use Rattle.sheet_surface.specs.OnTheStack.{SmallSheet};
 use grid_scratch::TENSOR;
 use rules::Axis;
 use sheet_in_scratch::tensor_in_scratch;

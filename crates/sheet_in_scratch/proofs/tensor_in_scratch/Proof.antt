@@ -1,5 +1,5 @@
 -- The sheet's knots and samples stand in the first places of their buffers, so what is built there is the sheet's tensor.
-use Rattle.sheet_in_scratch.proofs.OfSheet.{range, knots-within, samples-within, sheet-stands}
+use Rattle.sheet_in_scratch.proofs.OfSheet.{range, knots-within, knots-over, samples-within, sheet-stands}
 use borrow.Author.Needs.{needs}
 use Rattle.sheet_in_scratch.proofs.tensor_in_scratch.Statement.{statement}
 use Rattle.sheet_in_scratch.proofs.tensor_in_scratch.Tie as tie
@@ -22,8 +22,8 @@ part-build-in-scratch-end : tie.Need-part-build-in-scratch-end
 part-build-in-scratch-end c =
     let at-knots-length = c .before .before .before in
     let stored = at-knots-length .before .before .before .before .before in
-    knots-within _ _ _ _ _ _ (start stored .pre .0) _ _ (stored .store-parts .ensures .0) (stored .store-parts .ensures .1) _
-    (at-knots-length .knots-length .ensures .0)
+    let over = knots-over _ _ _ _ _ _ (start stored .pre .0) _ _ (stored .store-parts .ensures .0) (stored .store-parts .ensures .1) in
+    knots-within _ _ _ _ _ _ (start stored .pre .0) _ over _ (at-knots-length .knots-length .ensures .0)
 
 part-build-in-scratch-end-2 : tie.Need-part-build-in-scratch-end-2
 part-build-in-scratch-end-2 c =
