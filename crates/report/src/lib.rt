@@ -159,14 +159,7 @@ pub fn feed(totals: Totals, bytes: &[u8], least: usize) -> Step
     let mut knots = [0.0; 1024];
     let mut samples = [0.0; 1024];
     let mut scratch = [0.0; 6144];
-    take_sheets(
-        totals,
-        bytes,
-        least,
-        &mut knots,
-        &mut samples,
-        &mut scratch,
-    )
+    take_sheets(totals, bytes, least, &mut knots, &mut samples, &mut scratch)
 }
 
 // PUBLIC. The report of a stream of sheets that is all in memory: the totals of its sheets up to its end, or up to the sheet in which it

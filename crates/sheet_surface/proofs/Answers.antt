@@ -6,7 +6,7 @@ use Prim.Native.Nat.{ℕ, zero, suc, _-_, _<_, _≤_}
 use native.Mathlib.Nat.{sub-zero}
 use native.Mathlib.Omega.{arith}
 use borrow.Author.Tests.{not-false, lt-ltb, le-ltb}
-use lib.ListN.{length, take}
+use lib.ListN.{length, take, drop}
 use lib.Ieee.{Float}
 use lib.Ieee.Scale.{finite}
 use Rattle.rules.specs.Numbers.{at, table}
@@ -112,14 +112,16 @@ module _ (bytes patterns : List ℕ) where
 
   module _ (said n : ℕ) (all : List Axis) (s : ReadSheet bytes said n all) where
     pub query-asked :
-        (knots tensor four : List Float) (a : QueryAnswer) → knots ≡ sheet-grid bytes .flat-knots → tensor ≡ built bytes
-        → four ≡ coordinates 4 patterns → QueryPromise (grid n all knots) tensor (take (n - 0) four) a
+        (knots scratch four : List Float) (end : ℕ) (a : QueryAnswer) → knots ≡ sheet-grid bytes .flat-knots
+        → end ≡ tensor-length (sheet-grid bytes)
+        → take (tensor-length (sheet-grid bytes)) (drop 2048 scratch) ≡ built bytes
+        → four ≡ coordinates 4 patterns → QueryPromise (grid n all knots) (take end (drop 2048 scratch)) (take (n - 0) four) a
         → a ≡ asked bytes patterns
     unfolding asked
-    query-asked knots tensor four a knots-are tensor-are four-are q =
+    query-asked knots scratch four end a knots-are end-is stands four-are q =
         let c : take (n - 0) four ≡ coordinates (sheet-grid bytes .axes) patterns
         = rw (sub-zero n, four-are, taken _ n (range bytes said n all s .few-axes), axes-are bytes said n all s) in
-        rw (knots-are, grid-is bytes said n all s, tensor-are, c) at (q .answer)
+        rw (knots-are, grid-is bytes said n all s, end-is, stands, c) at (q .answer)
 
 -- ---- the call
 
