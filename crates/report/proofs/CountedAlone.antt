@@ -93,7 +93,8 @@ module _ (bytes : List ℕ) (sheet : ReadAnswer) (looked : Looked bytes sheet) w
       pub build-few : refusal < 24
       build-few = omega (arith, own-is, own-few bytes)
 
-      pub build-counted : (totals later : Totals) → (refusal ≡ 0 → ⊥) → Adds totals refusal [] later → SheetCounted totals bytes later refusal
+      pub build-counted : (totals later : Totals) → (refusal ≡ 0 → ⊥) → Adds totals refusal [] later
+          → SheetCounted totals bytes later refusal
       build-counted totals later met adds = refused-alone totals later bytes refusal own-is met adds
 
       -- and is accepted

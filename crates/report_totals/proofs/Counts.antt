@@ -65,7 +65,8 @@ module _ (axes masks mask places : ℕ) (numbers : List Float) (given : InPlaces
   pub finite-at : (k : ℕ) → k < length numbers → finite (at numbers k) ≡ true
   finite-at k h = truth (finite (at numbers k)) (any-at _ (length numbers) (given .finite) k h)
 
-  module _ (nonzero largest next-nonzero next-largest e p : ℕ) (t : Counted masks mask places numbers nonzero largest next-nonzero next-largest e p) where
+  module _ (nonzero largest next-nonzero next-largest e p : ℕ)
+      (t : Counted masks mask places numbers nonzero largest next-nonzero next-largest e p) where
     pub counts-few : (nonzero ≤ p) × (next-nonzero ≤ p)
     counts-few = (
       rw (t .first) at (of-mask-most masks mask numbers p .1),

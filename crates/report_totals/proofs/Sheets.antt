@@ -72,7 +72,8 @@ pub nothing-tallied : (orders : List OrderTotals) → Tallied orders [] orders
 nothing-tallied orders before said = said ∙ ap orders-of (sym (append-nil before))
 
 pub sheet-adds : (totals : Totals) (refusal : ℕ) → refusal < 24 → (entries : List Entry) (orders : List OrderTotals)
-    → Tallied (totals .orders) entries orders → (later : Totals) → later ≡ sheet-added totals refusal orders → Adds totals refusal entries later
+    → Tallied (totals .orders) entries orders → (later : Totals) → later ≡ sheet-added totals refusal orders
+    → Adds totals refusal entries later
 sheet-adds totals refusal h entries orders tallied later e = record {
   counted = ap (λ (t : Totals). t .sheets) e;
   adds = λ seen said. e ∙ totals-next seen (record { refusal = refusal; tensor = entries }) h totals orders said tallied;

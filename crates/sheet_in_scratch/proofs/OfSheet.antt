@@ -28,7 +28,8 @@ use Rattle.sheet_build.proofs.Enough.{lent-build}
 use Rattle.sheet_in_scratch.specs.InScratch.{InScratch, SheetInScratch}
 
 -- a sheet that the build accepts has a tensor of finite numbers
-pub tensor-finite : (bytes : List ℕ) → building-refusal bytes ≡ 0 → outcome-refused (tensor (sheet-grid bytes) (sheet-samples bytes)) ≡ false
+pub tensor-finite : (bytes : List ℕ) → building-refusal bytes ≡ 0
+    → outcome-refused (tensor (sheet-grid bytes) (sheet-samples bytes)) ≡ false
 unfolding building-refusal
 tensor-finite bytes none =
     let g = sheet-grid bytes in

@@ -78,10 +78,10 @@ module _ (half-of : ℕ) (bytes : List ℕ) (said n : ℕ) (all : List Axis) (s 
   abbrev own : InRange (sheet-grid bytes .axes) (points (sheet-grid bytes))
   own = own-range bytes said n all (s .read)
 
-  samples-most : samples-length (sheet-grid bytes) ≤ half-of
+  pub samples-most : samples-length (sheet-grid bytes) ≤ half-of
   samples-most = half (samples-length (sheet-grid bytes)) (sheet-grid bytes .axes) half-of (own .some-axes) (own .few-axes) (s .small)
 
-  knots-most : knots-length (sheet-grid bytes) ≤ half-of
+  pub knots-most : knots-length (sheet-grid bytes) ≤ half-of
   knots-most = omega (arith, samples-most, sum-most (points (sheet-grid bytes)) (sheet-grid bytes .axes) own)
 
   pub stack-room : (knots samples scratch : List Float) → length knots ≡ half-of → length samples ≡ half-of

@@ -24,7 +24,9 @@ abbrev start : tie.After-tensor-in-scratch → tie.Start
 start b = b .before .before .before .before .before .before .before .before .before
 
 tensor-in-scratch-requires : tie.Need-tensor-in-scratch-requires
-tensor-in-scratch-requires c κs = let pre = c .before .before .before .before .before .before .before .before .pre in room _ _ (pre .1) (pre .2) _ _ _ (pre .3)
+tensor-in-scratch-requires c κs =
+    let pre = c .before .before .before .before .before .before .before .before .pre in
+    room _ _ (pre .1) (pre .2) _ _ _ (pre .3)
 
 with-refused-requires : tie.Need-with-refused-requires
 with-refused-requires c κs =
@@ -45,16 +47,18 @@ tensor-length-requires c κs =
     range _ _ _ _ _ _ (room _ _ (pre .1) (pre .2) _ _ _ (pre .3) .0)
 
 -- the tensor's length, of the sheet's grid
-counted : (l : tie.After-tensor-length)
-    → l .tensor-length .result ≡ tensor-length (sheet-grid (start (l .before .before .before .before .before .before .before .before) .args .bytes .now))
+abbrev built : tie.After-tensor-length → tie.After-tensor-in-scratch
+built l = l .before .before .before .before .before .before .before .before
+
+counted : (l : tie.After-tensor-length) → l .tensor-length .result ≡ tensor-length (sheet-grid (start (built l) .args .bytes .now))
 counted l =
-    let pre = start (l .before .before .before .before .before .before .before .before) .pre in
+    let pre = start (built l) .pre in
     l .tensor-length .ensures .0 ∙ tensor-counted _ _ (pre .1) (pre .2)
 
 part-with-accepted-end : tie.Need-part-with-accepted-end
 part-with-accepted-end c =
     let l = c .before in
-    let b = l .before .before .before .before .before .before .before .before in
+    let b = built l in
     let pre = start b .pre in
     let kept = b .tensor-in-scratch .kept in
     omega (arith, counted l, numbers-few _ _ (pre .1) (pre .2), pre .3 .scratch-long)
@@ -62,7 +66,7 @@ part-with-accepted-end c =
 with-accepted-requires : tie.Need-with-accepted-requires
 with-accepted-requires c κs =
     let l = c .before .before in
-    let b = l .before .before .before .before .before .before .before .before in
+    let b = built l in
     let pre = start b .pre in (
       in-places _ _ (pre .1) (pre .2) _ _ _ _ (b .tensor-in-scratch .ensures) (l .before .if1 .left) _
           (add-sub-cancel-left _ _ ∙ counted l),
@@ -72,7 +76,7 @@ with-accepted-requires c κs =
 returns-2 : tie.Need-returns-2
 returns-2 c =
     let l = c .before .before .before in
-    let b = l .before .before .before .before .before .before .before .before in
+    let b = built l in
     let pre = start b .pre in
     accepted-counted _ _ (pre .1) (pre .2) _ _ _ _ (b .tensor-in-scratch .ensures) (l .before .if1 .left) _
     (add-sub-cancel-left _ _ ∙ counted l) _ _ (c .with-accepted .ensures)

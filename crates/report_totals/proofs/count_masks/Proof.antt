@@ -35,7 +35,8 @@ there l =
     let pre = begin l .pre in
     inside _ _ _ _ _ (pre .0) (pre .1) (pre .2) (pre .3) _ _ _ _ _ _ (l .before .loop .inv) (l .loop-test .taken)
 
-few : (l : tie.In-loop Inv-loop μ-loop) → (l .before .loop .nonzero ≤ l .before .loop .p) × (l .before .loop .next-nonzero ≤ l .before .loop .p)
+few : (l : tie.In-loop Inv-loop μ-loop)
+    → (l .before .loop .nonzero ≤ l .before .loop .p) × (l .before .loop .next-nonzero ≤ l .before .loop .p)
 few l =
     let pre = begin l .pre in
     counts-few _ _ _ _ _ (pre .0) (pre .1) (pre .2) (pre .3) _ _ _ _ _ _ (l .before .loop .inv)

@@ -28,7 +28,8 @@ abbrev start : tie.In-loop Inv-loop μ-loop → tie.Start Inv-loop μ-loop
 start l = l .before .before .before .before
 
 -- both masks are there, and a number of masks is small
-pair : (l : tie.In-loop Inv-loop μ-loop) → (l .before .loop .mask + 1 < l .before .before .masks .result) × (l .before .before .masks .result ≤ 16)
+pair : (l : tie.In-loop Inv-loop μ-loop)
+    → (l .before .loop .mask + 1 < l .before .before .masks .result) × (l .before .before .masks .result ≤ 16)
 pair l =
     let masks = l .before .before .masks .ensures in
     let even = masks-even _ (start l .pre .0 .some) in

@@ -35,7 +35,8 @@ store-samples-requires c κs =
     let masks = c .before in
     let checked = masks .before in
     let args = start checked .args in (
-      samples-lie _ _ (zeros (args .numbers)) (args .scratch .now) (known _ _ _ (args .scratch .now) (passed checked)) _ (masks .masks .ensures .0),
+      samples-lie _ _ (zeros (args .numbers)) (args .scratch .now) (known _ _ _ (args .scratch .now) (passed checked)) _
+          (masks .masks .ensures .0),
       rw (masks .masks .ensures .0) (pow-pos (args .axes)),
     )
 
@@ -72,8 +73,8 @@ returns-2 c =
     let stored = solved .before .before .before .before in
     let masks = stored .before .before in
     let checked = masks .before in
-    outcome-bad _ _ _ (start checked .args .scratch .now) (passed checked) _ _ _ _ _ _ (masks .masks .ensures .0) (stored .store-samples .ensures)
-    (solved .solve-axes .ensures .0) (add-sub-cancel-left _ _) (c .before .any-of-many-not-finite .ensures) (c .if2 .taken)
+    outcome-bad _ _ _ (start checked .args .scratch .now) (passed checked) _ _ _ _ _ _ (masks .masks .ensures .0)
+    (stored .store-samples .ensures) (solved .solve-axes .ensures .0) (add-sub-cancel-left _ _) (c .before .any-of-many-not-finite .ensures) (c .if2 .taken)
 
 returns-3 : tie.Need-returns-3
 returns-3 c =
@@ -81,8 +82,8 @@ returns-3 c =
     let stored = solved .before .before .before .before in
     let masks = stored .before .before in
     let checked = masks .before in
-    outcome-good _ _ _ (start checked .args .scratch .now) (passed checked) _ _ _ _ _ _ (masks .masks .ensures .0) (stored .store-samples .ensures)
-    (solved .solve-axes .ensures .0) (add-sub-cancel-left _ _) (c .before .any-of-many-not-finite .ensures) (c .if2 .left)
+    outcome-good _ _ _ (start checked .args .scratch .now) (passed checked) _ _ _ _ _ _ (masks .masks .ensures .0)
+    (stored .store-samples .ensures) (solved .solve-axes .ensures .0) (add-sub-cancel-left _ _) (c .before .any-of-many-not-finite .ensures) (c .if2 .left)
 
 pub build-in-scratch-spec : {M : Type 1} → statement M
 build-in-scratch-spec =

@@ -16,7 +16,9 @@ abbrev start : tie.After-tensor-in-scratch → tie.Start
 start b = b .before .before .before .before .before .before .before .before
 
 refusal-pattern-requires : tie.Need-refusal-pattern-requires
-refusal-pattern-requires c κs = built-few _ _ (c .before .before .before .before .before .before .before .tensor-in-scratch .ensures .refused)
+refusal-pattern-requires c κs =
+    let b = c .before .before .before .before .before .before .before in
+    built-few _ _ (b .tensor-in-scratch .ensures .refused)
 
 returns : tie.Need-returns
 returns c =
@@ -58,7 +60,8 @@ part-query-end-3 c =
     let long = four-long (begin .args .patterns) _ (at-coordinates-of .coordinates-of .ensures) in omega arith
 
 is-asked : (c : tie.After-query)
-    → let begin = start (built (c .before .before .before .before .before .before .before .before)) .args in c .query .result ≡ asked (begin .bytes .now) (begin .patterns)
+    → let begin = start (built (c .before .before .before .before .before .before .before .before)) .args in
+    c .query .result ≡ asked (begin .bytes .now) (begin .patterns)
 is-asked c =
     let at-coordinates-of = c .before .before .before .before .before .before .before in
     let l = at-coordinates-of .before in

@@ -8,8 +8,8 @@ use Rattle.sheet_surface.proofs.on_the_stack.Tie as tie
 
 build-and-query-requires : tie.Need-build-and-query-requires
 build-and-query-requires c κs =
-    stack-room 256 _ _ _ _ (c .before .before .before .before .pre) _ _ (zeros 2560) (length-replicate 256 plus-zero) (length-replicate 256 plus-zero)
-    (length-replicate 2560 plus-zero)
+    stack-room 256 _ _ _ _ (c .before .before .before .before .pre) _ _ (zeros 2560)
+    (length-replicate 256 plus-zero) (length-replicate 256 plus-zero) (length-replicate 2560 plus-zero)
 
 pub on-the-stack-spec : {M : Type 1} → statement M
 on-the-stack-spec =

@@ -8,8 +8,8 @@ use Rattle.sheet_surface.proofs.small_on_the_stack.Tie as tie
 
 build-and-query-requires : tie.Need-build-and-query-requires
 build-and-query-requires c κs =
-    stack-room 32 _ _ _ _ (c .before .before .before .before .pre) _ _ (zeros 2112) (length-replicate 32 plus-zero) (length-replicate 32 plus-zero)
-    (length-replicate 2112 plus-zero)
+    stack-room 32 _ _ _ _ (c .before .before .before .before .pre) _ _ (zeros 2112)
+    (length-replicate 32 plus-zero) (length-replicate 32 plus-zero) (length-replicate 2112 plus-zero)
 
 pub small-on-the-stack-spec : {M : Type 1} → statement M
 small-on-the-stack-spec =
