@@ -74,7 +74,8 @@ returns-2 c =
     let masks = stored .before .before in
     let checked = masks .before in
     outcome-bad _ _ _ (start checked .args .scratch .now) (passed checked) _ _ _ _ _ _ (masks .masks .ensures .0)
-    (stored .store-samples .ensures) (solved .solve-axes .ensures .0) (add-sub-cancel-left _ _) (c .before .any-of-many-not-finite .ensures) (c .if2 .taken)
+    (stored .store-samples .ensures) (solved .solve-axes .ensures .0)
+    (add-sub-cancel-left _ _) (c .before .any-of-many-not-finite .ensures) (c .if2 .taken)
 
 returns-3 : tie.Need-returns-3
 returns-3 c =
@@ -83,7 +84,8 @@ returns-3 c =
     let masks = stored .before .before in
     let checked = masks .before in
     outcome-good _ _ _ (start checked .args .scratch .now) (passed checked) _ _ _ _ _ _ (masks .masks .ensures .0)
-    (stored .store-samples .ensures) (solved .solve-axes .ensures .0) (add-sub-cancel-left _ _) (c .before .any-of-many-not-finite .ensures) (c .if2 .left)
+    (stored .store-samples .ensures) (solved .solve-axes .ensures .0)
+    (add-sub-cancel-left _ _) (c .before .any-of-many-not-finite .ensures) (c .if2 .left)
 
 pub build-in-scratch-spec : {M : Type 1} → statement M
 build-in-scratch-spec =
