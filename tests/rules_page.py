@@ -46,14 +46,14 @@ CRATES = [
     "c_sheet",
     "c_step",
     "c_device",
-    "doubles_patterns",
-    "hullashlar_doubles",
     "exact_arithmetic",
     "exact_rationals",
     "exact_spline",
     "exact_rounding",
     "exact_floats",
     "exact_calls",
+    "doubles_patterns",
+    "hullashlar_doubles",
 ]
 
 # Files that say what functions need from each other, or what follows from promises, and no promise of a public call; and chapters about no file.
