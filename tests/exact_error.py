@@ -181,7 +181,7 @@ def main():
                 worst = max(worst, largest, key=lambda one: one[0])
             print(f"| {' × '.join(map(str, points))} | {ends} | " + " | ".join(row) + " |", flush=True)
     error, point, sheet = worst
-    print(f"\n{asked} values. The worst is off by {error:.2f} units, at the point {point} of this sheet:")
+    print(f"\n{asked} values. The worst is off by {error:.2f} units, where the spline is {float(sheet.exact(point))}, at {point} of this sheet:")
     print(f"points {sheet.points}, kind of ends {sheet.end}\nknots {sheet.axes}\nsamples {sheet.samples}")
     if not asked or not error:
         sys.exit("nothing was measured")
