@@ -1,12 +1,12 @@
-// The direct query as `hullashlar` exports it, over numbers and plain slices. It returns its refusal's number, 0 for none, in the order that
-// c_refusals::own says.
+// The direct query as `hullashlar` exports it, over numbers and plain slices. It returns its refusal's number, 0 for none, in the order
+// that c_refusals::own says.
 ghost use Rattle.c_direct.specs.DirectExports.{DirectQueryExport};
 use c_refusals::own;
 use c_refusals::slots;
 
 // The surface's value at the coordinates, in a slot of one, and the four labels, with a mode for each axis, in the cell that one division
-// finds, on any knots. Refuses as the quick query, 1 2 3 4, 7 for a coordinate, 8 for the found cell's knots, 18 10, in this order, and then
-// value and labels are 0; and 4 and 22 of its own.
+// finds, on any knots. Refuses as the quick query, 1 2 3 4, 7 for a coordinate, 8 for the found cell's knots, 18 10, in this order, and
+// then value and labels are 0; and 4 and 22 of its own.
 pub fn direct_query(
     axes: usize,
     points: &[usize],

@@ -1,5 +1,5 @@
-// The quick query and the direct query of many points as `hullashlar` exports them, over numbers and plain slices. Each returns its refusal's
-// number, 0 for none, and then nothing is written.
+// The quick query and the direct query of many points as `hullashlar` exports them, over numbers and plain slices. Each returns its
+// refusal's number, and then nothing is written, or 0.
 ghost use Rattle.c_many.specs.ManyExports.{QuickQueriesExport, DirectQueriesExport};
 use query_answer::ways::Way;
 

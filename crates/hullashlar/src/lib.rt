@@ -1,5 +1,5 @@
-// The twenty-three calls for C, over numbers and plain slices. Each but the firmware's returns its refusal's number, 0 for none: the host's own
-// first, as c_refusals::own and the crates of exports have them, and then the call's.
+// The twenty-three calls for C, over numbers and plain slices. Each but the firmware's returns its refusal's number, 0 for none: the
+// host's own first, as c_refusals::own and the crates of exports have them, and then the call's.
 ghost use mathlib.Core.List.{[], _∷_};
 ghost use Rattle.rules.specs.Calls.{SlopesPromise};
 ghost use Rattle.sheet_surface.specs.SheetSurface.{SurfacePromise};

@@ -26,7 +26,8 @@ module _ (g : Grid) (exact : length (g .flat-knots) ≡ knots-length g) (numbers
   pub rising-on-axis : knots-refused (knots g i) (points g i) ≡ false → Rising (knots g i) (points g i)
   rising-on-axis = accepted-rise (knots g i) (points g i) (knots-of-axis g exact i lt) axis-numbers
 
-  pub cell-accepted : knots-refused (knots g i) (points g i) ≡ false → (l : ℕ) → l + 1 < points g i → found-cell-refused (knots g i) l ≡ false
+  pub cell-accepted :
+      knots-refused (knots g i) (points g i) ≡ false → (l : ℕ) → l + 1 < points g i → found-cell-refused (knots g i) l ≡ false
   unfolding found-cell-refused
   cell-accepted rise l inside =
       let rising = rising-on-axis rise in

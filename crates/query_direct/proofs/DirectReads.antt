@@ -1,5 +1,5 @@
 -- What a direct query reads. Knots that agree at the first two of each axis, at the two of the found cell and, where the mode is hold or
--- refuse, at the last, and tensors that agree at the cell that is found, have one whole answer. So at most 5 knots of an axis are looked at.
+-- refuse, at the last, and tensors that agree at the cell that is found, have one whole answer. So at most 5 knots of an axis matter.
 use native.Mathlib.Omega.{arith}
 use mathlib.Core.Path.{_≡_, refl, sym, ap, _∙_}
 use mathlib.Core.List.{List}
@@ -102,7 +102,8 @@ module _ (axes : ℕ) (all : List Axis) (x x′ tensor tensor′ coordinates : L
 
       placed-same : placed-on g (at coordinates) i ≡ placed-on g′ (at coordinates) i
       placed-same =
-          placed-alike (knots g i) (knots g′ i) (at coordinates i) (axis-count i) first-same (mode-at g i) (cells i) (alike .knots-agree i l)
+          placed-alike (knots g i) (knots g′ i) (at coordinates i) (axis-count i) first-same (mode-at g i) (cells i)
+          (alike .knots-agree i l)
 
       outside-same :
           outside-refused (mode-at g i) (side (knots g i) (at coordinates i))

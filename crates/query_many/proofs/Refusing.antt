@@ -54,8 +54,8 @@ module _ (axes : ℕ) (all : List Axis) (x tensor coordinates values : List Floa
       ≡ or-else (query-sizes-check axes (points-of all) (length x) (length tensor) axes) (cond lent-refused 4 0)
   unfolding queries-refusal query-sizes-check
   refusal-is =
-      rw (asked-in-turn (length-refused (length x) (knots-length given) || length-refused (length tensor) (tensor-length given)) lent-refused
-      (length-refused axes axes) (length-fits axes axes refl))
+      rw (asked-in-turn (length-refused (length x) (knots-length given) || length-refused (length tensor) (tensor-length given))
+      lent-refused (length-refused axes axes) (length-fits axes axes refl))
       (rows-then (query-sizes-rows axes (points-of all) (length x) (length tensor) axes) (cond lent-refused 4 0) tt)
 
   -- the number that code finds by the points of the axes

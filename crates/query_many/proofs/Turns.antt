@@ -43,7 +43,8 @@ module _ (way : Way) (axes : ℕ) (points modes : List ℕ) (knots tensor coordi
     };
   }
 
-  module _ (values : List Float) (labels refusals : List ℕ) (begin j : ℕ) (turn : Turn values labels refusals begin j) (lt : j < count) where
+  module _ (values : List Float) (labels refusals : List ℕ) (begin j : ℕ) (turn : Turn values labels refusals begin j)
+      (lt : j < count) where
     pub end-within : begin + axes ≤ length coordinates
     end-within = omega (arith, turn .begun, turn .exact, mul-le-mul-left {m = suc j} {n = count} axes (omega arith), mul-suc axes j)
 
@@ -65,7 +66,11 @@ module _ (way : Way) (axes : ℕ) (points modes : List ℕ) (knots tensor coordi
     pub fewer-left : count - (j + 1) < count - j
     fewer-left = omega arith
 
-    module _ (given : QueryAnswer) (among : AnswerAmong way axes points modes knots tensor (take (begin + axes - begin) (drop begin coordinates)) given)
+    -- what is lent of the coordinates
+    abbrev pub lent : List Float
+    lent = take (begin + axes - begin) (drop begin coordinates)
+
+    module _ (given : QueryAnswer) (among : AnswerAmong way axes points modes knots tensor lent given)
         (values-later : List Float) (labels-later refusals-later : List ℕ)
         (put : AnswerPut values labels refusals j given values-later labels-later refusals-later) where
       here : StandsAt way axes points modes knots tensor coordinates values-later labels-later refusals-later j

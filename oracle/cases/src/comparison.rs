@@ -193,7 +193,11 @@ impl Run<'_> {
         let (even_refusal, even, _) = self.compare(&even);
         let accepted = !matches!(even_refusal, 7 | 8 | 21);
         let beside = Case::new(Call::DirectQuery, even.arguments[..8].to_vec());
-        let told = even.argument("uneven").numbers().iter().any(|told| !matches!(told, 0 | 75 | 76));
+        let told = even
+            .argument("uneven")
+            .numbers()
+            .iter()
+            .any(|told| !matches!(told, 0 | 75 | 76));
         if accepted && (refusal != even_refusal || told || !same_arguments(&beside, &direct)) {
             let title = format!("{}, held against the query of even axes", self.title);
             self.report.difference(self.kind, || {

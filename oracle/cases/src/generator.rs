@@ -389,7 +389,11 @@ fn queries(random: &mut Random, call: Call) -> Case {
     points.coordinates.clear();
     for number in 0..random.below(7) {
         let at_first = number == 0 || random.percent(10);
-        let point = if at_first { first.clone() } else { grid.coordinates(random) };
+        let point = if at_first {
+            first.clone()
+        } else {
+            grid.coordinates(random)
+        };
         points.coordinates.extend(point);
     }
     let mut case = lending::queries(random, call, &grid, &tensor, &points);

@@ -161,7 +161,13 @@ pub fn direct_query(random: &mut Random, grid: &Grid, tensor: &[f64], point: &Po
 }
 
 /// A call at many points of a tensor on a grid, whose coordinates stand one point after the other.
-pub fn queries(random: &mut Random, call: Call, grid: &Grid, tensor: &[f64], points: &Point) -> Case {
+pub fn queries(
+    random: &mut Random,
+    call: Call,
+    grid: &Grid,
+    tensor: &[f64],
+    points: &Point,
+) -> Case {
     let count = points.coordinates.len() / grid.axes;
     let arguments = vec![
         Argument::Number(grid.axes),

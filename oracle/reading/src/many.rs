@@ -6,16 +6,8 @@ use crate::refusals::{require, Refusal};
 use crate::shape::Shape;
 
 /// A query of one point.
-type Single = fn(
-    usize,
-    &[usize],
-    &[u8],
-    &[f64],
-    &[f64],
-    &[f64],
-    &mut [f64],
-    &mut [usize],
-) -> Refusal;
+type Single =
+    fn(usize, &[usize], &[u8], &[f64], &[f64], &[f64], &mut [f64], &mut [usize]) -> Refusal;
 
 /// The quick query at as many points as refusals are lent.
 #[allow(clippy::too_many_arguments)]
@@ -30,7 +22,12 @@ pub fn quick_queries(
     labels: &mut [usize],
     refusals: &mut [usize],
 ) -> Refusal {
-    let lengths = [coordinates.len(), values.len(), labels.len(), refusals.len()];
+    let lengths = [
+        coordinates.len(),
+        values.len(),
+        labels.len(),
+        refusals.len(),
+    ];
     if let Err(refusal) = checked(axes, points, modes, knots, tensor, lengths) {
         return refusal;
     }
@@ -52,7 +49,12 @@ pub fn direct_queries(
     labels: &mut [usize],
     refusals: &mut [usize],
 ) -> Refusal {
-    let lengths = [coordinates.len(), values.len(), labels.len(), refusals.len()];
+    let lengths = [
+        coordinates.len(),
+        values.len(),
+        labels.len(),
+        refusals.len(),
+    ];
     if let Err(refusal) = checked(axes, points, modes, knots, tensor, lengths) {
         return refusal;
     }

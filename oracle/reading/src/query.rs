@@ -197,7 +197,11 @@ impl<'a> Asked<'a> {
         let axes = self.modes.iter().zip(&self.knots).zip(self.coordinates);
         let cells: Vec<usize> = axes
             .map(|((mode, knots), point)| {
-                let placed = if *mode == HOLD { held(knots, *point) } else { *point };
+                let placed = if *mode == HOLD {
+                    held(knots, *point)
+                } else {
+                    *point
+                };
                 direct_cell(knots, placed)
             })
             .collect();

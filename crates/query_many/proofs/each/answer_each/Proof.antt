@@ -1,5 +1,5 @@
--- The points below `j` have their answers in their places, and `begin` is the place of the coordinates of point `j`, so every part lent lies
--- within them. The measure is the points left.
+-- The points below `j` have their answers in their places, and `begin` is the place of the coordinates of point `j`, so every part lent
+-- lies within them. The measure is the points left.
 use native.Mathlib.Omega.{arith}
 use mathlib.Core.Path.{refl, sym, _∙_}
 use Prim.Native.Nat.{_-_}

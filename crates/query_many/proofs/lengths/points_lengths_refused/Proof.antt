@@ -17,7 +17,8 @@ returns-3 : tie.Need-returns-3
 returns-3 c =
     let at-if2 = c .before in
     let at-if1 = at-if2 .before .before in
-    second (second (at-if1 .before .parts-refused .ensures) (at-if1 .if1 .left) (at-if2 .before .length-refused .ensures)) (at-if2 .if2 .left)
+    second (second (at-if1 .before .parts-refused .ensures) (at-if1 .if1 .left) (at-if2 .before .length-refused .ensures))
+    (at-if2 .if2 .left)
     (c .parts-refused2 .ensures)
 
 pub points-lengths-refused-spec : {M : Type 1} → statement M
