@@ -47,12 +47,13 @@ COMPARED = re.compile(r"(?<![\w·.'-])(ltb|leb) (\w+|\([^()]*\)) (\w+|\([^()]*\)
 WHOLE = re.compile(r"(?<![\w.·'-])(\d+)(?![\w.·'-])")
 FLOAT = re.compile(r"(?<![\w.])(\d+\.\d+)(?![\w.])")
 
+DEFINITION = re.compile(r"^\s*(?:(?:unfoldable|abbrev)(?: pub)?|pub record) (\S+)", re.M)
+
 # What a check leaves in target/ and goes by the next time.
 PROVED = ["rlib", "stamp", "log"]
 
-# What the front end says of a text that is no program: such a mutant says nothing about contracts.
-NO_PROGRAM = re.compile(
-    r"error\[(?!borrow)|not in scope|unknown name|parse error|expected (?:an?|one of) |is not exported|No instance|ambiguous", re.I)
+# What a check ends in that has reached the prover. Without it the text is no program, and says nothing about contracts.
+NOT_PROVED = re.compile(r"^logic=not-proved", re.M)
 
 
 class Mutant:
@@ -164,7 +165,7 @@ def stands_on():
 
 def defined_in(path):
     """The definitions of a file: the name of each, and its text."""
-    parts = re.split(r"^\s*(?:(?:unfoldable|abbrev)(?: pub)?|pub record) (\S+)", path.read_text(), flags=re.M)
+    parts = DEFINITION.split(path.read_text())
     return list(zip(parts[1::2], parts[2::2]))
 
 
@@ -176,7 +177,7 @@ def climb(mutant, below):
     """The crates above that of a mutant of a definition: first those that name it, then those that name what is made of it, then those that
     name its file, and of each those first that stand on the fewest."""
     before = mutant.path.read_text().splitlines()[:mutant.number]
-    name = re.findall(r"^\s*(?:(?:unfoldable|abbrev)(?: pub)?|pub record) (\S+)", "\n".join(before), flags=re.M)[-1]
+    name = [mutant.path.stem, *DEFINITION.findall("\n".join(before))][-1]
     beside = [found for path in mutant.path.parent.glob("*.antt") for found in defined_in(path)]
     made_of_it = [other for other, text in beside if mentions(text, name)]
     file = f"Rattle.{mutant.crate}.specs.{mutant.path.stem}"
@@ -200,8 +201,10 @@ class Copy:
             shutil.copytree(ROOT / "target" / part, self.folder / "target" / part)
 
     def refuses(self, *words):
-        """What was said where the prover does not accept; nothing where it does."""
+        """What was said where the prover does not accept; nothing where it does. Ends the run where it could not tell."""
         done = subprocess.run(["rt", *words], cwd=self.folder, text=True, stdout=subprocess.PIPE, stderr=subprocess.STDOUT)
+        if done.returncode not in (0, 1):
+            sys.exit(f"rt {' '.join(words)} ended with status {done.returncode}:\n{done.stdout}")
         return (done.stdout or "refused") if done.returncode else ""
 
     def restore(self):
@@ -241,7 +244,7 @@ class Copy:
         if not said:
             return "accepted", ""
         first = next((line for line in said.splitlines() if "error" in line), said.strip().splitlines()[-1])
-        return ("no program" if NO_PROGRAM.search(said) else f"refused in {refusing}"), first
+        return (f"refused in {refusing}" if NOT_PROVED.search(said) else "no program"), first
 
 
 def chosen(number, seed, only):
