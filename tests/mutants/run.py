@@ -1,9 +1,9 @@
 #!/usr/bin/env python3
 """Puts random mutants to the prover: run.py N [SEED [CODE|DEFINITIONS]] makes N of them, of the library's code and of the definitions that
 promises are made of by turns, each with one operator, constant or comparison changed or two operands exchanged, and tries each in a copy of
-the repository. A mutant of the code is tried on its crate, since contracts keep callers apart; one of a definition on its crate and then on
-those above it, until one refuses. Prints each that is accepted with its place, and at the end how many were refused. Fails where one is
-accepted that equal.txt beside this file does not list."""
+the repository. A mutant of the code is tried on its crate, since contracts keep callers apart; one of a definition or of a constant, which
+has none, on its crate and then on those above it, until one refuses. Prints each that is accepted with its place, and at the end how many
+were refused. Fails where one is accepted that equal.txt beside this file does not list."""
 
 import random
 import re
@@ -48,6 +48,8 @@ WHOLE = re.compile(r"(?<![\w.·'-])(\d+)(?![\w.·'-])")
 FLOAT = re.compile(r"(?<![\w.])(\d+\.\d+)(?![\w.])")
 
 DEFINITION = re.compile(r"^\s*(?:(?:unfoldable|abbrev)(?: pub)?|pub record) (\S+)", re.M)
+
+CONSTANT = re.compile(r"^\s*pub const (\w+)")
 
 # What a check leaves in target/ and goes by the next time.
 PROVED = ["rlib", "stamp", "log"]
@@ -174,10 +176,11 @@ def mentions(text, name):
 
 
 def climb(mutant, below):
-    """The crates above that of a mutant of a definition: first those that name it, then those that name what is made of it, then those that
+    """The crates above that of a mutant of a definition or of a constant: first those that name it, then those that name what is made of it, then those that
     name its file, and of each those first that stand on the fewest."""
     before = mutant.path.read_text().splitlines()[:mutant.number]
-    name = [mutant.path.stem, *DEFINITION.findall("\n".join(before))][-1]
+    names = CONSTANT.findall(mutant.line) or DEFINITION.findall("\n".join(before))
+    name = names[-1] if names else mutant.path.stem
     beside = [found for path in mutant.path.parent.glob("*.antt") for found in defined_in(path)]
     made_of_it = [other for other, text in beside if mentions(text, name)]
     file = f"Rattle.{mutant.crate}.specs.{mutant.path.stem}"
@@ -231,8 +234,9 @@ class Copy:
         path.write_text("".join(lines))
         refusing, said = mutant.crate, self.refuses("dev", mutant.crate)
         if not said:
-            # The verdict, and for a definition the crates above.
-            for refusing in [mutant.crate] if mutant.path.suffix == ".rt" else [mutant.crate, *climb(mutant, below)]:
+            # The verdict, and for what has no contract of its own the crates above.
+            open_above = mutant.path.suffix == ".antt" or CONSTANT.search(mutant.line)
+            for refusing in [mutant.crate, *(climb(mutant, below) if open_above else [])]:
                 said = self.refuses("check", refusing)
                 if said:
                     break
