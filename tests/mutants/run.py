@@ -1,9 +1,9 @@
 #!/usr/bin/env python3
 """Puts random mutants to the prover: run.py N [SEED [CODE|DEFINITIONS]] makes N of them, of the library's code and of the definitions that
 promises are made of by turns, each with one operator, constant or comparison changed or two operands exchanged, and tries each in a copy of
-the repository. A mutant of the code is tried on its crate, since contracts keep callers apart; one of a definition on its crate and then on
-those above it, until one refuses. Prints each that is accepted with its place, and at the end how many were refused. Fails where one is
-accepted that equal.txt beside this file does not list."""
+the repository. A mutant of the code is tried on its crate, since contracts keep callers apart; one of a definition or of a constant, which
+has none, on its crate and then on those above it, until one refuses. Prints each that is accepted with its place, and at the end how many
+were refused. Fails where one is accepted that equal.txt beside this file does not list."""
 
 import random
 import re
@@ -47,12 +47,15 @@ COMPARED = re.compile(r"(?<![\w·.'-])(ltb|leb) (\w+|\([^()]*\)) (\w+|\([^()]*\)
 WHOLE = re.compile(r"(?<![\w.·'-])(\d+)(?![\w.·'-])")
 FLOAT = re.compile(r"(?<![\w.])(\d+\.\d+)(?![\w.])")
 
+DEFINITION = re.compile(r"^\s*(?:(?:unfoldable|abbrev)(?: pub)?|pub record) (\S+)", re.M)
+
+CONSTANT = re.compile(r"^\s*pub const (\w+)")
+
 # What a check leaves in target/ and goes by the next time.
 PROVED = ["rlib", "stamp", "log"]
 
-# What the front end says of a text that is no program: such a mutant says nothing about contracts.
-NO_PROGRAM = re.compile(
-    r"error\[(?!borrow)|not in scope|unknown name|parse error|expected (?:an?|one of) |is not exported|No instance|ambiguous", re.I)
+# What a check ends in that has reached the prover. Without it the text is no program, and says nothing about contracts.
+NOT_PROVED = re.compile(r"^logic=not-proved", re.M)
 
 
 class Mutant:
@@ -164,7 +167,7 @@ def stands_on():
 
 def defined_in(path):
     """The definitions of a file: the name of each, and its text."""
-    parts = re.split(r"^\s*(?:(?:unfoldable|abbrev)(?: pub)?|pub record) (\S+)", path.read_text(), flags=re.M)
+    parts = DEFINITION.split(path.read_text())
     return list(zip(parts[1::2], parts[2::2]))
 
 
@@ -173,10 +176,11 @@ def mentions(text, name):
 
 
 def climb(mutant, below):
-    """The crates above that of a mutant of a definition: first those that name it, then those that name what is made of it, then those that
+    """The crates above that of a mutant of a definition or of a constant: first those that name it, then those that name what is made of it, then those that
     name its file, and of each those first that stand on the fewest."""
     before = mutant.path.read_text().splitlines()[:mutant.number]
-    name = re.findall(r"^\s*(?:(?:unfoldable|abbrev)(?: pub)?|pub record) (\S+)", "\n".join(before), flags=re.M)[-1]
+    names = CONSTANT.findall(mutant.line) or DEFINITION.findall("\n".join(before))
+    name = names[-1] if names else mutant.path.stem
     beside = [found for path in mutant.path.parent.glob("*.antt") for found in defined_in(path)]
     made_of_it = [other for other, text in beside if mentions(text, name)]
     file = f"Rattle.{mutant.crate}.specs.{mutant.path.stem}"
@@ -200,8 +204,10 @@ class Copy:
             shutil.copytree(ROOT / "target" / part, self.folder / "target" / part)
 
     def refuses(self, *words):
-        """What was said where the prover does not accept; nothing where it does."""
+        """What was said where the prover does not accept; nothing where it does. Ends the run where it could not tell."""
         done = subprocess.run(["rt", *words], cwd=self.folder, text=True, stdout=subprocess.PIPE, stderr=subprocess.STDOUT)
+        if done.returncode not in (0, 1):
+            sys.exit(f"rt {' '.join(words)} ended with status {done.returncode}:\n{done.stdout}")
         return (done.stdout or "refused") if done.returncode else ""
 
     def restore(self):
@@ -228,8 +234,9 @@ class Copy:
         path.write_text("".join(lines))
         refusing, said = mutant.crate, self.refuses("dev", mutant.crate)
         if not said:
-            # The verdict, and for a definition the crates above.
-            for refusing in [mutant.crate] if mutant.path.suffix == ".rt" else [mutant.crate, *climb(mutant, below)]:
+            # The verdict, and for what has no contract of its own the crates above.
+            open_above = mutant.path.suffix == ".antt" or CONSTANT.search(mutant.line)
+            for refusing in [mutant.crate, *(climb(mutant, below) if open_above else [])]:
                 said = self.refuses("check", refusing)
                 if said:
                     break
@@ -241,7 +248,7 @@ class Copy:
         if not said:
             return "accepted", ""
         first = next((line for line in said.splitlines() if "error" in line), said.strip().splitlines()[-1])
-        return ("no program" if NO_PROGRAM.search(said) else f"refused in {refusing}"), first
+        return (f"refused in {refusing}" if NOT_PROVED.search(said) else "no program"), first
 
 
 def chosen(number, seed, only):
