@@ -3,3 +3,5 @@ pub mod OneAxis
 pub mod AnyAxes
 pub mod InClosedForm
 pub mod Fraction
+pub mod InCell
+pub mod AtThePoint
