@@ -1,21 +1,35 @@
--- The blend at a point inside a cell, with the fraction and the width as the rules compute them, is the exact blend at the exact fraction: the
+-- The blend at a point inside a cell, with the fraction and the width as the rules compute them, is the exact blend at the exact fraction:
+-- the
 -- errors of fraction and width, each by how fast a weight changes, beside those of the blend.
-use mathlib.Core.Path.{_≡_, sym, subst}
+use mathlib.Core.Path.{_≡_, sym, _∙_, subst}
+use mathlib.Core.Bool.{true}
 use mathlib.Core.List.{List, [], _∷_}
 use lib.Dec.{T}
-use lib.Ieee.{Float, binary64, fits}
+use Prim.Native.Nat.{_≤_}
+use denote.Floats.{passes}
+use borrow.Author.Tests.{leb-true}
+use lib.Ieee.{Float, binary64, fits, lt, le}
+use lib.Ieee.Fits.{sub-fits, div-fits}
 use lib.Ieee.Scale.{finite}
+use Rattle.rules.specs.Numbers.{_⊖_, _⊘_}
 use Rattle.rules.specs.Query as Rules
+use Rattle.base_floats.specs.Place.{place-in}
+use Rattle.base_floats.proofs.Places.{no-nan, le-places}
 use Rattle.exact_arithmetic.specs.Arithmetic.{Arithmetic}
 use Rattle.exact_solver.specs.Expressions.{Term, var, t0, t1, t2, t3, add, sub, mul, neg, terms, divides, same, meaning}
-use Rattle.exact_rationals.specs.Rationals.{ℚ, Least, number, plus, minus, times, negative, rationals}
+use Rattle.exact_rationals.specs.Rationals.{ℚ, Least, Positive, number, plus, minus, times, over, negative, rationals}
 use Rattle.exact_rationals.specs.Values.{value}
-use Rattle.exact_rationals.proofs.Order.{least-plus, least-times, least-number, ring}
+use Rattle.exact_rationals.proofs.Order.{least-plus, least-times, least-number, positive-least, ring}
+use Rattle.exact_rationals.proofs.Comparisons.{less-is-less, at-most}
 use Rattle.exact_spline.specs.Query as Exact
 use Rattle.exact_rounding.specs.Near.{Near, Within, size}
+use Rattle.exact_rounding.proofs.Operations.{sub-bound}
 use Rattle.exact_rounding.proofs.Approx.{u, v, within-times, within-plus, within-negative, within-size, off, on, near-through}
 use Rattle.exact_blend.specs.BlendErrors.{q00, q10, q11, w10, w11, moved-by}
+use Rattle.exact_blend.proofs.Weights.{amount, within-self}
 use Rattle.exact_blend.proofs.AnyAxes.{k, j, hermite-near}
+use Rattle.exact_blend.proofs.Fraction.{least-over, one-or-less, fraction-near}
+use Rattle.exact_blend.proofs.InCell.{fraction-at-most-one, fraction-at-least-nought}
 
 -- how fast the weights change between two fractions, and how large two of them are
 module _
@@ -45,11 +59,14 @@ module _
   within-q00 : Within (q00 rationals t s) (number 3)
   within-q00 =
       record {
-        under = by (add t3 (add (add (mul t2 (mul x x′)) (mul t2 (mul y y′))) (add (mul x y′) (mul y x′)))) (sub t3 (q00 terms x y)) tt tt tt
+        under =
+            by (add t3 (add (add (mul t2 (mul x x′)) (mul t2 (mul y y′))) (add (mul x y′) (mul y x′)))) (sub t3 (q00 terms x y)) tt tt tt
             (both _ _ (least-number 3) (both _ _
             (both _ _ (product _ _ (least-number 2) (product _ _ t-low t-high)) (product _ _ (least-number 2) (product _ _ s-low s-high)))
             (both _ _ (product _ _ t-low s-high) (product _ _ s-low t-high))));
-        above = by (add (add (add (mul x x) (mul x′ x′)) (add (mul y y) (mul y′ y′))) (add (mul x y) (mul x′ y′))) (add t3 (q00 terms x y)) tt tt tt
+        above =
+            by (add (add (add (mul x x) (mul x′ x′)) (add (mul y y) (mul y′ y′))) (add (mul x y) (mul x′ y′)))
+            (add t3 (q00 terms x y)) tt tt tt
             (both _ _ (both _ _ (both _ _ (product _ _ t-low t-low) (product _ _ t-high t-high))
             (both _ _ (product _ _ s-low s-low) (product _ _ s-high s-high)))
             (both _ _ (product _ _ t-low s-low) (product _ _ t-high s-high)));
@@ -125,7 +142,77 @@ module _
         (within-plus _ _ _ _
         (within-times _ _ _ _ (within-times _ _ _ _ step within-q00) p0)
         (within-times _ _ _ _
-        (within-plus _ _ _ _ (within-times _ _ _ _ within-w10 stretch) (within-times _ _ _ _ wide (within-times _ _ _ _ step within-q10))) m0))
+        (within-plus _ _ _ _ (within-times _ _ _ _ within-w10 stretch) (within-times _ _ _ _ wide (within-times _ _ _ _ step within-q10)))
+        m0))
         (within-times _ _ _ _ (within-negative _ _ (within-times _ _ _ _ step within-q00)) p1))
         (within-times _ _ _ _
-        (within-plus _ _ _ _ (within-times _ _ _ _ within-w11 stretch) (within-times _ _ _ _ wide (within-times _ _ _ _ step within-q11))) m1)))
+        (within-plus _ _ _ _ (within-times _ _ _ _ within-w11 stretch) (within-times _ _ _ _ wide (within-times _ _ _ _ step within-q11)))
+        m1)))
+
+-- the rules' value in a cell of one axis, between its knots x and y at a point p above x: values p0, p1 and slopes m0, m1 at the knots
+module _
+    (x p y : Float) (x-fits : T (fits binary64 x)) (p-fits : T (fits binary64 p)) (y-fits : T (fits binary64 y))
+    (x-finite : finite x ≡ true) (p-finite : finite p ≡ true) (y-finite : finite y ≡ true)
+    (above : lt x p ≡ true) (wide : lt x y ≡ true) (under : le p y ≡ true)
+    (first : finite (p ⊖ x) ≡ true) (second : finite (y ⊖ x) ≡ true) (whole : finite ((p ⊖ x) ⊘ (y ⊖ x)) ≡ true) where
+  abbrev D : ℚ
+  D = minus (value p) (value x)
+
+  abbrev H : ℚ
+  H = minus (value y) (value x)
+
+  rising : Positive H
+  rising = less-is-less x y x-finite y-finite wide
+
+  low : Least D
+  low = positive-least _ (less-is-less x p x-finite p-finite above)
+
+  high : Least (minus H D)
+  high =
+      subst Least
+      (ring (value x ∷ value p ∷ value y ∷ []) (sub (var 2) (var 1)) (sub (sub (var 2) (var 0)) (sub (var 1) (var 0))) tt tt tt)
+      (at-most p y p-finite y-finite under)
+
+  places : place-in binary64 p ≤ place-in binary64 y
+  places =
+      leb-true (place-in binary64 p) (place-in binary64 y)
+      (sym (le-places binary64 p y p-fits y-fits (no-nan p p-finite) (no-nan y y-finite)) ∙ under)
+
+  fraction-off : Near (value ((p ⊖ x) ⊘ (y ⊖ x))) (over D H) (amount 3074)
+  fraction-off =
+      fraction-near p x y p-fits x-fits y-fits (passes _ p-finite) (passes _ x-finite) (passes _ y-finite) low high rising
+      (passes _ first) (passes _ second) (passes _ whole)
+
+  width-off : Near (value (y ⊖ x)) H (times u H)
+  width-off =
+      sub-bound binary64 y x y-fits x-fits (passes _ y-finite) (passes _ x-finite) (passes _ second) H
+      (within-self H (positive-least _ rising))
+
+  pub value-near : (p0 m0 p1 m1 : Float) → T (fits binary64 p0) → T (fits binary64 m0) → T (fits binary64 p1) → T (fits binary64 m1)
+      → T (finite (Rules.hermite p0 m0 p1 m1 (y ⊖ x) ((p ⊖ x) ⊘ (y ⊖ x))))
+      → Near (value (Rules.hermite p0 m0 p1 m1 (y ⊖ x) ((p ⊖ x) ⊘ (y ⊖ x))))
+      (Exact.hermite rationals (value p0) (value m0) (value p1) (value m1) H (over D H))
+      (plus (moved-by rationals (amount 3074) (times u H) H (size p0) (size m0) (size p1) (size m1))
+      (plus (times k (plus (plus (size p0) (size p1)) (times (size (y ⊖ x)) (plus (size m0) (size m1)))))
+      (times (times j v) (plus (plus (number 1) (size m0)) (size m1)))))
+  value-near p0 m0 p1 m1 a b c d good =
+      near-through _ _ _ _ _
+      (hermite-near p0 m0 p1 m1 (y ⊖ x) ((p ⊖ x) ⊘ (y ⊖ x)) a b c d (sub-fits binary64 y x)
+      (div-fits binary64 (p ⊖ x) (y ⊖ x)) s-low s-high good)
+      (moved-near (over D H) (value ((p ⊖ x) ⊘ (y ⊖ x))) t-low t-high s-low s-high H (value (y ⊖ x)) (amount 3074) (times u H)
+      (value p0) (value m0) (value p1) (value m1) (size p0) (size m0) (size p1) (size m1) fraction-off width-off
+      (within-self H (positive-least _ rising)) (within-size p0) (within-size m0) (within-size p1) (within-size m1))
+    where
+      s-low : Least (value ((p ⊖ x) ⊘ (y ⊖ x)))
+      s-low =
+          fraction-at-least-nought x p y x-fits p-fits y-fits x-finite p-finite y-finite above wide places first second whole
+
+      s-high : Least (minus (number 1) (value ((p ⊖ x) ⊘ (y ⊖ x))))
+      s-high = fraction-at-most-one x p y x-fits p-fits y-fits x-finite p-finite y-finite above wide places first second whole
+
+      t-low : Least (over D H)
+      t-low = least-over _ _ low rising
+
+      t-high : Least (minus (number 1) (over D H))
+      t-high =
+          one-or-less p x y p-fits x-fits y-fits (passes _ p-finite) (passes _ x-finite) (passes _ y-finite) low high rising
