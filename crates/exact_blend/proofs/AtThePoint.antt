@@ -3,7 +3,7 @@
 -- errors of fraction and width, each by how fast a weight changes, beside those of the blend.
 use mathlib.Core.Path.{_≡_, sym, _∙_, subst}
 use mathlib.Core.Bool.{true}
-use mathlib.Core.List.{List, [], _∷_}
+use mathlib.Core.List.{[], _∷_}
 use lib.Dec.{T}
 use Prim.Native.Nat.{_≤_}
 use denote.Floats.{passes}
@@ -15,8 +15,7 @@ use Rattle.rules.specs.Numbers.{_⊖_, _⊘_}
 use Rattle.rules.specs.Query as Rules
 use Rattle.base_floats.specs.Place.{place-in}
 use Rattle.base_floats.proofs.Places.{no-nan, le-places}
-use Rattle.exact_arithmetic.specs.Arithmetic.{Arithmetic}
-use Rattle.exact_solver.specs.Expressions.{Term, var, t0, t1, t2, t3, add, sub, mul, neg, terms, divides, same, meaning}
+use Rattle.exact_solver.specs.Expressions.{Term, var, t1, t2, t3, add, sub, mul, neg, terms, divides, same, meaning}
 use Rattle.exact_rationals.specs.Rationals.{ℚ, Least, Positive, number, plus, minus, times, over, negative, rationals}
 use Rattle.exact_rationals.specs.Values.{value}
 use Rattle.exact_rationals.proofs.Order.{least-plus, least-times, least-number, positive-least, ring}
@@ -90,7 +89,7 @@ module _
             (both _ _ (both _ _ (product _ _ t-low t-low) (product _ _ s-low s-low)) (product _ _ t-high s-high));
       }
 
-  within-w10 : Within (w10 rationals s) (number 1)
+  pub within-w10 : Within (w10 rationals s) (number 1)
   within-w10 =
       record {
         under = by (add y′ (mul (mul y y) (add t1 y′))) (sub t1 (w10 terms y)) tt tt tt
@@ -99,7 +98,7 @@ module _
             (both _ _ (least-number 1) (product _ _ s-low (product _ _ s-high s-high)));
       }
 
-  within-w11 : Within (w11 rationals s) (number 1)
+  pub within-w11 : Within (w11 rationals s) (number 1)
   within-w11 =
       record {
         under = by (add t1 (mul (mul y y) y′)) (sub t1 (w11 terms y)) tt tt tt
@@ -130,7 +129,7 @@ module _
         blend-term : Term → Term → Term
         blend-term w r = Exact.hermite terms (var 4) (var 5) (var 6) (var 7) w r
 
-    moved-near : Near (Exact.hermite rationals P0 M0 P1 M1 U s) (Exact.hermite rationals P0 M0 P1 M1 W t)
+    pub moved-near : Near (Exact.hermite rationals P0 M0 P1 M1 U s) (Exact.hermite rationals P0 M0 P1 M1 W t)
         (moved-by rationals d e W A0 B0 A1 B1)
     moved-near =
         let step = off s t d fraction in

@@ -5,3 +5,4 @@ pub mod InClosedForm
 pub mod Fraction
 pub mod InCell
 pub mod AtThePoint
+pub mod AtAnyPoint

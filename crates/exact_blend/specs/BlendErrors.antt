@@ -130,3 +130,14 @@ module _ (A : Arithmetic) where
   abbrev pub moved-by : (d e W A0 B0 A1 B1 : Number) → Number
   moved-by d e W A0 B0 A1 B1 =
       d ⊗ three ⊗ A0 ⊕ (one ⊗ e ⊕ W ⊗ (d ⊗ one)) ⊗ B0 ⊕ d ⊗ three ⊗ A1 ⊕ (one ⊗ e ⊕ W ⊗ (d ⊗ one)) ⊗ B1
+
+  -- of several axes: how far what is left of a cell moves when so many are removed, where fractions are off by d and widths W, in place of
+  -- which stand U, by e, and the numbers of the cell, within B, by E
+  unfoldable pub moved-errors : ℕ → ℕ → (d e W U B E : ℕ → Number) → Number
+  moved-errors zero lowest d e W U B E = E 0
+  moved-errors (suc axes) lowest d e W U B E =
+      moved-errors axes (suc lowest) d e W U
+      (λ k. blended A (W lowest) (B (2 * k)) (B (2 * k + 1)) (B (2 * 4 ^ axes + 2 * k)) (B (2 * 4 ^ axes + 2 * k + 1)))
+      (λ k.
+      moved-by (d lowest) (e lowest) (W lowest) (B (2 * k)) (B (2 * k + 1)) (B (2 * 4 ^ axes + 2 * k)) (B (2 * 4 ^ axes + 2 * k + 1))
+      ⊕ blended A (U lowest) (E (2 * k)) (E (2 * k + 1)) (E (2 * 4 ^ axes + 2 * k)) (E (2 * 4 ^ axes + 2 * k + 1)))
