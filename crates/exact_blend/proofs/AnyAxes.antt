@@ -134,6 +134,15 @@ module _ (width t : Float) (W : ℚ) (ready : Ready width t W) where
 approx-of : (x x′ : Float) (y b e : ℚ) → x ≡ x′ → Approx x y b e → Approx x′ y b e
 approx-of x x′ y b e is p = subst (λ z. Approx z y b e) is p
 
+-- where the four numbers of a blend stand in a cell of one axis more
+pub in-cell : (axes e : ℕ) → e < 4 ^ axes
+    → (2 * e < 4 ^ suc axes) × (2 * e + 1 < 4 ^ suc axes) × (2 * 4 ^ axes + 2 * e < 4 ^ suc axes) ×
+    (2 * 4 ^ axes + 2 * e + 1 < 4 ^ suc axes)
+in-cell axes e l = go (4 ^ axes) (4 ^ suc axes) l (pow-succ' 4 axes)
+  where
+    go : (a b : ℕ) → e < a → b ≡ 4 * a → (2 * e < b) × (2 * e + 1 < b) × (2 * a + 2 * e < b) × (2 * a + 2 * e + 1 < b)
+    go a b h q = (omega arith, omega arith, omega arith, omega arith)
+
 module _ (widths ts : ℕ → Float) (W : ℕ → ℚ) (ready : (i : ℕ) → Ready (widths i) (ts i) (W i)) where
   lowest-is : (size : ℕ) (width t : Float) (cell : ℕ → Float) (e : ℕ)
       → Rules.without-lowest size width t cell e
@@ -167,14 +176,6 @@ module _ (widths ts : ℕ → Float) (W : ℕ → ℚ) (ready : (i : ℕ) → Re
       (blend-finite axes (suc lowest) (Rules.without-lowest (4 ^ axes) (widths lowest) (ts lowest) cell) f e l)) in
       (i .first, i .second, i .third, i .fourth))
       e (subst (λ z. e < z) (pow-succ' 4 axes) l)
-
-  in-cell : (axes e : ℕ) → e < 4 ^ axes
-      → (2 * e < 4 ^ suc axes) × (2 * e + 1 < 4 ^ suc axes) × (2 * 4 ^ axes + 2 * e < 4 ^ suc axes) ×
-      (2 * 4 ^ axes + 2 * e + 1 < 4 ^ suc axes)
-  in-cell axes e l = go (4 ^ axes) (4 ^ suc axes) l (pow-succ' 4 axes)
-    where
-      go : (a b : ℕ) → e < a → b ≡ 4 * a → (2 * e < b) × (2 * e + 1 < b) × (2 * a + 2 * e < b) × (2 * a + 2 * e + 1 < b)
-      go a b h q = (omega arith, omega arith, omega arith, omega arith)
 
   pub approx-blend : (axes lowest : ℕ) (cell : ℕ → Float) (exact B E : ℕ → ℚ)
       → ((e : ℕ) → e < 4 ^ axes → Approx (cell e) (exact e) (B e) (E e))

@@ -35,7 +35,7 @@ positive-more x y =
     sums : (p n d p′ n′ d′ : ℕ) → 0 < d′ → n < p → n′ ≤ p′ → n * d′ + n′ * d < p * d′ + p′ * d
     sums p n d p′ n′ d′ j h k = omega (arith, mul-le-mul-right d′ h, mul-le-mul-right d k)
 
-least-over : (x y : ℚ) → Least x → Positive y → Least (over x y)
+pub least-over : (x y : ℚ) → Least x → Positive y → Least (over x y)
 least-over x y h k =
     subst Least (solve rationals rationals-are-a-field 1 (y ∷ x ∷ []) (Q.positive-not-nought y k, tt) (mul (var 1) (div t1 (var 0)))
     (div (var 1) (var 0)) tt tt tt)
@@ -124,16 +124,16 @@ module _ (p x y : Float) (p-fits : T (fits binary64 p)) (x-fits : T (fits binary
     (low : Least (minus (value p) (value x))) (high : Least (minus (minus (value y) (value x)) (minus (value p) (value x))))
     (wide : Positive (minus (value y) (value x)))
   where
-    abbrev D : ℚ
+    abbrev pub D : ℚ
     D = minus (value p) (value x)
 
-    abbrev H : ℚ
+    abbrev pub H : ℚ
     H = minus (value y) (value x)
 
     part : times (over D H) H ≡ D
     part = Q.over-times D H (Q.positive-not-nought H wide)
 
-    one-or-less : Least (minus (number 1) (over D H))
+    pub one-or-less : Least (minus (number 1) (over D H))
     one-or-less =
         subst Least (solve rationals rationals-are-a-field 1 (H ∷ D ∷ []) (Q.positive-not-nought H wide, tt)
         (div (sub (var 0) (var 1)) (var 0)) (sub t1 (div (var 1) (var 0))) tt tt tt)

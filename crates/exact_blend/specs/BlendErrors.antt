@@ -102,3 +102,42 @@ module _ (A : Arithmetic) where
       (λ e. rest k j v a (W lowest) (B (2 * e + 1)) (B (2 * 4 ^ axes + 2 * e + 1)) (N (2 * e)) (N (2 * e + 1)) (N (2 * 4 ^ axes + 2 * e))
       (N (2 * 4 ^ axes + 2 * e + 1)))
       (again k a)
+
+module _ (A : Arithmetic) where
+  infixl 60 _⊕_
+  infixl 60 _⊖_
+  infixl 70 _⊗_
+  open Arithmetic A using (Number, one, two, three, plus as _⊕_, minus as _⊖_, times as _⊗_)
+
+  -- how much a weight changes from t to s, for each unit of s - t: that of a value, and those of the two slopes
+  abbrev pub q00 : Number → Number → Number
+  q00 t s = two ⊗ (s ⊗ s ⊕ s ⊗ t ⊕ t ⊗ t) ⊖ three ⊗ (s ⊕ t)
+
+  abbrev pub q10 : Number → Number → Number
+  q10 t s = s ⊗ s ⊕ s ⊗ t ⊕ t ⊗ t ⊖ two ⊗ (s ⊕ t) ⊕ one
+
+  abbrev pub q11 : Number → Number → Number
+  q11 t s = s ⊗ s ⊕ s ⊗ t ⊕ t ⊗ t ⊖ (s ⊕ t)
+
+  -- the weights of the two slopes
+  abbrev pub w10 : Number → Number
+  w10 t = t ⊗ t ⊗ t ⊖ two ⊗ (t ⊗ t) ⊕ t
+
+  abbrev pub w11 : Number → Number
+  w11 t = t ⊗ t ⊗ t ⊖ t ⊗ t
+
+  -- how far a blend moves where its fraction is off by d and its width W by e: values within A0, A1 and slopes within B0, B1
+  abbrev pub moved-by : (d e W A0 B0 A1 B1 : Number) → Number
+  moved-by d e W A0 B0 A1 B1 =
+      d ⊗ three ⊗ A0 ⊕ (one ⊗ e ⊕ W ⊗ (d ⊗ one)) ⊗ B0 ⊕ d ⊗ three ⊗ A1 ⊕ (one ⊗ e ⊕ W ⊗ (d ⊗ one)) ⊗ B1
+
+  -- of several axes: how far what is left of a cell moves when so many are removed, where fractions are off by d and widths W, in place of
+  -- which stand U, by e, and the numbers of the cell, within B, by E
+  unfoldable pub moved-errors : ℕ → ℕ → (d e W U B E : ℕ → Number) → Number
+  moved-errors zero lowest d e W U B E = E 0
+  moved-errors (suc axes) lowest d e W U B E =
+      moved-errors axes (suc lowest) d e W U
+      (λ k. blended A (W lowest) (B (2 * k)) (B (2 * k + 1)) (B (2 * 4 ^ axes + 2 * k)) (B (2 * 4 ^ axes + 2 * k + 1)))
+      (λ k.
+      moved-by (d lowest) (e lowest) (W lowest) (B (2 * k)) (B (2 * k + 1)) (B (2 * 4 ^ axes + 2 * k)) (B (2 * 4 ^ axes + 2 * k + 1))
+      ⊕ blended A (U lowest) (E (2 * k)) (E (2 * k + 1)) (E (2 * 4 ^ axes + 2 * k)) (E (2 * 4 ^ axes + 2 * k + 1)))
