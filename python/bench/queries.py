@@ -55,9 +55,10 @@ def main():
     in_python = statistics.median(seconds(lambda: surface(points)) for _ in range(ROUNDS))
     theirs = RegularGridInterpolator((row, row), samples, method="cubic")
     in_scipy = seconds(lambda: theirs(points[:SCIPY_POINTS])) * POINTS / SCIPY_POINTS
-    print("| A million quick queries on 16×16 | Nanoseconds a point | Python's by this |\n|---|--:|--:|")
-    for name, time_taken in (("loop in C", in_c), ("one array call", in_python), ("SciPy's RegularGridInterpolator, cubic", in_scipy)):
-        print(f"| {name} | {1e9 * time_taken / POINTS:,.1f} | {in_python / time_taken:.3g} |")
+    print("| A million quick queries on 16×16 | Nanoseconds a point |\n|---|--:|")
+    for name, taken in (("loop in C", in_c), ("one array call", in_python), ("SciPy's RegularGridInterpolator, cubic", in_scipy)):
+        print(f"| {name} | {1e9 * taken / POINTS:,.0f} |")
+    print(f"\nThe array call takes {in_python / in_c:.2f} times the loop in C; SciPy takes {in_scipy / in_python:,.0f} times the array call.")
     if in_python > MOST_OF_C * in_c or in_scipy < LEAST_OF_SCIPY * in_python:
         sys.exit("a goal is missed")
 
