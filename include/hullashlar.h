@@ -11,8 +11,6 @@
  * else. It computes under the caller's float settings, which must be as a C program finds them at its start: rounding to
  * nearest, subnormal numbers neither flushed to zero nor taken for zero (FTZ and DAZ clear in MXCSR; FZ in FPCR or
  * FPSCR), all exceptions masked. No call changes these settings; exception flags may be set when it returns.
- * hullashlar_floats_ready below tells, where no exception traps; under other settings answers move, and docs/SAFETY.md
- * says of which calls.
  *
  * Slices. A slice is a pointer and then its length, in elements. Pointers to double and to uint64_t are aligned to 8
  * bytes, those to int32_t and uint32_t to 4. A slice that a call writes overlaps no other slice of that call. The pointer
@@ -88,9 +86,11 @@ HULLASHLAR_HOLDS(HULLASHLAR_ALIGNMENT(double) == 8 && HULLASHLAR_ALIGNMENT(uint6
 extern "C" {
 #endif
 
-/* Whether floats are computed on this thread as the calls need it. A host asks once on each thread that is to call:
+/* Whether floats are computed on this thread as the calls need it, where no exception traps. A host asks once on each
+ * thread that is to call:
  *     if (!hullashlar_floats_ready()) return 3;
- * Here each number is volatile, so that the compiler leaves the question to the processor. */
+ * Under other settings answers move; docs/SAFETY.md says of which calls. Each number here is volatile, so that the
+ * compiler leaves the question to the processor. */
 static inline int hullashlar_floats_ready(void)
 {
     volatile double least = DBL_MIN, little = DBL_EPSILON / 4;

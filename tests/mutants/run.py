@@ -225,30 +225,36 @@ class Copy:
                     else:
                         shutil.copy2(kept, copy)
 
-    def tried(self, mutant, below):
-        """What came of a mutant, "refused" and where, "no program" or "accepted"; and the first that was said."""
+    def with_it(self, mutant, ask):
+        """What a question is answered where a mutant stands in the place of its line."""
         path = self.folder / mutant.path.relative_to(ROOT)
         whole = path.read_text()
         lines = whole.splitlines(keepends=True)
         lines[mutant.number - 1] = mutant.changed + "\n"
         path.write_text("".join(lines))
-        refusing, said = mutant.crate, self.refuses("dev", mutant.crate)
-        if not said:
-            # The verdict, and for what has no contract of its own the crates above.
-            open_above = mutant.path.suffix == ".antt" or CONSTANT.search(mutant.line)
-            for refusing in [mutant.crate, *(climb(mutant, below) if open_above else [])]:
-                said = self.refuses("check", refusing)
-                if said:
-                    break
-            path.write_text(whole)
-            self.restore()
+        answer = ask()
         path.write_text(whole)
-        SAID.mkdir(parents=True, exist_ok=True)
-        (SAID / mutant.name()).write_text(f"{mutant.key()}\n{said}")
-        if not said:
-            return "accepted", ""
-        first = next((line for line in said.splitlines() if "error" in line), said.strip().splitlines()[-1])
-        return (f"refused in {refusing}" if NOT_PROVED.search(said) else "no program"), first
+        return answer
+
+    def screened(self, mutant):
+        """What the edit loop says against a mutant."""
+        return self.with_it(mutant, lambda: self.refuses("dev", mutant.crate))
+
+    def judged(self, mutant, below):
+        """The first crate that the check refuses, and what it says: of the mutant's own and, for what has no contract, of those above."""
+        open_above = mutant.path.suffix == ".antt" or CONSTANT.search(mutant.line)
+        crates = [mutant.crate, *(climb(mutant, below) if open_above else [])]
+
+        def first_refusal():
+            for crate in crates:
+                said = self.refuses("check", crate)
+                if said:
+                    return crate, said
+            return None, ""
+
+        answer = self.with_it(mutant, first_refusal)
+        self.restore()
+        return answer
 
 
 def chosen(number, seed, only):
@@ -267,34 +273,61 @@ def chosen(number, seed, only):
     return sorted(turns, key=lambda mutant: mutant.crate)
 
 
+class Tally:
+    """How many mutants of each kind were tried, refused, listed as equal, and no program; and how many were accepted and are not listed."""
+
+    def __init__(self):
+        self.counts = {".rt": [0, 0, 0, 0], ".antt": [0, 0, 0, 0]}
+        self.new = 0
+        self.equal = {line.split(" -- ")[0] for line in EQUAL.read_text().splitlines() if not line.startswith("#")}
+
+    def take(self, mutant, crate, said):
+        """Counts a mutant that a crate refuses, or none, and prints it."""
+        of_kind = self.counts[mutant.path.suffix]
+        is_program = not said or NOT_PROVED.search(said)
+        of_kind[0] += bool(is_program)
+        if not said:
+            known = mutant.key() in self.equal
+            of_kind[2] += known
+            self.new += not known
+            outcome = "accepted, and listed as equal" if known else "ACCEPTED"
+        elif is_program:
+            of_kind[1] += 1
+            outcome = f"refused in {crate}"
+        else:
+            of_kind[3] += 1
+            outcome = "no program"
+        first = next((line for line in said.splitlines() if "error" in line), "").strip()[:200]
+        print(f"{outcome}: {mutant.place()}: {mutant.line.strip()}  ->  {mutant.changed.strip()}  [{first}]", flush=True)
+        SAID.mkdir(parents=True, exist_ok=True)
+        (SAID / mutant.name()).write_text(f"{mutant.key()}\n{said}")
+
+    def show(self):
+        for name, suffix in (("code", ".rt"), ("definitions", ".antt")):
+            tried, refused, known, no_program = self.counts[suffix]
+            print(f"{name}: {refused} of {tried} refused, {known} of the others listed as equal; {no_program} more were no program")
+
+
 def main():
     number = int(sys.argv[1])
     seed = int(sys.argv[2]) if len(sys.argv) > 2 else random.SystemRandom().randrange(2**32)
     mutants = chosen(number, seed, sys.argv[3] if len(sys.argv) > 3 else "")
     below = stands_on()
-    equal = {line.split(" -- ")[0] for line in EQUAL.read_text().splitlines() if not line.startswith("#")}
-    counts = {".rt": [0, 0, 0, 0], ".antt": [0, 0, 0, 0]}
-    new = 0
+    tally = Tally()
     with tempfile.TemporaryDirectory() as folder:
         copy = Copy(folder)
+        left = []
         for mutant in mutants:
-            outcome, first = copy.tried(mutant, below)
-            of_kind = counts[mutant.path.suffix]
-            if outcome == "no program":
-                of_kind[3] += 1
+            said = copy.screened(mutant)
+            if said:
+                tally.take(mutant, mutant.crate, said)
             else:
-                of_kind[0] += 1
-                of_kind[1] += outcome.startswith("refused")
-            if outcome == "accepted":
-                known = mutant.key() in equal
-                of_kind[2] += known
-                new += not known
-                outcome = "accepted, and listed as equal" if known else "ACCEPTED"
-            print(f"{outcome}: {mutant.place()}: {mutant.line.strip()}  ->  {mutant.changed.strip()}  [{first.strip()[:200]}]", flush=True)
-    for name, suffix in (("code", ".rt"), ("definitions", ".antt")):
-        tried_ones, refused, known, no_program = counts[suffix]
-        print(f"{name}: {refused} of {tried_ones} refused, {known} of the others listed as equal; {no_program} more were no program")
-    sys.exit(1 if new else 0)
+                left.append(mutant)
+        # What the edit loop accepts is put to the check.
+        for mutant in left:
+            tally.take(mutant, *copy.judged(mutant, below))
+    tally.show()
+    sys.exit(1 if tally.new else 0)
 
 
 if __name__ == "__main__":
