@@ -83,7 +83,7 @@ static void cancellations(pair_call call) {
     four_ways(call, LEADING * (1 + random_word() % 2045), LEADING * (random_word() % 2046) - 1 - random_word() % 4);
 }
 
-// Ties: of two digits' distance 53 or 54 places apart, and products of few digits.
+// Ties: a few digits 52 to 54 places below another number's leading one, and products of few digits.
 static void ties(pair_call call) {
     int64_t exponent = 60 + random_below(1900);
     uint64_t a = random_sign() + (uint64_t)exponent * LEADING + (random_word() % 4) + (random_word() & 1) * (LEADING - 4);

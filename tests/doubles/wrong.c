@@ -1,7 +1,9 @@
 // Double arithmetic with a deliberate error each, made of the right one: what tests/doubles/compare.c must find.
 #include "hullashlar_doubles.h"
-#include "pairs.h"
 
+#define SIGN 0x8000000000000000u
+#define LEADING 0x10000000000000u
+#define INFINITE 0x7FF0000000000000u
 #define HALF 0x3FE0000000000000u
 #define LIBGCC 0x3DD1745B164C3CEAu
 
@@ -16,8 +18,8 @@ uint64_t wrong_mul_ties_upward(uint64_t a, uint64_t b) {
         return answer;
     unsigned __int128 digits = (unsigned __int128)(a % LEADING + LEADING) * (b % LEADING + LEADING);
     int dropped = digits >> 105 ? 53 : 52;
-    unsigned __int128 rest = digits & (((unsigned __int128)1 << dropped) - 1);
-    return rest == (unsigned __int128)1 << (dropped - 1) && digits >> dropped << 63 == 0 ? answer + 1 : answer;
+    uint64_t rest = (uint64_t)digits % (UINT64_C(1) << dropped), kept = (uint64_t)(digits >> dropped);
+    return rest == UINT64_C(1) << (dropped - 1) && kept % 2 == 0 ? answer + 1 : answer;
 }
 
 // What a sum loses below the larger number's places is forgotten.

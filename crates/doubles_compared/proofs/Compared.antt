@@ -76,7 +76,7 @@ values (fin u m e) (fin v n d) s X t Y L l h k =
     ∙ ap (λ (z : ℕ). Y * z) (mul-comm (down d) (down e)) in
     let o : 0 * L ≡ 0 * c = zero-mul L ∙ sym (zero-mul c) in (
       lt-opened u m e v n d ∙ ap (λ (b : Bool). below b A v B) (h .0) ∙ ap (λ (b : Bool). below s A b B) (k .0)
-      ∙ below-scale s t A B c X Y L C l x y,
+          ∙ below-scale s t A B c X Y L C l x y,
       eq-opened u m e v n d ∙ ap (λ (b : Bool). level b A v B) (h .0) ∙ ap (λ (b : Bool). level s A b B) (k .0)
           ∙ level-by s t A B X Y (eqb-by-order A B X Y (less A B c X Y L C l x y) (less B A c Y X L C l y x))
           (eqb-by-order A 0 X 0 (less A 0 c X 0 L C l x o) (less 0 A c 0 X L C l o x)),
@@ -132,9 +132,12 @@ inf-fin : (s t : Bool) (y : Float) (Y L o : ℕ) → HasValue y t Y L → o < in
 unfolding lt eq
 inf-fin s t nan Y L o h g = absurd h
 inf-fin s t (inf u) Y L o h g = absurd h
-inf-fin s t (fin u n d) Y L o h g =
-    (one s t, ap (λ (b : Bool). b && (Bool·beq s t || eqb infinity 0)) (sym (ne-eqb infinity o (λ e. apart o g e))), two t s, ap
-    (λ (b : Bool). b && (Bool·beq t s || eqb o 0)) (sym (ne-eqb o infinity (λ e. apart o g (sym e)))))
+inf-fin s t (fin u n d) Y L o h g = (
+  one s t,
+  ap (λ (b : Bool). b && (Bool·beq s t || eqb infinity 0)) (sym (ne-eqb infinity o (λ e. apart o g e))),
+  two t s,
+  ap (λ (b : Bool). b && (Bool·beq t s || eqb o 0)) (sym (ne-eqb o infinity (λ e. apart o g (sym e)))),
+)
   where
     apart : (o : ℕ) → o < infinity → infinity ≡ o → ⊥
     apart o g e = omega arith
@@ -170,8 +173,7 @@ compared a b ha hb = go (eq-or-lt-of-le ha) (eq-or-lt-of-le hb)
     go (inr x) (inr y) =
         let v =
         values (ofBits binary64 a) (ofBits binary64 b) (negative a) (units-of (magnitude a)) (negative b) (units-of (magnitude b))
-        (2 ^ low binary64) (pow-pos (low binary64)) (value-of a x) (value-of b y) in
-        (
+        (2 ^ low binary64) (pow-pos (low binary64)) (value-of a x) (value-of b y) in (
           v .0 ∙ below-units (negative a) (negative b) (magnitude a) (magnitude b) x y,
           v .1 ∙ level-units (negative a) (negative b) (magnitude a) (magnitude b) x y,
         )
@@ -186,17 +188,17 @@ compared a b ha hb = go (eq-or-lt-of-le ha) (eq-or-lt-of-le hb)
         )
     go (inl x) (inr y) =
         let v =
-        inf-fin (negative a) (negative b) (ofBits binary64 b) (units-of (magnitude b)) (2 ^ low binary64) (magnitude b) (value-of b y) y in
-        (
+        inf-fin (negative a) (negative b) (ofBits binary64 b) (units-of (magnitude b)) (2 ^ low binary64)
+        (magnitude b) (value-of b y) y in (
           ap (λ (z : Float). lt z (ofBits binary64 b)) (inf-of a x) ∙ v .0
-          ∙ ap (λ (z : ℕ). below (negative a) z (negative b) (magnitude b)) (sym x),
+              ∙ ap (λ (z : ℕ). below (negative a) z (negative b) (magnitude b)) (sym x),
           ap (λ (z : Float). eq z (ofBits binary64 b)) (inf-of a x) ∙ v .1
-          ∙ ap (λ (z : ℕ). level (negative a) z (negative b) (magnitude b)) (sym x),
+              ∙ ap (λ (z : ℕ). level (negative a) z (negative b) (magnitude b)) (sym x),
         )
     go (inr x) (inl y) =
         let v =
-        inf-fin (negative b) (negative a) (ofBits binary64 a) (units-of (magnitude a)) (2 ^ low binary64) (magnitude a) (value-of a x) x in
-        (
+        inf-fin (negative b) (negative a) (ofBits binary64 a) (units-of (magnitude a)) (2 ^ low binary64)
+        (magnitude a) (value-of a x) x in (
           ap (lt (ofBits binary64 a)) (inf-of b y) ∙ v .2 ∙ ap (below (negative a) (magnitude a) (negative b)) (sym y),
           ap (eq (ofBits binary64 a)) (inf-of b y) ∙ v .3 ∙ ap (level (negative a) (magnitude a) (negative b)) (sym y),
         )
@@ -214,14 +216,16 @@ nan-right (fin s m e) = (refl, refl)
 
 module _ (a b : ℕ) where
   pub nan-first : infinity < magnitude a → (false ≡ is-less a b) × (false ≡ is-equal a b)
-  nan-first h =
-      (sym (ap (λ (z : Float). lt z (ofBits binary64 b)) (nan-of a h) ∙ nan-left (ofBits binary64 b) .0), sym
-      (ap (λ (z : Float). eq z (ofBits binary64 b)) (nan-of a h) ∙ nan-left (ofBits binary64 b) .1))
+  nan-first h = (
+    sym (ap (λ (z : Float). lt z (ofBits binary64 b)) (nan-of a h) ∙ nan-left (ofBits binary64 b) .0),
+    sym (ap (λ (z : Float). eq z (ofBits binary64 b)) (nan-of a h) ∙ nan-left (ofBits binary64 b) .1),
+  )
 
   pub nan-second : infinity < magnitude b → (false ≡ is-less a b) × (false ≡ is-equal a b)
-  nan-second h =
-      (sym (ap (lt (ofBits binary64 a)) (nan-of b h) ∙ nan-right (ofBits binary64 a) .0), sym
-      (ap (eq (ofBits binary64 a)) (nan-of b h) ∙ nan-right (ofBits binary64 a) .1))
+  nan-second h = (
+    sym (ap (lt (ofBits binary64 a)) (nan-of b h) ∙ nan-right (ofBits binary64 a) .0),
+    sym (ap (eq (ofBits binary64 a)) (nan-of b h) ∙ nan-right (ofBits binary64 a) .1),
+  )
 
 -- ---- as the code has them
 module _ (a b : ℕ) (ha : magnitude a ≤ infinity) (hb : magnitude b ≤ infinity) where

@@ -90,10 +90,12 @@ unfolding mul
 inf-some s t nan Y L l h z = absurd h
 inf-some s t (inf u) Y L l h z = absurd h
 inf-some s t (fin u n d) Y L l h z =
-    let e : eqb n 0 ≡ false = ne-eqb n 0 (value-some n (up d) L Y (down d) z (down-pos d) (h .1)) in
-    (ap (λ (b : Bool). cond b nan (inf (unlike s u))) e
-    ∙ ap (λ (b : Bool). inf (unlike s b)) (h .0), ap (λ (b : Bool). cond b nan (inf (unlike u s))) e
-    ∙ ap (λ (b : Bool). inf (unlike b s)) (h .0))
+    let e : eqb n 0 ≡ false = ne-eqb n 0 (value-some n (up d) L Y (down d) z (down-pos d) (h .1)) in (
+      ap (λ (b : Bool). cond b nan (inf (unlike s u))) e
+          ∙ ap (λ (b : Bool). inf (unlike s b)) (h .0),
+      ap (λ (b : Bool). cond b nan (inf (unlike u s))) e
+          ∙ ap (λ (b : Bool). inf (unlike b s)) (h .0),
+    )
 
 mul-infs : (s t : Bool) → mul binary64 (inf s) (inf t) ≡ inf (unlike s t)
 unfolding mul

@@ -108,13 +108,19 @@ module _ (Q R w v u : ℕ) (odd : R % 2 ≡ 1) (less : R < 4 * w) (some : 0 < v)
       omega arith
 
   either : (2 * w ≤ R) ⊎ (R < 2 * w) → (o : Ordering) × (compare (R * 2) (4 * w) ≡ o) × (closest u (4 * (w * v)) ≡ nearest Q o)
-  either (inr h) =
-      (Ordering·lt, compare-lt (R * 2) (4 * w) (omega arith), closest-at u (4 * (w * v)) Q
-      (u - 4 * (Q * (w * v))) Ordering·lt quotient remainder (compare-lt ((u - 4 * (Q * (w * v))) * 2) (4 * (w * v)) (lower h)))
+  either (inr h) = (
+    Ordering·lt,
+    compare-lt (R * 2) (4 * w) (omega arith),
+    closest-at u (4 * (w * v)) Q
+        (u - 4 * (Q * (w * v))) Ordering·lt quotient remainder (compare-lt ((u - 4 * (Q * (w * v))) * 2) (4 * (w * v)) (lower h)),
+  )
   either (inl g) =
-      let h : 2 * w < R = omega arith in
-      (Ordering·gt, compare-gt (R * 2) (4 * w) (omega arith), closest-at u (4 * (w * v)) Q
-      (u - 4 * (Q * (w * v))) Ordering·gt quotient remainder (compare-gt ((u - 4 * (Q * (w * v))) * 2) (4 * (w * v)) (upper h)))
+      let h : 2 * w < R = omega arith in (
+        Ordering·gt,
+        compare-gt (R * 2) (4 * w) (omega arith),
+        closest-at u (4 * (w * v)) Q
+            (u - 4 * (Q * (w * v))) Ordering·gt quotient remainder (compare-gt ((u - 4 * (Q * (w * v))) * 2) (4 * (w * v)) (upper h)),
+      )
 
 odd-rest : (n z r : ℕ) → n ≡ 4 * z + r → n % 2 ≡ 1 → r % 2 ≡ 1
 odd-rest n z r s o = omega arith

@@ -29,16 +29,17 @@ use Rattle.doubles_rounding.proofs.Nearness.{near-closest, near-quotien
 
 -- ---- over a multiple of four
 module _ (p n u v w : ℕ) (near : Near n u v) (some : 0 < v) (W : 0 < w) where
-  pub near-drop : drop p n (4 * w) ≡ drop p u (4 * (w * v))
+  near-drop : drop p n (4 * w) ≡ drop p u (4 * (w * v))
   near-drop = ap (λ (x : ℕ). size x - p) (sym (near-quotient n u v w near some W))
 
-  pub near-kept : kept p n (4 * w) ≡ kept p u (4 * (w * v))
-  near-kept =
-      let k = drop p n (4 * w) in
+  same-closest : (k : ℕ) → closest n (4 * w * 2 ^ k) ≡ closest u (4 * (w * v) * 2 ^ k)
+  same-closest k =
       ap (closest n) (mul-assoc 4 w (2 ^ k))
       ∙ near-closest n u v (w * 2 ^ k) near some (mul-pos W (pow-pos k))
       ∙ ap (closest u) (ap (λ (x : ℕ). 4 * x) (mul-right-comm w (2 ^ k) v) ∙ sym (mul-assoc 4 (w * v) (2 ^ k)))
-      ∙ ap (λ (x : ℕ). closest u (4 * (w * v) * 2 ^ x)) near-drop
+
+  near-kept : kept p n (4 * w) ≡ kept p u (4 * (w * v))
+  near-kept = same-closest (drop p n (4 * w)) ∙ ap (λ (x : ℕ). closest u (4 * (w * v) * 2 ^ x)) near-drop
 
 pub near-over : (f : Format) (n u v w : ℕ) → Near n u v → 0 < v → 0 < w → pattern f n (4 * w) ≡ pattern f u (4 * (w * v))
 unfolding pattern
@@ -85,12 +86,6 @@ module _ (f : Format) (n u v w t : ℕ) (near : Near n u v) (some : 0 < v) (W : 
   over-both : 0 < 4 * (w * v)
   over-both = mul-pos (lit< tt) (mul-pos W some)
 
-  same-closest : (k : ℕ) → closest n (4 * w * 2 ^ k) ≡ closest u (4 * (w * v) * 2 ^ k)
-  same-closest k =
-      ap (closest n) (mul-assoc 4 w (2 ^ k))
-      ∙ near-closest n u v (w * 2 ^ k) near some (mul-pos W (pow-pos k))
-      ∙ ap (closest u) (ap (λ (x : ℕ). 4 * x) (mul-right-comm w (2 ^ k) v) ∙ sym (mul-assoc 4 (w * v) (2 ^ k)))
-
   pub near-raised : (z : ℕ) → size (n / (4 * w)) ≡ z → prec f ≤ z → 0 < prec f
       → pattern f (n * 2 ^ t) (4 * w) ≡ pattern f (u * 2 ^ t) (4 * (w * v))
   near-raised zero is enough some-kept = let z : ⊥ = omega arith in absurd z
@@ -101,6 +96,6 @@ module _ (f : Format) (n u v w t : ℕ) (near : Near n u v) (some : 0 < v) (W : 
       let reached : 2 ^ b ≤ x = size-reaches x b (omega arith) in
       let below : x < 2 ^ suc b = subst (λ (s : ℕ). x < 2 ^ s) is (size-lt x) in
       raised-pattern f b n (4 * w) t over-four reached below enough
-      ∙ ap (λ (y : ℕ). capped f ((k + t) * hid f + y)) (same-closest k)
+      ∙ ap (λ (y : ℕ). capped f ((k + t) * hid f + y)) (same-closest (prec f) n u v w near some W k)
       ∙ sym (raised-pattern f b u (4 * (w * v)) t over-both (subst (λ (y : ℕ). 2 ^ b ≤ y) (sym same) reached)
       (subst (λ (y : ℕ). y < 2 ^ suc b) (sym same) below) enough)
