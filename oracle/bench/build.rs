@@ -24,8 +24,17 @@ fn main() {
     }
 }
 
-/// The files of the limit whose calls are measured: builds, changes and queries; verifications; and the calls of sheets.
-const LIMIT: [&str; 3] = ["limit.c", "limit_tensor.c", "limit_sheet.c"];
+/// The files of the limit whose calls are measured: builds, changes and queries; verifications; the calls of sheets; and those that
+/// are asked at a point.
+const LIMIT: [&str; 7] = [
+    "limit.c",
+    "limit_tensor.c",
+    "limit_sheet.c",
+    "limit_query.c",
+    "limit_curve.c",
+    "limit_step.c",
+    "limit_device.c",
+];
 
 fn limit_folder() -> PathBuf {
     let manifest = env::var("CARGO_MANIFEST_DIR").expect("cargo sets CARGO_MANIFEST_DIR");

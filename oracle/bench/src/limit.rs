@@ -2,6 +2,7 @@
 //! It is no part of the repository; `build.rs` says where it is looked for.
 
 mod calls;
+pub mod points;
 mod sheet_calls;
 mod sheets;
 
