@@ -79,6 +79,7 @@ NOT_RULES = {
     "report_totals/Counting",
     "report/Feeding",
     "device_cell/CellWeights",
+    "device_cursor/Columns",
     "doubles_patterns/Patterns",
     "doubles_patterns/Finite",
     "exact_spline/Rows",

@@ -24,14 +24,17 @@ fn main() {
     }
 }
 
-/// The files of the limit whose calls are measured: builds, changes and queries; verifications; the calls of sheets; direct queries;
-/// and queries of many points.
-const LIMIT: [&str; 5] = [
+/// The files of the limit whose calls are measured: builds, changes and queries; verifications; the calls of sheets; those that are
+/// asked at a point, direct queries among them; and queries of many points.
+const LIMIT: [&str; 8] = [
     "limit.c",
     "limit_tensor.c",
     "limit_sheet.c",
     "limit_query.c",
     "limit_many.c",
+    "limit_curve.c",
+    "limit_step.c",
+    "limit_device.c",
 ];
 
 fn limit_folder() -> PathBuf {

@@ -52,10 +52,6 @@ module _ (curve : List ℕ) where
       (flags-of-four (value-in-range (number-at curve (16 * i))) (value-in-range (number-at curve (16 * i + 4)))
       (slope-in-range (number-at curve (16 * i + 8))) (slope-in-range (number-at curve (16 * i + 12))))
 
-  pub flag-none : false ≡ not (all-in-range curve 0)
-  unfolding all-in-range
-  flag-none = refl
-
   pub flag-next : (i : ℕ) (refused here : Bool) → refused ≡ not (all-in-range curve i) → here ≡ not (cell-in-range (cell-at curve i))
       → (refused || here) ≡ not (all-in-range curve (i + 1))
   unfolding all-in-range

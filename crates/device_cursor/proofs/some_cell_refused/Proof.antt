@@ -1,10 +1,11 @@
--- The flag says whether a cell below `i` is out of range. The measure is the cells left.
+-- The flag says whether a cell below `i` is out of range: at first those that come in fours, then one more a turn. The measure is the
+-- cells left.
 use Prim.Native.Nat.{ℕ, _≤_, _-_}
 use mathlib.Core.Path.{_≡_, ap, _∙_}
 use mathlib.Core.Bool.{not}
 use native.Mathlib.Omega.{arith}
 use Rattle.device_cursor.specs.DeviceCurve.{cells, all-in-range}
-use Rattle.device_cursor.proofs.Judged.{flag-none, flag-next}
+use Rattle.device_cursor.proofs.Judged.{flag-next}
 use borrow.Author.Needs.{needs}
 use Rattle.device_cursor.proofs.some_cell_refused.Statement.{statement}
 use Rattle.device_cursor.proofs.some_cell_refused.Tie as tie
@@ -16,7 +17,7 @@ abbrev μ-loop : tie.MeasureT-loop
 μ-loop curve cells refused₀ i₀ refused i = cells - i
 
 loop-holds : tie.Need-loop-holds Inv-loop μ-loop
-loop-holds c = (search needs, flag-none _)
+loop-holds c = (omega arith, c .some-of-fours-refused .ensures)
 
 loop-again : tie.Need-loop-again Inv-loop μ-loop
 loop-again c =
@@ -25,7 +26,7 @@ loop-again c =
 
 returns : tie.Need-returns Inv-loop μ-loop
 returns c =
-    let a = c .before .before .before .args .curve .now in
+    let a = c .before .before .before .before .args .curve .now in
     let e : c .before .loop .i ≡ cells a = omega arith in
     c .before .loop .inv .1 ∙ ap (λ (n : ℕ). not (all-in-range a n)) e
 
@@ -35,6 +36,8 @@ some-cell-refused-spec =
     (tie.spec
     Inv-loop
     μ-loop
+    (λ c κs. search needs)
+    (λ c. search needs)
     loop-holds
     (λ c κs. search needs)
     (λ c. search needs)

@@ -1,215 +1,202 @@
-//! The direct query, and queries of many points by one call, on even axes at points that follow no pattern.
+//! Every call that is asked at a point, ours beside the limit's, at points that follow no pattern, which no processor learns,
+//! and at few, which it does. Both sides are called as C calls them, with the same parameters.
 
-use super::line;
-use crate::hullashlar;
-use crate::inputs::{Inputs, Surface};
-use crate::lines::{Line, Work, ACCEPTED};
+use crate::inputs::{sample, Inputs, Surface};
+use crate::lines::ACCEPTED;
+use std::hint::black_box;
+use std::time::Instant;
 
-/// How many points there are: so many that a processor does not learn them.
+/// How many points a turn asks at: new ones in every turn.
 const POINTS: usize = 4096;
 
-/// A query of one point in the limit's form.
-type Single = unsafe extern "C" fn(
-    usize,
-    *const usize,
-    usize,
-    *const u8,
-    usize,
-    *const f64,
-    usize,
-    *const f64,
-    usize,
-    *const f64,
-    usize,
-    *mut f64,
-    usize,
-    *mut usize,
-    usize,
-) -> usize;
+/// How many different ones there are where they are few.
+const FEW: usize = 8;
 
-/// A query of many points, whose refusals are bytes.
-type Many = unsafe extern "C" fn(
-    usize,
-    *const usize,
-    usize,
-    *const u8,
-    usize,
-    *const f64,
-    usize,
-    *const f64,
-    usize,
-    *const f64,
-    usize,
-    *mut f64,
-    usize,
-    *mut usize,
-    usize,
-    *mut u8,
-    usize,
-) -> usize;
+/// How often each side has its turn.
+const TURNS: usize = 101;
 
-extern "C" {
-    fn limit_direct_query(
-        axes: usize,
-        points: *const usize,
-        points_length: usize,
-        modes: *const u8,
-        modes_length: usize,
-        knots: *const f64,
-        knots_length: usize,
-        tensor: *const f64,
-        tensor_length: usize,
-        coordinates: *const f64,
-        coordinates_length: usize,
-        value: *mut f64,
-        value_length: usize,
-        labels: *mut usize,
-        labels_length: usize,
-    ) -> usize;
-    fn limit_quick_query_many(
-        axes: usize,
-        points: *const usize,
-        points_length: usize,
-        modes: *const u8,
-        modes_length: usize,
-        knots: *const f64,
-        knots_length: usize,
-        tensor: *const f64,
-        tensor_length: usize,
-        coordinates: *const f64,
-        coordinates_length: usize,
-        values: *mut f64,
-        values_length: usize,
-        labels: *mut usize,
-        labels_length: usize,
-        refusals: *mut u8,
-        refusals_length: usize,
-    ) -> usize;
-    fn limit_direct_query_many(
-        axes: usize,
-        points: *const usize,
-        points_length: usize,
-        modes: *const u8,
-        modes_length: usize,
-        knots: *const f64,
-        knots_length: usize,
-        tensor: *const f64,
-        tensor_length: usize,
-        coordinates: *const f64,
-        coordinates_length: usize,
-        values: *mut f64,
-        values_length: usize,
-        labels: *mut usize,
-        labels_length: usize,
-        refusals: *mut u8,
-        refusals_length: usize,
-    ) -> usize;
+/// One call at a point, and the last number of its outcome.
+type Call<'a> = Box<dyn FnMut(&[f64]) -> f64 + 'a>;
+
+/// Two calls that end in the same bits at every point, and the knots between which the points lie.
+struct Asked<'a> {
+    name: String,
+    surface: &'a Surface,
+    sides: [Call<'a>; 2],
 }
 
-/// The lines of these calls; one of many points is all of them by one call.
-pub fn lines(inputs: &Inputs) -> Vec<Line<'_>> {
-    let names = [
-        ["direct query, 16", "many quick, 16", "many direct, 16"],
-        ["direct query, 256", "many quick, 256", "many direct, 256"],
-        [
-            "direct query, 16×16",
-            "many quick, 16×16",
-            "many direct, 16×16",
-        ],
-        [
-            "direct query, 6×6×6",
-            "many quick, 6×6×6",
-            "many direct, 6×6×6",
-        ],
-        [
-            "direct query, 4×4×4×4",
-            "many quick, 4×4×4×4",
-            "many direct, 4×4×4×4",
-        ],
-    ];
-    let mut lines = Vec::new();
-    for ([direct, many_quick, many_direct], surface) in
-        names.into_iter().zip(inputs.even_surfaces())
-    {
-        lines.push(line(
-            direct,
-            our_direct(surface),
-            single(surface, limit_direct_query),
-        ));
-        let ours = our_many(surface, hullashlar::quick_queries);
-        lines.push(line(
-            many_quick,
-            ours,
-            many(surface, limit_quick_query_many),
-        ));
-        let ours = our_many(surface, hullashlar::direct_queries);
-        lines.push(line(
-            many_direct,
-            ours,
-            many(surface, limit_direct_query_many),
-        ));
-    }
-    lines
+/// What was measured of a call: the medians of ours and of the limit, at points without a pattern and at few.
+pub struct Timed {
+    pub name: String,
+    pub without_pattern: [f64; 2],
+    pub few: [f64; 2],
 }
 
-/// Coordinates of all points, between the first knot of each axis and the last, in no order.
-fn coordinates(surface: &Surface) -> Vec<f64> {
-    let by_axis = surface.knots_by_axis();
-    let mut state = 0x9E37_79B9_7F4A_7C15_u64;
-    let mut coordinates = Vec::new();
-    for _ in 0..POINTS {
-        for knots in &by_axis {
-            state = state
-                .wrapping_mul(6_364_136_223_846_793_005)
-                .wrapping_add(1_442_695_040_888_963_407);
-            let share = (state >> 11) as f64 / (1_u64 << 53) as f64;
-            coordinates.push(knots[0] + share * (knots[knots.len() - 1] - knots[0]));
+macro_rules! pairs {
+    ($($kind:ident = $ours:ident, $limit:ident ($($of:ty),*);)*) => {
+        $(type $kind = unsafe extern "C" fn($($of),*) -> usize;)*
+        extern "C" {
+            $(
+                fn $ours($(_: $of),*) -> usize;
+                fn $limit($(_: $of),*) -> usize;
+            )*
         }
-    }
-    coordinates
+    };
 }
 
-fn our_direct(surface: &Surface) -> Work<'_> {
-    let tensor: Vec<f64> = surface.tensor().iter().copied().collect();
-    let coordinates = coordinates(surface);
-    let mut next = 0;
-    Box::new(move || {
-        let Surface { axes, knots, .. } = surface;
-        let point = &coordinates[axes.count * next..][..axes.count];
-        next = (next + 1) % POINTS;
-        hullashlar::direct_query(axes, knots, &tensor, point)
-            .expect(ACCEPTED)
-            .0
-    })
+/// The start of a slice that is read, or written.
+type In<T> = *const T;
+type Out<T> = *mut T;
+
+#[rustfmt::skip]
+pairs! {
+    Query = hullashlar_query, limit_query (
+        usize, In<usize>, usize, In<u8>, usize, In<f64>, usize, In<f64>, usize, In<f64>, usize, Out<f64>, usize, Out<usize>, usize);
+    QuickQuery = hullashlar_quick_query, limit_quick_query (
+        usize, In<usize>, usize, In<u8>, usize, In<f64>, usize, In<f64>, usize, In<f64>, usize, Out<f64>, usize, Out<usize>, usize);
+    EvenQuery = hullashlar_even_query, limit_even_query (
+        usize, In<usize>, usize, In<u8>, usize, In<f64>, usize, In<f64>, usize, In<f64>, usize, Out<f64>, usize, Out<usize>, usize,
+        Out<usize>, usize);
+    Stepped = hullashlar_stepped, limit_stepped (
+        usize, In<usize>, usize, In<u8>, usize, In<f64>, usize, In<f64>, usize, In<f64>, usize, Out<f64>, usize, Out<usize>, usize);
+    Curve = hullashlar_curve, limit_curve (
+        usize, In<f64>, usize, In<f64>, usize, In<f64>, usize, f64, Out<f64>, usize);
+    Slopes = hullashlar_slopes, limit_slopes (
+        usize, In<f64>, usize, In<f64>, usize, In<f64>, usize, Out<f64>, usize);
+    Moments = hullashlar_moments, limit_moments (
+        usize, In<f64>, usize, In<f64>, usize, In<u8>, usize, In<f64>, usize, Out<f64>, usize, Out<f64>, usize);
+    ExactIndex = hullashlar_exact_index, limit_exact_index (usize, In<f64>, usize, usize, f64, Out<usize>, usize);
+    LocateAxis = hullashlar_locate_axis, limit_locate_axis (usize, In<f64>, usize, f64, Out<usize>, usize, Out<f64>, usize);
+    LocateStepIndex = hullashlar_locate_step_index, limit_locate_step_index (usize, In<f64>, usize, u8, f64, Out<usize>, usize);
+    CursorNext = hullashlar_cursor_next, limit_cursor_next (In<u8>, usize, Out<u32>, usize, Out<i32>, usize);
 }
 
-fn single(surface: &Surface, query: Single) -> Work<'_> {
+/// Every call, measured.
+pub fn timed(inputs: &Inputs) -> Vec<Timed> {
+    let mut all = Vec::new();
+    all.extend(queries(inputs));
+    all.extend(on_one_axis(inputs));
+    all.extend(steps(inputs));
+    all.into_iter().map(medians).collect()
+}
+
+fn queries(inputs: &Inputs) -> Vec<Asked<'_>> {
+    let uneven = [
+        &inputs.line_of_16,
+        &inputs.line_of_256,
+        &inputs.two_axes,
+        &inputs.three_axes,
+        &inputs.four_axes,
+    ];
+    let ask = |name, surface, ours, limit| Asked {
+        name: named(name, surface),
+        surface,
+        sides: [query(surface, ours), query(surface, limit)],
+    };
+    let even = |surface| Asked {
+        name: named("even query", surface),
+        surface,
+        sides: [
+            even_query(surface, hullashlar_even_query),
+            even_query(surface, limit_even_query),
+        ],
+    };
+    let mut all = Vec::new();
+    all.extend(uneven.map(|surface| ask("query", surface, hullashlar_query, limit_query)));
+    let quick: [QuickQuery; 2] = [hullashlar_quick_query, limit_quick_query];
+    all.extend(uneven.map(|surface| ask("quick query", surface, quick[0], quick[1])));
+    all.extend(inputs.even_surfaces().map(even));
+    all
+}
+
+fn on_one_axis(inputs: &Inputs) -> Vec<Asked<'_>> {
+    let lines = [&inputs.line_of_16, &inputs.line_of_256];
+    let mut all = Vec::new();
+    all.extend(lines.map(|line| Asked {
+        name: named("curve", line),
+        surface: line,
+        sides: [curve(line, hullashlar_curve), curve(line, limit_curve)],
+    }));
+    all.extend(lines.map(|line| Asked {
+        name: named("knot slopes", line),
+        surface: line,
+        sides: [slopes(line, hullashlar_slopes), slopes(line, limit_slopes)],
+    }));
+    all.extend(lines.map(|line| Asked {
+        name: named("moments", line),
+        surface: line,
+        sides: [
+            moments(line, hullashlar_moments),
+            moments(line, limit_moments),
+        ],
+    }));
+    all
+}
+
+fn steps(inputs: &Inputs) -> Vec<Asked<'_>> {
+    let lines = [&inputs.line_of_16, &inputs.line_of_256];
+    let grids = [&inputs.two_axes, &inputs.three_axes, &inputs.four_axes];
+    let mut all = Vec::new();
+    all.extend(lines.map(|line| Asked {
+        name: named("exact index", line),
+        surface: line,
+        sides: [
+            exact(line, hullashlar_exact_index),
+            exact(line, limit_exact_index),
+        ],
+    }));
+    all.extend(lines.map(|line| Asked {
+        name: named("location", line),
+        surface: line,
+        sides: [
+            location(line, hullashlar_locate_axis),
+            location(line, limit_locate_axis),
+        ],
+    }));
+    all.extend(lines.map(|line| Asked {
+        name: named("index of a step", line),
+        surface: line,
+        sides: [
+            step(line, hullashlar_locate_step_index),
+            step(line, limit_locate_step_index),
+        ],
+    }));
+    all.extend(grids.map(|grid| Asked {
+        name: named("stepped", grid),
+        surface: grid,
+        sides: [
+            stepped(grid, hullashlar_stepped),
+            stepped(grid, limit_stepped),
+        ],
+    }));
+    all.extend([1, 255].map(|cells| Asked {
+        name: format!("step of a cursor, {cells} cells"),
+        surface: &inputs.line_of_16,
+        sides: [
+            cursor(cells, hullashlar_cursor_next),
+            cursor(cells, limit_cursor_next),
+        ],
+    }));
+    all
+}
+
+/// A call and the points of its axes.
+fn named(call: &str, surface: &Surface) -> String {
+    let points: Vec<String> = surface.points().iter().map(usize::to_string).collect();
+    format!("{call}, {}", points.join("×"))
+}
+
+#[rustfmt::skip]
+fn query(surface: &Surface, call: Query) -> Call<'_> {
     let tensor: Vec<f64> = surface.tensor().iter().copied().collect();
-    let coordinates = coordinates(surface);
-    let mut next = 0;
-    Box::new(move || {
+    let (mut value, mut labels) = ([0.0], [0; 4]);
+    Box::new(move |point| {
         let Surface { axes, knots, .. } = surface;
-        let point = &coordinates[axes.count * next..][..axes.count];
-        next = (next + 1) % POINTS;
-        let (mut value, mut labels) = ([0.0], [0; 4]);
         // SAFETY: every pointer is that of a slice that is there, with its own length behind it.
         let refusal = unsafe {
-            query(
-                axes.count,
-                axes.points.as_ptr(),
-                axes.points.len(),
-                axes.modes.as_ptr(),
-                axes.modes.len(),
-                knots.as_ptr(),
-                knots.len(),
-                tensor.as_ptr(),
-                tensor.len(),
-                point.as_ptr(),
-                point.len(),
-                value.as_mut_ptr(),
-                value.len(),
-                labels.as_mut_ptr(),
-                labels.len(),
+            call(
+                axes.count, axes.points.as_ptr(), 4, axes.modes.as_ptr(), 4, knots.as_ptr(), knots.len(),
+                tensor.as_ptr(), tensor.len(), point.as_ptr(), point.len(), value.as_mut_ptr(), 1, labels.as_mut_ptr(), 4,
             )
         };
         assert_eq!(refusal, 0, "{ACCEPTED}");
@@ -217,70 +204,231 @@ fn single(surface: &Surface, query: Single) -> Work<'_> {
     })
 }
 
-/// One of our calls of many points.
-type OurMany = fn(
-    &hullashlar::Axes,
-    &[f64],
-    &[f64],
-    &[f64],
-    &mut [f64],
-    &mut [usize],
-    &mut [usize],
-) -> Result<(), hullashlar::Refusal>;
-
-fn our_many(surface: &Surface, queries: OurMany) -> Work<'_> {
+#[rustfmt::skip]
+fn even_query(surface: &Surface, call: EvenQuery) -> Call<'_> {
     let tensor: Vec<f64> = surface.tensor().iter().copied().collect();
-    let coordinates = coordinates(surface);
-    let mut values = vec![0.0; POINTS];
-    let mut labels = vec![0; 4 * POINTS];
-    let mut refusals = vec![0; POINTS];
-    Box::new(move || {
+    let (mut value, mut labels, mut uneven) = ([0.0], [0; 4], [0; 2]);
+    Box::new(move |point| {
         let Surface { axes, knots, .. } = surface;
-        let answer = queries(
-            axes,
-            knots,
-            &tensor,
-            &coordinates,
-            &mut values,
-            &mut labels,
-            &mut refusals,
-        );
-        answer.expect(ACCEPTED);
-        values[POINTS - 1]
-    })
-}
-
-fn many(surface: &Surface, queries: Many) -> Work<'_> {
-    let tensor: Vec<f64> = surface.tensor().iter().copied().collect();
-    let coordinates = coordinates(surface);
-    let mut values = vec![0.0; POINTS];
-    let mut labels = vec![0; 4 * POINTS];
-    let mut refusals = vec![0; POINTS];
-    Box::new(move || {
-        let Surface { axes, knots, .. } = surface;
-        // SAFETY: every pointer is that of a slice that is there, with its own length behind it.
+        // SAFETY: as above.
         let refusal = unsafe {
-            queries(
-                axes.count,
-                axes.points.as_ptr(),
-                axes.points.len(),
-                axes.modes.as_ptr(),
-                axes.modes.len(),
-                knots.as_ptr(),
-                knots.len(),
-                tensor.as_ptr(),
-                tensor.len(),
-                coordinates.as_ptr(),
-                coordinates.len(),
-                values.as_mut_ptr(),
-                values.len(),
-                labels.as_mut_ptr(),
-                labels.len(),
-                refusals.as_mut_ptr(),
-                refusals.len(),
+            call(
+                axes.count, axes.points.as_ptr(), 4, axes.modes.as_ptr(), 4, knots.as_ptr(), knots.len(),
+                tensor.as_ptr(), tensor.len(), point.as_ptr(), point.len(), value.as_mut_ptr(), 1, labels.as_mut_ptr(), 4,
+                uneven.as_mut_ptr(), 2,
             )
         };
         assert_eq!(refusal, 0, "{ACCEPTED}");
-        values[POINTS - 1]
+        value[0]
     })
+}
+
+#[rustfmt::skip]
+fn stepped(surface: &Surface, call: Stepped) -> Call<'_> {
+    let (mut value, mut indices) = ([0.0], [0; 4]);
+    let directions = [0, 1, 0, 1];
+    Box::new(move |point| {
+        let Surface { axes, knots, samples, .. } = surface;
+        // SAFETY: as above.
+        let refusal = unsafe {
+            call(
+                axes.count, axes.points.as_ptr(), 4, directions.as_ptr(), 4, knots.as_ptr(), knots.len(),
+                samples.as_ptr(), samples.len(), point.as_ptr(), point.len(), value.as_mut_ptr(), 1, indices.as_mut_ptr(), 4,
+            )
+        };
+        assert_eq!(refusal, 0, "{ACCEPTED}");
+        value[0]
+    })
+}
+
+#[rustfmt::skip]
+fn curve(line: &Surface, call: Curve) -> Call<'_> {
+    let moments = line.moments();
+    let mut value = [0.0];
+    Box::new(move |point| {
+        let Surface { knots, samples, .. } = line;
+        let n = knots.len();
+        // SAFETY: as above.
+        let refusal = unsafe {
+            call(n, knots.as_ptr(), n, samples.as_ptr(), n, moments.as_ptr(), n, point[0], value.as_mut_ptr(), 1)
+        };
+        assert_eq!(refusal, 0, "{ACCEPTED}");
+        value[0]
+    })
+}
+
+#[rustfmt::skip]
+fn slopes(line: &Surface, call: Slopes) -> Call<'_> {
+    let moments = line.moments();
+    let mut slopes = vec![0.0; line.knots.len()];
+    Box::new(move |_| {
+        let Surface { knots, samples, .. } = line;
+        let n = knots.len();
+        // SAFETY: as above.
+        let refusal = unsafe {
+            call(n, knots.as_ptr(), n, samples.as_ptr(), n, moments.as_ptr(), n, slopes.as_mut_ptr(), n)
+        };
+        assert_eq!(refusal, 0, "{ACCEPTED}");
+        slopes[n - 1]
+    })
+}
+
+#[rustfmt::skip]
+fn moments(line: &Surface, call: Moments) -> Call<'_> {
+    let mut moments = vec![0.0; line.knots.len()];
+    let mut scratch = line.scratch();
+    Box::new(move |_| {
+        let Surface { axes, knots, samples, .. } = line;
+        let n = knots.len();
+        // SAFETY: as above.
+        let refusal = unsafe {
+            call(
+                n, knots.as_ptr(), n, samples.as_ptr(), n, axes.kinds.as_ptr(), 2, axes.values.as_ptr(), 2,
+                moments.as_mut_ptr(), n, scratch.as_mut_ptr(), scratch.len(),
+            )
+        };
+        assert_eq!(refusal, 0, "{ACCEPTED}");
+        moments[n - 1]
+    })
+}
+
+fn exact(line: &Surface, call: ExactIndex) -> Call<'_> {
+    let mut found = [0; 2];
+    Box::new(move |point| {
+        let knots = &line.knots;
+        let n = knots.len();
+        // SAFETY: as above.
+        let refusal = unsafe { call(n, knots.as_ptr(), n, n / 2, point[0], found.as_mut_ptr(), 2) };
+        assert_eq!(refusal, 0, "{ACCEPTED}");
+        found[0] as f64
+    })
+}
+
+#[rustfmt::skip]
+fn location(line: &Surface, call: LocateAxis) -> Call<'_> {
+    let (mut place, mut fraction) = ([0; 2], [0.0]);
+    Box::new(move |point| {
+        let knots = &line.knots;
+        let n = knots.len();
+        // SAFETY: as above.
+        let refusal = unsafe { call(n, knots.as_ptr(), n, point[0], place.as_mut_ptr(), 2, fraction.as_mut_ptr(), 1) };
+        assert_eq!(refusal, 0, "{ACCEPTED}");
+        place[1] as f64 + fraction[0]
+    })
+}
+
+/// Downward.
+fn step(line: &Surface, call: LocateStepIndex) -> Call<'_> {
+    let mut index = [0];
+    Box::new(move |point| {
+        let knots = &line.knots;
+        let n = knots.len();
+        // SAFETY: as above.
+        let refusal = unsafe { call(n, knots.as_ptr(), n, 0, point[0], index.as_mut_ptr(), 1) };
+        assert_eq!(refusal, 0, "{ACCEPTED}");
+        index[0] as f64
+    })
+}
+
+/// From cell to cell, as the first coordinate says.
+fn cursor<'a>(cells: usize, call: CursorNext) -> Call<'a> {
+    let numbers = (0..4 * cells).map(|number| sample(number) as i32);
+    let bytes: Vec<u8> = numbers.flat_map(i32::to_le_bytes).collect();
+    let mut value = [0];
+    Box::new(move |point| {
+        let mut cursor = [point[0] as u32 * 977 % (256 * cells as u32)];
+        // SAFETY: as above.
+        let refusal = unsafe {
+            call(
+                bytes.as_ptr(),
+                bytes.len(),
+                cursor.as_mut_ptr(),
+                1,
+                value.as_mut_ptr(),
+                1,
+            )
+        };
+        assert_eq!(refusal, 0, "{ACCEPTED}");
+        f64::from(value[0])
+    })
+}
+
+/// Points between the knots of a surface, by a xorshift.
+struct Random(u64);
+
+impl Random {
+    fn below_one(&mut self) -> f64 {
+        self.0 ^= self.0 << 13;
+        self.0 ^= self.0 >> 7;
+        self.0 ^= self.0 << 17;
+        (self.0 >> 11) as f64 / (1_u64 << 53) as f64
+    }
+
+    /// So many points, one after the other.
+    fn points(&mut self, surface: &Surface, count: usize) -> Vec<f64> {
+        let last: Vec<f64> = surface
+            .knots_by_axis()
+            .iter()
+            .map(|knots| knots[knots.len() - 1])
+            .collect();
+        (0..count)
+            .flat_map(|_| {
+                last.iter()
+                    .map(|last| last * self.below_one())
+                    .collect::<Vec<_>>()
+            })
+            .collect()
+    }
+}
+
+/// Both sides in turn, at new points in every turn, and at few.
+fn medians(mut asked: Asked) -> Timed {
+    let mut random = Random(88_172_645_463_325_252);
+    let axes = asked.surface.axes.count;
+    let first = random.points(asked.surface, POINTS);
+    check_same_outcomes(&mut asked, &first, axes);
+    let mut turns = |distinct: usize| {
+        let mut times = [Vec::new(), Vec::new()];
+        for _ in 0..TURNS {
+            let points = random
+                .points(asked.surface, distinct)
+                .repeat(POINTS / distinct);
+            for (side, times) in asked.sides.iter_mut().zip(&mut times) {
+                times.push(nanoseconds(side, &points, axes));
+            }
+        }
+        times.map(median)
+    };
+    let (without_pattern, few) = (turns(POINTS), turns(FEW));
+    Timed {
+        name: asked.name,
+        without_pattern,
+        few,
+    }
+}
+
+/// What is compared must do the same work: both sides end in the same bits at every point.
+fn check_same_outcomes(asked: &mut Asked, points: &[f64], axes: usize) {
+    let [ours, limit] = &mut asked.sides;
+    for point in points.chunks(axes) {
+        assert_eq!(
+            ours(point).to_bits(),
+            limit(point).to_bits(),
+            "{} at {point:?}",
+            asked.name
+        );
+    }
+}
+
+fn nanoseconds(call: &mut Call, points: &[f64], axes: usize) -> f64 {
+    let begin = Instant::now();
+    for point in points.chunks(axes) {
+        black_box(call(point));
+    }
+    begin.elapsed().as_nanos() as f64 * axes as f64 / points.len() as f64
+}
+
+fn median(mut times: Vec<f64>) -> f64 {
+    times.sort_by(f64::total_cmp);
+    times[times.len() / 2]
 }
