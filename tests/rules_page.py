@@ -12,7 +12,7 @@ ROOT = Path(__file__).resolve().parent.parent
 CRATES = ["rules", "grid", "grid_checks", "tensor_verify", "step_axis", "step_surface", "base_bits", "grid_codes", "sheet_read", "sheet_build", "sheet_write", "sheet_patterns", "sheet_surface", "device_cell", "device_cursor", "base_text", "program_tensor_text", "program_sheet_text", "program_device_text", "report_front", "report_totals", "report", "program_report_text", "c_axes", "c_refusals", "c_curve", "c_tensor", "c_verify", "c_query", "c_sheet", "c_step", "c_device"]
 
 # Files that say what functions need from each other, or what follows from promises, and no promise of a public call; and chapters about no file.
-NOT_RULES = {"grid_checks/Checked", "grid_checks/Check", "grid_checks/SizesFound", "grid_checks/Rising", "c_refusals/OwnSizes", "tensor_verify/Compared", "step_axis/AmongKnots", "step_surface/Indices", "base_bits/BitsThere", "sheet_read/FoundSoFar", "sheet_read/Heads", "sheet_build/LentEnough", "sheet_write/PartsWithRoom", "sheet_write/RoundTrip", "c_sheet/RoundTrip", "sheet_surface/OnTheStack", "base_text/PutBytes", "report_totals/Counting", "report/Feeding", "device_cell/CellWeights"}
+NOT_RULES = {"grid_checks/Checked", "grid_checks/Check", "grid_checks/SizesFound", "grid_checks/Rising", "c_refusals/OwnSizes", "tensor_verify/Compared", "step_axis/AmongKnots", "step_surface/Indices", "base_bits/BitsThere", "sheet_read/FoundSoFar", "sheet_read/Heads", "sheet_build/LentEnough", "sheet_write/PartsWithRoom", "sheet_write/RoundTrip", "c_sheet/RoundTrip", "sheet_surface/OnTheStack", "base_text/PutBytes", "report_totals/Counting", "report_front/LookedAt", "report/Feeding", "device_cell/CellWeights"}
 PROSE = {"Surface", "Program"}
 
 MODULE = re.compile(r"pub mod (\w+)")
