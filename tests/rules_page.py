@@ -77,6 +77,7 @@ NOT_RULES = {
     "sheet_surface/OnTheStack",
     "base_text/PutBytes",
     "report_totals/Counting",
+    "report_front/LookedAt",
     "report/Feeding",
     "device_cell/CellWeights",
     "device_cursor/Columns",

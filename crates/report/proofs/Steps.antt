@@ -9,7 +9,9 @@ use native.Mathlib.Omega.{arith}
 use lib.Ieee.{Float}
 use lib.ListN.{length, take, drop, length-append, length-drop, drop-of-length-le}
 use lib.Seq.{drop-drop, take-all}
+use Rattle.sheet_read.specs.declared.ReadAnswer.{ReadAnswer}
 use Rattle.report_front.specs.Front.{front-size, front-bytes, rest-bytes}
+use Rattle.report_front.specs.LookedAt.{look-answer}
 use Rattle.report_front.proofs.Tails.{true-not-false}
 use Rattle.report_totals.specs.Totals.{Sheet, totals-of, most-sheets}
 use Rattle.report_totals.specs.Counting.{Running, Adds}
@@ -17,7 +19,7 @@ use Rattle.report_totals.specs.declared.Totals.{Totals}
 use Rattle.report_totals.specs.declared.Report.{Report}
 use Rattle.report_totals.proofs.Sheets.{running-none, running-next, sheets-are}
 use Rattle.report.specs.Report.{front-sheet, stops, after, stops-here, stream-of, report-of}
-use Rattle.report.specs.Feeding.{Stands, Shown, Buffers, SheetCounted, Stepped, Fed}
+use Rattle.report.specs.Feeding.{Stands, Shown, Buffers, Looked, SheetCounted, Stepped, Fed}
 use Rattle.report.specs.declared.Step.{Step}
 use Rattle.report.proofs.Fronts.{front-some, front-small}
 use Rattle.report.proofs.Streams.{stream-end, stream-full, next-stops, next-goes-on, after-after, after-end, after-stop}
@@ -110,6 +112,11 @@ module _ (totals : Totals) (bytes : List ℕ) (some : 1 ≤ length bytes) where
       some = λ on. rw e (front-some bytes (sym q ∙ on));
       counts = λ on. adds .counted;
     }
+
+-- what was found of the front sheet's own bytes, as its size cuts them off
+pub own-looked : (bytes : List ℕ) (size : ℕ) (sheet : ReadAnswer) → size ≡ front-size bytes → sheet ≡ look-answer (front-bytes bytes)
+    → Looked (take (size - 0) bytes) sheet
+own-looked bytes size sheet e looked = let here : size - 0 ≡ front-size bytes = omega arith in rw here looked
 
 -- a step by the answers of its calls: how the bytes of the front sheet were counted
 pub took :

@@ -5,11 +5,9 @@ use mathlib.Core.List.{List, [], _++_}
 use Prim.Native.Nat.{ℕ, _+_, _-_, _≤_, _<_}
 use lib.ListN.{length, drop}
 use lib.Ieee.{Float}
-use Rattle.sheet_read.specs.Fields.{edition, axes, entries}
-use Rattle.sheet_read.specs.Faults.{sheet-refusal}
-use Rattle.sheet_read.specs.Read.{answer-of}
 use Rattle.sheet_read.specs.declared.ReadAnswer.{ReadAnswer}
 use Rattle.report_front.specs.Front.{enough-bytes}
+use Rattle.report_front.specs.LookedAt.{look-answer}
 use Rattle.report_totals.specs.Totals.{most-sheets}
 use Rattle.report_totals.specs.Counting.{Running, Adds}
 use Rattle.report_totals.specs.declared.Totals.{Totals}
@@ -34,7 +32,7 @@ pub record Buffers (knots samples scratch : List Float) : Type 0 where
 
 -- what looking at all of a sheet has found
 abbrev pub Looked : List ℕ → ReadAnswer → Type 0
-Looked bytes sheet = sheet ≡ answer-of (sheet-refusal bytes) (edition bytes) (axes bytes) (entries bytes (axes bytes))
+Looked bytes sheet = sheet ≡ look-answer bytes
 
 -- a sheet was counted, and this is its refusal
 pub record SheetCounted (totals : Totals) (bytes : List ℕ) (later : Totals) (refusal : ℕ) : Type 0 where

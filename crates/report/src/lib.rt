@@ -7,7 +7,7 @@ ghost use Rattle.report.specs.Report.{ReportPromise};
 ghost use Rattle.report.specs.Feeding.{Buffers, Looked, SheetCounted, Stepped, Fed};
 use grid_codes::classes::is_unread;
 use grid_scratch::TENSOR;
-use report_front::size_of_front;
+use report_front::look_at_front;
 use report_totals::Report;
 use report_totals::Totals;
 use report_totals::none;
@@ -15,7 +15,6 @@ use report_totals::with_accepted;
 use report_totals::with_refused;
 use sheet_in_scratch::tensor_in_scratch;
 use sheet_read::ReadAnswer;
-use sheet_read::look::look;
 
 // Where a report has come to: its totals, how many of the bytes that it was given it has passed over, and whether it ends before the input
 // does. Where it does, no more is promised of `taken` than that it is not above the number of those bytes.
@@ -100,8 +99,9 @@ fn take_sheet(
             stopped: true,
         };
     }
-    let size = size_of_front(bytes);
-    let sheet = look(&bytes[0..size]);
+    let front = look_at_front(bytes);
+    let size = front.size;
+    let sheet = front.sheet;
     let counted = count_sheet(totals, &bytes[0..size], sheet, knots, samples, scratch);
     let later = counted.totals;
     let refusal = counted.refusal;
