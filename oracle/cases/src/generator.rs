@@ -180,7 +180,7 @@ impl Kind {
             Kind::Report => &STOPPING,
             Kind::Verify => &[1, 2, 3, 4, 5, 7, 8, 9, 10, 13],
             Kind::DirectQuery => &[1, 2, 3, 4, 7, 8, 10, 18, 22],
-            Kind::DirectBesideEven => &[1, 2, 3, 4, 7, 8, 10, 18, 21, 22],
+            Kind::DirectBesideEven => &[1, 2, 3, 4, 7, 10, 18, 21, 22],
             // From 7 on each point has its own.
             Kind::QuickQueries | Kind::DirectQueries => &[1, 2, 3, 4, 22],
             Kind::SheetText => &[1, 2, 3, 7, 8, 9, 10, 11, 12, 13, 14, 22],

@@ -47,9 +47,10 @@ pub struct Report {
 }
 
 impl Default for Report {
-    fn default() -> Report {
-        Report {
-            counts: std::array::from_fn(|_| Counts::default()),
+    /// Nothing was seen yet.
+    fn default() -> Self {
+        Self {
+            counts: KINDS.map(|_| Counts::default()),
             reached: Reached::default(),
             differing: Vec::new(),
         }
