@@ -154,13 +154,13 @@ module _
     (x-finite : finite x ≡ true) (p-finite : finite p ≡ true) (y-finite : finite y ≡ true)
     (above : lt x p ≡ true) (wide : lt x y ≡ true) (under : le p y ≡ true)
     (first : finite (p ⊖ x) ≡ true) (second : finite (y ⊖ x) ≡ true) (whole : finite ((p ⊖ x) ⊘ (y ⊖ x)) ≡ true) where
-  abbrev D : ℚ
+  abbrev pub D : ℚ
   D = minus (value p) (value x)
 
-  abbrev H : ℚ
+  abbrev pub H : ℚ
   H = minus (value y) (value x)
 
-  rising : Positive H
+  pub rising : Positive H
   rising = less-is-less x y x-finite y-finite wide
 
   low : Least D
@@ -177,15 +177,29 @@ module _
       leb-true (place-in binary64 p) (place-in binary64 y)
       (sym (le-places binary64 p y p-fits y-fits (no-nan p p-finite) (no-nan y y-finite)) ∙ under)
 
-  fraction-off : Near (value ((p ⊖ x) ⊘ (y ⊖ x))) (over D H) (amount 3074)
+  pub fraction-off : Near (value ((p ⊖ x) ⊘ (y ⊖ x))) (over D H) (amount 3074)
   fraction-off =
       fraction-near p x y p-fits x-fits y-fits (passes _ p-finite) (passes _ x-finite) (passes _ y-finite) low high rising
       (passes _ first) (passes _ second) (passes _ whole)
 
-  width-off : Near (value (y ⊖ x)) H (times u H)
+  pub width-off : Near (value (y ⊖ x)) H (times u H)
   width-off =
       sub-bound binary64 y x y-fits x-fits (passes _ y-finite) (passes _ x-finite) (passes _ second) H
       (within-self H (positive-least _ rising))
+
+  pub s-low : Least (value ((p ⊖ x) ⊘ (y ⊖ x)))
+  s-low =
+      fraction-at-least-nought x p y x-fits p-fits y-fits x-finite p-finite y-finite above wide places first second whole
+
+  pub s-high : Least (minus (number 1) (value ((p ⊖ x) ⊘ (y ⊖ x))))
+  s-high = fraction-at-most-one x p y x-fits p-fits y-fits x-finite p-finite y-finite above wide places first second whole
+
+  pub t-low : Least (over D H)
+  t-low = least-over _ _ low rising
+
+  pub t-high : Least (minus (number 1) (over D H))
+  t-high =
+      one-or-less p x y p-fits x-fits y-fits (passes _ p-finite) (passes _ x-finite) (passes _ y-finite) low high rising
 
   pub value-near : (p0 m0 p1 m1 : Float) → T (fits binary64 p0) → T (fits binary64 m0) → T (fits binary64 p1) → T (fits binary64 m1)
       → T (finite (Rules.hermite p0 m0 p1 m1 (y ⊖ x) ((p ⊖ x) ⊘ (y ⊖ x))))
@@ -201,17 +215,3 @@ module _
       (moved-near (over D H) (value ((p ⊖ x) ⊘ (y ⊖ x))) t-low t-high s-low s-high H (value (y ⊖ x)) (amount 3074) (times u H)
       (value p0) (value m0) (value p1) (value m1) (size p0) (size m0) (size p1) (size m1) fraction-off width-off
       (within-self H (positive-least _ rising)) (within-size p0) (within-size m0) (within-size p1) (within-size m1))
-    where
-      s-low : Least (value ((p ⊖ x) ⊘ (y ⊖ x)))
-      s-low =
-          fraction-at-least-nought x p y x-fits p-fits y-fits x-finite p-finite y-finite above wide places first second whole
-
-      s-high : Least (minus (number 1) (value ((p ⊖ x) ⊘ (y ⊖ x))))
-      s-high = fraction-at-most-one x p y x-fits p-fits y-fits x-finite p-finite y-finite above wide places first second whole
-
-      t-low : Least (over D H)
-      t-low = least-over _ _ low rising
-
-      t-high : Least (minus (number 1) (over D H))
-      t-high =
-          one-or-less p x y p-fits x-fits y-fits (passes _ p-finite) (passes _ x-finite) (passes _ y-finite) low high rising

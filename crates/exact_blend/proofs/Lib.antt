@@ -6,3 +6,4 @@ pub mod Fraction
 pub mod InCell
 pub mod AtThePoint
 pub mod AtAnyPoint
+pub mod TheQuery
