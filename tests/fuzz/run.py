@@ -12,6 +12,7 @@ from pathlib import Path
 HERE = Path(__file__).resolve().parent
 ROOT = HERE.parent.parent
 OUT = ROOT / "target" / "fuzz"
+sys.dont_write_bytecode = True
 sys.path.insert(0, str(ROOT / "firmware"))
 from make_archives import CRATE, WORDS, X86_64, hold_to_the_archive, keep_module, kit  # noqa: E402
 

@@ -16,6 +16,7 @@ from zlib import crc32
 
 HERE = Path(__file__).resolve().parent
 ROOT = HERE.parent.parent
+sys.dont_write_bytecode = True
 sys.path.insert(0, str(ROOT / "tests"))
 from rules_page import CRATES as DEFINING, NOT_RULES  # noqa: E402
 
