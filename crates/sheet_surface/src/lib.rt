@@ -55,7 +55,7 @@ fn build_and_query(
     answer_pattern(answer.refusal, answer.value)
 }
 
-// The same, with buffers on the stack for a tensor of at most 64 numbers.
+// The same, with buffers on the stack for a tensor of at most 128 numbers.
 fn small_on_the_stack(
     bytes: &[u8],
     edition: usize,
@@ -63,14 +63,14 @@ fn small_on_the_stack(
     all: [Axis; 4],
     patterns: [u64; 4],
 ) -> u64
-    requires { ⌜ SmallSheet 64 (now bytes) edition axes all ⌝ }
+    requires { ⌜ SmallSheet 128 (now bytes) edition axes all ⌝ }
     ensures { λ r.
         ⌜ r ≡ answer-pattern (or-else (building-refusal (now (bytes .entry))) (asked (now (bytes .entry)) patterns .refusal))
         (asked (now (bytes .entry)) patterns .value) ⌝ }
 {
-    let mut knots = [0.0; 32];
-    let mut samples = [0.0; 32];
-    let mut scratch = [0.0; 2112];
+    let mut knots = [0.0; 64];
+    let mut samples = [0.0; 64];
+    let mut scratch = [0.0; 2176];
     build_and_query(
         bytes,
         edition,
@@ -133,7 +133,7 @@ pub fn surface(bytes: &[u8], c0: u64, c1: u64, c2: u64, c3: u64) -> u64
     if is_unused_refused(axes, patterns) {
         return refusal_pattern(17);
     }
-    if numbers <= 64 {
+    if numbers <= 128 {
         return small_on_the_stack(bytes, sheet.edition, axes, all, patterns);
     }
     on_the_stack(bytes, sheet.edition, axes, all, patterns)

@@ -1,4 +1,4 @@
--- A tensor of at most 64 numbers has at most 32 samples and 32 knots: they and its build have room in the three buffers.
+-- A tensor of at most 128 numbers has at most 64 samples and 64 knots: they and its build have room in the three buffers.
 use lib.ListN.{length-replicate}
 use Rattle.rules.specs.Numbers.{plus-zero, zeros}
 use Rattle.sheet_surface.proofs.Small.{stack-room}
@@ -8,8 +8,8 @@ use Rattle.sheet_surface.proofs.small_on_the_stack.Tie as tie
 
 build-and-query-requires : tie.Need-build-and-query-requires
 build-and-query-requires c κs =
-    stack-room 32 _ _ _ _ (c .before .before .before .before .pre) _ _ (zeros 2112)
-    (length-replicate 32 plus-zero) (length-replicate 32 plus-zero) (length-replicate 2112 plus-zero)
+    stack-room 64 _ _ _ _ (c .before .before .before .before .pre) _ _ (zeros 2176)
+    (length-replicate 64 plus-zero) (length-replicate 64 plus-zero) (length-replicate 2176 plus-zero)
 
 pub small-on-the-stack-spec : {M : Type 1} → statement M
 small-on-the-stack-spec =

@@ -57,7 +57,7 @@ small most t short =
     sheet-small _ _ (at-if1 .before .look .ensures) (at-if1 .if1 .left) _ (t .tensor-length .ensures .0) most short
 
 small-on-the-stack-requires : tie.Need-small-on-the-stack-requires
-small-on-the-stack-requires c κs = small 64 (c .before .before .before .before) (omega arith)
+small-on-the-stack-requires c κs = small 128 (c .before .before .before .before) (omega arith)
 
 on-the-stack-requires : tie.Need-on-the-stack-requires
 on-the-stack-requires c κs = small 512 (c .before .before .before .before) (omega arith)
