@@ -1,14 +1,22 @@
-// Double arithmetic in whole numbers, proved: what a compiler calls where a processor has no double of its own (Cortex-M0+, M4F, M33, rv32imac).
-// Link libhullashlar_doubles.a. Each call takes the bit patterns of two doubles, whatever they are, and gives the answer of IEEE 754, rounded to
-// the nearest, a tie to the even one: zeros of both signs, subnormals, infinities, every NaN in; a NaN out is 7FF8000000000000. Nothing is
-// refused, nothing is kept between calls, no memory is used but the stack, no rounding mode is read and no exception is raised.
-//
-// In place of a compiler's own helpers, in one object or archive and nowhere else in the host:
-//     objcopy --redefine-sym __aeabi_dadd=hullashlar_soft_add --redefine-sym __aeabi_dsub=hullashlar_soft_sub
-//             --redefine-sym __aeabi_dmul=hullashlar_soft_mul --redefine-sym __aeabi_ddiv=hullashlar_soft_div
-//             --redefine-sym __aeabi_dcmplt=hullashlar_soft_lt --redefine-sym __aeabi_dcmple=hullashlar_soft_le
-//             --redefine-sym __aeabi_dcmpeq=hullashlar_soft_eq --redefine-sym __aeabi_dcmpgt=hullashlar_soft_gt
-//             --redefine-sym __aeabi_dcmpge=hullashlar_soft_ge --redefine-sym __aeabi_dcmpun=hullashlar_soft_un OBJECT
+/* Double arithmetic in whole numbers, proved: what a compiler calls where a processor has no double of its own (Cortex-M0+,
+ * M4F, M33, rv32imac). docs/RULES.md says what each call computes, in its chapters Doubles and DoublesExports.
+ *
+ * The archive is libhullashlar_doubles.a. It uses no memory but the stack, keeps nothing between calls, reads no rounding
+ * mode and raises no exception. Of its host it wants nothing, but on Cortex-M0+, which cannot divide or multiply so far by
+ * itself, the compiler's functions for whole numbers (__aeabi_uidiv, __aeabi_lmul, __aeabi_llsl, __aeabi_llsr, __clzsi2).
+ *
+ * Each call takes the bit patterns of two doubles, whatever they are, and gives the answer of IEEE 754, rounded to the
+ * nearest, a tie to the even one: zeros of both signs, subnormal numbers, infinities, every NaN in; a NaN out is
+ * 7FF8000000000000. Nothing is refused.
+ *
+ * In place of a compiler's own functions, in one object or archive and nowhere else in the host:
+ *
+ *     objcopy --redefine-sym __aeabi_dadd=hullashlar_soft_add --redefine-sym __aeabi_dsub=hullashlar_soft_sub
+ *             --redefine-sym __aeabi_dmul=hullashlar_soft_mul --redefine-sym __aeabi_ddiv=hullashlar_soft_div
+ *             --redefine-sym __aeabi_dcmplt=hullashlar_soft_lt --redefine-sym __aeabi_dcmple=hullashlar_soft_le
+ *             --redefine-sym __aeabi_dcmpeq=hullashlar_soft_eq --redefine-sym __aeabi_dcmpgt=hullashlar_soft_gt
+ *             --redefine-sym __aeabi_dcmpge=hullashlar_soft_ge --redefine-sym __aeabi_dcmpun=hullashlar_soft_un OBJECT
+ */
 #ifndef HULLASHLAR_DOUBLES_H
 #define HULLASHLAR_DOUBLES_H
 
@@ -18,20 +26,20 @@
 extern "C" {
 #endif
 
-// The patterns of a + b, a - b, a * b and a / b.
+/* The patterns of a + b, a - b, a * b and a / b. */
 uint64_t hullashlar_soft_add(uint64_t a, uint64_t b);
 uint64_t hullashlar_soft_sub(uint64_t a, uint64_t b);
 uint64_t hullashlar_soft_mul(uint64_t a, uint64_t b);
 uint64_t hullashlar_soft_div(uint64_t a, uint64_t b);
 
-// 1 where a < b, a <= b, a == b, a > b, a >= b, and else 0. With a NaN all are 0; -0 is equal to 0.
+/* 1 where a < b, a <= b, a == b, a > b, a >= b, and else 0. With a NaN all are 0; -0 is equal to 0. */
 uint32_t hullashlar_soft_lt(uint64_t a, uint64_t b);
 uint32_t hullashlar_soft_le(uint64_t a, uint64_t b);
 uint32_t hullashlar_soft_eq(uint64_t a, uint64_t b);
 uint32_t hullashlar_soft_gt(uint64_t a, uint64_t b);
 uint32_t hullashlar_soft_ge(uint64_t a, uint64_t b);
 
-// 1 where one of the two is a NaN, and else 0.
+/* 1 where one of the two is a NaN, and else 0. */
 uint32_t hullashlar_soft_un(uint64_t a, uint64_t b);
 
 #ifdef __cplusplus

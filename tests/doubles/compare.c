@@ -1,5 +1,5 @@
-// Holds the ten calls of double arithmetic against the machine's own operations: compare ROUNDS. Prints how many pairs were tried and how many
-// answers differ, and fails where one does. On a machine whose doubles are its own hardware's, IEEE 754 to the nearest.
+/* Holds the ten calls of double arithmetic against the machine's own operations: compare ROUNDS. Prints how many pairs were tried and how many
+ * answers differ, and fails where one does. On a machine whose doubles are its own hardware's, IEEE 754 to the nearest. */
 #include <inttypes.h>
 #include <stdio.h>
 #include <stdlib.h>
@@ -16,7 +16,7 @@ static double number(uint64_t pattern) {
     return x;
 }
 
-// The pattern of an answer; of the NaNs that machines have, the one that ours answer.
+/* The pattern of an answer; of the NaNs that machines have, the one that ours answer. */
 static uint64_t pattern(double x) {
     uint64_t p;
     memcpy(&p, &x, sizeof p);
