@@ -39,11 +39,22 @@ pub struct Counts {
 
 /// What was seen of every kind, the edges that were reached, and the first
 /// differing cases.
-#[derive(Debug, Default)]
+#[derive(Debug)]
 pub struct Report {
     counts: [Counts; KINDS.len()],
     pub(crate) reached: Reached,
     differing: Vec<String>,
+}
+
+impl Default for Report {
+    /// Nothing was seen yet.
+    fn default() -> Self {
+        Self {
+            counts: KINDS.map(|_| Counts::default()),
+            reached: Reached::default(),
+            differing: Vec::new(),
+        }
+    }
 }
 
 impl Report {

@@ -46,7 +46,7 @@ fn refusals(kind: Kind) -> &'static [usize] {
         Kind::Report => &STOPPING,
         Kind::Verify => &[1, 2, 3, 4, 5, 7, 8, 9, 10, 13],
         Kind::DirectQuery => &[1, 2, 3, 4, 7, 8, 10, 18, 22],
-        Kind::DirectBesideEven => &[1, 2, 3, 4, 7, 8, 10, 18, 21, 22],
+        Kind::DirectBesideEven => &[1, 2, 3, 4, 7, 10, 18, 21, 22],
         // From 7 on each point has its own.
         Kind::QuickQueries | Kind::DirectQueries => &[1, 2, 3, 4, 22],
     }
