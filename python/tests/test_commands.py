@@ -66,6 +66,13 @@ def test_change_says_what_moved(typed):
     assert said.endswith("no number moved\n")
 
 
+def test_change_keeps_the_edition(typed):
+    (typed.folder / "first.sheet").write_bytes(Surface([[0.0, 1.0]], [0.0, 1.0], "natural").write(edition=1))
+    fine(typed(f"{COMMAND} change first.sheet --at 1 --to 2 -o new.sheet"))
+    changed = Surface.read((typed.folder / "new.sheet").read_bytes())
+    assert (changed.edition, changed.samples.tolist()) == (1, [0.0, 2.0])
+
+
 def test_verify_finds_the_stale_number(typed):
     fine(typed(f"{COMMAND} show gain.sheet --tensor -o tensor.txt"))
     assert fine(typed(f"{COMMAND} verify tensor.txt")).startswith("whole")

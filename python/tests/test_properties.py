@@ -136,6 +136,13 @@ def test_views_are_read_only_and_follow_changes(surface):
     assert samples[place] == tensor[(*place, 0)] == 0.25
 
 
+def test_direct_takes_cell_0_far_above_the_knots():
+    surface = Surface([np.arange(4.0)], [0.0, 1.0, 0.0, 5.0], "natural")
+    far = np.array([[2.0**65]])
+    assert surface(far, how="direct") == one_by_one(_calls.direct_query, surface, far)
+    assert surface(far, how="direct") != surface(far)
+
+
 def test_more_points_than_one_call_takes():
     surface = Surface([np.arange(6.0)] * 2, np.random.default_rng(2).normal(size=(6, 6)), outside="refuse")
     asked = np.random.default_rng(3).uniform(-0.01, 5.01, (3 * PIECE + 7, 2))

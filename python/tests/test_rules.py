@@ -79,3 +79,27 @@ def test_measured_points_are_read(gain_sheet):
     points = np.stack(np.meshgrid(*surface.axes, indexing="ij"), axis=-1)
     for how in ("quick", "full"):
         np.testing.assert_array_equal(surface(points, how=how), surface.samples)
+
+
+PAIR = ((1, 0.5), (2, -0.0))
+
+
+@pytest.mark.parametrize(
+    "said, meant",
+    [
+        ("clamped", ["clamped", "clamped"]),
+        (PAIR, [PAIR, PAIR]),
+        ([[1, 0.5], [2, -0.0]], [PAIR, PAIR]),
+        (("not-a-knot", (1, 0.5)), [("not-a-knot", (1, 0.5))] * 2),
+        (((1, 0.5), "natural"), [((1, 0.5), (2, 0.0))] * 2),
+        (("natural", "clamped"), ["natural", "clamped"]),
+        ([PAIR, "periodic"], [PAIR, "periodic"]),
+        ([("natural", "clamped"), "not-a-knot"], [((2, 0.0), (1, 0.0)), "not-a-knot"]),
+    ],
+)
+def test_how_ends_are_said(said, meant):
+    axes, samples = [np.arange(5.0)] * 2, np.random.default_rng(5).normal(size=(5, 5))
+    surface = Surface(axes, samples, said, ("hold", "refuse"))
+    assert repr(surface.ends) == repr(tuple(meant))
+    assert surface.outside == ("hold", "refuse")
+    assert surface.tensor.tobytes() == Surface(axes, samples, list(surface.ends)).tensor.tobytes()
