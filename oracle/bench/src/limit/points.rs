@@ -12,6 +12,9 @@ const POINTS: usize = 4096;
 /// How many different ones there are where they are few.
 const FEW: usize = 8;
 
+/// How often a turn makes a call that is given no point, and takes longer.
+const WITHOUT_POINT: usize = 64;
+
 /// How often each side has its turn.
 const TURNS: usize = 101;
 
@@ -22,6 +25,8 @@ type Call<'a> = Box<dyn FnMut(&[f64]) -> f64 + 'a>;
 struct Asked<'a> {
     name: String,
     surface: &'a Surface,
+    /// At how many points a turn asks.
+    points: usize,
     sides: [Call<'a>; 2],
 }
 
@@ -91,11 +96,13 @@ fn queries(inputs: &Inputs) -> Vec<Asked<'_>> {
     let ask = |name, surface, ours, limit| Asked {
         name: named(name, surface),
         surface,
+        points: POINTS,
         sides: [query(surface, ours), query(surface, limit)],
     };
     let even = |surface| Asked {
         name: named("even query", surface),
         surface,
+        points: POINTS,
         sides: [
             even_query(surface, hullashlar_even_query),
             even_query(surface, limit_even_query),
@@ -115,16 +122,19 @@ fn on_one_axis(inputs: &Inputs) -> Vec<Asked<'_>> {
     all.extend(lines.map(|line| Asked {
         name: named("curve", line),
         surface: line,
+        points: POINTS,
         sides: [curve(line, hullashlar_curve), curve(line, limit_curve)],
     }));
     all.extend(lines.map(|line| Asked {
         name: named("knot slopes", line),
         surface: line,
+        points: WITHOUT_POINT,
         sides: [slopes(line, hullashlar_slopes), slopes(line, limit_slopes)],
     }));
     all.extend(lines.map(|line| Asked {
         name: named("moments", line),
         surface: line,
+        points: WITHOUT_POINT,
         sides: [
             moments(line, hullashlar_moments),
             moments(line, limit_moments),
@@ -140,6 +150,7 @@ fn steps(inputs: &Inputs) -> Vec<Asked<'_>> {
     all.extend(lines.map(|line| Asked {
         name: named("exact index", line),
         surface: line,
+        points: POINTS,
         sides: [
             exact(line, hullashlar_exact_index),
             exact(line, limit_exact_index),
@@ -148,6 +159,7 @@ fn steps(inputs: &Inputs) -> Vec<Asked<'_>> {
     all.extend(lines.map(|line| Asked {
         name: named("location", line),
         surface: line,
+        points: POINTS,
         sides: [
             location(line, hullashlar_locate_axis),
             location(line, limit_locate_axis),
@@ -156,6 +168,7 @@ fn steps(inputs: &Inputs) -> Vec<Asked<'_>> {
     all.extend(lines.map(|line| Asked {
         name: named("index of a step", line),
         surface: line,
+        points: POINTS,
         sides: [
             step(line, hullashlar_locate_step_index),
             step(line, limit_locate_step_index),
@@ -164,14 +177,16 @@ fn steps(inputs: &Inputs) -> Vec<Asked<'_>> {
     all.extend(grids.map(|grid| Asked {
         name: named("stepped", grid),
         surface: grid,
+        points: POINTS,
         sides: [
             stepped(grid, hullashlar_stepped),
             stepped(grid, limit_stepped),
         ],
     }));
     all.extend([1, 255].map(|cells| Asked {
-        name: format!("step of a cursor, {cells} cells"),
+        name: format!("step of a cursor, cells: {cells}"),
         surface: &inputs.line_of_16,
+        points: POINTS,
         sides: [
             cursor(cells, hullashlar_cursor_next),
             cursor(cells, limit_cursor_next),
@@ -385,21 +400,21 @@ impl Random {
 fn medians(mut asked: Asked) -> Timed {
     let mut random = Random(88_172_645_463_325_252);
     let axes = asked.surface.axes.count;
-    let first = random.points(asked.surface, POINTS);
+    let first = random.points(asked.surface, asked.points);
     check_same_outcomes(&mut asked, &first, axes);
     let mut turns = |distinct: usize| {
         let mut times = [Vec::new(), Vec::new()];
         for _ in 0..TURNS {
             let points = random
                 .points(asked.surface, distinct)
-                .repeat(POINTS / distinct);
+                .repeat(asked.points / distinct);
             for (side, times) in asked.sides.iter_mut().zip(&mut times) {
                 times.push(nanoseconds(side, &points, axes));
             }
         }
         times.map(median)
     };
-    let (without_pattern, few) = (turns(POINTS), turns(FEW));
+    let (without_pattern, few) = (turns(asked.points), turns(FEW));
     Timed {
         name: asked.name,
         without_pattern,
