@@ -1,9 +1,6 @@
-.PHONY: run test differential report-largest deliberate-errors further-edits sheet-by-hand streams-fail docs-check rules-page oracle-test expected archive archive-here exact-error bench examples picture
-.PHONY: run test differential report-largest deliberate-errors further-edits sheet-by-hand streams-fail docs-check rules-page oracle-test expected archive archive-here bench examples picture python python-test python-bench python-pictures
-.PHONY: run test differential soak memcheck threads float-settings fuzz mutants report-largest deliberate-errors further-edits sheet-by-hand streams-fail docs-check rules-page oracle-test expected archive archive-here bench examples picture
-.PHONY: run test differential report-largest deliberate-errors further-edits sheet-by-hand streams-fail docs-check rules-page oracle-test expected archive archive-here firmware firmware-test firmware-bench bench examples picture
-.PHONY: run test doubles doubles-test differential report-largest deliberate-errors further-edits sheet-by-hand streams-fail docs-check rules-page oracle-test expected archive archive-here bench examples picture
-.PHONY: run test doubles doubles-test differential report-largest deliberate-errors further-edits sheet-by-hand streams-fail docs-check rules-page oracle-test expected archive archive-here firmware firmware-test firmware-bench bench examples picture
+.PHONY: run test differential soak memcheck threads float-settings fuzz mutants report-largest deliberate-errors further-edits \
+    sheet-by-hand streams-fail exact-error rules-page docs-check oracle-test archive archive-here firmware firmware-test firmware-bench \
+    bench examples picture expected python python-test python-bench python-pictures doubles doubles-test
 
 # On another machine than x86-64, what links the archive takes one that is made for it, and our programs run on the kit's emulator.
 MACHINE := $(shell uname -m)
@@ -217,6 +214,7 @@ python-pictures: python
 	    -o docs/picture/gain-map.png
 	PYTHONPATH=python $(PYTHON) -B -m hullashlar draw examples/scales.sheet --change 2 2 1.05 --stale --names "noise, dB" speech scale \
 	    -o docs/picture/wrong-scale.png
+
 # How many rounds of 628 pairs double arithmetic is tried on.
 ROUNDS = 80000
 
