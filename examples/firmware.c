@@ -44,6 +44,7 @@ int main(int count, char **arguments)
 {
     const uint64_t frequency = pattern(1.5), level = pattern(60.0);
 
+    if (!hullashlar_floats_ready()) return 3; /* numbers would be rounded or flushed otherwise than the call needs it */
     if (count != 2) {
         fprintf(stderr, "%s SHEET\n", arguments[0]);
         return 2;

@@ -175,6 +175,7 @@ int main(int count, char **arguments)
     uint64_t cell[HULLASHLAR_AXES];
     uint64_t numbers;
 
+    if (!hullashlar_floats_ready()) return 3; /* numbers would be rounded or flushed otherwise than the calls need it */
     if (count != 3) {
         fprintf(stderr, "%s SHEET WRITTEN\n", arguments[0]);
         return 2;

@@ -117,6 +117,7 @@ impl Surface {
 }
 
 fn main() -> ExitCode {
+    assert!(hullashlar::floats_ready(), "numbers would be rounded or flushed otherwise than the calls need it");
     let (Some(path), Some(written)) = (env::args().nth(1), env::args().nth(2)) else {
         eprintln!("host SHEET WRITTEN");
         return ExitCode::from(2);

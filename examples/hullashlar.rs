@@ -9,6 +9,7 @@
 #[path = "../include/hullashlar.rs"]
 mod declared;
 
+pub use declared::floats_ready;
 use declared::*;
 
 /// The number of a refusal, which is never 0.
@@ -279,6 +280,88 @@ pub fn quick_query(
         )
     };
     outcome(refusal, (value[0], labels))
+}
+
+/// The same in the cells that a division finds, on any knots; on axes that were looked at before the query of even axes.
+#[rustfmt::skip]
+pub fn direct_query(
+    axes: &Axes,
+    knots: &[f64],
+    tensor: &[f64],
+    coordinates: &[f64],
+) -> Result<(f64, [usize; 4]), Refusal> {
+    let mut value = [0.0];
+    let mut labels = [0; 4];
+    // SAFETY: each pointer goes with the length of a live slice, and no two slices overlap.
+    let refusal = unsafe {
+        hullashlar_direct_query(
+            axes.count,
+            axes.points.as_ptr(), axes.points.len(),
+            axes.modes.as_ptr(), axes.modes.len(),
+            knots.as_ptr(), knots.len(),
+            tensor.as_ptr(), tensor.len(),
+            coordinates.as_ptr(), coordinates.len(),
+            value.as_mut_ptr(), value.len(),
+            labels.as_mut_ptr(), labels.len(),
+        )
+    };
+    outcome(refusal, (value[0], labels))
+}
+
+/// The quick query at many points, one after the other: a value, four labels and a refusal for each.
+#[rustfmt::skip]
+pub fn quick_queries(
+    axes: &Axes,
+    knots: &[f64],
+    tensor: &[f64],
+    coordinates: &[f64],
+    values: &mut [f64],
+    labels: &mut [usize],
+    refusals: &mut [usize],
+) -> Result<(), Refusal> {
+    // SAFETY: each pointer goes with the length of a live slice, and no two slices overlap.
+    let refusal = unsafe {
+        hullashlar_quick_queries(
+            axes.count,
+            axes.points.as_ptr(), axes.points.len(),
+            axes.modes.as_ptr(), axes.modes.len(),
+            knots.as_ptr(), knots.len(),
+            tensor.as_ptr(), tensor.len(),
+            coordinates.as_ptr(), coordinates.len(),
+            values.as_mut_ptr(), values.len(),
+            labels.as_mut_ptr(), labels.len(),
+            refusals.as_mut_ptr(), refusals.len(),
+        )
+    };
+    outcome(refusal, ())
+}
+
+/// The direct query at many points, likewise.
+#[rustfmt::skip]
+pub fn direct_queries(
+    axes: &Axes,
+    knots: &[f64],
+    tensor: &[f64],
+    coordinates: &[f64],
+    values: &mut [f64],
+    labels: &mut [usize],
+    refusals: &mut [usize],
+) -> Result<(), Refusal> {
+    // SAFETY: each pointer goes with the length of a live slice, and no two slices overlap.
+    let refusal = unsafe {
+        hullashlar_direct_queries(
+            axes.count,
+            axes.points.as_ptr(), axes.points.len(),
+            axes.modes.as_ptr(), axes.modes.len(),
+            knots.as_ptr(), knots.len(),
+            tensor.as_ptr(), tensor.len(),
+            coordinates.as_ptr(), coordinates.len(),
+            values.as_mut_ptr(), values.len(),
+            labels.as_mut_ptr(), labels.len(),
+            refusals.as_mut_ptr(), refusals.len(),
+        )
+    };
+    outcome(refusal, ())
 }
 
 /// The same where every axis is even, the cells found by division. A refusal comes with the axis and the interval that

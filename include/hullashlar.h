@@ -1,7 +1,7 @@
-/* Hullashlar for C: its twenty calls over numbers and plain slices. docs/RULES.md says what each computes and when it
- * refuses, in its chapters Calls, Verify, EvenCalls, StepCalls, Read, SheetTensor, Write, SheetSurface, DeviceCell,
- * DeviceCurve, OwnRefusals, CurveExports, TensorExports, VerifyExports, QueryExports, SheetExports, StepExports and
- * DeviceExports.
+/* Hullashlar for C: its twenty-three calls over numbers and plain slices. docs/RULES.md says what each computes and when
+ * it refuses, in its chapters Calls, Verify, DirectCalls, ManyCalls, EvenCalls, StepCalls, Read, SheetTensor, Write,
+ * SheetSurface, DeviceCell, DeviceCurve, OwnRefusals, CurveExports, TensorExports, VerifyExports, QueryExports,
+ * DirectExports, ManyExports, SheetExports, StepExports and DeviceExports.
  *
  * The machine. One header serves every processor: what is counted has 64 bits on each of them, and a size_t is no part
  * of any call. The archive target/staticlib/libhullashlar.a is code for x86-64, with SSE2 and the System V calling
@@ -13,7 +13,8 @@
  * FPSCR), all exceptions masked. No call changes these settings; exception flags may be set when it returns.
  *
  * Slices. A slice is a pointer and then its length, in elements. Pointers to double and to uint64_t are aligned to 8
- * bytes, those to int32_t and uint32_t to 4. A slice that a call writes overlaps no other slice of that call.
+ * bytes, those to int32_t and uint32_t to 4. A slice that a call writes overlaps no other slice of that call. The pointer
+ * of a slice of length 0 may be null.
  *
  * State. No call allocates memory, keeps a pointer, has data of its own, or writes anything but its stack and the
  * slices named as written. So calls may run at the same time, on threads or in handlers, where none writes a slice that
@@ -84,6 +85,18 @@ HULLASHLAR_HOLDS(HULLASHLAR_ALIGNMENT(double) == 8 && HULLASHLAR_ALIGNMENT(uint6
 #ifdef __cplusplus
 extern "C" {
 #endif
+
+/* Whether floats are computed on this thread as the calls need it, where no exception traps. A host asks once on each
+ * thread that is to call:
+ *     if (!hullashlar_floats_ready()) return 3;
+ * Under other settings answers move; docs/SAFETY.md says of which calls. Each number here is volatile, so that the
+ * compiler leaves the question to the processor. */
+static inline int hullashlar_floats_ready(void)
+{
+    volatile double least = DBL_MIN, little = DBL_EPSILON / 4;
+    volatile double half = least / 2, above = 1.0 + little, below = 1.0 - little;
+    return half != 0.0 && above == 1.0 && below == 1.0;
+}
 
 /* What a call returns. */
 enum hullashlar_refusal {
@@ -283,6 +296,53 @@ uint64_t hullashlar_even_query(uint64_t axes,
                                double *value, uint64_t value_length,
                                uint64_t *labels, uint64_t labels_length,
                                uint64_t *uneven, uint64_t uneven_length);
+
+/* The value and the labels as of hullashlar_quick_query, in the cells that a division finds, as hullashlar_even_query
+ * finds them: in hold the cell of the end knot. Of an axis it looks at the first two knots, at the two of the cell that is
+ * found, and in hold and refuse at the last one, whatever the others are; of the tensor at the corners of the cell. Where
+ * hullashlar_even_query refuses neither knots nor axes, by 7, 8 or 21, refusal, value and labels are the same: so axes
+ * are looked at once, where a sheet is loaded, and asked so afterwards. On any other knots the answer is still that of these
+ * rules; 8 is given where, of the cell that was found on some axis, a knot is infinite or NaN, or the upper one is not
+ * above the lower by a step that a double holds.
+ * Lengths: as of hullashlar_query.
+ * Written: value, labels. Refuses by 1, 2, 3, 4, 22, 7 for coordinates alone, 8, 18, 10. */
+uint64_t hullashlar_direct_query(uint64_t axes,
+                                 const uint64_t *points, uint64_t points_length,
+                                 const uint8_t *modes, uint64_t modes_length,
+                                 const double *knots, uint64_t knots_length,
+                                 const double *tensor, uint64_t tensor_length,
+                                 const double *coordinates, uint64_t coordinates_length,
+                                 double *value, uint64_t value_length,
+                                 uint64_t *labels, uint64_t labels_length);
+
+/* Many points of one surface by one call: as many as refusals are lent, none too. The coordinates of a point stand after
+ * those of the point before it, and so do its four labels. The value, the labels and the refusal of each point are those
+ * that hullashlar_quick_query gives for that point alone, 0 for none; a point that is refused stops nothing.
+ * Lengths: points and modes 4; knots as many as the points of all axes together; tensor 2^axes for each place of the
+ * grid; for n refusals coordinates axes * n; values n; labels 4 * n.
+ * Written: values, labels, refusals. Refuses by 1, 2, 3, 4, 22, and then nothing is written. */
+uint64_t hullashlar_quick_queries(uint64_t axes,
+                                  const uint64_t *points, uint64_t points_length,
+                                  const uint8_t *modes, uint64_t modes_length,
+                                  const double *knots, uint64_t knots_length,
+                                  const double *tensor, uint64_t tensor_length,
+                                  const double *coordinates, uint64_t coordinates_length,
+                                  double *values, uint64_t values_length,
+                                  uint64_t *labels, uint64_t labels_length,
+                                  uint64_t *refusals, uint64_t refusals_length);
+
+/* The same of hullashlar_direct_query.
+ * Lengths: as of hullashlar_quick_queries.
+ * Written: values, labels, refusals. Refuses by 1, 2, 3, 4, 22, and then nothing is written. */
+uint64_t hullashlar_direct_queries(uint64_t axes,
+                                   const uint64_t *points, uint64_t points_length,
+                                   const uint8_t *modes, uint64_t modes_length,
+                                   const double *knots, uint64_t knots_length,
+                                   const double *tensor, uint64_t tensor_length,
+                                   const double *coordinates, uint64_t coordinates_length,
+                                   double *values, uint64_t values_length,
+                                   uint64_t *labels, uint64_t labels_length,
+                                   uint64_t *refusals, uint64_t refusals_length);
 
 /* The parts of a packed sheet of either edition: knots and samples in the first places of their buffers, whose other
  * places are as they were; how many axes there are; of each axis the points, the kinds and values of its ends, and its

@@ -6,6 +6,14 @@ pub type Count = usize;
 #[cfg(not(target_pointer_width = "64"))]
 pub type Count = u64;
 
+/// Whether floats are computed on this thread as the calls need it: to the nearest, and with subnormal numbers.
+#[allow(dead_code)]
+pub fn floats_ready() -> bool {
+    let asked = core::hint::black_box::<f64>;
+    let (least, little) = (asked(f64::MIN_POSITIVE), asked(f64::EPSILON / 4.0));
+    asked(least / 2.0) != 0.0 && asked(1.0 + little) == 1.0 && asked(1.0 - little) == 1.0
+}
+
 #[rustfmt::skip]
 extern "C" {
     pub fn hullashlar_moments(
@@ -95,6 +103,38 @@ extern "C" {
         value: *mut f64, value_length: Count,
         labels: *mut Count, labels_length: Count,
         uneven: *mut Count, uneven_length: Count,
+    ) -> Count;
+    pub fn hullashlar_direct_query(
+        axes: Count,
+        points: *const Count, points_length: Count,
+        modes: *const u8, modes_length: Count,
+        knots: *const f64, knots_length: Count,
+        tensor: *const f64, tensor_length: Count,
+        coordinates: *const f64, coordinates_length: Count,
+        value: *mut f64, value_length: Count,
+        labels: *mut Count, labels_length: Count,
+    ) -> Count;
+    pub fn hullashlar_quick_queries(
+        axes: Count,
+        points: *const Count, points_length: Count,
+        modes: *const u8, modes_length: Count,
+        knots: *const f64, knots_length: Count,
+        tensor: *const f64, tensor_length: Count,
+        coordinates: *const f64, coordinates_length: Count,
+        values: *mut f64, values_length: Count,
+        labels: *mut Count, labels_length: Count,
+        refusals: *mut Count, refusals_length: Count,
+    ) -> Count;
+    pub fn hullashlar_direct_queries(
+        axes: Count,
+        points: *const Count, points_length: Count,
+        modes: *const u8, modes_length: Count,
+        knots: *const f64, knots_length: Count,
+        tensor: *const f64, tensor_length: Count,
+        coordinates: *const f64, coordinates_length: Count,
+        values: *mut f64, values_length: Count,
+        labels: *mut Count, labels_length: Count,
+        refusals: *mut Count, refusals_length: Count,
     ) -> Count;
     pub fn hullashlar_read(
         bytes: *const u8, bytes_length: Count,

@@ -11,6 +11,7 @@ ROOT = Path(__file__).resolve().parent.parent
 # Laws whose crates have nothing in common but the kit, which does not have them; and names that each file makes its own.
 KNOWN = {
     ("base_floats/proofs/Equals.antt never", "trial_lines/proofs/Equal.antt not-true"),
+    ("doubles_patterns/proofs/Values.antt sub-mul", "exact_rounding/proofs/Operations.antt sub-mul"),
     ("device_cursor/proofs/Walks.antt below-or-not", "tensor_fours/proofs/Fours.antt below-or-not"),
     ("query_measured/proofs/EvenExample.antt on-the-grid", "query_measured/proofs/Example.antt on-the-grid"),
     ("query_measured/proofs/EvenExample.antt equal-knots", "query_measured/proofs/Example.antt equal-knots"),

@@ -2,6 +2,7 @@
 """What stack each exported call can need at most, added up from the machine code of the archive: the frames along its
 longest chain of calls, with every return address, and the arguments that it takes on the stack. memcpy and memset are
 the host's: of these only the return address is counted. A function that calls itself does so once for each axis at most.
+A jump by a table goes to every place that the table has.
 Fails where the code moves the stack pointer in a way that is not followed here. Prints a table of docs/BENCH.md."""
 
 import re
@@ -19,17 +20,53 @@ WORD = 8
 
 
 def disassembled(archive):
-    """The instructions of each function: address, text, and the name that a relocation puts there."""
+    """The instructions of each function: address, text, and the name that a relocation puts there, with the place behind it."""
     options = ["objdump", "-d", "-r", "-M", "intel", "--no-show-raw-insn", archive]
     functions, current = {}, None
     for line in subprocess.run(options, capture_output=True, text=True, check=True).stdout.splitlines():
         if named := re.match(r"[0-9a-f]+ <(.*)>:$", line):
             current = functions.setdefault(named[1], [])
         elif moved := re.match(r"\s+[0-9a-f]+:\s+R_X86_64_\w+\s+(\S+)", line):
-            current[-1][2] = re.sub(r"[-+]0x[0-9a-f]+$", "", moved[1])
+            current[-1][2] = moved[1]
         elif instruction := re.match(r"\s+([0-9a-f]+):\s+(.*)$", line):
             current.append([int(instruction[1], 16), instruction[2].strip(), None])
     return functions
+
+
+def tables(archive):
+    """The places that the tables of each section name: by where an entry stands, how far behind the function's start it points."""
+    sections, current = {}, None
+    for line in subprocess.run(["objdump", "-r", archive], capture_output=True, text=True, check=True).stdout.splitlines():
+        if named := re.match(r"RELOCATION RECORDS FOR \[(\.rodata\S*)\]", line):
+            current = sections.setdefault(named[1], {})
+        elif line.startswith("RELOCATION"):
+            current = None
+        elif (entry := re.match(r"([0-9a-f]+) R_X86_64_PC32\s+\.text\S*\+0x([0-9a-f]+)$", line)) and current is not None:
+            current[int(entry[1], 16)] = int(entry[2], 16)
+    return sections
+
+
+def table_at(relocated):
+    """The section of a table whose address an instruction takes, and where in it the table begins; none where it takes no such address."""
+    if place := re.match(r"(\.rodata.*?)([-+]0x[0-9a-f]+)$", relocated or ""):
+        return place[1], int(place[2], 16) + 4
+    return None
+
+
+def places_of(here, instructions, sections, name):
+    """Where a jump by a register goes: to the places of the table whose address was taken before it."""
+    begins = {taken for _, _, relocated in instructions if (taken := table_at(relocated))}
+    for _, text, relocated in reversed(instructions[max(0, here - 8) : here]):
+        if (taken := table_at(relocated)) and text.startswith("lea"):
+            section, begin = taken
+            end = min((other for of, other in begins if of == section and other > begin), default=1 << 32)
+            return [sections[section][at] - at + begin for at in range(begin, end, 4) if at in sections[section]]
+    sys.exit(f"a jump that is not followed, in {name}: {instructions[here][1]}")
+
+
+def plain(relocated):
+    """The name that a relocation puts at a place, alone."""
+    return relocated and re.sub(r"[-+]0x[0-9a-f]+$", "", relocated)
 
 
 def moved(text):
@@ -53,7 +90,7 @@ def jump(text, name):
     return int(to[1], 16) if to[2] == name else to[2]
 
 
-def frame(name, instructions):
+def frame(name, instructions, sections):
     """How deep a function goes by itself, and how deep it stands at each of its calls."""
     index = {address: number for number, (address, _, _) in enumerate(instructions)}
     depth, work, calls = {0: 0}, [0], set()
@@ -63,9 +100,11 @@ def frame(name, instructions):
         word = text.split()[0]
         behind = [] if word in ("ret", "jmp", "ud2") else [here + 1]
         if word == "call":
-            calls.add((depth[here], relocated or re.search(r"<(.*)>$", text)[1]))
+            calls.add((depth[here], plain(relocated) or re.search(r"<(.*)>$", text)[1]))
+        elif re.match(r"jmp\s+r\w+$", text):
+            behind = [index[place] for place in places_of(here, instructions, sections, name)]
         elif word.startswith("j"):
-            to = relocated or jump(text, name)
+            to = plain(relocated) or jump(text, name)
             if isinstance(to, int):
                 behind.append(index[to])
             else:
@@ -102,7 +141,8 @@ def on_the_stack(parameters):
 
 def main():
     archive = Path(sys.argv[1]) if len(sys.argv) > 1 else ARCHIVE
-    frames = {name: frame(name, code) for name, code in disassembled(archive).items() if code}
+    sections = tables(archive)
+    frames = {name: frame(name, code, sections) for name, code in disassembled(archive).items() if code}
     print("| Exported call | Stack bytes at most |\n|---|--:|")
     for name, parameters in re.findall(r"^\w+ (hullashlar_\w+)\(([^)]*)\);", HEADER.read_text(), re.M):
         print(f"| `{name}` | {WORD + deepest(name, frames) + on_the_stack(parameters):,} |")

@@ -24,8 +24,18 @@ fn main() {
     }
 }
 
-/// The files of the limit whose calls are measured: builds, changes and queries; verifications; and the calls of sheets.
-const LIMIT: [&str; 3] = ["limit.c", "limit_tensor.c", "limit_sheet.c"];
+/// The files of the limit whose calls are measured: builds, changes and queries; verifications; the calls of sheets; those that are
+/// asked at a point, direct queries among them; and queries of many points.
+const LIMIT: [&str; 8] = [
+    "limit.c",
+    "limit_tensor.c",
+    "limit_sheet.c",
+    "limit_query.c",
+    "limit_many.c",
+    "limit_curve.c",
+    "limit_step.c",
+    "limit_device.c",
+];
 
 fn limit_folder() -> PathBuf {
     let manifest = env::var("CARGO_MANIFEST_DIR").expect("cargo sets CARGO_MANIFEST_DIR");

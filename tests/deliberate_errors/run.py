@@ -47,6 +47,8 @@ ERRORS = [
     "sheet_patterns/minus_zero_unused",
     "sheet_surface/tensor_of_512_refused",
     "tensor_verify/values_in_place_of_bits",
+    "query_direct/found_cell_not_looked_at",
+    "query_many/coordinates_of_the_first_point",
 ]
 
 # The errors that the report of a stream of many sheets is to find.

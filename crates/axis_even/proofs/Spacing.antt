@@ -1,6 +1,6 @@
 -- What the tests of two steps come to: a number without its sign, the tolerance, and whether an interval fails.
 use mathlib.Core.Path.{_≡_, refl, sym, ap, _∙_}
-use mathlib.Core.Bool.{Bool, true, false, cond, _&&_}
+use mathlib.Core.Bool.{Bool, true, false, cond, _&&_, _||_}
 use mathlib.Core.List.{List}
 use Prim.Native.Nat.{ℕ, zero, suc, _+_, _-_, _*_, _<_}
 use native.Mathlib.Nat.{mul-one, zero-mul, mul-pos, zero-lt-suc}
@@ -14,6 +14,7 @@ use lib.Ieee.Fits.{up-pos}
 use lib.Ieee.Back.{whole-unique}
 use lib.Ieee.Positive.{positive}
 use Rattle.base_floats.proofs.InUnits.{power-below-one}
+use Rattle.base_numbers.proofs.Scan.{neither}
 use Rattle.rules.specs.Numbers.{_⊖_, _⊗_, plus-zero}
 use Rattle.rules.specs.Steps.{h}
 use Rattle.rules.proofs.Cases.{not-both, both-left}
@@ -118,3 +119,15 @@ absolute-rest (fin true zero k) e f =
     (sym (ap (λ (n : ℕ). eqb n (0 * 1 * down k) && eqb n 0) (none k) ∙ ap (λ (n : ℕ). eqb 0 n && true) (zero-across k)) ∙ f)
 absolute-rest (fin true (suc m) k) e f =
     let l = some m k in not-both true refl (sym (lt-ltb 0 (suc m * up k * 1 + 0 * 1 * down k) (omega arith)) ∙ e)
+
+-- where neither difference is above the tolerance, the larger step minus the smaller is not
+pub neither-above : (spacing step limit : Float) → (lt limit (spacing ⊖ step) || lt limit (step ⊖ spacing)) ≡ false
+    → lt limit (apart spacing step) ≡ false
+neither-above spacing step limit none = go (lt step spacing) refl
+  where
+    above : (lt limit (spacing ⊖ step) ≡ false) × (lt limit (step ⊖ spacing) ≡ false)
+    above = neither (lt limit (spacing ⊖ step)) (lt limit (step ⊖ spacing)) none
+
+    go : (t : Bool) → lt step spacing ≡ t → lt limit (apart spacing step) ≡ false
+    go true e = rw (← apart-wider spacing step e) (above .0)
+    go false e = rw (← apart-narrower spacing step e) (above .1)

@@ -2,8 +2,9 @@
 use mathlib.Core.Path.{_≡_, refl, sym, subst, _∙_}
 use mathlib.Core.List.{List}
 use mathlib.Core.Bool.{true, false}
-use Prim.Native.Nat.{ℕ, zero, suc, _+_, _-_, _/_, _^_, _<_, _≤_}
-use native.Mathlib.Nat.{lt-of-lt-of-le}
+use Prim.Native.Nat.{ℕ, zero, suc, _+_, _-_, _/_, _^_, _<_, _≤_, min}
+use native.Mathlib.Nat.{lt-of-lt-of-le, lt-of-not-le}
+use native.Mathlib.Decide.{decLe}
 use native.Mathlib.Omega.{arith}
 use lib.Pow.{pow-mono}
 use lib.Ieee.{Float, le, size}
@@ -20,24 +21,36 @@ fewer-digits width next h g = go (size width) (size-lt width)
     go zero w = let e : 2 ^ 0 ≡ 1 = refl in absurd (let z : ⊥ = omega arith in z)
     go (suc d) w = let k = half d width w in let l = size-le next d (omega arith) in omega arith
 
+-- and half of a width has one less, so that the digits of the width and the halvings together stay 8 or fewer
+pub counted : (width halvings : ℕ) → 0 < width → size width + halvings ≤ 8 → size (width / 2) + (halvings + 1) ≤ 8
+counted width halvings h few = let f = fewer-digits width (width / 2) h (omega arith) in omega arith
+
+pub counted-first : (last : ℕ) → last < 256 → size last + 0 ≤ 8
+counted-first last few = let n = size-le last 8 (let e : 2 ^ 8 ≡ 256 = refl in omega arith) in omega arith
+
+-- after 8 halvings no width is left
+pub none-left : (width halvings : ℕ) → size width + halvings ≤ 8 → halvings ≡ 8 → width ≡ 0
+none-left width halvings few all = go (size width) (size-lt width) (omega arith)
+  where
+    go : (d : ℕ) → width < 2 ^ d → d ≤ 0 → width ≡ 0
+    go zero w z = let e : 2 ^ 0 ≡ 1 = refl in omega arith
+    go (suc d) w z = absurd (let b : ⊥ = omega arith in b)
+
 module _ (knots : List Float) (point : Float) where
-  -- what the loop keeps: the search goes on between low and high, and at most 8 halvings are left
+  -- the search goes on between low and high, and at most 8 halvings are left
   pub record Turn (last low high : ℕ) : Type 0 where
     pub order : low ≤ high
     pub most : high ≤ last
     pub left : size (high - low) ≤ most-halvings
     pub same : halving knots point most-halvings 0 last ≡ halving knots point most-halvings low high
 
-  pub turn-first : (last : ℕ) → last < 256 → Turn last 0 last
+  turn-first : (last : ℕ) → last < 256 → Turn last 0 last
   turn-first last few = record {
     order = omega arith;
     most = omega arith;
     left = size-le (last - 0) most-halvings (let e : 2 ^ 8 ≡ 256 = refl in omega arith);
     same = refl;
   }
-
-  pub turn-last : (last low high : ℕ) → Turn last low high → high ≤ low → low ≡ halving knots point most-halvings 0 last
-  turn-last last low high t h = sym (t .same ∙ halving-ends knots point most-halvings low high h)
 
   module _ (last low high : ℕ) (t : Turn last low high) (l : low < high) where
     -- after one of 8 halvings another 8 find what 7 do
@@ -68,10 +81,65 @@ module _ (knots : List Float) (point : Float) where
       same = t .same ∙ halving-up knots point 7 low high l e ∙ again (middle low high + 1) high (omega arith);
     }
 
-    -- whichever way halfway is worked out
-    module _ (mid : ℕ) (is : mid ≡ middle low high) where
-      pub turn-down : le point (at knots mid) ≡ true → Turn last low mid
-      turn-down e = subst (Turn last low) (sym is) (down (rw is at e))
+  moved : (last : ℕ) → {low high low′ high′ : ℕ} → low ≡ low′ → high ≡ high′ → Turn last low high → Turn last low′ high′
+  moved last {high = high} e f t = subst (Turn last _) f (subst (λ (l : ℕ). Turn last l high) e t)
 
-      pub turn-up : le point (at knots mid) ≡ false → Turn last (mid + 1) high
-      turn-up e = subst (λ (m : ℕ). Turn last (m + 1) high) (sym is) (up (rw is at e))
+  -- What the loop keeps. Its low goes one past high at most, where a halving looked at the knot at high once more; the search stands
+  -- between the lower of the two and high. The width bounds how far they are apart, and goes by the number of knots alone.
+  pub record Kept (last low high width halvings : ℕ) : Type 0 where
+    pub turn : Turn last (min low high) high
+    pub past : low ≤ high + 1
+    pub within : high - low ≤ width
+    pub count : size width + halvings ≤ 8
+
+  pub kept-first : (last : ℕ) → last < 256 → Kept last 0 last last 0
+  kept-first last few = record {
+    turn = moved last (omega arith) refl (turn-first last few);
+    past = omega arith;
+    within = omega arith;
+    count = counted-first last few;
+  }
+
+  -- once no width is left, low and high have met
+  pub kept-last : (last low high width halvings : ℕ) → Kept last low high width halvings → width ≡ 0
+      → high ≡ halving knots point most-halvings 0 last
+  kept-last last low high width halvings k z =
+      let w = k .within in
+      let t : Turn last high high = moved last (omega arith) refl (k .turn) in
+      sym (t .same ∙ halving-ends knots point most-halvings high high (omega arith))
+
+  module _ (last low high width halvings : ℕ) (k : Kept last low high width halvings) (left : 0 < width) (mid : ℕ)
+      (is : mid ≡ (low + high) / 2) where
+    turn-down : le point (at knots mid) ≡ true → Turn last (min low mid) mid
+    turn-down e = elim (decLe high low) [
+      | yes g ↦ let p = k .past in moved last (omega arith) (omega arith) (k .turn)
+      | no f ↦
+          let l : low < high = lt-of-not-le f in
+          let m : mid ≡ middle low high = omega arith in
+          moved last (omega arith) (sym m) (down last low high (moved last (omega arith) refl (k .turn)) l (rw m at e))
+    ]
+
+    turn-up : le point (at knots mid) ≡ false → Turn last (min (mid + 1) high) high
+    turn-up e = elim (decLe high low) [
+      | yes g ↦ let p = k .past in moved last (omega arith) refl (k .turn)
+      | no f ↦
+          let l : low < high = lt-of-not-le f in
+          let m : mid ≡ middle low high = omega arith in
+          moved last (omega arith) refl (up last low high (moved last (omega arith) refl (k .turn)) l (rw m at e))
+    ]
+
+    pub kept-down : le point (at knots mid) ≡ true → Kept last low mid (width / 2) (halvings + 1)
+    kept-down e = record {
+      turn = turn-down e;
+      past = (let p = k .past in omega arith);
+      within = (let w = k .within in omega arith);
+      count = counted width halvings left (k .count);
+    }
+
+    pub kept-up : le point (at knots mid) ≡ false → Kept last (mid + 1) high (width / 2) (halvings + 1)
+    kept-up e = record {
+      turn = turn-up e;
+      past = (let p = k .past in omega arith);
+      within = (let w = k .within in omega arith);
+      count = counted width halvings left (k .count);
+    }

@@ -34,7 +34,9 @@ fn one_back(knots: &[f64], point: f64, low: usize) -> usize
     low
 }
 
-// The cell of a point among 2 to 256 knots, whatever they are, by at most 8 halvings. On an interior knot it is the cell below.
+// The cell of a point among 2 to 256 knots, whatever they are, by at most 8 halvings. On an interior knot it is the cell below. How many
+// halvings there are goes by the number of knots alone, and the count to 8 lets the compiler unroll them, so none takes a branch at a knot:
+// once low and high have met, a halving looks at the knot at high again, and high stays.
 pub fn locate_lower_index(knots: &[f64], point: f64) -> usize
     requires { ⌜ (2 ≤ length (now knots)) × (length (now knots) ≤ 256) ⌝ }
     ensures { λ r. ⌜ Located (now (knots .entry)) point r ⌝ }
@@ -47,10 +49,17 @@ pub fn locate_lower_index(knots: &[f64], point: f64) -> usize
     }
     let mut low = 0;
     let mut high = knots.len() - 1;
+    let mut width = knots.len() - 1;
+    let mut halvings: usize = 0;
     loop {
-        if low >= high {
-            break held(one_back(knots, point, low), knots.len());
+        if halvings == 8 {
+            break held(one_back(knots, point, high), knots.len());
         }
+        if width == 0 {
+            break held(one_back(knots, point, high), knots.len());
+        }
+        halvings += 1;
+        width = width / 2;
         let mid = (low + high) / 2;
         if knots[mid] >= point {
             high = mid;

@@ -17,9 +17,9 @@ use lib.Ieee.Scale.{grid}
 -- ---- a fraction to the nearest whole number
 
 -- v over u lies within one half of n over u
-record Half (v n u : ℕ) : Type 0 where
-  over : 2 * v ≤ 2 * n + u
-  under : 2 * n ≤ 2 * v + u
+pub record Half (v n u : ℕ) : Type 0 where
+  pub over : 2 * v ≤ 2 * n + u
+  pub under : 2 * n ≤ 2 * v + u
 
 -- q times u and a rest r, to the nearest by how twice the rest compares with u
 by-order : (q r n u : ℕ) (o : Ordering) → compare (r * 2) u ≡ o → q * u + r ≡ n → r < u → Half (nearest q o * u) n u
@@ -39,7 +39,7 @@ by-order q r n u Ordering·gt e is l =
     let next : suc q * u ≡ q * u + u = omega arith in
     rw next (record { over = omega arith; under = omega arith })
 
-closest-near : (n u : ℕ) → 0 < u → Half (closest n u * u) n u
+pub closest-near : (n u : ℕ) → 0 < u → Half (closest n u * u) n u
 closest-near n u h = by-order (n / u) (n % u) n u (compare (n % u * 2) u) refl (div-add-mod' n u) (mod-lt n h)
 
 -- ---- rounded to a format

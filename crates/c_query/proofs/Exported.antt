@@ -21,7 +21,7 @@ use Rattle.c_query.proofs.Given.{axes-given}
 -- ---- the queries
 
 module _ (own : ℕ) (given : QueryAnswer) (value-lent : List Float) (labels-lent : List ℕ) {r : ℕ} (e : r ≡ own) where
-  answer-refused :
+  pub answer-refused :
       (r ≡ 0 → ⊥) → {v : List Float} {l : List ℕ} → QueryStored value-lent labels-lent plus-zero (table most-axes (λ i. 0)) v l
       → AnswerExport own given value-lent labels-lent r v l
   answer-refused some in-place = record {
@@ -29,7 +29,7 @@ module _ (own : ℕ) (given : QueryAnswer) (value-lent : List Float) (labels-len
     answer-stored = rw (← no-value _ (given .value) e some, ← no-labels _ (given .labels) e some) in-place;
   }
 
-  answer-given :
+  pub answer-given :
       r ≡ 0 → (a : QueryAnswer) {v : List Float} {l : List ℕ} → a ≡ given → QueryStored value-lent labels-lent (a .value) (a .labels) v l
       → AnswerExport own given value-lent labels-lent (a .refusal) v l
   answer-given none a is in-place = record {

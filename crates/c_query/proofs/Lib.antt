@@ -1,4 +1,4 @@
-mod Given
+pub mod Given
 pub mod Exported
 pub mod Unique
 pub mod Measured

@@ -8,7 +8,7 @@ use Rattle.rules.specs.declared.QueryAnswer.{QueryAnswer}
 use Rattle.rules.proofs.Unique.{same}
 use Rattle.c_query.specs.QueryExports.{AnswerExport, QueryExport, QuickQueryExport, EvenQueryExport}
 
-same-answer :
+pub same-answer :
     (own : ℕ) (given : QueryAnswer) (value-lent : List Float) (labels-lent : List ℕ) (r r′ : ℕ) (v v′ : List Float) (l l′ : List ℕ)
     → AnswerExport own given value-lent labels-lent r v l
     → AnswerExport own given value-lent labels-lent r′ v′ l′

@@ -1,9 +1,9 @@
 -- A curve judged whole: what the loop over its cells knows, and what is known of a curve that is not refused.
 use mathlib.Core.Path.{_≡_, refl}
-use mathlib.Core.Bool.{Bool, true, false, _&&_, cond}
+use mathlib.Core.Bool.{Bool, true, false, not, _&&_, _||_, cond}
 use mathlib.Core.List.{List}
 use mathlib.Core.Logic.{⊎-elim}
-use Prim.Native.Nat.{ℕ, zero, suc, _+_, _%_, _<_, _≤_}
+use Prim.Native.Nat.{ℕ, zero, suc, _+_, _*_, _%_, _<_, _≤_}
 use native.Mathlib.Nat.{not-suc-le-zero, le-of-suc-le-suc, eq-or-lt-of-le}
 use native.Mathlib.Numerals.{add-one}
 use native.Mathlib.Omega.{arith}
@@ -12,8 +12,9 @@ use lib.IntN.{pos, _-ℤ_}
 use lib.ListN.{length}
 use borrow.Author.Tests.{lt-ltb, le-ltb, leb-true, eqb-true}
 use Rattle.base_integers.proofs.Tests.{both}
-use Rattle.device_cell.specs.DeviceCell.{cell-in-range}
-use Rattle.device_cursor.specs.DeviceCurve.{signed, cell-at, cells, whole-cells, all-in-range, curve-refusal}
+use Rattle.device_cell.specs.DeviceCell.{value-in-range, slope-in-range, cell-in-range}
+use Rattle.device_cursor.proofs.Flags.{flags-of-two, flags-of-four}
+use Rattle.device_cursor.specs.DeviceCurve.{signed, number-at, cell-at, cells, whole-cells, all-in-range, curve-refusal}
 
 -- ---- 32 bits with a sign
 
@@ -41,37 +42,20 @@ whole-known n e =
 
 -- ---- the loop over the cells
 
-both-of-two : (a b : Bool) → a ≡ true → b ≡ true → (a && b) ≡ true
-both-of-two true b e f = f
-both-of-two false b e f = e
-
-not-first : (a b : Bool) → a ≡ false → (a && b) ≡ false
-not-first true b e = cc
-not-first false b e = refl
-
-not-second : (a b : Bool) → b ≡ false → (a && b) ≡ false
-not-second true b e = e
-not-second false b e = refl
-
 module _ (curve : List ℕ) where
-  pub range-none : all-in-range curve 0 ≡ true
-  unfolding all-in-range
-  range-none = refl
+  pub cell-flags : (i : ℕ) (p0 p1 d0 d1 : Bool) → p0 ≡ not (value-in-range (number-at curve (16 * i)))
+      → p1 ≡ not (value-in-range (number-at curve (16 * i + 4))) → d0 ≡ not (slope-in-range (number-at curve (16 * i + 8)))
+      → d1 ≡ not (slope-in-range (number-at curve (16 * i + 12))) → (p0 || p1 || d0 || d1) ≡ not (cell-in-range (cell-at curve i))
+  unfolding cell-in-range
+  cell-flags i p0 p1 d0 d1 e f g h =
+      rw (e, f, g, h)
+      (flags-of-four (value-in-range (number-at curve (16 * i))) (value-in-range (number-at curve (16 * i + 4)))
+      (slope-in-range (number-at curve (16 * i + 8))) (slope-in-range (number-at curve (16 * i + 12))))
 
-  pub range-more : (i : ℕ) → all-in-range curve i ≡ true → cell-in-range (cell-at curve i) ≡ true → all-in-range curve (i + 1) ≡ true
+  pub flag-next : (i : ℕ) (refused here : Bool) → refused ≡ not (all-in-range curve i) → here ≡ not (cell-in-range (cell-at curve i))
+      → (refused || here) ≡ not (all-in-range curve (i + 1))
   unfolding all-in-range
-  range-more i before here = rw add-one (both-of-two (all-in-range curve i) (cell-in-range (cell-at curve i)) before here)
-
-  pub range-broken : (i n : ℕ) → i < n → cell-in-range (cell-at curve i) ≡ false → all-in-range curve n ≡ false
-  unfolding all-in-range
-  range-broken i zero l here = absurd (not-suc-le-zero l)
-  range-broken i (suc n) l here =
-      ⊎-elim (λ e. not-second (all-in-range curve n) (cell-in-range (cell-at curve n)) (rw e at here))
-      (λ lt. not-first (all-in-range curve n) (cell-in-range (cell-at curve n)) (range-broken i n lt here))
-      (eq-or-lt-of-le (le-of-suc-le-suc l))
-
-  pub range-end : (i n : ℕ) → all-in-range curve i ≡ true → i ≡ n → all-in-range curve n ≡ true
-  range-end i n all e = rw e at all
+  flag-next i refused here e f = rw (add-one, e, f) (flags-of-two (all-in-range curve i) (cell-in-range (cell-at curve i)))
 
   range-at : (n : ℕ) → all-in-range curve n ≡ true → (i : ℕ) → i < n → cell-in-range (cell-at curve i) ≡ true
   unfolding all-in-range

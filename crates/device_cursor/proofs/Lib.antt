@@ -1,4 +1,7 @@
+mod Flags
 pub mod Judged
+mod Lifted
+mod Columns
 pub mod Steps
 pub mod Walks
 pub mod Unique

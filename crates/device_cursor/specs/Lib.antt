@@ -1,1 +1,2 @@
 pub mod DeviceCurve
+pub mod Columns

@@ -1,14 +1,16 @@
 // A curve of cells as bytes, judged whole, and a cursor that walks its numbers. Nothing here knows a float.
 ghost use mathlib.Core.Path.{_≡_};
-ghost use mathlib.Core.Bool.{true};
-ghost use Prim.Native.Nat.{_+_, _*_, _<_, _≤_};
+ghost use mathlib.Core.Bool.{true, not};
+ghost use Prim.Native.Nat.{_+_, _*_, _/_, _<_, _≤_};
 ghost use lib.ListN.{length};
 ghost use Rattle.device_cell.specs.DeviceCell.{cell-number, cell-in-range};
 ghost use Rattle.device_cursor.specs.DeviceCurve.{
   four-bytes,
   number-at,
   cell-at,
+  cells,
   whole-cells,
+  all-in-range,
   curve-refusal,
   last-cursor,
   cursor-number,
@@ -16,6 +18,7 @@ ghost use Rattle.device_cursor.specs.DeviceCurve.{
   StartPromise,
   NextPromise,
 };
+ghost use Rattle.device_cursor.specs.Columns.{value-out, slope-out, one-of-four-out};
 use device_cell::Cell;
 
 // Where a walk stands: how many numbers lie before it. Any n has a meaning.
@@ -85,12 +88,91 @@ fn whole_cells(length: usize) -> bool
     }
 }
 
-// Whether cell i is in range: it requires that the cell is there.
-fn in_range_at(curve: &[u8], i: usize) -> bool
-    requires { ⌜ 16 * i + 16 ≤ length (now curve) ⌝ }
-    ensures { λ r. ⌜ r ≡ cell-in-range (cell-at (now (curve .entry)) i) ⌝ }
+// Whether the number in four bytes is out of the range of a value. Lifted by 32,768, without the carry, a number in range is below 65,536,
+// and no other is. It requires that the bytes are there, as the two after it do of theirs.
+fn value_refused(curve: &[u8], at: usize) -> bool
+    requires { ⌜ at + 4 ≤ length (now curve) ⌝ }
+    ensures { λ r. ⌜ r ≡ value-out (now (curve .entry)) at ⌝ }
 {
-    device_cell::cell_in_range(cell_at(curve, i))
+    (four_bytes(curve, at) + 32768) % 4294967296 >= 65536
+}
+
+// The same of a slope, whose range is four times as wide.
+fn slope_refused(curve: &[u8], at: usize) -> bool
+    requires { ⌜ at + 4 ≤ length (now curve) ⌝ }
+    ensures { λ r. ⌜ r ≡ slope-out (now (curve .entry)) at ⌝ }
+{
+    (four_bytes(curve, at) + 131072) % 4294967296 >= 262144
+}
+
+// Whether a number of cell i is out of range.
+fn cell_refused(curve: &[u8], i: usize) -> bool
+    requires { ⌜ 16 * i + 16 ≤ length (now curve) ⌝ }
+    ensures { λ r. ⌜ r ≡ not (cell-in-range (cell-at (now (curve .entry)) i)) ⌝ }
+{
+    let at = 16 * i;
+    value_refused(curve, at)
+        | value_refused(curve, at + 4)
+        | slope_refused(curve, at + 8)
+        | slope_refused(curve, at + 12)
+}
+
+// Whether one of four values is out of range, each in the cell after the one before. It requires that they are there, as the next does.
+fn four_values_refused(curve: &[u8], at: usize) -> bool
+    requires { ⌜ at + 52 ≤ length (now curve) ⌝ }
+    ensures { λ r. ⌜ r ≡ one-of-four-out (value-out (now (curve .entry))) at ⌝ }
+{
+    value_refused(curve, at)
+        | value_refused(curve, at + 16)
+        | value_refused(curve, at + 32)
+        | value_refused(curve, at + 48)
+}
+
+// The same of four slopes.
+fn four_slopes_refused(curve: &[u8], at: usize) -> bool
+    requires { ⌜ at + 52 ≤ length (now curve) ⌝ }
+    ensures { λ r. ⌜ r ≡ one-of-four-out (slope-out (now (curve .entry))) at ⌝ }
+{
+    slope_refused(curve, at)
+        | slope_refused(curve, at + 16)
+        | slope_refused(curve, at + 32)
+        | slope_refused(curve, at + 48)
+}
+
+// Whether a number is out of range in a cell of those that come in fours. A flag for each of a cell's numbers is kept to the last four, so
+// the compiler looks at the four numbers of a cell at a time.
+fn some_of_fours_refused(curve: &[u8]) -> bool
+    ensures { λ r. ⌜ r ≡ not (all-in-range (now (curve .entry)) (4 * (length (now (curve .entry)) / 64))) ⌝ }
+{
+    let fours = curve.len() / 64;
+    let mut p0 = false;
+    let mut p1 = false;
+    let mut d0 = false;
+    let mut d1 = false;
+    let mut i = 0;
+    while i < fours {
+        let at = 64 * i;
+        p0 = p0 | four_values_refused(curve, at);
+        p1 = p1 | four_values_refused(curve, at + 4);
+        d0 = d0 | four_slopes_refused(curve, at + 8);
+        d1 = d1 | four_slopes_refused(curve, at + 12);
+        i += 1;
+    }
+    p0 | p1 | d0 | d1
+}
+
+// Whether a number of a cell is out of range: in those that come in fours, and in the three behind them at most.
+fn some_cell_refused(curve: &[u8]) -> bool
+    ensures { λ r. ⌜ r ≡ not (all-in-range (now (curve .entry)) (cells (now (curve .entry)))) ⌝ }
+{
+    let cells = curve.len() / 16;
+    let mut refused = some_of_fours_refused(curve);
+    let mut i = 4 * (curve.len() / 64);
+    while i < cells {
+        refused = refused | cell_refused(curve, i);
+        i += 1;
+    }
+    refused
 }
 
 // The refusal of a curve, which is judged whole: 20 for its length, then 19 for its numbers.
@@ -98,16 +180,7 @@ pub fn curve_refusal(curve: &[u8]) -> usize
     ensures { λ r. ⌜ r ≡ curve-refusal (now (curve .entry)) ⌝ }
 {
     if whole_cells(curve.len()) {
-        let cells = curve.len() / 16;
-        let mut i = 0;
-        while i < cells {
-            if in_range_at(curve, i) {
-                i += 1;
-            } else {
-                return 19;
-            }
-        }
-        0
+        if some_cell_refused(curve) { 19 } else { 0 }
     } else {
         20
     }

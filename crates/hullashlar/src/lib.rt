@@ -1,5 +1,5 @@
-// The twenty calls for C, over numbers and plain slices. Each but the firmware's returns its refusal's number, 0 for none: the host's own
-// first, as c_refusals::own and the crates of exports have them, and then the call's.
+// The twenty-three calls for C, over numbers and plain slices. Each but the firmware's returns its refusal's number, 0 for none: the
+// host's own first, as c_refusals::own and the crates of exports have them, and then the call's.
 ghost use mathlib.Core.List.{[], _∷_};
 ghost use Rattle.rules.specs.Calls.{SlopesPromise};
 ghost use Rattle.sheet_surface.specs.SheetSurface.{SurfacePromise};
@@ -8,6 +8,8 @@ ghost use Rattle.c_curve.specs.CurveExports.{MomentsExport, CurveExport};
 ghost use Rattle.c_tensor.specs.TensorExports.{BuildExport, ChangeExport};
 ghost use Rattle.c_verify.specs.VerifyExports.{VerifyExport};
 ghost use Rattle.c_query.specs.QueryExports.{QueryExport, QuickQueryExport, EvenQueryExport};
+ghost use Rattle.c_direct.specs.DirectExports.{DirectQueryExport};
+ghost use Rattle.c_many.specs.ManyExports.{QuickQueriesExport, DirectQueriesExport};
 ghost use Rattle.c_sheet.specs.SheetExports.{ReadExport, ReadEdition1Export, SheetTensorExport, WriteExport};
 ghost use Rattle.c_device.specs.DeviceExports.{CellExport, NextExport};
 
@@ -239,6 +241,101 @@ pub extern "C" fn hullashlar_even_query(
         value,
         labels,
         uneven,
+    )
+}
+
+// The surface's value at the coordinates and the labels, as of the quick query, in the cell that one division finds on each axis, on any
+// knots: the answer of the query of even axes, axis and interval aside, where that accepts knots and axes. Of the knots of an axis it reads
+// the first two, the last where the mode is hold or refuse, and the two of the cell. Refuses 1 2 3 4, 7 for a coordinate, 8 for the found
+// cell's knots, 18 10, in this order, and then value and labels are 0; and 4 and 22 of its own.
+#[no_mangle]
+pub extern "C" fn hullashlar_direct_query(
+    axes: usize,
+    points: &[usize],
+    modes: &[u8],
+    knots: &[f64],
+    tensor: &[f64],
+    coordinates: &[f64],
+    value: &mut [f64],
+    labels: &mut [usize],
+) -> usize
+    ensures { λ r.
+        ⌜ DirectQueryExport axes (now (points .entry)) (now (modes .entry)) (now (knots .entry)) (now (tensor .entry))
+        (now (coordinates .entry)) (now (value .entry)) (now (labels .entry)) r (now (value .exit)) (now (labels .exit)) ⌝ }
+{
+    c_direct::direct_query(
+        axes,
+        points,
+        modes,
+        knots,
+        tensor,
+        coordinates,
+        value,
+        labels,
+    )
+}
+
+// The quick query at as many points as refusals are lent: a coordinate on each axis, a value, four labels and a refusal for each, one point
+// after the other. At each they are what the quick query gives for that point alone, and a point that is refused stops nothing. Refuses 1,
+// 4 for the points of the axes, 2, 3, 4 for every other slice, and 22, in this order, and then nothing is written.
+#[no_mangle]
+pub extern "C" fn hullashlar_quick_queries(
+    axes: usize,
+    points: &[usize],
+    modes: &[u8],
+    knots: &[f64],
+    tensor: &[f64],
+    coordinates: &[f64],
+    values: &mut [f64],
+    labels: &mut [usize],
+    refusals: &mut [usize],
+) -> usize
+    ensures { λ r.
+        ⌜ QuickQueriesExport axes (now (points .entry)) (now (modes .entry)) (now (knots .entry)) (now (tensor .entry))
+        (now (coordinates .entry)) (now (values .entry)) (now (labels .entry)) (now (refusals .entry)) r (now (values .exit))
+        (now (labels .exit)) (now (refusals .exit)) ⌝ }
+{
+    c_many::quick_queries(
+        axes,
+        points,
+        modes,
+        knots,
+        tensor,
+        coordinates,
+        values,
+        labels,
+        refusals,
+    )
+}
+
+// The direct query at as many points, in the same way. Refuses as the quick query of many points.
+#[no_mangle]
+pub extern "C" fn hullashlar_direct_queries(
+    axes: usize,
+    points: &[usize],
+    modes: &[u8],
+    knots: &[f64],
+    tensor: &[f64],
+    coordinates: &[f64],
+    values: &mut [f64],
+    labels: &mut [usize],
+    refusals: &mut [usize],
+) -> usize
+    ensures { λ r.
+        ⌜ DirectQueriesExport axes (now (points .entry)) (now (modes .entry)) (now (knots .entry)) (now (tensor .entry))
+        (now (coordinates .entry)) (now (values .entry)) (now (labels .entry)) (now (refusals .entry)) r (now (values .exit))
+        (now (labels .exit)) (now (refusals .exit)) ⌝ }
+{
+    c_many::direct_queries(
+        axes,
+        points,
+        modes,
+        knots,
+        tensor,
+        coordinates,
+        values,
+        labels,
+        refusals,
     )
 }
 

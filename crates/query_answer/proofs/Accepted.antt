@@ -1,12 +1,12 @@
--- The knots of an axis that refusals 7 and 8 let pass are finite and rise.
+-- The knots of an axis that refusals 7 and 8 let pass are finite and rise, and no cell of them is refused.
 use native.Mathlib.Omega.{arith}
-use mathlib.Core.Path.{_≡_, ap, _∙_}
+use mathlib.Core.Path.{_≡_, refl, ap, _∙_}
 use mathlib.Core.Bool.{false}
-use Prim.Native.Nat.{ℕ, _+_, _<_}
+use Prim.Native.Nat.{ℕ, _+_, _-_, _<_}
 use lib.ListN.{length}
 use Rattle.rules.specs.Numbers.{at}
 use Rattle.rules.specs.Sizes.{Grid, points, knots, sum-below, knots-length}
-use Rattle.rules.specs.Refusals.{number-refused, some-number-refused, knots-refused}
+use Rattle.rules.specs.Refusals.{number-refused, some-number-refused, step-refused, knots-refused, found-cell-refused}
 use Rattle.base_numbers.proofs.Scan.{any-at, any-never}
 use Rattle.grid.proofs.Products.{sum-within}
 use Rattle.grid.proofs.Knots.{knots-of-axis, knot-at}
@@ -25,3 +25,15 @@ module _ (g : Grid) (exact : length (g .flat-knots) ≡ knots-length g) (numbers
 
   pub rising-on-axis : knots-refused (knots g i) (points g i) ≡ false → Rising (knots g i) (points g i)
   rising-on-axis = accepted-rise (knots g i) (points g i) (knots-of-axis g exact i lt) axis-numbers
+
+  pub cell-accepted :
+      knots-refused (knots g i) (points g i) ≡ false → (l : ℕ) → l + 1 < points g i → found-cell-refused (knots g i) l ≡ false
+  unfolding found-cell-refused
+  cell-accepted rise l inside =
+      let rising = rising-on-axis rise in
+      rw (
+        rising .finite l (omega arith),
+        rising .finite (l + 1) inside,
+        any-at (step-refused (knots g i)) (points g i - 1) rise l (omega arith),
+      )
+      refl

@@ -29,7 +29,7 @@ use Rattle.query_answer.specs.PointsAndModes.{AxesOf, QueryFits}
 use Rattle.query_answer.specs.CellsFound.{cells-by, FoundOn, FoundAmong}
 use Rattle.query_answer.specs.AnswerByWay.{refused-with, answer-in, knots-refusal, value-by, refusal-by, AnswerAmong}
 use Rattle.query_answer.specs.declared.ways.Way.{Way}
-use Rattle.query_answer.specs.declared.ways.Way.the-variants.{Walked, Searched, Direct}
+use Rattle.query_answer.specs.declared.ways.Way.the-variants.{Walked, Searched, Direct, Divided}
 use Rattle.query_answer.specs.declared.searched.Refusals.{Refusals}
 
 -- ---- the answer in a cell
@@ -57,6 +57,7 @@ some-refusal : (way : Way) (x : List Float) → knots-refusal way x ≢ 0
 some-refusal Walked x z = seven-or-eight (some-number-refused x) z
 some-refusal Searched x z = omega arith
 some-refusal Direct x z = omega arith
+some-refusal Divided x z = omega arith
 
 -- ---- one number for a place on axes of the same points
 

@@ -1,6 +1,6 @@
 -- The cell of each way lies on its axis, and of the knots of a found cell the step is all that is looked at.
 use native.Mathlib.Omega.{arith}
-use mathlib.Core.Path.{_≡_, refl, sym, _∙_}
+use mathlib.Core.Path.{_≡_, refl, sym, ap, _∙_}
 use mathlib.Core.Bool.{Bool, true, false, true≢false, not, _||_}
 use mathlib.Core.List.{List}
 use Prim.Native.Nat.{ℕ, _+_, _≤_}
@@ -15,9 +15,9 @@ use Rattle.rules.proofs.EvenAxes.{direct-cell-inside}
 use Rattle.base_numbers.proofs.Scan.{neither}
 use Rattle.base_numbers.proofs.Finite.{finite-difference}
 use Rattle.axis_locate.specs.CellFound.{Located}
-use Rattle.query_answer.specs.Ways.{direct-cell-in, CellOn}
+use Rattle.query_answer.specs.Ways.{direct-cell-in, cell-on, by-search, CellOn}
 use Rattle.query_answer.specs.declared.ways.Way.{Way}
-use Rattle.query_answer.specs.declared.ways.Way.the-variants.{Walked, Searched, Direct}
+use Rattle.query_answer.specs.declared.ways.Way.the-variants.{Walked, Searched, Direct, Divided}
 
 -- ---- the cell
 
@@ -28,13 +28,21 @@ module _ (x : List Float) (p placed : Float) (cell : ℕ) {way : Way} where
   pub searched-cell : way ≡ Searched → Located x p cell → CellOn way x p placed cell
   searched-cell e located = rw e (record { found = located .found; inside = located .inside; rising = λ search. located .rising })
 
+  -- so by both ways of division
+  by-division :
+      cell-on way x p placed ≡ direct-cell-in x placed → by-search way ≡ false → 2 ≤ length x → cell ≡ direct-cell-in x placed
+      → CellOn way x p placed cell
+  by-division named unsearched some is = record {
+    found = is ∙ sym named;
+    inside = omega (arith, is, direct-cell-inside (at x 0) (h x 0) (length x) placed);
+    rising = λ search. absurd (true≢false (sym search ∙ unsearched));
+  }
+
   pub direct-cell-found : way ≡ Direct → 2 ≤ length x → cell ≡ direct-cell-in x placed → CellOn way x p placed cell
-  direct-cell-found e some is =
-      rw e (record {
-        found = is;
-        inside = omega (arith, is, direct-cell-inside (at x 0) (h x 0) (length x) placed);
-        rising = λ search. absurd (true≢false (sym search));
-      })
+  direct-cell-found e = by-division (ap (λ (w : Way). cell-on w x p placed) e) (ap by-search e)
+
+  pub divided-cell-found : way ≡ Divided → 2 ≤ length x → cell ≡ direct-cell-in x placed → CellOn way x p placed cell
+  divided-cell-found e = by-division (ap (λ (w : Way). cell-on w x p placed) e) (ap by-search e)
 
 -- ---- the knots of a found cell
 

@@ -30,7 +30,7 @@ use Rattle.query_answer.specs.PointsAndModes.{AxesOf, SearchFits}
 use Rattle.query_answer.specs.Ways.{cell-on, by-search, knots-refused-by, CellOn}
 use Rattle.query_answer.specs.CellsFound.{WeightsStored, Unfound, cells-by, FoundOn, CellsPlaced, FoundAmong}
 use Rattle.query_answer.specs.declared.ways.Way.{Way}
-use Rattle.query_answer.specs.declared.ways.Way.the-variants.{Walked, Searched, Direct}
+use Rattle.query_answer.specs.declared.ways.Way.the-variants.{Walked, Searched, Direct, Divided}
 use Rattle.query_answer.specs.declared.searched.Refusals.{Refusals}
 
 -- the cell on one axis is that of the grid, whose knots are as many as its points
@@ -40,6 +40,7 @@ unfolding quick-cell-of even-cell-of direct-cell-of
 cell-of-axis Walked g coordinates i exact = refl
 cell-of-axis Searched g coordinates i exact = refl
 cell-of-axis Direct g coordinates i exact = rw exact refl
+cell-of-axis Divided g coordinates i exact = rw exact refl
 
 module _ (way : Way) (axes : ℕ) (points-in modes-in : List ℕ) (x coordinates : List Float) where
   -- the loop has come to axis i, whose knots begin at `begin`

@@ -143,7 +143,7 @@ pub record Stands (g : Grid) (coordinates : List Float) : Type 0 where
   pub count : length coordinates ≡ g .axes
   pub numbers : some-number-refused (g .flat-knots) ≡ false
 
-stands-then :
+pub stands-then :
     (g : Grid) (tensor coordinates : List Float) → axes-refused g ≡ false → some-points-refused g ≡ false
     → query-lengths-refused g tensor coordinates ≡ false → some-number-refused (g .flat-knots) ≡ false → Stands g coordinates
 stands-then g tensor coordinates few fine long numbers =

@@ -18,7 +18,7 @@ use Rattle.query_answer.specs.PointsAndModes.{OfAnyAxes}
 use Rattle.query_answer.specs.Ways.{by-search}
 use Rattle.query_answer.specs.CellsFound.{cells-by, knots-refuse}
 use Rattle.query_answer.specs.declared.ways.Way.{Way}
-use Rattle.query_answer.specs.declared.ways.Way.the-variants.{Walked, Searched, Direct}
+use Rattle.query_answer.specs.declared.ways.Way.the-variants.{Walked, Searched, Direct, Divided}
 
 -- the answer of a refusal: its number, and nothing but zeros beside it
 abbrev pub refused-with : ℕ → QueryAnswer
@@ -33,6 +33,7 @@ abbrev pub knots-refusal : Way → List Float → ℕ
 knots-refusal Walked x = cond (some-number-refused x) 7 8
 knots-refusal Searched x = 8
 knots-refusal Direct x = 8
+knots-refusal Divided x = 8
 
 module _ (way : Way) (g : Grid) (tensor coordinates : List Float) where
   -- 8: so for an axis in use

@@ -17,7 +17,7 @@ use Rattle.axis_locate.specs.CellFound.{Rising}
 use Rattle.query_answer.specs.PointsAndModes.{OfAnyAxes}
 use Rattle.query_answer.specs.Ways.{by-search, knots-refused-by}
 use Rattle.query_answer.specs.declared.ways.Way.{Way}
-use Rattle.query_answer.specs.declared.ways.Way.the-variants.{Walked, Searched, Direct}
+use Rattle.query_answer.specs.declared.ways.Way.the-variants.{Walked, Searched, Direct, Divided}
 use Rattle.query_answer.specs.declared.searched.Refusals.{Refusals}
 
 -- the weights of one axis in their places, and those of the others as they were
@@ -37,6 +37,7 @@ abbrev pub cells-by : Way → Grid → List Float → Place
 cells-by Walked g coordinates = quick-cell-of g (at coordinates)
 cells-by Searched g coordinates = quick-cell-of g (at coordinates)
 cells-by Direct g coordinates = even-cell-of g (at coordinates)
+cells-by Divided g coordinates = even-cell-of g (at coordinates)
 
 module _ (way : Way) (g : Grid) (coordinates : List Float) where
   -- whether axis j refuses the point: by 7, by 8, by 18

@@ -14,7 +14,7 @@ use Rattle.rules.specs.Search.{lower-index}
 use Rattle.rules.specs.Even.{direct-cell}
 use Rattle.axis_locate.specs.CellFound.{Rising}
 use Rattle.query_answer.specs.declared.ways.Way.{Way}
-use Rattle.query_answer.specs.declared.ways.Way.the-variants.{Walked, Searched, Direct}
+use Rattle.query_answer.specs.declared.ways.Way.the-variants.{Walked, Searched, Direct, Divided}
 
 -- the cell by one division, of the knots of an axis
 abbrev pub direct-cell-in : List Float → Float → ℕ
@@ -25,12 +25,14 @@ abbrev pub cell-on : Way → List Float → Float → Float → ℕ
 cell-on Walked x p placed = lower-index x p
 cell-on Searched x p placed = lower-index x p
 cell-on Direct x p placed = direct-cell-in x placed
+cell-on Divided x p placed = direct-cell-in x placed
 
 -- whether a way is by the search
 abbrev pub by-search : Way → Bool
 by-search Walked = true
 by-search Searched = true
 by-search Direct = false
+by-search Divided = false
 
 -- the cell of a point: on rising knots the search finds that of the rules
 pub record CellOn (way : Way) (knots : List Float) (point placed : Float) (cell : ℕ) : Type 0 where
@@ -43,3 +45,4 @@ abbrev pub knots-refused-by : Way → List Float → ℕ → Bool
 knots-refused-by Walked x l = knots-refused x (length x)
 knots-refused-by Searched x l = found-cell-refused x l
 knots-refused-by Direct x l = false
+knots-refused-by Divided x l = found-cell-refused x l

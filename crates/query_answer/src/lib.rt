@@ -56,6 +56,7 @@ fn knots_refusal(way: Way, knots: &[f64]) -> usize
         }
         Way::Searched => 8,
         Way::Direct => 8,
+        Way::Divided => 8,
     }
 }
 

@@ -7,10 +7,12 @@ ghost use Rattle.query_answer.specs.Ways.{direct-cell-in, CellOn, knots-
 // Walked: by the search, and all knots of the axis are looked at.
 // Searched: by the search, and the two knots of the cell are looked at.
 // Direct: by one division, for knots that were looked at before.
+// Divided: by one division, and the two knots of the cell are looked at.
 pub enum Way {
     Walked,
     Searched,
     Direct,
+    Divided,
 }
 
 // The cell of a point by one division: only the first two knots are looked at.
@@ -30,6 +32,7 @@ pub fn cell_on_axis(way: Way, knots: &[f64], point: f64, placed: f64) -> usize
         Way::Walked => axis_locate::locate_lower_index(knots, point),
         Way::Searched => axis_locate::locate_lower_index(knots, point),
         Way::Direct => direct_cell(knots, placed),
+        Way::Divided => direct_cell(knots, placed),
     }
 }
 
@@ -43,5 +46,6 @@ pub fn knots_refused(way: Way, knots: &[f64], cell: usize) -> bool
         Way::Walked => grid_checks::rising::knots_refused(knots),
         Way::Searched => grid_checks::rising::step_refused(knots[cell], knots[cell + 1]),
         Way::Direct => false,
+        Way::Divided => grid_checks::rising::step_refused(knots[cell], knots[cell + 1]),
     }
 }

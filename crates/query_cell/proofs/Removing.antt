@@ -6,12 +6,10 @@ use mathlib.Core.Bool.{Bool, true, false}
 use mathlib.Core.List.{List, _++_}
 use Prim.Native.Nat.{ℕ, zero, suc, _+_, _-_, _*_, _/_, _%_, _^_, _<_, _≤_}
 use native.Mathlib.Nat.{
-  pow-suc,
   add-mul,
   suc-mul,
   mul-assoc,
   mul-le-mul-right,
-  mul-mul-mul-comm,
   add-sub-cancel-left,
   eq-or-lt-of-le,
   le-of-suc-le-suc,
@@ -31,6 +29,7 @@ use Rattle.rules.specs.Numbers.{at}
 use Rattle.rules.specs.Sizes.{Place, flat, product-below}
 use Rattle.rules.specs.Query.{corner}
 use Rattle.rules.proofs.Places.{OnGrid, flat-below}
+use Rattle.rules.proofs.Cells.{four-power}
 use Rattle.grid.specs.Strides.{stride}
 use Rattle.grid.proofs.Corners.{side-by-side}
 use Rattle.query_blend.specs.Blend.{weighted-at, RunGiven, RunBlended, ByFours, Smaller, Blended}
@@ -62,11 +61,6 @@ module _ (old new : List Float) (a k : ℕ) (room : a + k ≤ length old) (exact
       ∙ List·getD-append new (drop k (drop a old)) nan e (omega arith)
 
 -- ---- two corners of the cell
-
-pub four-power : (axes : ℕ) → 4 ^ axes ≡ 2 ^ axes * 2 ^ axes
-four-power zero = refl
-four-power (suc axes) =
-    rw (pow-suc 4 axes, pow-suc 2 axes, four-power axes, mul-mul-mul-comm (2 ^ axes) 2 (2 ^ axes) 2) refl
 
 module _ (axes : ℕ) (n : ℕ → ℕ) (tensor : List Float) (lower : Place) (masks : ℕ) (power : masks ≡ 2 ^ axes) where
   -- where the numbers of a corner stand

@@ -4,7 +4,7 @@ use native.Mathlib.Omega.{arith}
 use mathlib.Core.Path.{_≡_, refl, ap, _∙_}
 use mathlib.Core.Bool.{Bool, true, false, not, cond, _||_}
 use mathlib.Core.List.{List, [], _∷_, _++_}
-use Prim.Native.Nat.{ℕ, zero, suc, _+_, _-_, _<_}
+use Prim.Native.Nat.{ℕ, zero, suc, _+_, _<_}
 use lib.Dec.{T}
 use lib.ListN.{length}
 use lib.Ieee.{Float, binary64, fits}
@@ -17,7 +17,6 @@ use Rattle.rules.specs.Refusals.{
   length-refused,
   number-refused,
   some-number-refused,
-  step-refused,
   knots-refused,
   some-knots-refused,
   found-cell-refused,
@@ -47,7 +46,7 @@ use Rattle.grid_checks.specs.Tables.{Refusal, row, lowest}
 use Rattle.grid_checks.proofs.Rows.{rows-then, none-applies, axes-few, in-range, exact-3}
 use Rattle.axis_locate.specs.CellFound.{Rising}
 use Rattle.axis_locate.proofs.Among.{lower-index-is-locate}
-use Rattle.query_answer.proofs.Accepted.{rising-on-axis}
+use Rattle.query_answer.proofs.Accepted.{rising-on-axis, cell-accepted}
 
 -- the knots of each axis fit
 pub axis-fits : (g : Grid) → AllFit (g .flat-knots) → (i : ℕ) → AllFit (knots g i)
@@ -146,13 +145,9 @@ module _ (g : Grid) (tensor coordinates : List Float) (knots-fit : AllFit (g .fl
         cell-below = omega (arith, quick-cell-inside (knots g i) (at coordinates i), rising .count, range .some-points i lt)
 
         found-fine : found-cell-refused (knots g i) (quick-cell-of g (at coordinates) i) ≡ false
-        unfolding found-cell-refused
         found-fine =
-            let l = quick-cell-of g (at coordinates) i in
-            let step =
-            any-at (step-refused (knots g i)) (points g i - 1)
-            (any-at (λ j. knots-refused (knots g j) (points g j)) (g .axes) rise i lt) l (omega (arith, cell-below)) in
-            rw (rising .finite l (omega (arith, cell-below)), rising .finite (l + 1) cell-below, step) refl
+            cell-accepted g (lengths .0) numbers i lt (any-at (λ j. knots-refused (knots g j) (points g j)) (g .axes) rise i lt)
+            (quick-cell-of g (at coordinates) i) cell-below
 
       none-found : some-found-cell-refused g (quick-cell-of g (at coordinates)) ≡ false
       none-found = any-never (λ i. found-cell-refused (knots g i) (quick-cell-of g (at coordinates) i)) (g .axes) found-fine

@@ -8,8 +8,7 @@ use lib.ListN.{length, getD, length-append}
 use Rattle.rules.specs.Sizes.{most-in-a-tensor}
 use Rattle.report_front.specs.Front.{rest-bytes}
 use Rattle.report_totals.specs.Totals.{all-entries, most-sheets}
-use Rattle.report_totals.specs.Counting.{Running}
-use Rattle.report_totals.proofs.Orders.{no-entries}
+use Rattle.report_totals.specs.Counting.{no-entries, Running}
 use Rattle.report_totals.proofs.Sheets.{sheets-most, refused-most}
 use Rattle.report_totals.proofs.Each.{entries-most}
 use Rattle.report.specs.Report.{front-sheet, stops, stream-of, report-of}

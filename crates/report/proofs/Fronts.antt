@@ -1,5 +1,5 @@
 -- The sheet at the front of a stream: what it is where its length is not known, that it does not depend on what follows enough bytes, and
--- that it is what the call on its own bytes answers.
+-- how many entries it can have.
 use mathlib.Core.Path.{_≡_, refl, sym, ap, _∙_}
 use mathlib.Core.Bool.{Bool, true, false}
 use mathlib.Core.List.{List, [], _++_, append-nil}
@@ -17,17 +17,15 @@ use Rattle.rules.proofs.Tables.{length-table}
 use Rattle.sheet_read.specs.Fields.{axes, sheet-grid, sheet-samples}
 use Rattle.sheet_read.specs.Faults.{sheet-refusal}
 use Rattle.sheet_read.proofs.Numbers.{sheet-of-reading}
-use Rattle.sheet_build.specs.SheetTensor.{own-refusal, SheetPromise}
-use Rattle.sheet_build.specs.declared.SheetAnswer.{SheetAnswer}
+use Rattle.sheet_build.specs.SheetTensor.{own-refusal}
 use Rattle.sheet_build.proofs.Builds.{length-tensor}
-use Rattle.sheet_build.proofs.Few.{own-few}
-use Rattle.sheet_build.proofs.Alone.{read-alone, few-numbers, answered-alone, axes-alone, tensor-alone, nothing-alone, axes-most}
+use Rattle.sheet_build.proofs.Alone.{read-alone, few-numbers}
 use Rattle.report_front.specs.Front.{front-size, front-bytes, rest-bytes, enough-bytes}
 use Rattle.report_front.proofs.Tails.{true-not-false, before-tail, either-case, refusal-early}
 use Rattle.report_front.proofs.Cuts as cuts
 use Rattle.report_totals.specs.Totals.{Entry, tensor-entries}
 use Rattle.report.specs.Report.{accepted-alone, sheet-at, front-sheet, stops}
-use Rattle.report.specs.Feeding.{Shown, Buffers}
+use Rattle.report.specs.Feeding.{Shown}
 
 -- ---- a fault before the tail
 
@@ -117,48 +115,3 @@ sheet-small bytes = go (own-refusal bytes) refl
 pub front-small : (bytes : List ℕ) → length (front-sheet bytes .tensor) ≤ 4096
 unfolding front-sheet
 front-small bytes = sheet-small (front-bytes bytes)
-
-module _ (bytes : List ℕ) (knots samples lent scratch : List Float) (long : Buffers knots samples lent scratch) (given : SheetAnswer)
-    (k s t w : List Float) where
-  module _ (own : List ℕ) (p : SheetPromise own knots samples lent scratch given k s t w) where
-    entries-are : tensor-entries (given .axes) (take (given .length) t) ≡ sheet-at own .tensor
-    unfolding sheet-at
-    entries-are = go (own-refusal own) refl
-      where
-        go : (refusal : ℕ) → own-refusal own ≡ refusal
-            → tensor-entries (given .axes) (take (given .length) t)
-            ≡ accepted-alone (own-refusal own) (tensor-entries (axes own) (tensor (sheet-grid own) (sheet-samples own)))
-        go zero e =
-            rw (
-              axes-alone own knots samples lent scratch long given k s t w p e,
-              tensor-alone own knots samples lent scratch long given k s t w p e,
-              e,
-            )
-        go (suc refusal) e = rw (nothing-alone own knots samples lent scratch long given k s t w p (λ z. omega (arith, e, z)), e)
-
-    refusal-is : given .refusal ≡ sheet-at own .refusal
-    unfolding sheet-at
-    refusal-is = answered-alone own knots samples lent scratch long given k s t w p
-
-  -- of the bytes that the front sheet's size cuts off
-  module _ (size : ℕ) (e : size ≡ front-size bytes)
-      (p : SheetPromise (take (size - 0) bytes) knots samples lent scratch given k s t w) where
-    of-front : SheetPromise (front-bytes bytes) knots samples lent scratch given k s t w
-    of-front = let here : size - 0 ≡ front-size bytes = omega arith in rw here at p
-
-    pub front-refusal : given .refusal ≡ front-sheet bytes .refusal
-    unfolding front-sheet
-    front-refusal = refusal-is (front-bytes bytes) of-front
-
-    pub front-entries : tensor-entries (given .axes) (take (given .length - 0) t) ≡ front-sheet bytes .tensor
-    unfolding front-sheet
-    front-entries = rw (sub-zero (given .length)) (entries-are (front-bytes bytes) of-front)
-
-    pub front-few : given .refusal < 24
-    front-few =
-        let few = own-few (front-bytes bytes) in
-        let is = answered-alone (front-bytes bytes) knots samples lent scratch long given k s t w of-front in
-        omega arith
-
-    pub front-axes : given .axes ≤ 4
-    front-axes = axes-most (front-bytes bytes) knots samples lent scratch long given k s t w of-front

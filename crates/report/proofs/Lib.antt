@@ -1,5 +1,5 @@
-mod LessScratch
 mod Fronts
+mod CountedAlone
 mod Streams
 pub mod Steps
 pub mod Pieces

@@ -9,19 +9,19 @@ use native.Mathlib.Omega.{arith}
 use lib.Ieee.{Float}
 use lib.ListN.{length, take, drop, length-append, length-drop, drop-of-length-le}
 use lib.Seq.{drop-drop, take-all}
-use Rattle.sheet_build.specs.SheetTensor.{SheetPromise}
-use Rattle.sheet_build.specs.declared.SheetAnswer.{SheetAnswer}
-use Rattle.report_front.specs.Front.{front-size, rest-bytes}
+use Rattle.sheet_read.specs.declared.ReadAnswer.{ReadAnswer}
+use Rattle.report_front.specs.Front.{front-size, front-bytes, rest-bytes}
+use Rattle.report_front.specs.LookedAt.{look-answer}
 use Rattle.report_front.proofs.Tails.{true-not-false}
-use Rattle.report_totals.specs.Totals.{Sheet, tensor-entries, totals-of, most-sheets}
+use Rattle.report_totals.specs.Totals.{Sheet, totals-of, most-sheets}
 use Rattle.report_totals.specs.Counting.{Running, Adds}
 use Rattle.report_totals.specs.declared.Totals.{Totals}
 use Rattle.report_totals.specs.declared.Report.{Report}
 use Rattle.report_totals.proofs.Sheets.{running-none, running-next, sheets-are}
 use Rattle.report.specs.Report.{front-sheet, stops, after, stops-here, stream-of, report-of}
-use Rattle.report.specs.Feeding.{Stands, Shown, Buffers, Stepped, Fed}
+use Rattle.report.specs.Feeding.{Stands, Shown, Buffers, Looked, SheetCounted, Stepped, Fed}
 use Rattle.report.specs.declared.Step.{Step}
-use Rattle.report.proofs.Fronts.{front-some, front-small, front-refusal, front-entries}
+use Rattle.report.proofs.Fronts.{front-some, front-small}
 use Rattle.report.proofs.Streams.{stream-end, stream-full, next-stops, next-goes-on, after-after, after-end, after-stop}
 
 -- who has the totals of all its sheets has the report
@@ -113,36 +113,37 @@ module _ (totals : Totals) (bytes : List ℕ) (some : 1 ≤ length bytes) where
       counts = λ on. adds .counted;
     }
 
--- a step by the answers of its calls: of `tensor_of_sheet` on the front sheet's bytes, and of `with_sheet`
+-- what was found of the front sheet's own bytes, as its size cuts them off
+pub own-looked : (bytes : List ℕ) (size : ℕ) (sheet : ReadAnswer) → size ≡ front-size bytes → sheet ≡ look-answer (front-bytes bytes)
+    → Looked (take (size - 0) bytes) sheet
+own-looked bytes size sheet e looked = let here : size - 0 ≡ front-size bytes = omega arith in rw here looked
+
+-- a step by the answers of its calls: how the bytes of the front sheet were counted
 pub took :
-    (totals later : Totals) (bytes : List ℕ) (knots samples lent scratch : List Float) (long : Buffers knots samples lent scratch)
-    (given : SheetAnswer) (k s t w : List Float)
-    (size : ℕ) (stopped : Bool) → 1 ≤ length bytes → Running totals → (totals .sheets ≡ most-sheets → ⊥) → (e : size ≡ front-size bytes)
-    → size ≤ length bytes
-    → (p : SheetPromise (take (size - 0) bytes) knots samples lent scratch given k s t w)
-    → Adds totals (given .refusal) (tensor-entries (given .axes) (take (given .length - 0) t)) later → stopped ≡ stops (given .refusal)
+    (totals later : Totals) (bytes : List ℕ) (size refusal : ℕ) (stopped : Bool) → 1 ≤ length bytes → Running totals
+    → (totals .sheets ≡ most-sheets → ⊥) → size ≡ front-size bytes → size ≤ length bytes
+    → SheetCounted totals (take (size - 0) bytes) later refusal → stopped ≡ stops refusal
     → Stepped totals bytes (record { totals = later; taken = size; stopped = stopped })
-took totals later bytes knots samples lent scratch long given k s t w size stopped some run room e inside p adds q =
-    let refusal = front-refusal bytes knots samples lent scratch long given k s t w size e p in
-    let entries = front-entries bytes knots samples lent scratch long given k s t w size e p in
-    step-sheet totals bytes some later (rw (refusal, entries) at adds) room run size stopped e inside (q ∙ ap stops refusal)
+unfolding front-sheet
+took totals later bytes size refusal stopped some run room e inside counted q =
+    let here : size - 0 ≡ front-size bytes = omega arith in
+    let own : SheetCounted totals (front-bytes bytes) later refusal = rw here at counted in
+    step-sheet totals bytes some later (own .adds) room run size stopped e inside (q ∙ ap stops (own .refused))
 
 -- ---- a feeding: one step after the other
 
 -- buffers of the same lengths
-pub record Alike (knots₀ samples₀ tensor₀ scratch₀ knots samples tensor scratch : List Float) : Type 0 where
+pub record Alike (knots₀ samples₀ scratch₀ knots samples scratch : List Float) : Type 0 where
   pub knots-alike : length knots ≡ length knots₀
   pub samples-alike : length samples ≡ length samples₀
-  pub tensor-alike : length tensor ≡ length tensor₀
   pub scratch-alike : length scratch ≡ length scratch₀
 
-pub alike-buffers : (knots₀ samples₀ tensor₀ scratch₀ knots samples tensor scratch : List Float) → Buffers knots₀ samples₀ tensor₀ scratch₀
-    → Alike knots₀ samples₀ tensor₀ scratch₀ knots samples tensor scratch → Buffers knots samples tensor scratch
-alike-buffers knots₀ samples₀ tensor₀ scratch₀ knots samples tensor scratch long alike = record {
-  knots = alike .knots-alike ∙ long .knots;
-  samples = alike .samples-alike ∙ long .samples;
-  tensor = alike .tensor-alike ∙ long .tensor;
-  scratch = omega (arith, alike .scratch-alike, long .scratch);
+pub alike-buffers : (knots₀ samples₀ scratch₀ knots samples scratch : List Float) → Buffers knots₀ samples₀ scratch₀
+    → Alike knots₀ samples₀ scratch₀ knots samples scratch → Buffers knots samples scratch
+alike-buffers knots₀ samples₀ scratch₀ knots samples scratch long alike = record {
+  knots-long = alike .knots-alike ∙ long .knots-long;
+  samples-long = alike .samples-alike ∙ long .samples-long;
+  scratch-long = omega (arith, alike .scratch-alike, long .scratch-long);
 }
 
 module _ (first : Totals) (bytes : List ℕ) (least : ℕ) where

@@ -1,18 +1,18 @@
 -- Where a report stands in its stream, and what a step and a feeding promise.
 use mathlib.Core.Path.{_≡_}
-use mathlib.Core.Bool.{true, false, cond}
+use mathlib.Core.Bool.{true, false}
 use mathlib.Core.List.{List, [], _++_}
-use Prim.Native.Nat.{ℕ, _+_, _-_, _*_, _≤_, _<_}
-use lib.Dec.{ltb}
+use Prim.Native.Nat.{ℕ, _+_, _-_, _≤_, _<_}
 use lib.ListN.{length, drop}
 use lib.Ieee.{Float}
-use Rattle.sheet_build.specs.LentEnough.{Enough}
+use Rattle.sheet_read.specs.declared.ReadAnswer.{ReadAnswer}
 use Rattle.report_front.specs.Front.{enough-bytes}
+use Rattle.report_front.specs.LookedAt.{look-answer}
 use Rattle.report_totals.specs.Totals.{most-sheets}
-use Rattle.report_totals.specs.Counting.{Running}
+use Rattle.report_totals.specs.Counting.{Running, Adds}
 use Rattle.report_totals.specs.declared.Totals.{Totals}
 use Rattle.report_totals.specs.declared.Report.{Report}
-use Rattle.report.specs.Report.{after, stream-of, report-of}
+use Rattle.report.specs.Report.{sheet-at, after, stream-of, report-of}
 use Rattle.report.specs.declared.Step.{Step}
 
 -- in its input a report has come to `rest`: what it counted are the sheets in front of that
@@ -24,13 +24,20 @@ pub record Stands (totals : Totals) (rest input : List ℕ) : Type 0 where
 abbrev pub Shown : ℕ → List ℕ → Type 0
 Shown n more = n < enough-bytes → more ≡ []
 
--- the four buffers that reading and building a sheet is lent
-abbrev pub Buffers : List Float → List Float → List Float → List Float → Type 0
-Buffers knots samples tensor scratch = Enough (length knots) (length samples) (length tensor) (length scratch)
+-- the three buffers that a sheet is read and built in
+pub record Buffers (knots samples scratch : List Float) : Type 0 where
+  pub knots-long : length knots ≡ 1024
+  pub samples-long : length samples ≡ 1024
+  pub scratch-long : 6144 ≤ length scratch
 
--- so much of the scratch is lent for a sheet of so many bytes
-abbrev pub scratch-of : ℕ → ℕ
-scratch-of size = cond (ltb size 2048) (2048 + 2 * size) 6144
+-- what looking at all of a sheet has found
+abbrev pub Looked : List ℕ → ReadAnswer → Type 0
+Looked bytes sheet = sheet ≡ look-answer bytes
+
+-- a sheet was counted, and this is its refusal
+pub record SheetCounted (totals : Totals) (bytes : List ℕ) (later : Totals) (refusal : ℕ) : Type 0 where
+  pub refused : refusal ≡ sheet-at bytes .refusal
+  pub adds : Adds totals (sheet-at bytes .refusal) (sheet-at bytes .tensor) later
 
 -- a step or a feeding on some bytes, which may be the front of any rest of any input: the report has then come to what it left of these
 -- bytes, or it stops and has the report of that input. It may look at n bytes

@@ -4,14 +4,17 @@ ghost use Prim.Native.Nat.{_≤_};
 ghost use lib.ListN.{length};
 ghost use Rattle.report_totals.specs.Counting.{Running};
 ghost use Rattle.report.specs.Report.{ReportPromise};
-ghost use Rattle.report.specs.Feeding.{scratch-of, Buffers, Stepped, Fed};
+ghost use Rattle.report.specs.Feeding.{Buffers, Looked, SheetCounted, Stepped, Fed};
 use grid_codes::classes::is_unread;
-use report_front::size_of_front;
+use grid_scratch::TENSOR;
+use report_front::look_at_front;
 use report_totals::Report;
 use report_totals::Totals;
 use report_totals::none;
-use report_totals::with_sheet;
-use sheet_build::tensor_of_sheet;
+use report_totals::with_accepted;
+use report_totals::with_refused;
+use sheet_in_scratch::tensor_in_scratch;
+use sheet_read::ReadAnswer;
 
 // Where a report has come to: its totals, how many of the bytes that it was given it has passed over, and whether it ends before the input
 // does. Where it does, no more is promised of `taken` than that it is not above the number of those bytes.
@@ -21,25 +24,72 @@ pub struct Step {
     pub stopped: bool,
 }
 
-// How much of the scratch a sheet of so many bytes can need, so that no more is cleared: of each sample it has eight bytes, and the tensor
-// at most sixteen numbers.
-fn scratch_of(size: usize) -> usize
-    ensures { λ r. ⌜ r ≡ scratch-of size ⌝ }
-{
-    if size < 2048 { 2048 + 2 * size } else { 6144 }
+// What counting a sheet leaves: the totals with it, and the number of its refusal, 0 for none.
+struct Counted {
+    totals: Totals,
+    refusal: usize,
 }
 
-// One step: the front sheet is read, built and counted, and the report stops in it where it was not read. Not a public call: it requires
-// totals of some stream, a byte at least, and the four buffers.
+// The totals with one sheet more that was read. Its tensor is counted where it is built.
+fn count_read(
+    totals: Totals,
+    bytes: &[u8],
+    sheet: ReadAnswer,
+    knots: &mut [f64],
+    samples: &mut [f64],
+    scratch: &mut [f64],
+) -> Counted
+    requires { ⌜ Running totals × Looked (now bytes) sheet × (sheet .refusal ≡ 0) × Buffers (now knots) (now samples) (now scratch) ⌝ }
+    ensures { λ r. ⌜ SheetCounted totals (now (bytes .entry)) (r .totals) (r .refusal) ⌝ }
+{
+    let axes = sheet.axes;
+    let all = sheet.all;
+    let refusal = tensor_in_scratch(bytes, sheet.edition, axes, all, knots, samples, scratch);
+    if refusal != 0 {
+        return Counted {
+            totals: with_refused(totals, refusal),
+            refusal,
+        };
+    }
+    let end = TENSOR + grid::tensor_length(axes, all);
+    Counted {
+        totals: with_accepted(totals, axes, &scratch[TENSOR..end]),
+        refusal: 0,
+    }
+}
+
+// The totals with one sheet more, of which all was looked at.
+fn count_sheet(
+    totals: Totals,
+    bytes: &[u8],
+    sheet: ReadAnswer,
+    knots: &mut [f64],
+    samples: &mut [f64],
+    scratch: &mut [f64],
+) -> Counted
+    requires { ⌜ Running totals × Looked (now bytes) sheet × Buffers (now knots) (now samples) (now scratch) ⌝ }
+    ensures { λ r. ⌜ SheetCounted totals (now (bytes .entry)) (r .totals) (r .refusal) ⌝ }
+{
+    let refusal = sheet.refusal;
+    if refusal != 0 {
+        return Counted {
+            totals: with_refused(totals, refusal),
+            refusal,
+        };
+    }
+    count_read(totals, bytes, sheet, knots, samples, scratch)
+}
+
+// One step: the front sheet is looked at, built and counted, and the report stops in it where it was not read. Not a public call: it
+// requires totals of some stream, a byte at least, and the three buffers.
 fn take_sheet(
     totals: Totals,
     bytes: &[u8],
     knots: &mut [f64],
     samples: &mut [f64],
-    tensor: &mut [f64],
     scratch: &mut [f64],
 ) -> Step
-    requires { ⌜ Running totals × (1 ≤ length (now bytes)) × Buffers (now knots) (now samples) (now tensor) (now scratch) ⌝ }
+    requires { ⌜ Running totals × (1 ≤ length (now bytes)) × Buffers (now knots) (now samples) (now scratch) ⌝ }
     ensures { λ r. ⌜ Stepped totals (now (bytes .entry)) r ⌝ }
 {
     if totals.sheets == 1000000 {
@@ -49,43 +99,36 @@ fn take_sheet(
             stopped: true,
         };
     }
-    let size = size_of_front(bytes);
-    let end = scratch_of(size);
-    let sheet = tensor_of_sheet(
-        &bytes[0..size],
-        knots,
-        samples,
-        tensor,
-        &mut scratch[0..end],
-    );
-    let refusal = sheet.refusal;
-    let length = sheet.length;
-    let counted = with_sheet(totals, refusal, sheet.axes, &tensor[0..length]);
+    let front = look_at_front(bytes);
+    let size = front.size;
+    let sheet = front.sheet;
+    let counted = count_sheet(totals, &bytes[0..size], sheet, knots, samples, scratch);
+    let later = counted.totals;
+    let refusal = counted.refusal;
     Step {
-        totals: counted,
+        totals: later,
         taken: size,
         stopped: is_unread(refusal),
     }
 }
 
 // Step after step, until fewer than `least` bytes are left or the report stops. Not a public call: it requires totals of some stream, a
-// `least` that is not 0, and the four buffers.
+// `least` that is not 0, and the three buffers.
 fn take_sheets(
     totals: Totals,
     bytes: &[u8],
     least: usize,
     knots: &mut [f64],
     samples: &mut [f64],
-    tensor: &mut [f64],
     scratch: &mut [f64],
 ) -> Step
-    requires { ⌜ Running totals × (1 ≤ least) × Buffers (now knots) (now samples) (now tensor) (now scratch) ⌝ }
+    requires { ⌜ Running totals × (1 ≤ least) × Buffers (now knots) (now samples) (now scratch) ⌝ }
     ensures { λ r. ⌜ Fed totals (now (bytes .entry)) least r ⌝ }
 {
     let mut sum = totals;
     let mut at = 0;
     while least <= bytes.len() - at {
-        let next = take_sheet(sum, &bytes[at..], knots, samples, tensor, scratch);
+        let next = take_sheet(sum, &bytes[at..], knots, samples, scratch);
         let so_far = next.totals;
         let stopped = next.stopped;
         let taken = next.taken;
@@ -115,17 +158,8 @@ pub fn feed(totals: Totals, bytes: &[u8], least: usize) -> Step
 {
     let mut knots = [0.0; 1024];
     let mut samples = [0.0; 1024];
-    let mut tensor = [0.0; 4096];
     let mut scratch = [0.0; 6144];
-    take_sheets(
-        totals,
-        bytes,
-        least,
-        &mut knots,
-        &mut samples,
-        &mut tensor,
-        &mut scratch,
-    )
+    take_sheets(totals, bytes, least, &mut knots, &mut samples, &mut scratch)
 }
 
 // PUBLIC. The report of a stream of sheets that is all in memory: the totals of its sheets up to its end, or up to the sheet in which it

@@ -6,12 +6,12 @@ use mathlib.Core.List.{List, _++_}
 use Prim.Native.Nat.{ℕ, zero, suc, _+_, _-_, _*_, _/_, _<_, _≤_}
 use native.Mathlib.Nat.{le-mul-of-pos-right}
 use native.Mathlib.Omega.{arith}
-use borrow.Author.Tests.{ltb-false}
+use borrow.Author.Tests.{ltb-false, eq-eqb, ne-eqb}
 use lib.Dec.{ltb, eqb}
 use lib.ListN.{length, take, drop, length-take}
 use lib.Seq.{take-append-le, drop-append-le, take-length}
 use lib.Pow.{pow-pos}
-use Rattle.rules.specs.Sizes.{samples-length, tensor-length}
+use Rattle.rules.specs.Sizes.{Grid, samples-length, tensor-length}
 use Rattle.rules.specs.Refusals.{axes-refused, tensor-refused}
 use Rattle.rules.proofs.Refused.{or-else-passed}
 use Rattle.base_numbers.proofs.Scan.{neither}
@@ -19,13 +19,15 @@ use Rattle.base_bits.specs.Bits.{field, short, numbers-short}
 use Rattle.base_bits.proofs.Runs.{short-together}
 use Rattle.grid_codes.specs.Editions.{unknown-edition}
 use Rattle.grid_codes.specs.Classes.{length-known}
-use Rattle.sheet_read.specs.Fields.{edition, axes, axis-begin, sheet-grid, samples-begin, samples-end}
+use Rattle.sheet_read.specs.Fields.{edition, axes, axis-begin, entries, sheet-grid, samples-begin, samples-end}
 use Rattle.sheet_read.specs.Faults.{axis-fault, axes-fault, tail-refused, sheet-refusal}
+use Rattle.sheet_read.specs.Read.{refused-answer, answer-of}
 use Rattle.sheet_read.proofs.Extents.{begin-most, begin-first}
 use Rattle.sheet_read.proofs.Walks.{faultless-axis}
 use Rattle.sheet_read.proofs.Samples.{few-left}
 use Rattle.rules.proofs.Cases.{passed}
 use Rattle.report_front.specs.Front.{sheet-bytes, front-size, front-bytes, rest-bytes, enough-bytes}
+use Rattle.report_front.specs.LookedAt.{look-answer}
 use Rattle.report_front.proofs.Agree.{
   Agree,
   agree-append,
@@ -207,6 +209,49 @@ module _ (bytes : List ℕ) where
         let few : length own < (samples-end bytes + 15) / 8 = omega arith in
         rw (own-front, refusal-late own own-none, own-end, ← few-left own (samples-end bytes) few tail refl)
 
+    -- ---- what looking at its own bytes finds
+
+    edition-own : edition own ≡ edition bytes
+    edition-own = sym (field-same (samples-end bytes) bytes own own-agree 0 4 (omega (arith, header-least)))
+
+    grid-own : sheet-grid own ≡ sheet-grid bytes
+    grid-own = sym (grid-is (samples-end bytes) bytes own own-agree own-reach (sound bytes none .few))
+
+    axes-own : axes own ≡ axes bytes
+    axes-own = sym (axes-same (samples-end bytes) bytes own own-agree header-least)
+
+    entries-own : entries own (axes own) ≡ entries bytes (axes bytes)
+    unfolding sheet-grid
+    entries-own = ap (λ (g : Grid). g .entries) grid-own
+
+    -- the bits after the last sample, which are there, read in the stream
+    pub tail-room : (8 * sheet-bytes bytes ≤ 8 * length bytes) × (samples-end bytes ≤ 8 * sheet-bytes bytes)
+        × (8 * sheet-bytes bytes - samples-end bytes < 8) × (1 ≤ sheet-bytes bytes)
+    tail-room =
+        let inside = fields-inside in
+        let least = header-least in
+        (omega (arith, inside .2), inside .0, omega (arith, inside .1), omega (arith, inside .0))
+
+    tail-is : field bytes (samples-end bytes) (8 * sheet-bytes bytes - samples-end bytes) ≡ tail
+    tail-is =
+        field-same (8 * sheet-bytes bytes) bytes own (agree-take (8 * sheet-bytes bytes) (sheet-bytes bytes) bytes (omega arith)
+        (fields-inside .2)) (samples-end bytes) (8 * sheet-bytes bytes - samples-end bytes) (omega (arith, fields-inside .0))
+        ∙ ap (λ (n : ℕ). field own (samples-end bytes) (8 * n - samples-end bytes)) (sym own-length)
+
+    pub tail-set : (field bytes (samples-end bytes) (8 * sheet-bytes bytes - samples-end bytes) ≡ 0 → ⊥)
+        → refused-answer 14 ≡ look-answer (front-bytes bytes)
+    tail-set set =
+        let some : eqb tail 0 ≡ false = ne-eqb tail 0 (λ z. set (tail-is ∙ z)) in
+        let refusal : sheet-refusal (front-bytes bytes) ≡ 14 = tail-to-the-byte ∙ ap (λ (b : Bool). cond (not b) 14 0) some in
+        rw refusal
+
+    pub tail-zero : field bytes (samples-end bytes) (8 * sheet-bytes bytes - samples-end bytes) ≡ 0
+        → answer-of 0 (edition bytes) (axes bytes) (entries bytes (axes bytes)) ≡ look-answer (front-bytes bytes)
+    tail-zero zero-there =
+        let none-set : eqb tail 0 ≡ true = eq-eqb tail 0 (sym tail-is ∙ zero-there) in
+        let refusal : sheet-refusal (front-bytes bytes) ≡ 0 = tail-to-the-byte ∙ ap (λ (b : Bool). cond (not b) 14 0) none-set in
+        rw (refusal, own-front, edition-own, entries-own, axes-own)
+
   pub size-inside : front-size bytes ≤ length bytes
   size-inside = either-case bytes (λ none. rw (size-known none) (fields-inside none .2)) (λ met. rw (size-unknown met) (omega arith))
 
@@ -224,6 +269,9 @@ enough-reach bytes = record {
   all-axes = λ few. let most = begin-most bytes (axes bytes) in omega arith;
   all-samples = λ few small. let most = begin-most bytes (axes bytes) in let count = samples-few bytes small in omega arith;
 }
+
+pub end-most : (bytes : List ℕ) → before-tail bytes ≡ 0 → samples-end bytes ≤ 8 * enough-bytes
+end-most bytes none = let s = sound bytes none in enough-reach bytes .all-samples (s .few) (s .small)
 
 module _ (bytes more : List ℕ) (h : enough-bytes ≤ length bytes) where
   abbrev all : List ℕ

@@ -19,10 +19,10 @@ use Rattle.report_totals.specs.Totals.{
   largest-total,
   totals-of,
 }
-use Rattle.report_totals.specs.Counting.{order-totals, orders-of, Running}
+use Rattle.report_totals.specs.Counting.{no-entries, order-totals, orders-of, Running}
 use Rattle.report_totals.specs.declared.OrderTotals.{OrderTotals}
 use Rattle.report_totals.specs.declared.Totals.{Totals}
-use Rattle.report_totals.proofs.Orders.{no-entries, order-most}
+use Rattle.report_totals.proofs.Orders.{order-most}
 use Rattle.report_totals.proofs.Sheets.{orders-are}
 
 module _ (sheets : List Sheet) where

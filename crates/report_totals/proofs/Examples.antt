@@ -6,7 +6,7 @@ use lib.Ieee.{Float, binary64, ofBits, toBits}
 use Rattle.rules.specs.Numbers.{table, filter}
 use Rattle.report_totals.specs.Totals.{Sheet, tensor-entries, largest, all-entries, totals-of}
 use Rattle.report_totals.specs.declared.OrderTotals.{OrderTotals}
-use Rattle.report_totals.proofs.Orders.{no-entries}
+use Rattle.report_totals.specs.Counting.{no-entries}
 
 abbrev zero : Float
 zero = ofBits binary64 0x0000_0000_0000_0000

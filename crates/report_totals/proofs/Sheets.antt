@@ -9,7 +9,7 @@ use borrow.Author.Tests.{eq-eqb, ne-eqb}
 use Rattle.rules.specs.Numbers.{filter}
 use Rattle.rules.proofs.Tables.{at-table}
 use Rattle.report_totals.specs.Totals.{Entry, Sheet, refused-total, all-entries, totals-of, most-sheets}
-use Rattle.report_totals.specs.Counting.{order-totals, orders-of, Room, Tallied, Running, Adds}
+use Rattle.report_totals.specs.Counting.{order-totals, orders-of, Room, Tallied, Running, sheet-added, Adds}
 use Rattle.report_totals.specs.declared.OrderTotals.{OrderTotals}
 use Rattle.report_totals.specs.declared.Totals.{Totals}
 use Rattle.report_totals.proofs.Lists.{filter-kept, filter-dropped, filter-most, table-set}
@@ -66,6 +66,18 @@ module _ (seen : List Sheet) (sheet : Sheet) (h : sheet .refusal < 24) where
       (rw said refusals-next)
       (tallied (all-entries seen) (ap (λ (t : Totals). t .orders) said ∙ orders-are seen) ∙ ap orders-of (sym (all-entries-snoc seen sheet))
       ∙ sym (orders-are more))
+
+-- no entries leave the orders as they are
+pub nothing-tallied : (orders : List OrderTotals) → Tallied orders [] orders
+nothing-tallied orders before said = said ∙ ap orders-of (sym (append-nil before))
+
+pub sheet-adds : (totals : Totals) (refusal : ℕ) → refusal < 24 → (entries : List Entry) (orders : List OrderTotals)
+    → Tallied (totals .orders) entries orders → (later : Totals) → later ≡ sheet-added totals refusal orders
+    → Adds totals refusal entries later
+sheet-adds totals refusal h entries orders tallied later e = record {
+  counted = ap (λ (t : Totals). t .sheets) e;
+  adds = λ seen said. e ∙ totals-next seen (record { refusal = refusal; tensor = entries }) h totals orders said tallied;
+}
 
 -- ---- the bounds
 

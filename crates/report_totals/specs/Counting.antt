@@ -1,12 +1,13 @@
 -- Counting, for functions that are no public calls: which entries or sheets some counts are of, and that there is room for more.
 use mathlib.Core.Path.{_≡_}
-use mathlib.Core.Bool.{Bool, cond}
+use mathlib.Core.Bool.{Bool, false, cond}
 use mathlib.Core.List.{List, [], _∷_, _++_}
-use Prim.Native.Nat.{ℕ, _+_, _*_, _^_, _≤_, max}
-use lib.ListN.{length}
+use Prim.Native.Nat.{ℕ, zero, suc, _+_, _*_, _/_, _^_, _≤_, max}
+use lib.ListN.{length, getD, set}
 use lib.Ieee.{Float}
-use Rattle.rules.specs.Numbers.{table, filter}
+use Rattle.rules.specs.Numbers.{at, table, filter}
 use Rattle.rules.specs.Sizes.{most-in-a-tensor}
+use Rattle.rules.specs.Refusals.{some-number-refused}
 use Rattle.report_totals.specs.Totals.{
   Entry,
   Sheet,
@@ -35,11 +36,32 @@ order-totals entries =
 unfoldable pub orders-of : List Entry → List OrderTotals
 orders-of entries = table derivative-orders (λ k. order-totals (of-order k entries))
 
--- the totals of an order with an entry more
-pub record Counted (before : OrderTotals) (number : Float) (later : OrderTotals) : Type 0 where
-  pub entries : later .entries ≡ before .entries + 1
-  pub nonzero : later .nonzero ≡ before .nonzero + one-if (nonzero number)
-  pub largest : later .largest ≡ max (before .largest) (magnitude number)
+-- the totals of no entries, of one, and of the entries of both
+abbrev pub no-entries : OrderTotals
+no-entries = record { entries = 0; nonzero = 0; largest = 0 }
+
+abbrev pub of-one : Float → OrderTotals
+of-one number = record { entries = 1; nonzero = one-if (nonzero number); largest = magnitude number }
+
+abbrev pub sum : OrderTotals → OrderTotals → OrderTotals
+sum a b = record {
+  entries = a .entries + b .entries;
+  nonzero = a .nonzero + b .nonzero;
+  largest = max (a .largest) (b .largest);
+}
+
+-- the totals of the entries of one mask at the first so many places
+unfoldable pub of-mask : ℕ → ℕ → List Float → ℕ → OrderTotals
+of-mask masks mask numbers zero = no-entries
+of-mask masks mask numbers (suc p) = sum (of-mask masks mask numbers p) (of-one (at numbers (p * masks + mask)))
+
+-- the numbers of a tensor over one axis or more: as many for each mask, few enough, and all of them finite
+pub record InPlaces (axes : ℕ) (numbers : List Float) : Type 0 where
+  pub some : 1 ≤ axes
+  pub few : axes ≤ 4
+  pub whole : length numbers ≡ (length numbers / 2 ^ axes) * 2 ^ axes
+  pub small : length numbers ≤ most-in-a-tensor
+  pub finite : some-number-refused numbers ≡ false
 
 -- the orders count entries, and there is room for n more
 pub record Room (orders : List OrderTotals) (n : ℕ) : Type 0 where
@@ -57,6 +79,14 @@ pub record Running (totals : Totals) : Type 0 where
   pub said : totals ≡ totals-of seen
   pub few : length seen ≤ most-sheets
   pub small : length (all-entries seen) ≤ most-in-a-tensor * length seen
+
+-- totals with one sheet more, by its refusal, and with these orders
+abbrev pub sheet-added : Totals → ℕ → List OrderTotals → Totals
+sheet-added totals refusal orders = record {
+  sheets = totals .sheets + 1;
+  refusals = set (totals .refusals) refusal (getD (totals .refusals) refusal 0 + 1);
+  orders = orders;
+}
 
 -- a sheet with this refusal and these entries was added: of any sheets that the totals were of, and of the new one behind them, they are
 -- now

@@ -1,11 +1,11 @@
 -- What a value in a cell sees: the two knots of the cell on each axis in use, the point there, and the numbers of the cell. And what labels
--- see: the cell on the axes in use.
+-- see: the cell on the axes in use. And how many numbers a cell has.
 use native.Mathlib.Omega.{arith}
 use mathlib.Core.Path.{_≡_, refl, ap}
 use mathlib.Core.Bool.{Bool, true, false, cond}
 use mathlib.Core.List.{List}
 use Prim.Native.Nat.{ℕ, zero, suc, _+_, _-_, _*_, _/_, _%_, _^_, _<_, _≤_}
-use native.Mathlib.Nat.{pow-suc}
+use native.Mathlib.Nat.{pow-suc, mul-mul-mul-comm}
 use lib.Dec.{ltb}
 use lib.Ieee.{Float}
 use borrow.Author.Tests.{ltb-true}
@@ -84,3 +84,9 @@ labels-ext g cells cells′ same = table-ext most-axes _ _ (λ i l. go i (ltb i 
     go : (i : ℕ) (b : Bool) → ltb i (g .axes) ≡ b → cond b (cells i) 0 ≡ cond b (cells′ i) 0
     go i true e = same i (ltb-true i (g .axes) e)
     go i false e = refl
+
+-- a cell has as many numbers as corners times masks
+pub four-power : (axes : ℕ) → 4 ^ axes ≡ 2 ^ axes * 2 ^ axes
+four-power zero = refl
+four-power (suc axes) =
+    rw (pow-suc 4 axes, pow-suc 2 axes, four-power axes, mul-mul-mul-comm (2 ^ axes) 2 (2 ^ axes) 2) refl

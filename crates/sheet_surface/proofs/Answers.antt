@@ -6,7 +6,7 @@ use Prim.Native.Nat.{ℕ, zero, suc, _-_, _<_, _≤_}
 use native.Mathlib.Nat.{sub-zero}
 use native.Mathlib.Omega.{arith}
 use borrow.Author.Tests.{not-false, lt-ltb, le-ltb}
-use lib.ListN.{length, take}
+use lib.ListN.{length, take, drop}
 use lib.Ieee.{Float}
 use lib.Ieee.Scale.{finite}
 use Rattle.rules.specs.Numbers.{at, table}
@@ -24,13 +24,14 @@ use Rattle.sheet_patterns.proofs.Refusals.{refused-with}
 use Rattle.sheet_read.specs.Fields.{edition, axes, entries, sheet-grid}
 use Rattle.sheet_read.specs.Faults.{sheet-refusal}
 use Rattle.sheet_read.specs.Read.{answer-of}
+use Rattle.sheet_read.specs.FoundSoFar.{PartsRoom}
 use Rattle.sheet_read.specs.declared.ReadAnswer.{ReadAnswer}
 use Rattle.sheet_read.proofs.Promises.{answer-refusal}
 use Rattle.sheet_build.specs.SheetTensor.{building-refusal}
 use Rattle.sheet_build.proofs.Few.{at-most, sheet-few, build-few}
 use Rattle.rules.proofs.Cases.{passed}
 use Rattle.sheet_surface.specs.SheetSurface.{built, asked, surface-refusal, surface, SurfacePromise}
-use Rattle.sheet_surface.specs.OnTheStack.{ReadSheet, SmallSheet, Built}
+use Rattle.sheet_surface.specs.OnTheStack.{ReadSheet, SmallSheet}
 use Rattle.sheet_surface.proofs.Small.{axes-are, grid-is, tensor-is, range}
 
 -- ---- the query
@@ -61,6 +62,11 @@ module _ (g : Grid) (tensor-lent coordinates-lent : List Float) where
       let o = passed (some-outside-refused g (at coordinates-lent)) 17 _ (f .1) in
       let v = passed (answer-refused (query-in-modes g tensor-lent (at coordinates-lent))) 9 0 (o .1) in
       not-false _ (v .0)
+
+-- a sheet that has places for its parts was read
+pub read-of : {bytes : List ℕ} {said n : ℕ} {all : List Axis} {knots samples : List Float} → PartsRoom bytes said n all knots samples
+    → ReadSheet bytes said n all
+read-of s = record { faultless = s .faultless; edition-said = s .edition-said; axes-said = s .axes-said; found = s .found }
 
 -- as few are those of a build
 pub built-few : (bytes : List ℕ) (r : ℕ) → r ≡ building-refusal bytes → r ≤ 23
@@ -104,20 +110,18 @@ module _ (bytes patterns : List ℕ) where
         → answer-pattern (a .refusal) (a .value) ≡ answer-pattern both (asked bytes patterns .value)
     query-answered r e none = rw (is, ← e, none)
 
-  module _ (said n : ℕ) (all : List Axis) (s : SmallSheet bytes said n all) where
+  module _ (said n : ℕ) (all : List Axis) (s : ReadSheet bytes said n all) where
     pub query-asked :
-        (lent : List Float) (r : ℕ) (knots tensor : List Float) (four : List Float) (a : QueryAnswer)
-        → Built bytes lent r knots tensor
-        → r ≡ 0
-        → four ≡ coordinates 4 patterns
-        → QueryPromise (grid n all knots) tensor (take (n - 0) four) a
+        (knots scratch four : List Float) (end : ℕ) (a : QueryAnswer) → knots ≡ sheet-grid bytes .flat-knots
+        → end ≡ tensor-length (sheet-grid bytes)
+        → take (tensor-length (sheet-grid bytes)) (drop 2048 scratch) ≡ built bytes
+        → four ≡ coordinates 4 patterns → QueryPromise (grid n all knots) (take end (drop 2048 scratch)) (take (n - 0) four) a
         → a ≡ asked bytes patterns
     unfolding asked
-    query-asked lent r knots tensor four a left none four-are q =
-        let t : tensor ≡ built bytes = rw none at (left .output) in
+    query-asked knots scratch four end a knots-are end-is stands four-are q =
         let c : take (n - 0) four ≡ coordinates (sheet-grid bytes .axes) patterns
-        = rw (sub-zero n, four-are, taken _ n (range bytes said n all (s .read) .few-axes), axes-are bytes said n all (s .read)) in
-        rw (left .knots, grid-is bytes said n all (s .read), t, c) at (q .answer)
+        = rw (sub-zero n, four-are, taken _ n (range bytes said n all s .few-axes), axes-are bytes said n all s) in
+        rw (knots-are, grid-is bytes said n all s, end-is, stands, c) at (q .answer)
 
 -- ---- the call
 
@@ -147,8 +151,8 @@ module _ (bytes : List ℕ) (a : ReadAnswer)
       count-is : count ≡ tensor-length (sheet-grid bytes)
       count-is = c ∙ tensor-is bytes (a .edition) (a .axes) (a .all) sheet-read
 
-      pub sheet-small : count ≤ 512 → SmallSheet bytes (a .edition) (a .axes) (a .all)
-      sheet-small short = record { read = sheet-read; small = omega (arith, count-is) }
+      pub sheet-small : (most : ℕ) → count ≤ most → SmallSheet most bytes (a .edition) (a .axes) (a .all)
+      sheet-small most short = record { read = sheet-read; small = omega (arith, count-is) }
 
   -- ---- the ways that it ends
 

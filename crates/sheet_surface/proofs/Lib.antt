@@ -1,5 +1,4 @@
 pub mod Small
-pub mod Builds
 pub mod Answers
 pub mod Values
 pub mod Unique

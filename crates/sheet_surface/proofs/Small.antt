@@ -1,21 +1,19 @@
--- A sheet whose tensor has at most 512 numbers has at most 256 samples and at most 256 knots, so they have places in buffers of so many.
-use mathlib.Core.Path.{_≡_, sym, _∙_}
-use mathlib.Core.List.{List, append-nil}
-use Prim.Native.Nat.{ℕ, zero, suc, _+_, _-_, _*_, _^_, _<_, _≤_}
+-- A sheet whose tensor has at most twice as many numbers has at most so many samples and knots, so they have places in buffers of so many.
+use mathlib.Core.Path.{_≡_}
+use mathlib.Core.List.{List}
+use Prim.Native.Nat.{ℕ, zero, suc, _+_, _*_, _^_, _<_, _≤_}
 use native.Mathlib.Nat.{mul-le-mul, le-refl}
 use native.Mathlib.Omega.{arith}
-use lib.ListN.{length, take, length-append, length-take}
-use lib.Seq.{drop-length}
+use lib.ListN.{length}
 use lib.Ieee.{Float}
-use Rattle.rules.specs.Sizes.{Grid, points, knots-length, samples-length, tensor-length, sum-below, product-below}
+use Rattle.rules.specs.Sizes.{Grid, points, knots-length, samples-length, tensor-length, scratch-length, sum-below, product-below}
 use Rattle.rules.specs.declared.Axis.{Axis}
 use Rattle.grid_checks.proofs.Rows.{axes-few, in-range}
 use Rattle.grid.specs.GridOfCall.{grid, sizes-of, points-of, InRange}
-use Rattle.sheet_read.specs.Fields.{sheet-grid, sheet-samples, knots-below, axes}
-use Rattle.sheet_read.specs.Read.{over}
+use Rattle.sheet_read.specs.Fields.{sheet-grid}
 use Rattle.sheet_read.specs.FoundSoFar.{PartsRoom}
-use Rattle.sheet_read.proofs.Parts.{Parts, parts, take-over}
-use Rattle.sheet_surface.specs.OnTheStack.{ReadSheet, SmallSheet, Room}
+use Rattle.sheet_read.proofs.Parts.{Parts, parts}
+use Rattle.sheet_surface.specs.OnTheStack.{ReadSheet, SmallSheet}
 
 -- ---- sums and products of sizes that are 2 or more
 
@@ -62,14 +60,6 @@ module _ (bytes : List ℕ) (said n : ℕ) (all : List Axis) (s : ReadSheet byte
   unfolding sheet-grid
   grid-is = rw (s .axes-said, s .found)
 
-  pub knots-are : knots-length (sizes-of n all) ≡ knots-length g
-  unfolding sheet-grid
-  knots-are = rw (s .axes-said, s .found)
-
-  pub samples-are : samples-length (sizes-of n all) ≡ samples-length g
-  unfolding sheet-grid
-  samples-are = rw (s .axes-said, s .found)
-
   pub tensor-is : tensor-length (sizes-of n all) ≡ tensor-length g
   unfolding sheet-grid
   tensor-is = rw (s .axes-said, s .found)
@@ -81,57 +71,31 @@ module _ (bytes : List ℕ) (said n : ℕ) (all : List Axis) (s : ReadSheet byte
   unfolding sheet-grid
   range = rw (s .axes-said, s .found) own-range
 
-  -- its numbers, stored in the first places of a buffer
-  pub samples-stored : (lent : List Float) → take (samples-length g) (over (sheet-samples bytes) lent) ≡ sheet-samples bytes
-  samples-stored lent = take-over (sheet-samples bytes) lent (samples-length g) (known .samples)
-
-  pub samples-within : (count : ℕ) (samples lent : List Float) → count ≡ samples-length (sizes-of n all)
-      → samples ≡ over (sheet-samples bytes) lent → count ≤ length samples
-  samples-within count samples lent c e = rw (e, length-append) (omega (arith, samples-are, known .samples))
-
-  pub knots-stored : (lent : List Float) → length lent ≡ knots-length g → over (knots-below bytes (axes bytes)) lent ≡ g .flat-knots
-  unfolding sheet-grid
-  knots-stored lent e =
-      let same : length (knots-below bytes (axes bytes)) ≡ length lent = known .knots ∙ sym e in
-      rw (same, drop-length lent, append-nil)
-
 -- ---- such a sheet whose tensor is short
 
-module _ (bytes : List ℕ) (said n : ℕ) (all : List Axis) (s : SmallSheet bytes said n all) where
+-- of at most twice as many numbers: each buffer has room
+module _ (half-of : ℕ) (bytes : List ℕ) (said n : ℕ) (all : List Axis) (s : SmallSheet (half-of + half-of) bytes said n all) where
   abbrev own : InRange (sheet-grid bytes .axes) (points (sheet-grid bytes))
   own = own-range bytes said n all (s .read)
 
-  pub samples-most : samples-length (sheet-grid bytes) ≤ 256
-  samples-most = half (samples-length (sheet-grid bytes)) (sheet-grid bytes .axes) 256 (own .some-axes) (own .few-axes) (s .small)
+  pub samples-most : samples-length (sheet-grid bytes) ≤ half-of
+  samples-most = half (samples-length (sheet-grid bytes)) (sheet-grid bytes .axes) half-of (own .some-axes) (own .few-axes) (s .small)
 
-  pub knots-most : knots-length (sheet-grid bytes) ≤ 256
+  pub knots-most : knots-length (sheet-grid bytes) ≤ half-of
   knots-most = omega (arith, samples-most, sum-most (points (sheet-grid bytes)) (sheet-grid bytes .axes) own)
 
-  -- so its numbers have places in slices of 256
-  pub parts-room : (knots samples : List Float) → length knots ≡ knots-length (sheet-grid bytes) → length samples ≡ 256
-      → PartsRoom bytes said n all knots samples
+  pub stack-room : (knots samples scratch : List Float) → length knots ≡ half-of → length samples ≡ half-of
+      → length scratch ≡ 2048 + (half-of + half-of)
+      → PartsRoom bytes said n all knots samples × (scratch-length (sheet-grid bytes) ≤ length scratch)
   unfolding sheet-grid
-  parts-room knots samples k y = record {
-    faultless = s .read .faultless;
-    edition-said = s .read .edition-said;
-    axes-said = s .read .axes-said;
-    found = s .read .found;
-    knots-room = omega (arith, parts bytes (s .read .faultless) .knots);
-    samples-room = omega (arith, samples-most);
-  }
-
-  -- and parts of slices of 256 and 512 are as long as its knots and its tensor
-  module _ (knots-end tensor-end : ℕ) (k : knots-end ≡ knots-length (sizes-of n all))
-      (t : tensor-end ≡ tensor-length (sizes-of n all)) where
-    pub knots-within : knots-end ≤ 256
-    knots-within = omega (arith, knots-are bytes said n all (s .read), knots-most)
-
-    pub tensor-within : tensor-end ≤ 512
-    tensor-within = omega (arith, tensor-is bytes said n all (s .read), s .small)
-
-    pub room : (knots tensor : List Float) → length knots ≡ 256 → length tensor ≡ 512
-        → Room bytes (take (knots-end - 0) knots) (take (tensor-end - 0) tensor)
-    room knots tensor a b = record {
-      knots-exact = rw length-take (omega (arith, knots-within, knots-are bytes said n all (s .read)));
-      tensor-exact = rw length-take (omega (arith, tensor-within, tensor-is bytes said n all (s .read)));
-    }
+  stack-room knots samples scratch k y w = (
+    record {
+      faultless = s .read .faultless;
+      edition-said = s .read .edition-said;
+      axes-said = s .read .axes-said;
+      found = s .read .found;
+      knots-room = omega (arith, parts bytes (s .read .faultless) .knots, knots-most);
+      samples-room = omega (arith, samples-most);
+    },
+    omega (arith, s .small),
+  )

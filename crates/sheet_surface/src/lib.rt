@@ -2,39 +2,26 @@
 // out.
 ghost use mathlib.Core.Path.{_≡_};
 ghost use mathlib.Core.List.{[], _∷_};
+ghost use Prim.Native.Nat.{_≤_};
+ghost use lib.ListN.{length};
+ghost use Rattle.rules.specs.Sizes.{scratch-length};
 ghost use Rattle.rules.specs.Calls.{or-else};
 ghost use Rattle.sheet_patterns.specs.Patterns.{answer-pattern};
+ghost use Rattle.sheet_read.specs.Fields.{sheet-grid};
+ghost use Rattle.sheet_read.specs.FoundSoFar.{PartsRoom};
 ghost use Rattle.sheet_build.specs.SheetTensor.{building-refusal};
-ghost use Rattle.sheet_surface.specs.SheetSurface.{asked, SurfacePromise};
-ghost use Rattle.sheet_surface.specs.OnTheStack.{SmallSheet, Room, Built};
+ghost use Rattle.sheet_surface.specs.SheetSurface.{most-on-the-stack, asked, SurfacePromise};
+ghost use Rattle.sheet_surface.specs.OnTheStack.{SmallSheet};
+use grid_scratch::TENSOR;
 use rules::Axis;
+use sheet_in_scratch::tensor_in_scratch;
 use sheet_patterns::answer_pattern;
 use sheet_patterns::coordinates_of;
 use sheet_patterns::is_unused_refused;
 use sheet_patterns::refusal_pattern;
 use sheet_read::look::look;
-use sheet_read::store::store_parts;
 
-// Stores the sheet's knots and builds its tensor. Samples and scratch are its own, since the query needs neither.
-fn build_sheet(
-    bytes: &[u8],
-    edition: usize,
-    axes: usize,
-    all: [Axis; 4],
-    knots: &mut [f64],
-    tensor: &mut [f64],
-) -> usize
-    requires { ⌜ SmallSheet (now bytes) edition axes all × Room (now bytes) (now knots) (now tensor) ⌝ }
-    ensures { λ r. ⌜ Built (now (bytes .entry)) (now (tensor .entry)) r (now (knots .exit)) (now (tensor .exit)) ⌝ }
-{
-    let mut samples = [0.0; 256];
-    let mut scratch = [0.0; 2560];
-    store_parts(bytes, edition, axes, all, knots, &mut samples);
-    let count = grid::samples_length(axes, all);
-    tensor::build(axes, all, knots, &samples[0..count], tensor, &mut scratch)
-}
-
-// The pattern of what the sheet's tensor, built here, answers at the coordinates.
+// The pattern of what the sheet's tensor answers at the coordinates, built in the buffers that it is lent.
 fn build_and_query(
     bytes: &[u8],
     edition: usize,
@@ -42,23 +29,61 @@ fn build_and_query(
     all: [Axis; 4],
     patterns: [u64; 4],
     knots: &mut [f64],
-    tensor: &mut [f64],
+    samples: &mut [f64],
+    scratch: &mut [f64],
 ) -> u64
-    requires { ⌜ SmallSheet (now bytes) edition axes all × Room (now bytes) (now knots) (now tensor) ⌝ }
+    requires { ⌜ PartsRoom (now bytes) edition axes all (now knots) (now samples)
+        × (scratch-length (sheet-grid (now bytes)) ≤ length (now scratch)) ⌝ }
     ensures { λ r.
         ⌜ r ≡ answer-pattern (or-else (building-refusal (now (bytes .entry))) (asked (now (bytes .entry)) patterns .refusal))
         (asked (now (bytes .entry)) patterns .value) ⌝ }
 {
-    let refusal = build_sheet(bytes, edition, axes, all, knots, tensor);
+    let refusal = tensor_in_scratch(bytes, edition, axes, all, knots, samples, scratch);
     if refusal != 0 {
         return refusal_pattern(refusal);
     }
+    let knots_end = grid::knots_length(axes, all);
+    let end = TENSOR + grid::tensor_length(axes, all);
     let coordinates = coordinates_of(patterns);
-    let answer = query_full::query(axes, all, knots, tensor, &coordinates[0..axes]);
+    let answer = query_full::query(
+        axes,
+        all,
+        &knots[0..knots_end],
+        &scratch[TENSOR..end],
+        &coordinates[0..axes],
+    );
     answer_pattern(answer.refusal, answer.value)
 }
 
-// The same, with the places of knots and tensor on the stack.
+// The same, with buffers on the stack for a tensor of at most 128 numbers.
+fn small_on_the_stack(
+    bytes: &[u8],
+    edition: usize,
+    axes: usize,
+    all: [Axis; 4],
+    patterns: [u64; 4],
+) -> u64
+    requires { ⌜ SmallSheet 128 (now bytes) edition axes all ⌝ }
+    ensures { λ r.
+        ⌜ r ≡ answer-pattern (or-else (building-refusal (now (bytes .entry))) (asked (now (bytes .entry)) patterns .refusal))
+        (asked (now (bytes .entry)) patterns .value) ⌝ }
+{
+    let mut knots = [0.0; 64];
+    let mut samples = [0.0; 64];
+    let mut scratch = [0.0; 2176];
+    build_and_query(
+        bytes,
+        edition,
+        axes,
+        all,
+        patterns,
+        &mut knots,
+        &mut samples,
+        &mut scratch,
+    )
+}
+
+// The same for any tensor that has its place there.
 fn on_the_stack(
     bytes: &[u8],
     edition: usize,
@@ -66,23 +91,23 @@ fn on_the_stack(
     all: [Axis; 4],
     patterns: [u64; 4],
 ) -> u64
-    requires { ⌜ SmallSheet (now bytes) edition axes all ⌝ }
+    requires { ⌜ SmallSheet most-on-the-stack (now bytes) edition axes all ⌝ }
     ensures { λ r.
         ⌜ r ≡ answer-pattern (or-else (building-refusal (now (bytes .entry))) (asked (now (bytes .entry)) patterns .refusal))
         (asked (now (bytes .entry)) patterns .value) ⌝ }
 {
     let mut knots = [0.0; 256];
-    let mut tensor = [0.0; 512];
-    let knots_end = grid::knots_length(axes, all);
-    let length = grid::tensor_length(axes, all);
+    let mut samples = [0.0; 256];
+    let mut scratch = [0.0; 2560];
     build_and_query(
         bytes,
         edition,
         axes,
         all,
         patterns,
-        &mut knots[0..knots_end],
-        &mut tensor[0..length],
+        &mut knots,
+        &mut samples,
+        &mut scratch,
     )
 }
 
@@ -100,12 +125,16 @@ pub fn surface(bytes: &[u8], c0: u64, c1: u64, c2: u64, c3: u64) -> u64
     }
     let axes = sheet.axes;
     let all = sheet.all;
-    if 512 < grid::tensor_length(axes, all) {
+    let numbers = grid::tensor_length(axes, all);
+    if 512 < numbers {
         return refusal_pattern(16);
     }
     let patterns = [c0, c1, c2, c3];
     if is_unused_refused(axes, patterns) {
         return refusal_pattern(17);
+    }
+    if numbers <= 128 {
+        return small_on_the_stack(bytes, sheet.edition, axes, all, patterns);
     }
     on_the_stack(bytes, sheet.edition, axes, all, patterns)
 }

@@ -12,6 +12,9 @@ use trial_replay_items::Replayed;
 use trial_replay_items::words::after;
 use trial_replay_items::words::held;
 use trial_replay_items::words::word;
+use trial_replay_points::direct_queries;
+use trial_replay_points::direct_query;
+use trial_replay_points::quick_queries;
 use trial_replay_sheets::read;
 use trial_replay_sheets::read_edition_1;
 use trial_replay_sheets::sheet_tensor;
@@ -52,6 +55,9 @@ fn case_at(list: &[u8], place: usize) -> Replayed {
         17 => read_edition_1(list, begin),
         18 => surface(list, begin),
         19 => verify(list, begin),
+        20 => direct_query(list, begin),
+        21 => quick_queries(list, begin),
+        22 => direct_queries(list, begin),
         _ => Replayed {
             same: false,
             next: begin,

@@ -180,8 +180,8 @@ pub fn floats_given(list: &[u8], place: usize) -> [f64; 8192] {
     floats
 }
 
-pub fn numbers_given(list: &[u8], place: usize) -> [usize; 8] {
-    let mut numbers = [0usize; 8];
+pub fn numbers_given(list: &[u8], place: usize) -> [usize; 32] {
+    let mut numbers = [0usize; 32];
     fill_numbers(list, place, &mut numbers);
     numbers
 }
@@ -200,9 +200,9 @@ pub fn floats_at(list: &[u8], place: usize) -> usize
 }
 
 pub fn numbers_at(list: &[u8], place: usize) -> usize
-    ensures { λ r. ⌜ r ≤ 8 ⌝ }
+    ensures { λ r. ⌜ r ≤ 32 ⌝ }
 {
-    held(word(list, place), 8)
+    held(word(list, place), 32)
 }
 
 pub fn bytes_at(list: &[u8], place: usize) -> usize

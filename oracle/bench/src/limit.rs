@@ -2,6 +2,8 @@
 //! It is no part of the repository; `build.rs` says where it is looked for.
 
 mod calls;
+mod many;
+pub mod points;
 mod sheet_calls;
 mod sheets;
 
@@ -18,6 +20,7 @@ pub fn lines(inputs: &Inputs) -> Vec<Line<'_>> {
     lines.extend(verifications(inputs));
     lines.extend(queries(inputs));
     lines.extend(quick_queries(inputs));
+    lines.extend(many::lines(inputs));
     lines.extend(sheets::lines(&inputs.sheets));
     lines
 }

@@ -38,6 +38,7 @@ fn main() {
     let rows = table::rows(&lines, &instructions, &nanoseconds);
     table::print_lines(&rows[..first_of_the_limit]);
     table::print_limit(&rows[first_of_the_limit..]);
+    print_points(&inputs);
     table::print_stacks(&stack::stacks());
 }
 
@@ -46,6 +47,15 @@ fn main() {
 fn limit_lines(_: &Inputs) -> [Line<'_>; 0] {
     []
 }
+
+/// The calls that are asked at a point, beside the limit.
+#[cfg(limit)]
+fn print_points(inputs: &Inputs) {
+    table::print_points(&limit::points::timed(inputs));
+}
+
+#[cfg(not(limit))]
+fn print_points(_: &Inputs) {}
 
 /// What is compared must do the same work: both sides end in the same bits.
 fn check_same_outcome(line: &mut Line) {

@@ -13,7 +13,7 @@ pub struct Stack {
 }
 
 /// The stack of every exported call.
-pub fn stacks() -> [Stack; 20] {
+pub fn stacks() -> [Stack; 23] {
     let shapes = shapes();
     let all: Vec<&Shape> = shapes.iter().collect();
     let lines = lines(&shapes);
@@ -24,6 +24,9 @@ pub fn stacks() -> [Stack; 20] {
         deepest("hullashlar_query", &all, query),
         deepest("hullashlar_quick_query", &all, quick_query),
         deepest("hullashlar_even_query", &all, even_query),
+        deepest("hullashlar_direct_query", &all, direct_query),
+        deepest("hullashlar_quick_queries", &all, quick_queries),
+        deepest("hullashlar_direct_queries", &all, direct_queries),
         deepest("hullashlar_read", &all, read),
         deepest("hullashlar_read_edition_1", &all, read_edition_1),
         deepest("hullashlar_sheet_tensor", &all, sheet_tensor),
@@ -115,6 +118,30 @@ fn quick_query(shape: &Shape) -> usize {
 fn even_query(shape: &Shape) -> usize {
     asked(&shape.even(), |shape, tensor, point| {
         hullashlar::even_query(&shape.axes, &shape.knots, tensor, point).is_ok()
+    })
+}
+
+fn direct_query(shape: &Shape) -> usize {
+    asked(&shape.even(), |shape, tensor, point| {
+        hullashlar::direct_query(&shape.axes, &shape.knots, tensor, point).is_ok()
+    })
+}
+
+fn quick_queries(shape: &Shape) -> usize {
+    asked(shape, |shape, tensor, point| {
+        let Shape { axes, knots, .. } = shape;
+        let (mut values, mut labels, mut refusals) = ([0.0], [0; 4], [0]);
+        let (values, labels, refusals) = (&mut values, &mut labels, &mut refusals);
+        hullashlar::quick_queries(axes, knots, tensor, point, values, labels, refusals).is_ok()
+    })
+}
+
+fn direct_queries(shape: &Shape) -> usize {
+    asked(&shape.even(), |shape, tensor, point| {
+        let Shape { axes, knots, .. } = shape;
+        let (mut values, mut labels, mut refusals) = ([0.0], [0; 4], [0]);
+        let (values, labels, refusals) = (&mut values, &mut labels, &mut refusals);
+        hullashlar::direct_queries(axes, knots, tensor, point, values, labels, refusals).is_ok()
     })
 }
 

@@ -1,5 +1,7 @@
 //! The tables, as the documents of the repository have them.
 
+#[cfg(limit)]
+use crate::limit::points::Timed;
 use crate::lines::Line;
 use crate::stack::Stack;
 
@@ -54,6 +56,19 @@ pub fn print_limit(rows: &[Row]) {
         let count = counted(row.instructions, |ours, limit| ours / limit);
         let time = columns(row.nanoseconds, |ours, limit| ours / limit);
         println!("| {} | {count} | {time} |", row.name);
+    }
+}
+
+/// One row for each call that is asked at a point; a ratio says how many times the limit ours needs.
+#[cfg(limit)]
+pub fn print_points(calls: &[Timed]) {
+    println!();
+    println!("| Call | Nanoseconds, points without a pattern, ours | the limit | ratio | Few points, ours | the limit | ratio |");
+    println!("|---|--:|--:|--:|--:|--:|--:|");
+    for call in calls {
+        let [without_pattern, few] =
+            [call.without_pattern, call.few].map(|both| columns(both, |ours, limit| ours / limit));
+        println!("| {} | {without_pattern} | {few} |", call.name);
     }
 }
 

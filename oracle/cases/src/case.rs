@@ -4,7 +4,7 @@ use crate::lent::{Lent, Word};
 use crate::report::NUMBERS;
 use reading::REFUSED;
 
-/// The calls of the archive, and the texts of the device's program and of the report. A whole number
+/// The calls of the archive, and the texts of the device's program, of the report and of the sheet program. A whole number
 /// with a sign is held by its 32 bits.
 #[derive(Debug, Clone, Copy, PartialEq, Eq)]
 pub enum Call {
@@ -30,6 +30,10 @@ pub enum Call {
     Surface,
     ReportText,
     Verify,
+    DirectQuery,
+    QuickQueries,
+    DirectQueries,
+    SheetText,
 }
 
 impl Call {
@@ -48,7 +52,7 @@ impl Call {
                 "axes", "points", "kinds", "values", "knots", "tensor", "scratch", "place",
                 "sample", "lanes",
             ],
-            Call::Query | Call::QuickQuery => &[
+            Call::Query | Call::QuickQuery | Call::DirectQuery => &[
                 "axes",
                 "points",
                 "modes",
@@ -68,6 +72,17 @@ impl Call {
                 "value",
                 "labels",
                 "uneven",
+            ],
+            Call::QuickQueries | Call::DirectQueries => &[
+                "axes",
+                "points",
+                "modes",
+                "knots",
+                "tensor",
+                "coordinates",
+                "point_values",
+                "point_labels",
+                "refusals",
             ],
             Call::Read => &[
                 "bytes", "knots", "samples", "axes", "points", "kinds", "values", "modes",
@@ -100,6 +115,7 @@ impl Call {
             Call::CellValue => &["p0", "p1", "d0", "d1", "k", "value"],
             Call::CursorNext => &["curve", "cursor", "value"],
             Call::DeviceText => &["curve", "text", "length"],
+            Call::SheetText => &["bytes", "text", "length"],
             Call::Surface => &["bytes", "c0", "c1", "c2", "c3"],
             Call::ReportText => &["stream", "piece", "text", "length"],
             Call::Verify => &[
@@ -116,7 +132,10 @@ impl Call {
             Call::Slopes => &["slopes"],
             Call::Build => &["tensor", "scratch"],
             Call::Change => &["tensor", "scratch", "lanes"],
-            Call::Query | Call::QuickQuery => &["value", "labels"],
+            Call::Query | Call::QuickQuery | Call::DirectQuery => &["value", "labels"],
+            Call::QuickQueries | Call::DirectQueries => {
+                &["point_values", "point_labels", "refusals"]
+            }
             Call::EvenQuery => &["value", "labels", "uneven"],
             Call::Read => &[
                 "knots", "samples", "axes", "points", "kinds", "values", "modes", "edition",
@@ -133,7 +152,7 @@ impl Call {
             Call::Stepped => &["value", "indices"],
             Call::CellValue => &["value"],
             Call::CursorNext => &["cursor", "value"],
-            Call::DeviceText | Call::ReportText => &["text", "length"],
+            Call::DeviceText | Call::ReportText | Call::SheetText => &["text", "length"],
             Call::Surface => &[],
             Call::Verify => &["scratch", "place", "found"],
         }
@@ -153,7 +172,10 @@ impl Call {
 
     /// Whether a tensor is asked at a point.
     pub fn is_query(self) -> bool {
-        matches!(self, Call::Query | Call::QuickQuery | Call::EvenQuery)
+        matches!(
+            self,
+            Call::Query | Call::QuickQuery | Call::EvenQuery | Call::DirectQuery
+        )
     }
 
     /// Whether the call is given a sheet.
@@ -247,6 +269,11 @@ impl Argument {
             Argument::Bytes(lent) => lent.slice_mut(),
             other => panic!("bytes are meant, not {other:?}"),
         }
+    }
+
+    /// Whether the argument is a lent slice.
+    pub fn is_slice(&self) -> bool {
+        !matches!(self, Argument::Number(_) | Argument::Float(_))
     }
 
     /// The length of a lent slice.
@@ -344,6 +371,18 @@ impl Case {
         axes.filter(|axis| *axis == (points, &[3, 3])).count() as u64
     }
 
+    /// The slices that are lent.
+    pub fn slices_mut(&mut self) -> impl Iterator<Item = &mut Argument> {
+        let arguments = self.arguments.iter_mut();
+        arguments.filter(|argument| argument.is_slice())
+    }
+
+    /// How many slices are lent.
+    pub fn slices(&self) -> usize {
+        let arguments = self.arguments.iter();
+        arguments.filter(|argument| argument.is_slice()).count()
+    }
+
     /// The argument of this name, to be changed.
     pub fn argument_mut(&mut self, name: &str) -> &mut Argument {
         let position = self.position(name).expect("the call has this argument");
@@ -353,6 +392,9 @@ impl Case {
 
 /// Something that answers calls.
 pub trait Calls {
+    /// Says which case comes next, and its number among those of its kind.
+    fn begin(&self, _title: &str, _number: u64) {}
+
     /// What the call returns, with the lent slices as it leaves them; or none where this call is
     /// not answered at all.
     fn run(&self, case: &mut Case) -> Option<usize>;

@@ -5,7 +5,7 @@ mod places;
 mod sheets;
 
 use crate::case::{Argument, Call, Calls, Case};
-use crate::device::{device_text, LENGTHS};
+use crate::device::{device_text, device_text_of, LENGTHS};
 use crate::examples::examples;
 use crate::faults::spoil;
 use crate::generator::{self, Kind, KINDS};
@@ -20,10 +20,11 @@ use crate::sheet::{short_sheet, SHORT_SHEETS};
 use crate::stream::{self, passed_over};
 use reading::LONGEST_TENSOR;
 
-/// A seed, and how many cases of each kind.
+/// A seed, the number of the first case of each kind, and how many there are.
 #[derive(Debug, Clone)]
 pub struct Plan {
     pub seed: u64,
+    pub first: u64,
     pub cases: [u64; KINDS.len()],
 }
 
@@ -33,7 +34,7 @@ const CHANGES_IN_A_LIST: u64 = 25;
 /// The same changes in two orders are some 8 calls.
 const CALLS_IN_TWO_ORDERS: u64 = 8;
 
-/// A quick query and a full one.
+/// A quick query and a full one, or a direct one and one of even axes.
 const CALLS_BESIDE: u64 = 2;
 
 /// A surface is asked at some 60 places, by 6 calls each.
@@ -49,33 +50,90 @@ impl Plan {
             Kind::DeviceCurve => calls.min(LENGTHS),
             Kind::ChangeList => calls.div_ceil(CHANGES_IN_A_LIST),
             Kind::EitherOrder => calls.div_ceil(CALLS_IN_TWO_ORDERS),
-            Kind::QuickBesideFull => calls.div_ceil(CALLS_BESIDE),
+            Kind::QuickBesideFull | Kind::DirectBesideEven => calls.div_ceil(CALLS_BESIDE),
             Kind::AtEveryPlace => calls.div_ceil(CALLS_AT_EVERY_PLACE),
             _ => calls,
         });
-        Self { seed, cases }
+        Self {
+            seed,
+            first: 0,
+            cases,
+        }
     }
 
     /// Cases of one kind only.
     pub fn of_kind(seed: u64, kind: Kind, number: u64) -> Self {
         let mut cases = [0; KINDS.len()];
         cases[kind as usize] = number;
-        Self { seed, cases }
+        Self {
+            seed,
+            first: 0,
+            cases,
+        }
+    }
+
+    /// One case alone, by its number.
+    pub fn of_case(seed: u64, kind: Kind, number: u64) -> Self {
+        let mut plan = Self::of_kind(seed, kind, 1);
+        plan.first = number;
+        plan
     }
 }
 
 /// Compares every kind of the plan.
 pub fn compare_all(subject: &dyn Calls, plan: &Plan) -> Report {
     let mut report = Report::default();
+    compare_more(subject, plan, &mut report);
+    report
+}
+
+/// Compares every kind of the plan, beside what a report has seen before.
+pub fn compare_more(subject: &dyn Calls, plan: &Plan, report: &mut Report) {
     for kind in KINDS {
-        compare_kind(subject, plan, kind, &mut report);
+        compare_kind(subject, plan, kind, report);
+    }
+}
+
+/// What bytes that somebody else has chosen are taken for.
+#[derive(Debug, Clone, Copy)]
+pub enum Bytes {
+    Sheet,
+    Stream,
+    Curve,
+}
+
+/// Compares every call and program that takes such bytes.
+pub fn compare_bytes(subject: &dyn Calls, what: Bytes, bytes: &[u8]) -> Report {
+    let mut report = Report::default();
+    let random = &mut Random::new(bytes.len() as u64);
+    let mut run = Run {
+        subject,
+        kind: Kind::Example,
+        title: format!("bytes taken for a {what:?}"),
+        report: &mut report,
+    };
+    match what {
+        Bytes::Sheet => {
+            run.compare_sheet(random, bytes);
+            run.compare(&lending::surface(bytes, &[0.5, 0.25, 1.0, -0.75]));
+            run.compare(&lending::sheet_text(bytes));
+        }
+        Bytes::Stream => {
+            let pieces = [0, 1 + bytes.len() % 40];
+            for piece in pieces {
+                run.compare(&stream::report_of(bytes, piece));
+            }
+        }
+        Bytes::Curve => {
+            run.compare(&device_text_of(bytes));
+        }
     }
     report
 }
 
 /// Compares the cases of one kind.
 fn compare_kind(subject: &dyn Calls, plan: &Plan, kind: Kind, report: &mut Report) {
-    for number in 0..plan.cases[kind as usize] {
+    for number in plan.first..plan.first + plan.cases[kind as usize] {
         let random = &mut Random::of_case(plan.seed, kind as u64, number);
         let mut run = Run {
             subject,
@@ -83,22 +141,30 @@ fn compare_kind(subject: &dyn Calls, plan: &Plan, kind: Kind, report: &mut Repor
             title: format!("{} {number} of seed {}", kind.name(), plan.seed),
             report,
         };
+        subject.begin(&run.title, number);
         match kind {
             Kind::Example => run.compare_examples(),
             Kind::ChangeList => run.change_list(random),
-            Kind::ShortSheet => run.compare_sheet(random, &short_sheet(number)),
+            Kind::ShortSheet => run.compare_sheet(random, &short_sheet(number % SHORT_SHEETS)),
             Kind::EitherOrder => {
                 run.either_order(random);
             }
             Kind::QuickBesideFull => run.quick_beside_full(random),
+            Kind::DirectBesideEven => run.direct_beside_even(random),
             Kind::AtEveryPlace => run.at_every_place(random),
             Kind::Write => run.write_and_read(random),
             Kind::WrittenBack => run.written_back(plan.seed, number),
             Kind::DeviceCurve => {
-                run.compare(&device_text(random, number as usize));
+                run.compare(&device_text(random, (number % LENGTHS) as usize));
             }
             Kind::Report => {
                 run.compare(&stream::report(random, number as usize));
+            }
+            Kind::EmptySlice => {
+                run.compare(&generator::empty_slice(random, number as usize));
+            }
+            Kind::SheetText => {
+                run.compare(&generator::sheet_text(random, number as usize));
             }
             _ => {
                 run.compare(&generator::single(kind, number as usize, random));
@@ -135,7 +201,10 @@ impl Run<'_> {
                 counts.passed_over[number] += 1;
             }
         }
-        self.report.reached.count(given, &expected, refusal);
+        // What reaches an edge is counted of the cases that are made for it.
+        if self.kind != Kind::EmptySlice {
+            self.report.reached.count(given, &expected, refusal);
+        }
         let mut found = given.clone();
         let Some(answer) = self.subject.run(&mut found) else {
             return (refusal, expected, true);
@@ -177,6 +246,30 @@ impl Run<'_> {
             let title = format!("{}, held against the full query", self.title);
             self.report.difference(self.kind, || {
                 describe(&title, &given, (full_refusal, &full), (refusal, &quick))
+            });
+        }
+    }
+
+    /// A direct query and one of even axes: where that refuses neither knots nor axes the whole answers
+    /// are equal, and of an uneven axis nothing is told.
+    fn direct_beside_even(&mut self, random: &mut Random) {
+        let given = generator::direct_beside_even(random);
+        let mut arguments = given.arguments.clone();
+        arguments.push(Argument::of_numbers(&[75, 76]));
+        let even = Case::new(Call::EvenQuery, arguments);
+        let (refusal, direct, _) = self.compare(&given);
+        let (even_refusal, even, _) = self.compare(&even);
+        let accepted = !matches!(even_refusal, 7 | 8 | 21);
+        let beside = Case::new(Call::DirectQuery, even.arguments[..8].to_vec());
+        let told = even
+            .argument("uneven")
+            .numbers()
+            .iter()
+            .any(|told| !matches!(told, 0 | 75 | 76));
+        if accepted && (refusal != even_refusal || told || !same_arguments(&beside, &direct)) {
+            let title = format!("{}, held against the query of even axes", self.title);
+            self.report.difference(self.kind, || {
+                describe(&title, &given, (even_refusal, &beside), (refusal, &direct))
             });
         }
     }

@@ -196,8 +196,13 @@ pub fn device_text(random: &mut Random, length: usize) -> Case {
         spoil_curve(random, &mut bytes);
     }
     bytes.truncate(length);
+    device_text_of(&bytes)
+}
+
+/// What the program prints of a curve.
+pub fn device_text_of(curve: &[u8]) -> Case {
     let arguments = vec![
-        Argument::of_bytes(&bytes),
+        Argument::of_bytes(curve),
         Argument::of_bytes(&vec![0; TEXT]),
         Argument::of_numbers(&[0]),
     ];

@@ -160,7 +160,8 @@ fn faults_of(call: Call) -> &'static [Fault] {
         Call::Build | Call::Change => OF_TENSOR,
         Call::Verify => OF_VERIFY,
         Call::Query => OF_QUERY,
-        Call::QuickQuery => OF_QUICK_QUERY,
+        Call::QuickQuery | Call::DirectQuery => OF_QUICK_QUERY,
+        Call::QuickQueries | Call::DirectQueries => OF_QUICK_QUERY,
         Call::EvenQuery => OF_QUERY,
         Call::Write => OF_WRITE,
         Call::Read | Call::ReadEdition1 => &[length_off],
@@ -170,7 +171,11 @@ fn faults_of(call: Call) -> &'static [Fault] {
         Call::LocateAxis => OF_CURVE,
         Call::LocateStepIndex => OF_STEP,
         Call::Stepped => OF_STEPPED,
-        Call::CellValue | Call::CursorNext | Call::DeviceText | Call::ReportText => &[],
+        Call::CellValue
+        | Call::CursorNext
+        | Call::DeviceText
+        | Call::ReportText
+        | Call::SheetText => &[],
     }
 }
 
@@ -264,6 +269,9 @@ fn fixed_length_off(random: &mut Random, case: &mut Case) {
         "index",
         "indices",
         "edition",
+        "point_values",
+        "point_labels",
+        "refusals",
     ];
     let mut fixed = present(case, &names);
     fixed.retain(|name| !matches!(case.argument(name), Argument::Number(_)));

@@ -1,7 +1,7 @@
 //! One case of each kind from a sequence of random numbers.
 
 use crate::any_knots::disturb;
-use crate::case::Case;
+use crate::case::{Call, Calls, Case};
 use crate::device;
 use crate::even_knots::{far, make_even};
 use crate::faults::spoil;
@@ -10,14 +10,17 @@ use crate::lending::{self, Point};
 use crate::numbers::list;
 use crate::overflow::take_an_end_to_the_edge;
 use crate::random::Random;
+use crate::reading_calls::Reading;
 use crate::sheet::{damaged_sheet, good_sheet, length_of, swept_sheet};
+use crate::stream::STOPPING;
 use crate::verification;
 use reading::{CURVE_SCRATCH, EDITIONS, EXTEND, LONGEST_TENSOR};
 
 /// The kinds of cases: the worked examples, one kind for each call, lists
 /// of changes, the sheets of up to two bytes, changes in two orders, quick queries
-/// beside full ones, the reader's sheets written back, surfaces asked at every place, the
-/// device's program, and streams of sheets for the report.
+/// beside full ones, direct queries beside those of even axes, the reader's sheets written back, surfaces asked at every place, the
+/// device's program, streams of sheets for the report, sheets for the program that prints
+/// their tensors, and slices of no items.
 #[derive(Debug, Clone, Copy, PartialEq, Eq)]
 pub enum Kind {
     Example,
@@ -49,10 +52,16 @@ pub enum Kind {
     Surface,
     Report,
     Verify,
+    DirectQuery,
+    DirectBesideEven,
+    QuickQueries,
+    DirectQueries,
+    SheetText,
+    EmptySlice,
 }
 
 /// Every kind, in the order of the report.
-pub const KINDS: [Kind; 29] = [
+pub const KINDS: [Kind; 35] = [
     Kind::Example,
     Kind::Moments,
     Kind::Curve,
@@ -82,6 +91,12 @@ pub const KINDS: [Kind; 29] = [
     Kind::Surface,
     Kind::Report,
     Kind::Verify,
+    Kind::DirectQuery,
+    Kind::DirectBesideEven,
+    Kind::QuickQueries,
+    Kind::DirectQueries,
+    Kind::SheetText,
+    Kind::EmptySlice,
 ];
 
 impl Kind {
@@ -117,6 +132,59 @@ impl Kind {
             Kind::Surface => "surface",
             Kind::Report => "report",
             Kind::Verify => "verify",
+            Kind::DirectQuery => "direct_query",
+            Kind::DirectBesideEven => "direct_beside_even",
+            Kind::QuickQueries => "quick_queries",
+            Kind::DirectQueries => "direct_queries",
+            Kind::SheetText => "sheet_text",
+            Kind::EmptySlice => "empty_slice",
+        }
+    }
+
+    /// Whether a case of the kind runs a program.
+    pub fn runs_a_program(self) -> bool {
+        matches!(self, Kind::DeviceCurve | Kind::Report | Kind::SheetText)
+    }
+
+    /// The refusals that the calls of the kind have.
+    pub fn refusals(self) -> &'static [usize] {
+        match self {
+            Kind::Example => &[
+                1, 3, 4, 6, 7, 8, 9, 10, 11, 12, 15, 16, 17, 18, 19, 20, 21, 22, 23,
+            ],
+            Kind::Moments => &[2, 4, 5, 7, 8, 9, 10, 13],
+            Kind::Curve | Kind::Slopes => &[2, 4, 7, 8, 10],
+            Kind::Build => &[1, 2, 3, 4, 5, 7, 8, 9, 10, 13],
+            Kind::Change | Kind::ChangeList | Kind::EitherOrder => {
+                &[1, 2, 3, 4, 5, 6, 7, 8, 9, 10, 13]
+            }
+            Kind::Query | Kind::QuickQuery => &[1, 2, 3, 4, 7, 8, 10, 18, 22],
+            Kind::Read => &[1, 2, 3, 4, 11, 12, 13, 14, 22],
+            Kind::ReadEdition1 => &[1, 2, 3, 4, 11, 12, 13, 14],
+            Kind::SheetTensor => &[1, 2, 3, 4, 5, 7, 8, 9, 10, 11, 12, 13, 14, 22],
+            Kind::ShortSheet => &[1, 11, 12],
+            Kind::EvenQuery => &[1, 2, 3, 4, 7, 8, 10, 18, 21, 22],
+            Kind::Write => &[1, 2, 3, 4, 7, 8, 9, 12, 13, 15, 22, 23],
+            Kind::WrittenBack => &[1, 2, 3, 4, 7, 8, 9, 11, 12, 13, 14, 15, 22, 23],
+            Kind::QuickBesideFull => &[1, 2, 3, 4, 7, 10, 18, 22],
+            Kind::ExactIndex => &[2, 4, 6, 7, 8],
+            Kind::LocateAxis => &[2, 4, 7, 8, 10],
+            Kind::LocateStepIndex => &[2, 4, 7, 8, 22],
+            Kind::Stepped => &[1, 2, 3, 4, 7, 8, 22],
+            Kind::AtEveryPlace => &[5, 6, 7, 10],
+            Kind::CellValue | Kind::CursorNext => &[4, 19, 20],
+            // What the program prints is compared, its refusals too.
+            Kind::DeviceCurve => &[],
+            Kind::Surface => &[1, 2, 3, 7, 8, 9, 10, 11, 12, 13, 14, 16, 17, 18, 22],
+            // Those at which a report stops.
+            Kind::Report => &STOPPING,
+            Kind::Verify => &[1, 2, 3, 4, 5, 7, 8, 9, 10, 13],
+            Kind::DirectQuery => &[1, 2, 3, 4, 7, 8, 10, 18, 22],
+            Kind::DirectBesideEven => &[1, 2, 3, 4, 7, 10, 18, 21, 22],
+            // From 7 on each point has its own.
+            Kind::QuickQueries | Kind::DirectQueries => &[1, 2, 3, 4, 22],
+            Kind::SheetText => &[1, 2, 3, 7, 8, 9, 10, 11, 12, 13, 14, 22],
+            Kind::EmptySlice => &[4, 5, 11, 15, 20],
         }
     }
 
@@ -133,6 +201,9 @@ impl Kind {
                 | Kind::AtEveryPlace
                 | Kind::DeviceCurve
                 | Kind::Report
+                | Kind::DirectBesideEven
+                | Kind::SheetText
+                | Kind::EmptySlice
         )
     }
 }
@@ -166,6 +237,9 @@ const FAULTY_BESIDE_DAMAGE: usize = 60;
 /// Axes that are not even are refused without another fault.
 const FAULTY_EVEN: usize = 18;
 
+/// Of many points a fault of a coordinate refuses that point alone.
+const FAULTY_MANY: usize = 44;
+
 /// Of the tensors to be verified some have samples that cannot be built.
 const FAULTY_TO_VERIFY: usize = 28;
 
@@ -192,6 +266,9 @@ pub fn single(kind: Kind, number: usize, random: &mut Random) -> Case {
         Kind::ReadEdition1 => read_edition_1(random, number),
         Kind::Surface => surface(random, number),
         Kind::Verify => verify(random),
+        Kind::DirectQuery => direct_query(random),
+        Kind::QuickQueries => queries(random, Call::QuickQueries),
+        Kind::DirectQueries => queries(random, Call::DirectQueries),
         Kind::Example
         | Kind::ChangeList
         | Kind::ShortSheet
@@ -200,7 +277,10 @@ pub fn single(kind: Kind, number: usize, random: &mut Random) -> Case {
         | Kind::WrittenBack
         | Kind::AtEveryPlace
         | Kind::DeviceCurve
-        | Kind::Report => {
+        | Kind::Report
+        | Kind::DirectBesideEven
+        | Kind::SheetText
+        | Kind::EmptySlice => {
             panic!("not one call: {}", kind.name())
         }
     }
@@ -323,6 +403,66 @@ fn even_query(random: &mut Random) -> Case {
     case
 }
 
+/// A direct query, on axes that are even or on any knots.
+fn direct_query(random: &mut Random) -> Case {
+    let mut grid = searched_grid(random);
+    let point = if random.percent(60) {
+        make_even(random, &mut grid);
+        Point::generate(random, &grid)
+    } else {
+        disturb(random, &mut grid)
+    };
+    let tensor = list(random, grid.tensor());
+    let mut case = lending::direct_query(random, &grid, &tensor, &point);
+    if random.percent(FAULTY_QUICK) {
+        spoil(random, &mut case);
+    }
+    case
+}
+
+/// A direct query on axes of which most are even, at times with another fault.
+pub fn direct_beside_even(random: &mut Random) -> Case {
+    let mut grid = Grid::generate(random);
+    make_even(random, &mut grid);
+    let tensor = tensor(random, &grid);
+    let point = Point::generate(random, &grid);
+    let mut case = lending::direct_query(random, &grid, &tensor, &point);
+    if random.percent(FAULTY_BESIDE) {
+        spoil(random, &mut case);
+    }
+    case
+}
+
+/// None to six points by one call, of which some are refused.
+fn queries(random: &mut Random, call: Call) -> Case {
+    let mut grid = Grid::generate(random);
+    if random.percent(50) {
+        make_even(random, &mut grid);
+    }
+    let mut points = if random.percent(30) {
+        disturb(random, &mut grid)
+    } else {
+        Point::generate(random, &grid)
+    };
+    let tensor = tensor(random, &grid);
+    let first = points.coordinates.clone();
+    points.coordinates.clear();
+    for number in 0..random.below(7) {
+        let at_first = number == 0 || random.percent(10);
+        let point = if at_first {
+            first.clone()
+        } else {
+            grid.coordinates(random)
+        };
+        points.coordinates.extend(point);
+    }
+    let mut case = lending::queries(random, call, &grid, &tensor, &points);
+    if random.percent(FAULTY_MANY) {
+        spoil(random, &mut case);
+    }
+    case
+}
+
 /// Two neighbouring knots and a point, which is often one of them.
 fn exact_index(random: &mut Random) -> Case {
     let line = Grid::line(random);
@@ -387,6 +527,44 @@ fn swept_or_generated(random: &mut Random, number: usize, lend: LendSheet) -> Ca
 /// A sheet to be read and built.
 fn sheet_tensor(random: &mut Random, number: usize) -> Case {
     sheet_case(random, number, FAULTY_TO_BUILD, lending::sheet_tensor)
+}
+
+/// A case of one of the calls, by the number, that would be accepted, and in which a lent slice has no
+/// item, or none has.
+pub fn empty_slice(random: &mut Random, number: usize) -> Case {
+    let mut kinds = KINDS.to_vec();
+    kinds.retain(|kind| kind.is_single_call());
+    let kind = kinds[number % kinds.len()];
+    let mut case = single(kind, number, random);
+    while case.call.refusal(
+        Reading
+            .run(&mut case.clone())
+            .expect("the reading answers all"),
+    ) != 0
+    {
+        case = single(kind, random.below(1 << 20), random);
+    }
+    let (all, chosen) = (random.percent(25), random.below(case.slices()));
+    for (at, slice) in case.slices_mut().enumerate() {
+        if all || at == chosen {
+            slice.resize(0);
+        }
+    }
+    case
+}
+
+/// A sheet for the program that prints its tensor.
+pub fn sheet_text(random: &mut Random, number: usize) -> Case {
+    let swept = swept_sheet(number);
+    let bytes = swept.unwrap_or_else(|| {
+        let grid = Grid::generate(random);
+        if random.percent(FAULTY_TO_BUILD) {
+            damaged_sheet(random, number, &grid)
+        } else {
+            good_sheet(random, number, &grid)
+        }
+    });
+    lending::sheet_text(&bytes)
 }
 
 /// A sheet that is asked at a point: first the small one with all that a sweep does to it.

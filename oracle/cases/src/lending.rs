@@ -6,6 +6,10 @@ use crate::numbers::{fill, ordinary};
 use crate::random::Random;
 use reading::{BUFFER, CURVE_SCRATCH, LONGEST_TENSOR};
 
+/// The length of a text that every tensor's text fits: a line with its length, and one of 17 bytes
+/// for each number.
+const TEXT: usize = 17 * (LONGEST_TENSOR + 1);
+
 /// Scratch that is just enough, or longer.
 fn scratch(random: &mut Random, needed: usize) -> Argument {
     let length = needed + random.pick(&[0, 0, 0, 1, 5, 300]);
@@ -152,6 +156,35 @@ pub fn even_query(random: &mut Random, grid: &Grid, tensor: &[f64], point: &Poin
     let mut arguments = query_arguments(random, grid, tensor, point);
     arguments.push(Argument::of_numbers(&[75, 76]));
     Case::new(Call::EvenQuery, arguments)
+}
+
+/// A direct query of a tensor on a grid.
+pub fn direct_query(random: &mut Random, grid: &Grid, tensor: &[f64], point: &Point) -> Case {
+    let arguments = query_arguments(random, grid, tensor, point);
+    Case::new(Call::DirectQuery, arguments)
+}
+
+/// A call at many points of a tensor on a grid, whose coordinates stand one point after the other.
+pub fn queries(
+    random: &mut Random,
+    call: Call,
+    grid: &Grid,
+    tensor: &[f64],
+    points: &Point,
+) -> Case {
+    let count = points.coordinates.len() / grid.axes;
+    let arguments = vec![
+        Argument::Number(grid.axes),
+        Argument::of_numbers(&grid.points),
+        Argument::of_bytes(&points.modes),
+        Argument::of_floats(&grid.knots),
+        Argument::of_floats(tensor),
+        Argument::of_floats(&points.coordinates),
+        room(random, count),
+        Argument::of_numbers(&vec![78; 4 * count]),
+        Argument::of_numbers(&vec![79; count]),
+    ];
+    Case::new(call, arguments)
 }
 
 /// What every query is given.
@@ -325,6 +358,16 @@ pub fn write_parts(random: &mut Random, read: &Case, edition: usize, room: usize
         front("samples", samples),
     ];
     write_case(random, parts, edition, room)
+}
+
+/// The text of a sheet's tensor, for which there is room.
+pub fn sheet_text(bytes: &[u8]) -> Case {
+    let arguments = vec![
+        Argument::of_bytes(bytes),
+        Argument::of_bytes(&[0; TEXT]),
+        Argument::of_numbers(&[0]),
+    ];
+    Case::new(Call::SheetText, arguments)
 }
 
 /// The bytes are all alike before, and not all zero, so that what is cleared is seen.

@@ -26,12 +26,13 @@ mod stream;
 mod verification;
 
 pub use case::{Argument, Call, Calls, Case};
-pub use comparison::{compare_all, Plan};
-pub use device::{as_integers, as_words, integer, LENGTHS};
+pub use comparison::{compare_all, compare_bytes, compare_more, Bytes, Plan};
+pub use device::{integer, LENGTHS};
 pub use generator::{Kind, KINDS};
 pub use lent::Lent;
 pub use list::{list, CALLS};
+pub use random::Random;
 pub use reading_calls::Reading;
 pub use report::{Counts, Report, NUMBERS};
 pub use sheet::SHORT_SHEETS;
-pub use stream::{stopped_by, PASSED_OVER, STOPPING};
+pub use stream::{refused_by, stopped_by, PASSED_OVER, STOPPING};

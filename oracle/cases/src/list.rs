@@ -24,7 +24,7 @@ use crate::reading_calls::Reading;
 use crate::report::NUMBERS;
 
 /// The calls in the order of their numbers; what programs print is none of them.
-pub const CALLS: [Call; 20] = [
+pub const CALLS: [Call; 23] = [
     Call::Moments,
     Call::Curve,
     Call::Slopes,
@@ -45,6 +45,9 @@ pub const CALLS: [Call; 20] = [
     Call::ReadEdition1,
     Call::Surface,
     Call::Verify,
+    Call::DirectQuery,
+    Call::QuickQueries,
+    Call::DirectQueries,
 ];
 
 /// The seed of the list; another one makes another list.

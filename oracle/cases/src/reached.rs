@@ -400,10 +400,11 @@ impl Reached {
     /// Counts a case for each edge that it reaches. Those of a tensor that is verified are seen by what
     /// was answered.
     pub fn count(&mut self, case: &Case, answered: &Case, refusal: usize) {
-        // The device has no knots and no sheet, and reaches none of these edges.
+        // The device has no knots and no sheet, and the sheet program is given what the reader is:
+        // neither reaches any of these edges.
         if matches!(
             case.call,
-            Call::CellValue | Call::CursorNext | Call::DeviceText
+            Call::CellValue | Call::CursorNext | Call::DeviceText | Call::SheetText
         ) {
             return;
         }

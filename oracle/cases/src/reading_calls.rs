@@ -2,7 +2,7 @@
 
 use crate::case::{Argument, Call, Calls, Case};
 use crate::device::{as_integers, as_words, integer};
-use crate::stream::stopped_by;
+use crate::stream::{refused_by, stopped_by};
 
 /// The reading, which answers every call.
 pub struct Reading;
@@ -13,7 +13,8 @@ impl Calls for Reading {
         let refusal = match case.call {
             Call::Moments | Call::Curve | Call::Slopes => on_a_line(case.call, arguments),
             Call::Build | Call::Change | Call::Verify => on_a_grid(case.call, arguments),
-            Call::Query | Call::QuickQuery => of_a_tensor(case.call, arguments),
+            Call::Query | Call::QuickQuery | Call::DirectQuery => of_a_tensor(case.call, arguments),
+            Call::QuickQueries | Call::DirectQueries => at_many_points(case.call, arguments),
             Call::EvenQuery => on_even_axes(arguments),
             Call::Read | Call::ReadEdition1 | Call::SheetTensor | Call::Write => {
                 on_a_sheet(case.call, arguments)
@@ -26,6 +27,7 @@ impl Calls for Reading {
                 of_the_device(case.call, arguments)
             }
             Call::ReportText => of_a_stream(arguments),
+            Call::SheetText => text_of_a_sheet(arguments),
         };
         Some(refusal)
     }
@@ -86,10 +88,30 @@ fn of_a_tensor(call: Call, arguments: &mut [Argument]) -> usize {
     let [axes, points, modes, knots, tensor, coordinates, value, labels] = arguments else {
         panic!("a case has the arguments of its call")
     };
-    let query = if call == Call::Query { reading::query } else { reading::quick_query };
+    let query = match call {
+        Call::Query => reading::query,
+        Call::DirectQuery => reading::direct_query,
+        _ => reading::quick_query,
+    };
     query(
         axes.number(), points.numbers(), modes.bytes(), knots.floats(), tensor.floats(),
         coordinates.floats(), value.floats_mut(), labels.numbers_mut(),
+    )
+}
+
+#[rustfmt::skip]
+fn at_many_points(call: Call, arguments: &mut [Argument]) -> usize {
+    let [axes, points, modes, knots, tensor, coordinates, values, labels, refusals] = arguments
+    else {
+        panic!("a case has the arguments of its call")
+    };
+    let queries = match call {
+        Call::DirectQueries => reading::direct_queries,
+        _ => reading::quick_queries,
+    };
+    queries(
+        axes.number(), points.numbers(), modes.bytes(), knots.floats(), tensor.floats(),
+        coordinates.floats(), values.floats_mut(), labels.numbers_mut(), refusals.numbers_mut(),
     )
 }
 
@@ -162,6 +184,17 @@ fn of_a_stream(arguments: &mut [Argument]) -> usize {
     text.bytes_mut()[..printed.len()].copy_from_slice(printed.as_bytes());
     length.numbers_mut()[0] = printed.len();
     stopped_by(&printed)
+}
+
+/// What is returned is the refusal that is printed.
+fn text_of_a_sheet(arguments: &mut [Argument]) -> usize {
+    let [bytes, text, length] = arguments else {
+        panic!("a case has the arguments of its call")
+    };
+    let printed = reading::sheet_text(bytes.bytes());
+    text.bytes_mut()[..printed.len()].copy_from_slice(printed.as_bytes());
+    length.numbers_mut()[0] = printed.len();
+    refused_by(&printed)
 }
 
 #[rustfmt::skip]

@@ -39,11 +39,22 @@ pub struct Counts {
 
 /// What was seen of every kind, the edges that were reached, and the first
 /// differing cases.
-#[derive(Debug, Default)]
+#[derive(Debug)]
 pub struct Report {
     counts: [Counts; KINDS.len()],
     pub(crate) reached: Reached,
     differing: Vec<String>,
+}
+
+impl Default for Report {
+    /// Nothing was seen yet.
+    fn default() -> Self {
+        Self {
+            counts: KINDS.map(|_| Counts::default()),
+            reached: Reached::default(),
+            differing: Vec::new(),
+        }
+    }
 }
 
 impl Report {
@@ -87,6 +98,14 @@ impl Report {
         let mut kinds = KINDS.to_vec();
         kinds.retain(|kind| plan.cases[*kind as usize] > 0 && self.of(*kind).compared == 0);
         kinds
+    }
+
+    /// The refusals of each kind that none of its calls was given.
+    pub fn not_refused(&self) -> Vec<(Kind, usize)> {
+        let refusals = |kind: Kind| kind.refusals().iter().map(move |number| (kind, *number));
+        let all = KINDS.into_iter().flat_map(refusals);
+        all.filter(|(kind, number)| self.of(*kind).refusals[*number] == 0)
+            .collect()
     }
 
     /// The refusals that no stream of a plan has, though the plan has streams.

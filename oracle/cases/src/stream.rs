@@ -43,7 +43,7 @@ pub fn report(random: &mut Random, number: usize) -> Case {
 }
 
 /// The report of a stream that is given in pieces of so many bytes, or whole where they have none.
-fn report_of(stream: &[u8], piece: usize) -> Case {
+pub fn report_of(stream: &[u8], piece: usize) -> Case {
     let arguments = vec![
         Argument::of_bytes(stream),
         Argument::Number(piece),
@@ -145,6 +145,11 @@ fn refusals(text: &str) -> impl Iterator<Item = usize> + '_ {
     let lines = text.lines();
     let refused = lines.filter_map(|line| line.strip_prefix("refused "));
     refused.filter_map(|rest| rest.split(' ').next()?.parse().ok())
+}
+
+/// The first refusal that stands in a text, 0 where none does.
+pub fn refused_by(text: &str) -> usize {
+    refusals(text).next().unwrap_or(0)
 }
 
 /// The refusal that a report stops at by its text, 0 where it does not.

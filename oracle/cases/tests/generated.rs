@@ -14,47 +14,13 @@ impl Calls for Nobody {
     }
 }
 
-/// The refusals that the calls of a kind have.
-fn refusals(kind: Kind) -> &'static [usize] {
-    match kind {
-        Kind::Example => &[
-            1, 3, 4, 6, 7, 8, 9, 10, 11, 12, 15, 16, 17, 18, 19, 20, 21, 22, 23,
-        ],
-        Kind::Moments => &[2, 4, 5, 7, 8, 9, 10, 13],
-        Kind::Curve | Kind::Slopes => &[2, 4, 7, 8, 10],
-        Kind::Build => &[1, 2, 3, 4, 5, 7, 8, 9, 10, 13],
-        Kind::Change | Kind::ChangeList | Kind::EitherOrder => &[1, 2, 3, 4, 5, 6, 7, 8, 9, 10, 13],
-        Kind::Query | Kind::QuickQuery => &[1, 2, 3, 4, 7, 8, 10, 18, 22],
-        Kind::Read => &[1, 2, 3, 4, 11, 12, 13, 14, 22],
-        Kind::ReadEdition1 => &[1, 2, 3, 4, 11, 12, 13, 14],
-        Kind::SheetTensor => &[1, 2, 3, 4, 5, 7, 8, 9, 10, 11, 12, 13, 14, 22],
-        Kind::ShortSheet => &[1, 11, 12],
-        Kind::EvenQuery => &[1, 2, 3, 4, 7, 8, 10, 18, 21, 22],
-        Kind::Write => &[1, 2, 3, 4, 7, 8, 9, 12, 13, 15, 22, 23],
-        Kind::WrittenBack => &[1, 2, 3, 4, 7, 8, 9, 11, 12, 13, 14, 15, 22, 23],
-        Kind::QuickBesideFull => &[1, 2, 3, 4, 7, 10, 18, 22],
-        Kind::ExactIndex => &[2, 4, 6, 7, 8],
-        Kind::LocateAxis => &[2, 4, 7, 8, 10],
-        Kind::LocateStepIndex => &[2, 4, 7, 8, 22],
-        Kind::Stepped => &[1, 2, 3, 4, 7, 8, 22],
-        Kind::AtEveryPlace => &[5, 6, 7, 10],
-        Kind::CellValue | Kind::CursorNext => &[4, 19, 20],
-        // What the program prints is compared, its refusals too.
-        Kind::DeviceCurve => &[],
-        Kind::Surface => &[1, 2, 3, 7, 8, 9, 10, 11, 12, 13, 14, 16, 17, 18, 22],
-        // Those at which a report stops.
-        Kind::Report => &STOPPING,
-        Kind::Verify => &[1, 2, 3, 4, 5, 7, 8, 9, 10, 13],
-    }
-}
-
 #[test]
 fn every_refusal_is_seen_and_no_other() {
     let report = compare_all(&Nobody, &Plan::of_each_kind(1, 4000));
     for kind in KINDS {
         let seen = &report.of(kind).refusals;
         let numbers: Vec<usize> = (1..seen.len()).filter(|number| seen[*number] > 0).collect();
-        assert_eq!(numbers, refusals(kind), "{}", kind.name());
+        assert_eq!(numbers, kind.refusals(), "{}", kind.name());
     }
 }
 
@@ -62,7 +28,8 @@ fn every_refusal_is_seen_and_no_other() {
 fn about_sixty_in_a_hundred_are_accepted() {
     let report = compare_all(&Nobody, &Plan::of_each_kind(2, 4000));
     // Quick queries beside full ones, and queries at places, are nearly all accepted, so that the
-    // answers are compared; the reader of edition 1 is given half of its sheets in edition 2.
+    // answers are compared; the reader of edition 1 is given half of its sheets in edition 2; a slice of
+    // no items is always refused.
     let generated = |kind: &Kind| {
         !matches!(
             kind,
@@ -72,6 +39,8 @@ fn about_sixty_in_a_hundred_are_accepted() {
                 | Kind::AtEveryPlace
                 | Kind::DeviceCurve
                 | Kind::ReadEdition1
+                | Kind::DirectBesideEven
+                | Kind::EmptySlice
         )
     };
     let (mut calls, mut accepted) = (0, 0);

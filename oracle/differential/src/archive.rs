@@ -3,24 +3,19 @@
 #[path = "../../../include/hullashlar.rs"]
 mod declared;
 
+use crate::guarded::{self, lent, lent_mut, lent_narrowed};
 use crate::program::printed;
-use cases::{as_integers, as_words, integer, stopped_by, Argument, Call, Calls, Case};
+use cases::{integer, refused_by, stopped_by, Argument, Call, Calls, Case};
 use declared::*;
-
-/// A slice as the archive takes it to read: where it begins, and its length.
-fn lent<T>(slice: &[T]) -> (*const T, usize) {
-    (slice.as_ptr(), slice.len())
-}
-
-/// A slice as the archive takes it to write.
-fn lent_mut<T>(slice: &mut [T]) -> (*mut T, usize) {
-    (slice.as_mut_ptr(), slice.len())
-}
 
 /// The archive, which answers every call, and beside it the device's program and the report.
 pub struct Archive;
 
 impl Calls for Archive {
+    fn begin(&self, title: &str, number: u64) {
+        guarded::begin(title, number);
+    }
+
     fn run(&self, case: &mut Case) -> Option<usize> {
         let arguments = case.arguments.as_mut_slice();
         let refusal = match case.call {
@@ -46,7 +41,12 @@ impl Calls for Archive {
             Call::Surface => surface(arguments),
             Call::ReportText => report_text(arguments),
             Call::Verify => verify(arguments),
+            Call::DirectQuery => direct_query(arguments),
+            Call::QuickQueries => quick_queries(arguments),
+            Call::DirectQueries => direct_queries(arguments),
+            Call::SheetText => sheet_text(arguments),
         };
+        guarded::hand_back();
         Some(refusal)
     }
 }
@@ -242,6 +242,76 @@ fn even_query(arguments: &mut [Argument]) -> usize {
 }
 
 #[rustfmt::skip]
+fn direct_query(arguments: &mut [Argument]) -> usize {
+    let [axes, points, modes, knots, tensor, coordinates, value, labels] = arguments else {
+        panic!("a case has the arguments of its call")
+    };
+    let points = lent(points.numbers());
+    let modes = lent(modes.bytes());
+    let knots = lent(knots.floats());
+    let tensor = lent(tensor.floats());
+    let coordinates = lent(coordinates.floats());
+    let value = lent_mut(value.floats_mut());
+    let labels = lent_mut(labels.numbers_mut());
+    // SAFETY: each pair is a live slice; no two of them overlap.
+    unsafe {
+        hullashlar_direct_query(
+            axes.number(), points.0, points.1, modes.0, modes.1, knots.0, knots.1,
+            tensor.0, tensor.1, coordinates.0, coordinates.1, value.0, value.1,
+            labels.0, labels.1,
+        )
+    }
+}
+
+#[rustfmt::skip]
+fn quick_queries(arguments: &mut [Argument]) -> usize {
+    let [axes, points, modes, knots, tensor, coordinates, values, labels, refusals] = arguments
+    else {
+        panic!("a case has the arguments of its call")
+    };
+    let points = lent(points.numbers());
+    let modes = lent(modes.bytes());
+    let knots = lent(knots.floats());
+    let tensor = lent(tensor.floats());
+    let coordinates = lent(coordinates.floats());
+    let values = lent_mut(values.floats_mut());
+    let labels = lent_mut(labels.numbers_mut());
+    let refusals = lent_mut(refusals.numbers_mut());
+    // SAFETY: each pair is a live slice; no two of them overlap.
+    unsafe {
+        hullashlar_quick_queries(
+            axes.number(), points.0, points.1, modes.0, modes.1, knots.0, knots.1,
+            tensor.0, tensor.1, coordinates.0, coordinates.1, values.0, values.1,
+            labels.0, labels.1, refusals.0, refusals.1,
+        )
+    }
+}
+
+#[rustfmt::skip]
+fn direct_queries(arguments: &mut [Argument]) -> usize {
+    let [axes, points, modes, knots, tensor, coordinates, values, labels, refusals] = arguments
+    else {
+        panic!("a case has the arguments of its call")
+    };
+    let points = lent(points.numbers());
+    let modes = lent(modes.bytes());
+    let knots = lent(knots.floats());
+    let tensor = lent(tensor.floats());
+    let coordinates = lent(coordinates.floats());
+    let values = lent_mut(values.floats_mut());
+    let labels = lent_mut(labels.numbers_mut());
+    let refusals = lent_mut(refusals.numbers_mut());
+    // SAFETY: each pair is a live slice; no two of them overlap.
+    unsafe {
+        hullashlar_direct_queries(
+            axes.number(), points.0, points.1, modes.0, modes.1, knots.0, knots.1,
+            tensor.0, tensor.1, coordinates.0, coordinates.1, values.0, values.1,
+            labels.0, labels.1, refusals.0, refusals.1,
+        )
+    }
+}
+
+#[rustfmt::skip]
 fn read(arguments: &mut [Argument]) -> usize {
     let [bytes, knots, samples, axes, points, kinds, values, modes, edition] = arguments else {
         panic!("a case has the arguments of its call")
@@ -415,26 +485,20 @@ fn cell_value(arguments: &mut [Argument]) -> usize {
         panic!("a case has the arguments of its call")
     };
     let [p0, p1, d0, d1, k] = [&*p0, p1, d0, d1, k].map(integer);
-    as_integers(value.numbers_mut(), |value| {
-        let value = lent_mut(value);
-        // SAFETY: the pair is a live slice.
-        unsafe { hullashlar_cell_value(p0, p1, d0, d1, k, value.0, value.1) }
-    })
+    let value = lent_narrowed::<i32>(value.numbers_mut());
+    // SAFETY: the pair is a live slice.
+    unsafe { hullashlar_cell_value(p0, p1, d0, d1, k, value.0, value.1) }
 }
 
 fn cursor_next(arguments: &mut [Argument]) -> usize {
     let [curve, cursor, value] = arguments else {
         panic!("a case has the arguments of its call")
     };
-    as_words(cursor.numbers_mut(), |cursor| {
-        as_integers(value.numbers_mut(), |value| {
-            let (curve, cursor, value) = (lent(curve.bytes()), lent_mut(cursor), lent_mut(value));
-            // SAFETY: each pair is a live slice; no two of them overlap.
-            unsafe {
-                hullashlar_cursor_next(curve.0, curve.1, cursor.0, cursor.1, value.0, value.1)
-            }
-        })
-    })
+    let curve = lent(curve.bytes());
+    let cursor = lent_narrowed::<u32>(cursor.numbers_mut());
+    let value = lent_narrowed::<i32>(value.numbers_mut());
+    // SAFETY: each pair is a live slice; no two of them overlap.
+    unsafe { hullashlar_cursor_next(curve.0, curve.1, cursor.0, cursor.1, value.0, value.1) }
 }
 
 /// Runs the device's program on a curve, and takes what it prints.
@@ -457,6 +521,17 @@ fn report_text(arguments: &mut [Argument]) -> usize {
     text.bytes_mut()[..printed.len()].copy_from_slice(&printed);
     length.numbers_mut()[0] = printed.len();
     stopped_by(&String::from_utf8_lossy(&printed))
+}
+
+/// Runs the sheet program on a sheet, and takes what it prints.
+fn sheet_text(arguments: &mut [Argument]) -> usize {
+    let [bytes, text, length] = arguments else {
+        panic!("a case has the arguments of its call")
+    };
+    let printed = printed("sheet_tensor", bytes.bytes(), 0);
+    text.bytes_mut()[..printed.len()].copy_from_slice(&printed);
+    length.numbers_mut()[0] = printed.len();
+    refused_by(&String::from_utf8_lossy(&printed))
 }
 
 fn surface(arguments: &mut [Argument]) -> usize {

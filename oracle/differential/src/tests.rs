@@ -43,11 +43,11 @@ fn of_ours(argument: &str) -> Vec<String> {
     }
 }
 
-/// The header without the lines of its comments, which have an example.
+/// The header without the lines of its comments, which have an example, and of its own function, which is no call.
 fn without_comments(header: &str) -> String {
     let in_a_comment = |line: &&str| {
         let begin = line.trim_start();
-        begin.starts_with("/*") || begin.starts_with('*')
+        begin.starts_with("/*") || begin.starts_with('*') || begin.starts_with("static inline")
     };
     let code = header.lines().filter(|line| !in_a_comment(line));
     code.collect::<Vec<_>>().join("\n")

@@ -23,7 +23,7 @@ pub fn printed(program: &str, input: &[u8]) -> Option<String> {
         "sheet_tensor"
         | "trial_sheet_empty"
         | "trial_sheet_largest"
-        | "trial_sheet_one_byte_more" => sheets::tensor(input),
+        | "trial_sheet_one_byte_more" => reading::sheet_text(input),
         "trial_sheet_cases" => sheets::tensors(input),
         "trial_one_axis" => one_axis::examples(),
         "trial_one_axis_refusals" => refusals::refusals(),

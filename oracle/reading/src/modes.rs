@@ -45,11 +45,19 @@ pub fn evaluated(
         .collect()
 }
 
+/// The point, or outside the knots the nearest end knot.
+pub fn held(knots: &[f64], point: f64) -> f64 {
+    match side(knots, point) {
+        Side::Below => knots[0],
+        Side::Inside => point,
+        Side::Above => knots[knots.len() - 1],
+    }
+}
+
 fn evaluated_on(mode: u8, knots: &[f64], point: f64) -> Result<f64, Refusal> {
     match (mode, side(knots, point)) {
         (_, Side::Inside) | (EXTEND, _) => Ok(point),
-        (HOLD, Side::Below) => Ok(knots[0]),
-        (HOLD, Side::Above) => Ok(knots[knots.len() - 1]),
+        (HOLD, _) => Ok(held(knots, point)),
         _ => Err(18),
     }
 }

@@ -1,7 +1,7 @@
 //! The calls that ask a tensor for its value at a point.
 
 use crate::even::{direct_cell, first_uneven};
-use crate::modes::{evaluated, modes_stand};
+use crate::modes::{evaluated, held, modes_stand, HOLD};
 use crate::refusals::{all_finite, knots_rise, require, Refusal};
 use crate::shape::{views, Shape};
 use ninterp_unchanged::{evaluate_spline_corner_cached, locate_lower_index, ArrayD, IxDyn};
@@ -71,6 +71,26 @@ pub fn even_query(
         };
         uneven.copy_from_slice(&found.unwrap_or_default());
     }
+    hand_over(answer, slots_stand, value, labels)
+}
+
+/// The same in the cells that direct arithmetic finds, with no look at knots but the first two of an
+/// axis, those of the cell, and the last where the mode asks on which side a coordinate lies.
+#[allow(clippy::too_many_arguments)]
+pub fn direct_query(
+    axes: usize,
+    points: &[usize],
+    modes: &[u8],
+    knots: &[f64],
+    tensor: &[f64],
+    coordinates: &[f64],
+    value: &mut [f64],
+    labels: &mut [usize],
+) -> Refusal {
+    let slots_stand = slots_stand(value, labels);
+    let shape = checked_shape(axes, points, slots_stand);
+    let asked = shape.and_then(|shape| Asked::checked(shape, modes, knots, tensor, coordinates));
+    let answer = asked.and_then(|asked| asked.direct_answer());
     hand_over(answer, slots_stand, value, labels)
 }
 
@@ -159,8 +179,33 @@ impl<'a> Asked<'a> {
     fn quick_answer(&self) -> Result<Answer, Refusal> {
         require(all_finite(self.coordinates), 7)?;
         let cells = self.cells();
+        self.check_cells(&cells)?;
+        let point = evaluated(self.modes, &self.knots, self.coordinates)?;
+        self.answer_in(cells, &point)
+    }
+
+    /// 8 where the knots of the cells alone are looked at.
+    fn check_cells(&self, cells: &[usize]) -> Result<(), Refusal> {
         let good = |ends: &&[f64]| all_finite(ends) && knots_rise(ends);
-        require(self.ends(&cells).iter().all(good), 8)?;
+        require(self.ends(cells).iter().all(good), 8)
+    }
+
+    /// The answer on any knots in the cells of direct arithmetic, which a coordinate that is held has
+    /// at the end knot. A coordinate that a mode refuses is found in its cell first, as 8 comes before 18.
+    fn direct_answer(&self) -> Result<Answer, Refusal> {
+        require(all_finite(self.coordinates), 7)?;
+        let axes = self.modes.iter().zip(&self.knots).zip(self.coordinates);
+        let cells: Vec<usize> = axes
+            .map(|((mode, knots), point)| {
+                let placed = if *mode == HOLD {
+                    held(knots, *point)
+                } else {
+                    *point
+                };
+                direct_cell(knots, placed)
+            })
+            .collect();
+        self.check_cells(&cells)?;
         let point = evaluated(self.modes, &self.knots, self.coordinates)?;
         self.answer_in(cells, &point)
     }

@@ -3,7 +3,7 @@
 use crate::bits::Bits;
 use crate::ends::{has_value, PERIODIC};
 use crate::modes::modes_stand;
-use crate::refusals::{points_in_range, require, Refusal};
+use crate::refusals::{points_in_range, require, Refusal, CURVE_SCRATCH};
 use crate::shape::{Shape, LONGEST_TENSOR};
 use crate::tensor::build;
 
@@ -134,6 +134,21 @@ pub fn sheet_tensor(
     hand_over_edition_2(&sheet, modes, edition);
     length[0] = built.unwrap_or(0);
     built.err().unwrap_or(0)
+}
+
+/// All that the sheet program prints: the tensor of a sheet, a line for each number, or its refusal.
+pub fn sheet_text(sheet: &[u8]) -> String {
+    let mut tensor = vec![0.0; LONGEST_TENSOR];
+    let mut scratch = vec![0.0; LONGEST_TENSOR + CURVE_SCRATCH];
+    let read = parse(&EDITIONS, sheet);
+    match read.and_then(|sheet| build_sheet(&sheet, &mut tensor, &mut scratch)) {
+        Ok(length) => {
+            let numbers = tensor[..length].iter().map(|number| number.to_bits());
+            let lines: String = numbers.map(|bits| format!("{bits:016X}\n")).collect();
+            format!("tensor {length}\n{lines}")
+        }
+        Err(refusal) => format!("refused {refusal}\n"),
+    }
 }
 
 /// The sheet of one of some editions, once its knots and samples stand in the lent buffers.

@@ -18,7 +18,9 @@ knots-refusal-spec =
     (λ c κs. search needs)
     (λ c. search needs)
     (λ c. search needs)
+    (λ c. search needs)
     returns
     returns-2
+    (λ c. search needs)
     (λ c. search needs)
     (λ c. search needs))

@@ -1,4 +1,4 @@
--- Four arrays of zeros have the lengths that reading and building ask for: 1,024, 1,024, 4,096 and 6,144. The walk does the rest.
+-- Three arrays of zeros have the lengths that reading and building ask for: 1,024, 1,024 and 6,144. The walk does the rest.
 use native.Mathlib.Omega.{arith}
 use lib.ListN.{length-replicate}
 use Rattle.rules.specs.Numbers.{plus-zero}
@@ -8,14 +8,13 @@ use Rattle.report.proofs.feed.Tie as tie
 
 take-sheets-requires : tie.Need-take-sheets-requires
 take-sheets-requires c κs =
-    let start = c .before .before .before .before .before in (
+    let start = c .before .before .before .before in (
       start .pre .0,
       start .pre .1,
       record {
-        knots = length-replicate 1024 plus-zero;
-        samples = length-replicate 1024 plus-zero;
-        tensor = length-replicate 4096 plus-zero;
-        scratch = omega (arith, length-replicate 6144 plus-zero);
+        knots-long = length-replicate 1024 plus-zero;
+        samples-long = length-replicate 1024 plus-zero;
+        scratch-long = omega (arith, length-replicate 6144 plus-zero);
       },
     )
 
@@ -23,7 +22,6 @@ pub feed-spec : {M : Type 1} → statement M
 feed-spec =
     tie.close
     (tie.spec
-    (λ c. search needs)
     (λ c. search needs)
     (λ c. search needs)
     (λ c. search needs)

@@ -1,8 +1,9 @@
 -- The promise of the firmware's call, by its four ways out: the reader's fault, 16, 17, and the answer of the sheet built and
 -- queried on the stack.
 use mathlib.Core.Path.{sym, _∙_}
-use Prim.Native.Nat.{_<_, _≤_}
+use Prim.Native.Nat.{ℕ, _<_, _≤_}
 use native.Mathlib.Omega.{arith}
+use Rattle.sheet_surface.specs.OnTheStack.{SmallSheet}
 use Rattle.sheet_surface.proofs.Small.{range}
 use Rattle.sheet_surface.proofs.Answers.{
   fault-few,
@@ -47,17 +48,34 @@ returns-3 c =
     unused-refuses _ _ (at-look .look .ensures) _ (at-if1 .if1 .left) _ (at-tensor-length .tensor-length .ensures .0) short
     (sym (at-is-unused-refused .is-unused-refused .ensures) ∙ at-if3 .if3 .taken) _ (c .refusal-pattern3 .ensures)
 
+-- what is known of a sheet that was read and whose tensor is short
+small : (most : ℕ) (t : tie.After-tensor-length) → t .tensor-length .result ≤ most
+    → let sheet = t .before .before .before .look .result in
+    SmallSheet most (t .before .before .before .before .before .args .bytes .now) (sheet .edition) (sheet .axes) (sheet .all)
+small most t short =
+    let at-if1 = t .before .before in
+    sheet-small _ _ (at-if1 .before .look .ensures) (at-if1 .if1 .left) _ (t .tensor-length .ensures .0) most short
+
+small-on-the-stack-requires : tie.Need-small-on-the-stack-requires
+small-on-the-stack-requires c κs = small 128 (c .before .before .before .before) (omega arith)
+
 on-the-stack-requires : tie.Need-on-the-stack-requires
-on-the-stack-requires c κs =
-    let at-tensor-length = c .before .before .before in
-    let at-if1 = at-tensor-length .before .before in
-    let at-look = at-if1 .before in
-    let short : at-tensor-length .tensor-length .result ≤ 512 = omega arith in
-    sheet-small _ _ (at-look .look .ensures) (at-if1 .if1 .left) _ (at-tensor-length .tensor-length .ensures .0) short
+on-the-stack-requires c κs = small 512 (c .before .before .before .before) (omega arith)
 
 returns-4 : tie.Need-returns-4
 returns-4 c =
-    let at-if3 = c .before in
+    let at-if3 = c .before .before in
+    let at-is-unused-refused = at-if3 .before in
+    let at-tensor-length = at-is-unused-refused .before .before in
+    let at-if1 = at-tensor-length .before .before in
+    let at-look = at-if1 .before in
+    let short : at-tensor-length .tensor-length .result ≤ 512 = omega arith in
+    sheet-asked _ _ (at-look .look .ensures) _ (at-if1 .if1 .left) _ (at-tensor-length .tensor-length .ensures .0) short
+    (sym (at-is-unused-refused .is-unused-refused .ensures) ∙ at-if3 .if3 .left) _ (c .small-on-the-stack .ensures)
+
+returns-5 : tie.Need-returns-5
+returns-5 c =
+    let at-if3 = c .before .before in
     let at-is-unused-refused = at-if3 .before in
     let at-tensor-length = at-is-unused-refused .before .before in
     let at-if1 = at-tensor-length .before .before in
@@ -79,5 +97,7 @@ surface-spec =
     is-unused-refused-requires
     (λ c κs. search needs)
     returns-3
+    small-on-the-stack-requires
+    returns-4
     on-the-stack-requires
-    returns-4)
+    returns-5)

@@ -1,6 +1,6 @@
 -- Each way's cell is the one that is named for it and has a knot above it; on rising knots the search finds the cell of the rules.
 use borrow.Author.Needs.{needs}
-use Rattle.query_answer.proofs.Cells.{walked-cell, searched-cell, direct-cell-found}
+use Rattle.query_answer.proofs.Cells.{walked-cell, searched-cell, direct-cell-found, divided-cell-found}
 use Rattle.query_answer.proofs.ways.cell_on_axis.Statement.{statement}
 use Rattle.query_answer.proofs.ways.cell_on_axis.Tie as tie
 
@@ -14,6 +14,10 @@ returns-3 : tie.Need-returns-3
 returns-3 c =
     direct-cell-found _ _ _ _ (c .before .enum-told3 .given .1) (c .before .before .before .before .pre .0) (c .direct-cell .ensures)
 
+returns-4 : tie.Need-returns-4
+returns-4 c =
+    divided-cell-found _ _ _ _ (c .before .enum-told4 .given .1) (c .before .before .before .before .pre .0) (c .direct-cell2 .ensures)
+
 pub cell-on-axis-spec : {M : Type 1} → statement M
 cell-on-axis-spec =
     tie.close
@@ -24,6 +28,9 @@ cell-on-axis-spec =
     (λ c κs. search needs)
     (λ c. search needs)
     (λ c κs. search needs)
+    (λ c. search needs)
+    (λ c κs. search needs)
     returns
     returns-2
-    returns-3)
+    returns-3
+    returns-4)

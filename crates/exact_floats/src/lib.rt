@@ -1,0 +1,1 @@
+// At binary64 the formulas over any arithmetic are the rules. No code.

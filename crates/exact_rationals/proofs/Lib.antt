@@ -1,0 +1,4 @@
+pub mod RationalLaws
+pub mod OrderedField
+pub mod Order
+pub mod Comparisons

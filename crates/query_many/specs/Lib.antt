@@ -1,0 +1,2 @@
+pub mod ManyCalls
+pub mod PointByPoint

@@ -1,0 +1,5 @@
+"""``python3 -m hullashlar``."""
+
+from .command import entry
+
+entry()

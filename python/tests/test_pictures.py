@@ -1,0 +1,80 @@
+"""Every kind of picture is drawn, from the surface's own numbers."""
+
+import numpy as np
+import pytest
+
+from hullashlar import Surface
+from hullashlar.pictures import draw_cut, draw_surface, scene_of, stale_surface
+
+SIZES = {1: (6,), 2: (5, 4), 3: (4, 4, 4), 4: (3, 3, 3, 3)}
+
+
+def surface_of(axes, outside="extend"):
+    shape = SIZES[axes]
+    samples = np.random.default_rng(axes).normal(size=shape)
+    return Surface([np.arange(float(points)) for points in shape], samples, "natural", outside)
+
+
+@pytest.mark.parametrize("axes", SIZES)
+@pytest.mark.parametrize("changed, stale", [(False, False), (True, False), (True, True)])
+@pytest.mark.parametrize("suffix", ["svg", "png"])
+def test_pictures_are_drawn(tmp_path, axes, changed, stale, suffix):
+    path = tmp_path / f"picture.{suffix}"
+    place = (1,) * axes
+    draw_surface(surface_of(axes), path, (place, 3.0) if changed else None, stale)
+    start = path.read_bytes()[:8]
+    assert start == b"\x89PNG\r\n\x1a\n" if suffix == "png" else start.startswith(b"<?xml")
+    assert path.stat().st_size > 10_000
+
+
+@pytest.mark.filterwarnings("error")
+def test_flat_and_huge_surfaces_are_drawn(tmp_path):
+    row = np.arange(4.0)
+    for samples in (np.zeros((4, 4)), 1e300 * np.random.default_rng(1).normal(size=(4, 4))):
+        surface = Surface([row, row], samples)
+        draw_surface(surface, tmp_path / "map.png")
+        draw_surface(surface, tmp_path / "change.png", ((1, 1), float(samples[1, 1])), stale=True)
+
+
+def test_the_same_picture_has_the_same_bytes(tmp_path):
+    for name in ("one.svg", "two.svg"):
+        draw_surface(surface_of(2), tmp_path / name)
+    assert (tmp_path / "one.svg").read_bytes() == (tmp_path / "two.svg").read_bytes()
+
+
+def lines_of(surface, axis, at=None):
+    scene = scene_of(surface, None, False, at, None)
+    panel = scene.figure.subplots()
+    draw_cut(scene, panel, axis)
+    return scene, panel.get_lines()
+
+
+def test_a_cut_shows_the_surface_and_the_samples_on_it():
+    surface = surface_of(2)
+    _, (line, samples) = lines_of(surface, 1)
+    along = np.asarray(line.get_xdata())
+    np.testing.assert_array_equal(line.get_ydata(), surface(np.stack([np.full(along.size, 2.0), along], axis=-1)))
+    np.testing.assert_array_equal(samples.get_ydata(), surface.samples[2])
+
+
+def test_a_cut_between_knots_shows_no_samples():
+    _, lines = lines_of(surface_of(2), 1, at=[0.5, 1.0])
+    assert len(lines) == 1
+
+
+def test_a_cut_stops_where_points_are_refused():
+    _, (line, _) = lines_of(surface_of(1, "refuse"), 0)
+    values = np.asarray(line.get_ydata())
+    assert np.isnan(values[0]) and np.isnan(values[-1]) and not np.isnan(values[len(values) // 2])
+
+
+def test_stale_is_the_new_sample_beside_old_derivatives():
+    surface = surface_of(2)
+    stale = stale_surface(surface, (1, 1), 9.0)
+    assert stale.samples[1, 1] == 9.0 and not stale.verify().whole
+    np.testing.assert_array_equal(stale.tensor[..., 1:], surface.tensor[..., 1:])
+
+
+def test_names_stand_in_the_picture(tmp_path):
+    scene = scene_of(surface_of(2), None, False, None, ["frequency", "level", "gain"])
+    assert (scene.name(0), scene.name(1), scene.value_name) == ("frequency", "level", "gain")
