@@ -501,8 +501,8 @@ uint64_t hullashlar_cursor_next(const uint8_t *curve, uint64_t curve_length,
  *         return true;
  *     }
  *
- * Stack: 31,816 bytes. 28,672 of them are buffers: scratch 20,480, tensor 4,096, knots 2,048, samples 2,048. The rest
- * are the frames of the functions that read, build and ask.
+ * Stack: 27,992 bytes on x86-64. 24,576 of them are buffers: the scratch, in which the tensor stays, 20,480, knots 2,048,
+ * samples 2,048. The rest are the frames of the functions that read, build and ask.
  * Written: nothing. Refuses by the first of 11, 12, 1, 2, 13, 22, 3, 14 that is met on the way through the sheet; then
  * by 16, 17; then as a build by 7, 8, 9, 10; then as a query by 7, 18, 10. */
 uint64_t hullashlar_surface(const uint8_t *bytes, uint64_t bytes_length,
