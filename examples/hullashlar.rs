@@ -4,7 +4,7 @@
 //! which numbers refuse.
 
 // A program need not make every call; one that is not made is not linked either.
-#![allow(dead_code)]
+#![allow(dead_code, unused_imports)]
 
 #[path = "../include/hullashlar.rs"]
 mod declared;

@@ -1,6 +1,6 @@
 #!/usr/bin/env python3
 """Fuzzes the calls that take a sheet, and the programs, with the oracle as judge in the same process: run.py SECONDS [FILE...], with files
-to run these alone. The archive's own module, kept as firmware/make_archives.py keeps it, and the oracle are compiled so that the fuzzer
+to run these alone. The archive's own module, kept as firmware/module.py keeps it, and the oracle are compiled so that the fuzzer
 sees which parts of them its bytes reach; the programs are their proved objects, reading and writing in the process. The corpus beside
 this file is where the fuzzer begins; what it finds goes to target/fuzz. Wants Debian's clang and libclang-rt-14-dev, and x86-64."""
 
@@ -14,8 +14,9 @@ ROOT = HERE.parent.parent
 OUT = ROOT / "target" / "fuzz"
 sys.dont_write_bytecode = True
 sys.path.insert(0, str(ROOT / "firmware"))
-from make_archives import CRATE, WORDS, X86_64, hold_to_the_archive, keep_module, kit  # noqa: E402
+from module import WORDS, X86_64, hold_to_the_archive, kept, run, tool  # noqa: E402
 
+CRATE = "hullashlar"
 COVERAGE = "-fsanitize-coverage=inline-8bit-counters,pc-table,trace-cmp"
 RUST_COVERAGE = ["passes=sancov-module", "codegen-units=1", "panic=abort", *(f"llvm-args=-sanitizer-coverage-{word}" for word in (
     "level=4", "inline-8bit-counters", "pc-table", "trace-compares"))]
@@ -26,17 +27,12 @@ PROGRAMS = ["sheet_tensor", "sheet_report", "device_curve"]
 LONGEST = 4096
 
 
-def run(words, **more):
-    return subprocess.run([str(word) for word in words], check=True, **more)
-
-
 def compiled_archive():
     """The archive's module as code that tells what it reaches."""
-    clang = kit()[1] / "toolchain" / "bin" / "clang"
-    module = keep_module(clang)
-    hold_to_the_archive(clang, module)
+    module = kept(CRATE, ["staticlib", CRATE])
+    hold_to_the_archive(CRATE, module)
     code = OUT / f"{CRATE}.o"
-    run([clang, *X86_64, *WORDS, COVERAGE, "-c", "-x", "ir", module, "-o", code])
+    run([tool("clang"), *X86_64, *WORDS, COVERAGE, "-c", "-x", "ir", module, "-o", code])
     return code
 
 

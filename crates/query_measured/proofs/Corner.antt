@@ -10,11 +10,11 @@ use lib.Ieee.{Float}
 use lib.Ieee.Scale.{finite}
 use Rattle.rules.specs.Sizes.{Place, product-below, flat, unflat}
 use Rattle.rules.specs.Query.{without-lowest, blend, corner}
+use Rattle.rules.proofs.Cells.{four-power}
 use Rattle.rules.proofs.Places.{below-or-last, flat-below, unflat-last, unflat-before, unflat-flat}
 use Rattle.base_floats.specs.Place.{Real}
 use Rattle.base_floats.specs.Zeros.{Equal}
 use Rattle.base_floats.proofs.Equals.{equal-then, equal-finite}
-use Rattle.query_cell.proofs.Removing.{four-power}
 use Rattle.query_measured.proofs.Hermite.{
   FiniteEnds,
   hermite-fits,
