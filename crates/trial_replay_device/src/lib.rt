@@ -36,12 +36,12 @@ fn bits_of(number: i32) -> usize {
 }
 
 // The first two numbers of a slot, as whole numbers with a sign.
-fn integers_of(numbers: [usize; 8]) -> [i32; 2] {
+fn integers_of(numbers: [usize; 32]) -> [i32; 2] {
     [integer_of(numbers[0] as u64), integer_of(numbers[1] as u64)]
 }
 
 // The same without a sign.
-fn words_of(numbers: [usize; 8]) -> [u32; 2] {
+fn words_of(numbers: [usize; 32]) -> [u32; 2] {
     [
         (numbers[0] % 4294967296) as u32,
         (numbers[1] % 4294967296) as u32,
