@@ -15,8 +15,8 @@ enum { SLOT = 2 };
 
 /* The calls of hullashlar.h. */
 enum call {
-    MOMENTS, CURVE, SLOPES, BUILD, CHANGE, VERIFY, QUERY, QUICK_QUERY, EVEN_QUERY, READ, READ_EDITION_1, SHEET_TENSOR, WRITE,
-    EXACT_INDEX, LOCATE_AXIS, LOCATE_STEP_INDEX, STEPPED, CELL_VALUE, CURSOR_NEXT, SURFACE
+    MOMENTS, CURVE, SLOPES, BUILD, CHANGE, VERIFY, QUERY, QUICK_QUERY, EVEN_QUERY, DIRECT_QUERY, QUICK_QUERIES, DIRECT_QUERIES,
+    READ, READ_EDITION_1, SHEET_TENSOR, WRITE, EXACT_INDEX, LOCATE_AXIS, LOCATE_STEP_INDEX, STEPPED, CELL_VALUE, CURSOR_NEXT, SURFACE
 };
 
 static struct grid grid;
@@ -203,6 +203,19 @@ static void call_even_query(void)
     record(EVEN_QUERY, answer);
 }
 
+static void call_direct_query(void)
+{
+    fill_slots();
+    uint64_t lengths[] = {HULLASHLAR_AXES, HULLASHLAR_AXES, grid.knots_length, grid.tensor_length, grid.axes, 1,
+                          HULLASHLAR_AXES};
+    disturb(lengths, COUNT(lengths));
+    const uint64_t answer = MEASURED(hullashlar_direct_query(
+        grid.axes, grid.points, lengths[0], grid.modes, lengths[1], grid.knots, lengths[2], tensor, lengths[3],
+        grid.coordinates, lengths[4], value, lengths[5], labels, lengths[6]));
+    hash_slots();
+    record(DIRECT_QUERY, answer);
+}
+
 static void call_stepped(void)
 {
     fill_slots();
@@ -216,6 +229,65 @@ static void call_stepped(void)
     record(STEPPED, answer);
 }
 
+/* Points that are asked by one call, and what they are answered. */
+enum { MANY = 16 };
+
+static struct {
+    double coordinates[(HULLASHLAR_AXES + 1) * MANY + 1], values[MANY + 1];
+    uint64_t labels[HULLASHLAR_AXES * MANY + 1], refusals[MANY + 1];
+} many;
+
+/* As many points as there can be, or fewer, or none. */
+static uint64_t make_many(void)
+{
+    const uint64_t count = below(MANY + 1);
+    for (uint64_t point = 0; point < count; point++) {
+        make_coordinates(&grid);
+        for (uint64_t axis = 0; axis < grid.axes; axis++)
+            many.coordinates[grid.axes * point + axis] = grid.coordinates[axis];
+    }
+    fill_doubles(many.values, MANY + 1);
+    fill_words(many.labels, HULLASHLAR_AXES * MANY + 1);
+    fill_words(many.refusals, MANY + 1);
+    return count;
+}
+
+/* Beside what the call returned, from bit 32 on a bit for each number that one of its points was refused by, and bit 32 for none. */
+static void record_many(enum call call, uint64_t answer, uint64_t count)
+{
+    uint64_t numbers = 0;
+    for (uint64_t point = 0; answer == HULLASHLAR_ACCEPTED && point < count; point++)
+        numbers |= UINT64_C(1) << many.refusals[point] % 32;
+    hash_doubles(many.values, MANY + 1);
+    hash_words(many.labels, HULLASHLAR_AXES * MANY + 1);
+    hash_words(many.refusals, MANY + 1);
+    record(call, answer | numbers << 32);
+}
+
+static void call_quick_queries(void)
+{
+    const uint64_t count = make_many();
+    uint64_t lengths[] = {HULLASHLAR_AXES, HULLASHLAR_AXES, grid.knots_length, grid.tensor_length, grid.axes * count, count,
+                          HULLASHLAR_AXES * count, count};
+    disturb(lengths, COUNT(lengths));
+    const uint64_t answer = MEASURED(hullashlar_quick_queries(
+        grid.axes, grid.points, lengths[0], grid.modes, lengths[1], grid.knots, lengths[2], tensor, lengths[3],
+        many.coordinates, lengths[4], many.values, lengths[5], many.labels, lengths[6], many.refusals, lengths[7]));
+    record_many(QUICK_QUERIES, answer, count);
+}
+
+static void call_direct_queries(void)
+{
+    const uint64_t count = make_many();
+    uint64_t lengths[] = {HULLASHLAR_AXES, HULLASHLAR_AXES, grid.knots_length, grid.tensor_length, grid.axes * count, count,
+                          HULLASHLAR_AXES * count, count};
+    disturb(lengths, COUNT(lengths));
+    const uint64_t answer = MEASURED(hullashlar_direct_queries(
+        grid.axes, grid.points, lengths[0], grid.modes, lengths[1], grid.knots, lengths[2], tensor, lengths[3],
+        many.coordinates, lengths[4], many.values, lengths[5], many.labels, lengths[6], many.refusals, lengths[7]));
+    record_many(DIRECT_QUERIES, answer, count);
+}
+
 static void call_on_the_grid(void)
 {
     make_grid(&grid);
@@ -225,8 +297,11 @@ static void call_on_the_grid(void)
         call_query();
         call_quick_query();
         call_even_query();
+        call_direct_query();
         call_stepped();
     }
+    call_quick_queries();
+    call_direct_queries();
     call_verify();
     call_change();
     call_query();

@@ -1,14 +1,17 @@
-/* How many instructions each exported call takes on inputs of a usual size: a grid of 16 by 16, an axis of 16, for the firmware's
- * call a sheet of 5 by 5, for the device a curve of 8 cells. Hands over one number for each, in the order of calls.c. */
+/* How many instructions each exported call takes on inputs of a usual size: a grid of 16 by 16, many points of it 16, an axis of 16,
+ * for the firmware's call a sheet of 5 by 5, for the device a curve of 8 cells. Hands over one number for each, in the order of
+ * calls.c. */
 #include "inputs.h"
 #include "instructions.h"
 #include "machine.h"
 
-enum { SIDE = 16, SHEET_SIDE = 5, REPEATS = 16 };
+enum { SIDE = 16, MANY = 16, SHEET_SIDE = 5, REPEATS = 16 };
 
 static double knots[2 * SIDE], samples[SIDE * SIDE], tensor[4 * SIDE * SIDE], scratch[HULLASHLAR_MOST_SCRATCH];
 static double moments[SIDE], slopes[SIDE], value[1], coordinates[2], values[HULLASHLAR_ENDS];
 static double read_knots[HULLASHLAR_BUFFER], read_samples[HULLASHLAR_BUFFER], read_tensor[HULLASHLAR_TENSOR];
+static double many_coordinates[2 * MANY], many_values[MANY];
+static uint64_t many_labels[HULLASHLAR_AXES * MANY], many_refusals[MANY];
 static uint64_t points[HULLASHLAR_AXES], place[HULLASHLAR_AXES], labels[HULLASHLAR_AXES], found[HULLASHLAR_FOUND], slot[1], axes[1];
 static uint64_t edition[1], length[1], sheet_length, small_length;
 static uint8_t kinds[HULLASHLAR_ENDS], modes[HULLASHLAR_AXES], directions[HULLASHLAR_AXES], sheet[HULLASHLAR_SHEET];
@@ -43,11 +46,26 @@ static void make(uint64_t side)
     coordinates[1] = of_pattern(UINT64_C(0x3FF3C00000000000));
 }
 
+/* Points on the way through the surface along its first axis, on no knot. */
+static void make_many(void)
+{
+    for (uint64_t point = 0; point < MANY; point++) {
+        many_coordinates[2 * point] = of_pattern(UINT64_C(0x3FF0480000000000) + point * UINT64_C(0x0000F00000000000));
+        many_coordinates[2 * point + 1] = coordinates[1];
+    }
+}
+
 static uint64_t written(uint8_t *to, uint64_t side)
 {
     refused |= hullashlar_write(2, points, 4, kinds, 8, values, 8, modes, 4, knots, 2 * side, samples, side * side, 2, to,
                                 HULLASHLAR_SHEET, length, 1);
     return length[0];
+}
+
+static void hold_accepted(void)
+{
+    for (uint64_t point = 0; point < MANY; point++)
+        refused |= many_refusals[point];
 }
 
 static void count_one_axis(void)
@@ -69,6 +87,14 @@ static void count_the_tensor(void)
     COUNTED(hullashlar_quick_query(2, points, 4, modes, 4, knots, 2 * SIDE, tensor, 4 * SIDE * SIDE, coordinates, 2, value, 1, labels, 4));
     COUNTED(hullashlar_even_query(2, points, 4, modes, 4, knots, 2 * SIDE, tensor, 4 * SIDE * SIDE, coordinates, 2, value, 1, labels, 4,
                                   found, 2));
+    COUNTED(hullashlar_direct_query(2, points, 4, modes, 4, knots, 2 * SIDE, tensor, 4 * SIDE * SIDE, coordinates, 2, value, 1, labels, 4));
+    make_many();
+    COUNTED(hullashlar_quick_queries(2, points, 4, modes, 4, knots, 2 * SIDE, tensor, 4 * SIDE * SIDE, many_coordinates, 2 * MANY,
+                                     many_values, MANY, many_labels, HULLASHLAR_AXES * MANY, many_refusals, MANY));
+    hold_accepted();
+    COUNTED(hullashlar_direct_queries(2, points, 4, modes, 4, knots, 2 * SIDE, tensor, 4 * SIDE * SIDE, many_coordinates, 2 * MANY,
+                                      many_values, MANY, many_labels, HULLASHLAR_AXES * MANY, many_refusals, MANY));
+    hold_accepted();
 }
 
 static void count_the_sheet(void)

@@ -76,6 +76,7 @@ void disturb(uint64_t *lengths, uint32_t count)
         *length = seldom(2) ? *length + 1 : *length - (*length > 0);
 }
 
+/* On every fourth axis two points or three, which are too few for some ends. */
 static void make_points(struct grid *grid)
 {
     static const uint32_t small[] = {0, 24, 7, 4, 3}, large[] = {0, 256, 32, 8, 4};
@@ -83,7 +84,8 @@ static void make_points(struct grid *grid)
     grid->knots_length = 0;
     grid->samples_length = 1;
     for (uint64_t axis = 0; axis < HULLASHLAR_AXES; axis++) {
-        grid->points[axis] = axis < grid->axes ? 2 + below(most - 1) : below(9);
+        const uint32_t choice = seldom(4) ? 2 : most - 1;
+        grid->points[axis] = axis < grid->axes ? 2 + below(choice) : below(9);
         if (axis < grid->axes) {
             grid->knots_length += grid->points[axis];
             grid->samples_length *= grid->points[axis];
@@ -210,10 +212,10 @@ void make_coordinates(struct grid *grid)
     uint64_t first = 0;
     const bool whole = grid->axes >= 1 && grid->axes <= HULLASHLAR_AXES;
     for (uint64_t axis = 0; axis < HULLASHLAR_AXES; axis++) {
-        const bool used = whole && axis < grid->axes && grid->points[axis] >= 2 &&
-                          first + grid->points[axis] <= grid->knots_length;
-        grid->coordinates[axis] = used ? make_coordinate(first, first + grid->points[axis] - 1, scales[axis])
-                                       : of_pattern(0);
+        const uint64_t last = first + grid->points[axis] - 1;
+        const bool used = whole && axis < grid->axes && grid->points[axis] >= 2 && last < grid->knots_length &&
+                          positions[first] < positions[last];
+        grid->coordinates[axis] = used ? make_coordinate(first, last, scales[axis]) : of_pattern(0);
         if (used)
             first += grid->points[axis];
     }

@@ -35,6 +35,7 @@ REFUSALS = {
     "moments": [2, 4, 13, 5, 7, 8, 9, 10], "curve": [2, 4, 7, 8, 10], "slopes": [2, 4, 7, 8, 10],
     "build": [*GRID, 13, 5, 7, 8, 9, 10], "change": [*GRID, 13, 5, 6, 7, 8, 9, 10], "verify": [*GRID, 13, 5, 7, 8, 9, 10],
     "query": [*GRID, 22, 7, 8, 18, 10], "quick_query": [*GRID, 22, 7, 8, 18, 10], "even_query": [*GRID, 22, 7, 8, 21, 18, 10],
+    "direct_query": [*GRID, 22, 7, 8, 18, 10], "quick_queries": [*GRID, 22], "direct_queries": [*GRID, 22],
     "read": [4, 11, 12, 1, 2, 13, 22, 3, 14], "read_edition_1": [4, 11, 12, 1, 2, 13, 3, 14],
     "sheet_tensor": [4, 11, 12, 1, 2, 13, 22, 3, 14, 5, 7, 8, 9, 10], "write": [*GRID, 13, 22, 7, 8, 9, 12, 23, 15],
     "exact_index": [2, 4, 6, 7, 8], "locate_axis": [2, 4, 7, 8, 10], "locate_step_index": [2, 4, 22, 7, 8],
@@ -42,6 +43,9 @@ REFUSALS = {
     "surface": [11, 12, 1, 2, 13, 22, 3, 14, 16, 17, 7, 8, 9, 10, 18],
 }
 REFUSED_PATTERN = 0x7FF8000000000000
+
+# By what a point must have been refused at least once where many are asked by one call, beside being accepted.
+OF_POINTS = {"quick_queries": [7, 8, 18, 10], "direct_queries": [7, 8, 18, 10]}
 
 
 def names():
@@ -67,15 +71,25 @@ def here(sources, words):
 def refusal(name, answer):
     """The number that a call refused by, and 0 where it did not."""
     if name != "surface":
-        return answer
+        return answer & 0xFFFFFFFF
     return answer - REFUSED_PATTERN if answer & REFUSED_PATTERN == REFUSED_PATTERN else 0
 
 
+def points_missing(records):
+    """The numbers of OF_POINTS that no point was refused by; calls.c has a bit for each above what the call returned."""
+    seen = Counter()
+    for call, answer, _ in RECORD.iter_unpack(records):
+        seen[call] |= answer >> 32
+    return [f"a point of {name} {number}" for name, numbers in OF_POINTS.items() for number in [0, *numbers]
+            if not seen[names().index(name)] >> number & 1]
+
+
 def hold_reached(records):
-    """Every call of the header was accepted, and refused by each of its numbers."""
+    """Every call of the header was accepted, and refused by each of its numbers; and so was a point of each call of many."""
     calls = names()
     reached = Counter((calls[call], refusal(calls[call], answer)) for call, answer, _ in RECORD.iter_unpack(records))
     missing = [f"{name} {number}" for name in calls for number in [0, *REFUSALS.get(name, [99])] if not reached[name, number]]
+    missing += points_missing(records)
     if missing:
         sys.exit(f"not reached: {', '.join(missing)}")
     print(f"x86-64: {reached.total():,} calls of {len(calls)}, each accepted and refused by every number of its list")
