@@ -68,7 +68,8 @@ impl Words {
                 Argument::of_bytes(&bytes)
             }
             "axes" | "points" | "place" | "labels" | "lanes" | "length" | "uneven" | "found"
-            | "location" | "index" | "indices" | "edition" | "cursor" => self.numbers(),
+            | "location" | "index" | "indices" | "edition" | "cursor" | "point_labels"
+            | "refusals" => self.numbers(),
             "value" if matches!(call, Call::CellValue | Call::CursorNext) => self.numbers(),
             _ => {
                 let floats: Vec<f64> = self.slice().into_iter().map(f64::from_bits).collect();
@@ -79,7 +80,7 @@ impl Words {
 }
 
 /// The bytes that the program `replay` has room for.
-const ROOM: usize = 589_824;
+const ROOM: usize = 655_360;
 
 /// The list that the program `replay` is run on.
 const STORED: &[u8] = include_bytes!("../../../crates/trial_replay/stdin");
