@@ -300,10 +300,10 @@ uint64_t hullashlar_even_query(uint64_t axes,
 /* The value and the labels as of hullashlar_quick_query, in the cells that a division finds, as hullashlar_even_query
  * finds them: in hold the cell of the end knot. Of an axis it looks at the first two knots, at the two of the cell that is
  * found, and in hold and refuse at the last one, whatever the others are; of the tensor at the corners of the cell. Where
- * hullashlar_even_query refuses neither knots nor axes, by 7, 8 or 21, refusal, value and labels are the same: so axes
- * are looked at once, where a sheet is loaded, and asked so afterwards. On any other knots the answer is still that of these
- * rules; 8 is given where, of the cell that was found on some axis, a knot is infinite or NaN, or the upper one is not
- * above the lower by a step that a double holds.
+ * hullashlar_even_query refuses neither knots nor axes, by 7, 8 or 21, refusal, value and labels are the same: so a host
+ * makes that call once, where a sheet is loaded, and this one afterwards. On any other knots the answer is still that of
+ * these rules; 8 is given where, of the cell that was found on some axis, a knot is infinite or NaN, or the upper one is
+ * not above the lower by a step that a double holds.
  * Lengths: as of hullashlar_query.
  * Written: value, labels. Refuses by 1, 2, 3, 4, 22, 7 for coordinates alone, 8, 18, 10. */
 uint64_t hullashlar_direct_query(uint64_t axes,
