@@ -1,8 +1,8 @@
 -- The blend at a point inside a cell, with the fraction and the width as the rules compute them, is the exact blend at the exact fraction:
 -- the
 -- errors of fraction and width, each by how fast a weight changes, beside those of the blend.
-use mathlib.Core.Path.{_≡_, sym, _∙_, subst}
-use mathlib.Core.Bool.{true}
+use mathlib.Core.Path.{_≡_, refl, sym, _∙_, subst}
+use mathlib.Core.Bool.{Bool, true, false}
 use mathlib.Core.List.{[], _∷_}
 use lib.Dec.{T}
 use Prim.Native.Nat.{_≤_}
@@ -15,14 +15,14 @@ use Rattle.rules.specs.Numbers.{_⊖_, _⊘_}
 use Rattle.rules.specs.Query as Rules
 use Rattle.base_floats.specs.Place.{place-in}
 use Rattle.base_floats.proofs.Places.{no-nan, le-places}
-use Rattle.exact_solver.specs.Expressions.{Term, var, t1, t2, t3, add, sub, mul, neg, terms, divides, same, meaning}
+use Rattle.exact_solver.specs.Expressions.{Term, var, t0, t1, t2, t3, add, sub, mul, neg, terms, divides, same, meaning}
 use Rattle.exact_rationals.specs.Rationals.{ℚ, Least, Positive, number, plus, minus, times, over, negative, rationals}
 use Rattle.exact_rationals.specs.Values.{value}
-use Rattle.exact_rationals.proofs.Order.{least-plus, least-times, least-number, positive-least, ring}
-use Rattle.exact_rationals.proofs.Comparisons.{less-is-less, at-most}
+use Rattle.exact_rationals.proofs.Order.{least-plus, least-times, least-number, least-both, positive-least, ring}
+use Rattle.exact_rationals.proofs.Comparisons.{less-is-less, not-less, at-most}
 use Rattle.exact_spline.specs.Query as Exact
 use Rattle.exact_rounding.specs.Near.{Near, Within, size}
-use Rattle.exact_rounding.proofs.Operations.{sub-bound}
+use Rattle.exact_rounding.proofs.Operations.{sub-bound, div-nought}
 use Rattle.exact_rounding.proofs.Approx.{u, v, within-times, within-plus, within-negative, within-size, off, on, near-through}
 use Rattle.exact_blend.specs.BlendErrors.{q00, q10, q11, w10, w11, moved-by}
 use Rattle.exact_blend.proofs.Weights.{amount, within-self}
@@ -148,11 +148,11 @@ module _
         (within-plus _ _ _ _ (within-times _ _ _ _ within-w11 stretch) (within-times _ _ _ _ wide (within-times _ _ _ _ step within-q11)))
         m1)))
 
--- the rules' value in a cell of one axis, between its knots x and y at a point p above x: values p0, p1 and slopes m0, m1 at the knots
+-- the rules' value in a cell of one axis, between its knots x and y at a point p from x on: values p0, p1 and slopes m0, m1 at the knots
 module _
     (x p y : Float) (x-fits : T (fits binary64 x)) (p-fits : T (fits binary64 p)) (y-fits : T (fits binary64 y))
     (x-finite : finite x ≡ true) (p-finite : finite p ≡ true) (y-finite : finite y ≡ true)
-    (above : lt x p ≡ true) (wide : lt x y ≡ true) (under : le p y ≡ true)
+    (above : le x p ≡ true) (wide : lt x y ≡ true) (under : le p y ≡ true)
     (first : finite (p ⊖ x) ≡ true) (second : finite (y ⊖ x) ≡ true) (whole : finite ((p ⊖ x) ⊘ (y ⊖ x)) ≡ true) where
   abbrev pub D : ℚ
   D = minus (value p) (value x)
@@ -164,7 +164,7 @@ module _
   rising = less-is-less x y x-finite y-finite wide
 
   low : Least D
-  low = positive-least _ (less-is-less x p x-finite p-finite above)
+  low = at-most x p x-finite p-finite above
 
   high : Least (minus H D)
   high =
@@ -187,12 +187,43 @@ module _
       sub-bound binary64 y x y-fits x-fits (passes _ y-finite) (passes _ x-finite) (passes _ second) H
       (within-self H (positive-least _ rising))
 
+  -- at the lower knot itself the fraction is nought, and exact
+  module _ (at-knot : lt x p ≡ false) where
+    none : D ≡ number 0
+    none =
+        least-both D low
+        (subst Least (ring (value x ∷ value p ∷ []) (sub (var 0) (var 1)) (neg (sub (var 1) (var 0))) tt tt tt)
+        (not-less x p x-finite p-finite at-knot))
+
+    from-knot : Near (value (p ⊖ x)) (number 0) (times u (number 0))
+    from-knot =
+        subst (λ z. Near (value (p ⊖ x)) z (times u z)) none
+        (sub-bound binary64 p x p-fits x-fits (passes _ p-finite) (passes _ x-finite) (passes _ first) D (within-self D low))
+
+    difference-nought : value (p ⊖ x) ≡ number 0
+    difference-nought =
+        least-both _
+        (subst Least (ring (value (p ⊖ x) ∷ u ∷ []) (sub (add (var 0) (mul (var 1) t0)) t0) (var 0) tt tt tt) (from-knot .above))
+        (subst Least (ring (value (p ⊖ x) ∷ u ∷ []) (sub (add t0 (mul (var 1) t0)) (var 0)) (neg (var 0)) tt tt tt) (from-knot .under))
+
+    fraction-nought : value ((p ⊖ x) ⊘ (y ⊖ x)) ≡ number 0
+    fraction-nought =
+        div-nought binary64 (p ⊖ x) (y ⊖ x) (passes _ first) (passes _ second) (passes _ whole) difference-nought
+
   pub s-low : Least (value ((p ⊖ x) ⊘ (y ⊖ x)))
-  s-low =
-      fraction-at-least-nought x p y x-fits p-fits y-fits x-finite p-finite y-finite above wide places first second whole
+  s-low = go (lt x p) refl
+    where
+      go : (b : Bool) → lt x p ≡ b → Least (value ((p ⊖ x) ⊘ (y ⊖ x)))
+      go true e = fraction-at-least-nought x p y x-fits p-fits y-fits x-finite p-finite y-finite e wide places first second whole
+      go false e = subst Least (sym (fraction-nought e)) (least-number 0)
 
   pub s-high : Least (minus (number 1) (value ((p ⊖ x) ⊘ (y ⊖ x))))
-  s-high = fraction-at-most-one x p y x-fits p-fits y-fits x-finite p-finite y-finite above wide places first second whole
+  s-high = go (lt x p) refl
+    where
+      go : (b : Bool) → lt x p ≡ b → Least (minus (number 1) (value ((p ⊖ x) ⊘ (y ⊖ x))))
+      go true e = fraction-at-most-one x p y x-fits p-fits y-fits x-finite p-finite y-finite e wide places first second whole
+      go false e =
+          subst (λ z. Least (minus (number 1) z)) (sym (fraction-nought e)) (subst Least (ring [] t1 (sub t1 t0) tt tt tt) (least-number 1))
 
   pub t-low : Least (over D H)
   t-low = least-over _ _ low rising

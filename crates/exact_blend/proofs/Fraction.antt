@@ -23,7 +23,7 @@ use Rattle.exact_rounding.proofs.Approx.{u, v, on, near-through, within-near}
 use Rattle.rules.specs.Numbers.{_⊖_, _⊘_}
 use Rattle.exact_blend.proofs.Weights.{amount, within-self}
 
-positive-more : (x y : ℚ) → Positive x → Least y → Positive (plus x y)
+pub positive-more : (x y : ℚ) → Positive x → Least y → Positive (plus x y)
 unfolding Positive Least plus
 positive-more x y =
     ind {0, 0, 0} {β = λ x. Positive x → Least y → Positive (plus x y)}
@@ -56,7 +56,7 @@ least-e : Least e
 unfolding Least
 least-e = leb→le _ _ tt
 
-small : Positive (minus (number 1) u)
+pub small : Positive (minus (number 1) u)
 unfolding Positive minus plus negative number
 small = leb→le _ _ tt
 

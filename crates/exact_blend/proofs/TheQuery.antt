@@ -35,12 +35,12 @@ use Rattle.exact_blend.proofs.AnyAxes.{k, j, Ready}
 use Rattle.exact_blend.proofs.AtThePoint as AtThePoint
 use Rattle.exact_blend.proofs.AtAnyPoint.{Moved, cell-near}
 
--- the point p lies above the knot x and not above the next, y, and nothing on the way to its fraction overflows
+-- the point p lies neither below the knot x nor above the next, y, and nothing on the way to its fraction overflows
 pub record InCell (x p y : Float) : Type 0 where
   pub x-finite : finite x ≡ true
   pub p-finite : finite p ≡ true
   pub y-finite : finite y ≡ true
-  pub above : lt x p ≡ true
+  pub above : le x p ≡ true
   pub wide : lt x y ≡ true
   pub under : le p y ≡ true
   pub first : finite (p ⊖ x) ≡ true
@@ -110,11 +110,11 @@ module _
 
 -- ---- an axis that is not in use
 
-value-nought : value plus-zero ≡ number 0
+pub value-nought : value plus-zero ≡ number 0
 unfolding Ieee.ofBits number
 value-nought = Quot·sound refl
 
-share-least : Least u
+pub share-least : Least u
 unfolding Least
 share-least = leb→le _ _ tt
 

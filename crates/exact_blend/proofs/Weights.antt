@@ -43,15 +43,15 @@ amount-below = pow-pos 63
 abbrev pub amount : ℕ → ℚ
 amount k = mk (record { p = k; n = 0; d = 2 ^ 63; below = amount-below })
 
-value-one : value one ≡ number 1
+pub value-one : value one ≡ number 1
 unfolding Ieee.ofBits number
 value-one = Quot·sound refl
 
-value-two : value two ≡ number 2
+pub value-two : value two ≡ number 2
 unfolding Ieee.ofBits number
 value-two = Quot·sound refl
 
-value-three : value three ≡ number 3
+pub value-three : value three ≡ number 3
 unfolding Ieee.ofBits number
 value-three = Quot·sound refl
 

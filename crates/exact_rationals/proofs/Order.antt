@@ -1,7 +1,8 @@
--- Rational numbers of nought or more: their sums and products, differences one after the other; and equations without a divisor.
+-- Rational numbers of nought or more: their sums and products, differences one after the other, and when one is nought; and equations
+-- without a divisor.
 use mathlib.Core.Path.{_≡_, sym, subst}
 use mathlib.Core.List.{List, [], _∷_}
-use mathlib.Core.Quot.{ind}
+use mathlib.Core.Quot.{ind, Quot·sound}
 use mathlib.Core.HLevel.{Π-prop}
 use Prim.Native.Nat.{ℕ, _+_, _-_, _*_, _≤_}
 use native.Mathlib.Nat.{mul-le-mul-right}
@@ -22,6 +23,7 @@ use Rattle.exact_rationals.specs.Rationals.{
   Positive,
   Least,
   least-prop,
+  ℚ-set,
 }
 use Rattle.exact_rationals.proofs.OrderedField.{rationals-are-a-field}
 
@@ -63,6 +65,19 @@ pub positive-least : (x : ℚ) → Positive x → Least x
 unfolding Positive Least
 positive-least =
     ind {0, 0, 0} {β = λ x. Positive x → Least x} (λ x. Π-prop (λ h. least-prop x)) (λ a h. omega (arith, h))
+
+-- what is not above nought has an opposite of nought or more
+pub not-positive : (x : ℚ) → ¬ Positive x → Least (negative x)
+unfolding Positive Least negative
+not-positive =
+    ind {0, 0, 0} {β = λ x. ¬ Positive x → Least (negative x)} (λ x. Π-prop (λ h. least-prop (negative x))) (λ a h. omega (arith, h))
+
+-- nought or more, and its opposite too: nought
+pub least-both : (x : ℚ) → Least x → Least (negative x) → x ≡ number 0
+unfolding Least negative number
+least-both =
+    ind {0, 0, 0} {β = λ x. Least x → Least (negative x) → x ≡ number 0}
+    (λ x. Π-prop (λ h. Π-prop (λ k. ℚ-set x (number 0)))) (λ a h k. Quot·sound (omega (arith, h, k)))
 
 pub least-number : (k : ℕ) → Least (number k)
 unfolding Least number

@@ -1,5 +1,6 @@
 -- The chapter Rationals of docs/RULES.md: the rational numbers, their operations, and which are above nought.
 use mathlib.Core.Path.{_≡_, refl, sym, _∙_, ap}
+use mathlib.Core.Logic.{Dec-prop}
 use mathlib.Core.Quot.{Quot, Quot·mk, Quot·sound, Quot·lift, Quot-set, Quot·liftProp, liftProp-prop, ind}
 use native.Mathlib.Bridge.{le-prop}
 use Prim.Native.Nat.{ℕ, _+_, _-_, _*_, _<_, _≤_}
@@ -192,6 +193,11 @@ Positive x = (Quot·liftProp {0, 0, 0} (λ a. (a .n < a .p, le-prop)) (λ a b h.
 pub positive-prop : (x : ℚ) → IsProp (Positive x)
 unfolding Positive
 positive-prop x = liftProp-prop {0, 0, 0} (λ a. (a .n < a .p, le-prop)) (λ a b h. (positive-same a b h, positive-same b a (sym h))) x
+
+-- which is decided
+unfoldable pub decide-positive : (x : ℚ) → Dec (Positive x)
+unfolding Positive
+decide-positive = ind {0, 0, 0} {β = λ x. Dec (Positive x)} (λ x. Dec-prop (positive-prop x)) (λ a. decLt (a .n) (a .p))
 
 -- nought or more
 pub least-same : (a b : Ratio) → Same a b → a .n ≤ a .p → b .n ≤ b .p

@@ -106,6 +106,34 @@ near-same x e h =
       above = subst Least (ring (x ∷ e ∷ []) (var 1) (sub (add (var 0) (var 1)) (var 0)) tt tt tt) h;
     }
 
+pub near-back : (x y e : ℚ) → Near x y e → Near y x e
+near-back x y e h = record { under = h .above; above = h .under }
+
+-- sums, differences and products of numbers that are near others
+pub near-plus : (x y x′ y′ e d : ℚ) → Near x y e → Near x′ y′ d → Near (plus x x′) (plus y y′) (plus e d)
+near-plus x y x′ y′ e d h k =
+    on _ _ _ (subst (λ z. Within z (plus e d))
+    (ring (x ∷ y ∷ x′ ∷ y′ ∷ []) (add (sub (var 0) (var 1)) (sub (var 2) (var 3)))
+    (sub (add (var 0) (var 2)) (add (var 1) (var 3))) tt tt tt)
+    (within-plus _ _ _ _ (off _ _ _ h) (off _ _ _ k)))
+
+pub near-minus : (x y x′ y′ e d : ℚ) → Near x y e → Near x′ y′ d → Near (minus x x′) (minus y y′) (plus e d)
+near-minus x y x′ y′ e d h k =
+    on _ _ _ (subst (λ z. Within z (plus e d))
+    (ring (x ∷ y ∷ x′ ∷ y′ ∷ []) (add (sub (var 0) (var 1)) (neg (sub (var 2) (var 3))))
+    (sub (sub (var 0) (var 2)) (sub (var 1) (var 3))) tt tt tt)
+    (within-plus _ _ _ _ (off _ _ _ h) (within-negative _ _ (off _ _ _ k))))
+
+pub near-times : (x y x′ y′ b e c d : ℚ) → Within y b → Within y′ c → Near x y e → Near x′ y′ d
+    → Near (times x x′) (times y y′) (Errors.cross rationals b e c d)
+near-times x y x′ y′ b e c d v w h k =
+    on _ _ _ (subst (λ z. Within z (Errors.cross rationals b e c d))
+    (ring (x ∷ y ∷ x′ ∷ y′ ∷ [])
+    (add (add (mul (sub (var 0) (var 1)) (var 3)) (mul (var 1) (sub (var 2) (var 3)))) (mul (sub (var 0) (var 1)) (sub (var 2) (var 3))))
+    (sub (mul (var 0) (var 2)) (mul (var 1) (var 3))) tt tt tt)
+    (within-plus _ _ _ _ (within-plus _ _ _ _ (within-times _ _ _ _ (off _ _ _ h) w) (within-times _ _ _ _ v (off _ _ _ k)))
+    (within-times _ _ _ _ (off _ _ _ h) (off _ _ _ k))))
+
 -- ---- floats
 
 abbrev pub u : ℚ
@@ -157,11 +185,7 @@ module _ (x x′ : Float) (y b e y′ b′ e′ : ℚ) (p : Approx x y b e) (q :
   pub approx-add : T (finite (Ieee.add binary64 x x′)) → Within (plus y y′) c
       → Approx (Ieee.add binary64 x x′) (plus y y′) c (Errors.sum-error rationals u c e e′)
   approx-add f w =
-      let both : Near (plus (value x) (value x′)) (plus y y′) (plus e e′) =
-      on _ _ _ (subst (λ z. Within z (plus e e′))
-      (ring (value x ∷ y ∷ value x′ ∷ y′ ∷ []) (add (sub (var 0) (var 1)) (sub (var 2) (var 3)))
-      (sub (add (var 0) (var 2)) (add (var 1) (var 3))) tt tt tt)
-      (within-plus _ _ _ _ (off _ _ _ (p .near)) (off _ _ _ (q .near)))) in
+      let both : Near (plus (value x) (value x′)) (plus y y′) (plus e e′) = near-plus _ _ _ _ _ _ (p .near) (q .near) in
       let g : T (finite x) × T (finite x′) = add-finite x x′ f in
       record {
         fits = add-fits binary64 x x′;
@@ -174,11 +198,7 @@ module _ (x x′ : Float) (y b e y′ b′ e′ : ℚ) (p : Approx x y b e) (q :
   pub approx-sub : T (finite (Ieee.sub binary64 x x′)) → Within (minus y y′) c
       → Approx (Ieee.sub binary64 x x′) (minus y y′) c (Errors.sum-error rationals u c e e′)
   approx-sub f w =
-      let both : Near (minus (value x) (value x′)) (minus y y′) (plus e e′) =
-      on _ _ _ (subst (λ z. Within z (plus e e′))
-      (ring (value x ∷ y ∷ value x′ ∷ y′ ∷ []) (add (sub (var 0) (var 1)) (neg (sub (var 2) (var 3))))
-      (sub (sub (var 0) (var 2)) (sub (var 1) (var 3))) tt tt tt)
-      (within-plus _ _ _ _ (off _ _ _ (p .near)) (within-negative _ _ (off _ _ _ (q .near))))) in
+      let both : Near (minus (value x) (value x′)) (minus y y′) (plus e e′) = near-minus _ _ _ _ _ _ (p .near) (q .near) in
       let g : T (finite x) × T (finite x′) = sub-finite x x′ f in
       record {
         fits = sub-fits binary64 x x′;
@@ -191,16 +211,9 @@ module _ (x x′ : Float) (y b e y′ b′ e′ : ℚ) (p : Approx x y b e) (q :
   pub approx-mul : T (finite (Ieee.mul binary64 x x′)) → Within (times y y′) c
       → Approx (Ieee.mul binary64 x x′) (times y y′) c (Errors.product-error rationals u v c (Errors.cross rationals b e b′ e′))
   approx-mul f w =
-      let i : Within (minus (value x) y) e = off _ _ _ (p .near) in
-      let j : Within (minus (value x′) y′) e′ = off _ _ _ (q .near) in
       let g : ℚ = Errors.cross rationals b e b′ e′ in
       let both : Near (times (value x) (value x′)) (times y y′) g =
-      on _ _ _ (subst (λ z. Within z g)
-      (ring (value x ∷ y ∷ value x′ ∷ y′ ∷ [])
-      (add (add (mul (sub (var 0) (var 1)) (var 3)) (mul (var 1) (sub (var 2) (var 3)))) (mul (sub (var 0) (var 1)) (sub (var 2) (var 3))))
-      (sub (mul (var 0) (var 2)) (mul (var 1) (var 3))) tt tt tt)
-      (within-plus _ _ _ _ (within-plus _ _ _ _ (within-times _ _ _ _ i (q .within)) (within-times _ _ _ _ (p .within) j))
-      (within-times _ _ _ _ i j))) in
+      near-times _ _ _ _ _ _ _ _ (p .within) (q .within) (p .near) (q .near) in
       let h : T (finite x) × T (finite x′) = mul-finite x x′ f in
       record {
         fits = mul-fits binary64 x x′;

@@ -8,7 +8,7 @@ use Prim.Native.Nat.{ℕ, zero, suc, _+_, _-_, _*_, _^_, _≤_, _<_}
 use native.Mathlib.Nat.{mul-pos, mul-comm, add-mul, mul-sub}
 use native.Mathlib.Omega.{arith}
 use lib.Dec.{T, ltb, eqb, ltb→lt, nltb→le}
-use lib.IntN.{ℤ}
+use lib.IntN.{ℤ, pos}
 use lib.Ieee.{Float, nan, inf, fin, Format, prec, low, up, down, unlike, round, sum, fits}
 use lib.Ieee as Ieee
 use lib.Ieee.Fits.{up-pos}
@@ -20,6 +20,7 @@ use Rattle.exact_rationals.proofs.RationalLaws as Q
 use Rattle.exact_rationals.specs.Rationals.{ℚ, number, rationals, plus, minus, times, over, negative, Positive, Least}
 use Rattle.exact_rationals.proofs.OrderedField.{rationals-are-a-field}
 use Rattle.base_floats.specs.Place.{magnitude}
+use Rattle.base_floats.proofs.Rounding.{round-zero, zero-across}
 use Rattle.base_floats.proofs.Units.{magnitude-across}
 use Rattle.exact_rationals.specs.Values.{value, down-positive}
 use Rattle.exact_rounding.specs.Near.{Near, Within, share-below, tiny-below, share, tiny}
@@ -320,3 +321,26 @@ div-bound f (fin s m e) (fin t (suc n) d) i j k b w =
     (subst (λ z. Near (value r) z (plus (times (share f) b) (tiny f))) (sym is)
     (round-bound f (unlike s t) (m * up e * down d) (suc n * up d * down e) (quotient-below n e d)
     (subst (λ z. T (finite z)) (div-rounds f s m e t n d) k) b (subst (λ z. Within z b) is w)))
+
+value-of-zero : (s : Bool) → value (fin s 0 (pos 0)) ≡ number 0
+unfolding number
+value-of-zero false = Quot·sound refl
+value-of-zero true = Quot·sound refl
+
+-- nought over a number is nought, without an error
+pub div-nought : (f : Format) (x y : Float) → T (finite x) → T (finite y) → T (finite (Ieee.div f x y)) → value x ≡ number 0
+    → value (Ieee.div f x y) ≡ number 0
+div-nought f nan y i j k z = absurd i
+div-nought f (inf s) y i j k z = absurd i
+div-nought f (fin s m e) nan i j k z = absurd j
+div-nought f (fin s m e) (inf t) i j k z = absurd j
+div-nought f (fin s m e) (fin t zero d) i j k z = absurd (div-by-zero f s m e t d k)
+div-nought f (fin s zero e) (fin t (suc n) d) i j k z =
+    ap value
+    (div-rounds f s zero e t n d
+    ∙ ap (λ a. round f (unlike s t) a (suc n * up d * down e)) (zero-across (up e) (down d))
+    ∙ round-zero f (unlike s t) (suc n * up d * down e) (quotient-below n e d))
+    ∙ value-of-zero (unlike s t)
+div-nought f (fin s (suc m) e) (fin t (suc n) d) i j k z =
+    absurd
+    (never-zero s (suc m * up e) (down e) (down-positive e) (mul-pos (omega arith) (up-pos e)) (sym (value-signed s (suc m) e) ∙ z))
