@@ -52,6 +52,7 @@ CRATES = [
     "exact_rounding",
     "exact_floats",
     "exact_calls",
+    "exact_bounds",
     "doubles_patterns",
     "hullashlar_doubles",
 ]

@@ -1,0 +1,4 @@
+pub mod Relations
+pub mod Results
+pub mod KeepsBounds
+pub mod TheBounds
