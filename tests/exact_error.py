@@ -2,7 +2,8 @@
 """How far rounding takes us from the exact spline, measured: sheets are built and queried by our archive, and the same spline is worked out
 in fractions, from what a spline is and not by the rules' formulas. Prints the largest error of a value, in units in the last place of the
 sheet's largest sample, by size of grid, kind of ends and evenness, and the sheet that has the worst. It is no theorem: another sheet may be
-worse."""
+worse. Behind each error it prints the largest bound that is worked out beside the floats (docs/RULES.md, chapter Bounds), and it fails where
+a value of the archive is not the one beside which the bound stands, or lies further off than the bound."""
 
 import argparse
 import ctypes
@@ -15,6 +16,8 @@ import tempfile
 from fractions import Fraction
 from itertools import product
 from pathlib import Path
+
+import carried_bounds
 
 ROOT = Path(__file__).resolve().parent.parent
 ARCHIVE = Path(os.environ.get("HULLASHLAR_ARCHIVE_DIR", ROOT / "target" / "staticlib")) / "libhullashlar.a"
@@ -46,7 +49,7 @@ class Sheet:
 
     def __init__(self, calls, points, end, axes, samples):
         self.calls, self.points, self.end, self.axes, self.samples = calls, points, end, axes, samples
-        self.used = ctypes.c_size_t(len(points))
+        self.numbers, self.used = None, ctypes.c_size_t(len(points))
         self.four = lent(ctypes.c_size_t, [*points, 0, 0, 0, 0][:4])
         self.knots = lent(ctypes.c_double, [x for axis in axes for x in axis])
         kinds = lent(ctypes.c_uint8, [end[0]] * 2 * len(points) + [0] * (8 - 2 * len(points)))
@@ -65,7 +68,13 @@ class Sheet:
             self.used, *self.four[1], *modes[1], *self.knots[1], *self.tensor[1], *lent(ctypes.c_double, point)[1], *value[1], *labels[1])
         if refusal:
             sys.exit(f"a point was refused by {refusal}")
-        return Fraction(value[0][0])
+        return value[0][0]
+
+    def bounded(self, point):
+        """The same value with its bound."""
+        if self.numbers is None:
+            self.numbers = carried_bounds.tensor(self.axes, self.samples, *self.end)
+        return carried_bounds.value(self.axes, self.numbers, point)
 
     def exact(self, point):
         """The value of the spline of splines, in fractions: along one axis after the other."""
@@ -146,16 +155,22 @@ def samples_of(rng, axes, smooth):
 
 
 def measured(calls, rng, points, end, step, smooth, count):
-    """The largest error at points of one sheet, in units in the last place of its largest sample, and where."""
+    """The largest error at points of one sheet, in units in the last place of its largest sample, and where; and the largest bound."""
     axes = [axis(rng, n, step) for n in points]
     sheet = Sheet(calls, points, end, axes, samples_of(rng, axes, smooth))
     unit = Fraction(math.ulp(max(map(abs, sheet.samples))))
-    worst = (0.0, None, sheet)
+    worst, largest = (0.0, None, sheet), 0.0
     for _ in range(count):
         point = [rng.uniform(a[0], a[-1]) for a in axes]
-        error = float(abs(sheet.computed(point) - sheet.exact(point)) / unit)
-        worst = max(worst, (error, point, sheet), key=lambda found: found[0])
-    return worst
+        computed, bounded = sheet.computed(point), sheet.bounded(point)
+        error = abs(Fraction(computed) - sheet.exact(point))
+        if computed != bounded.float:
+            sys.exit(f"at {point} the archive has {computed}, and the bound stands beside {bounded.float}")
+        if bounded.off is None or error > Fraction(bounded.off):
+            sys.exit(f"at {point} the value is off by {float(error)}, and its bound is {bounded.off}")
+        worst = max(worst, (float(error / unit), point, sheet), key=lambda found: found[0])
+        largest = max(largest, float(Fraction(bounded.off) / unit))
+    return *worst, largest
 
 
 def main():
@@ -177,11 +192,11 @@ def main():
                 found = [measured(calls, rng, points, end, step, data == "smooth", given.points) for _ in range(given.sheets)]
                 asked += given.sheets * given.points
                 largest = max(found, key=lambda one: one[0])
-                row.append(f"{largest[0]:.2f}")
-                worst = max(worst, largest, key=lambda one: one[0])
+                row.append(f"{largest[0]:.2f} of {max(one[3] for one in found):.0f}")
+                worst = max(worst, largest[:3], key=lambda one: one[0])
             print(f"| {' × '.join(map(str, points))} | {ends} | " + " | ".join(row) + " |", flush=True)
     error, point, sheet = worst
-    print(f"\n{asked} values. The worst is off by {error:.2f} units, where the spline is {float(sheet.exact(point))}, at {point} of this sheet:")
+    print(f"\n{asked} values, each within its bound. The worst is off by {error:.2f} units, where the spline is {float(sheet.exact(point))}, at {point} of this sheet:")
     print(f"points {sheet.points}, kind of ends {sheet.end}\nknots {sheet.axes}\nsamples {sheet.samples}")
     if not asked or not error:
         sys.exit("nothing was measured")

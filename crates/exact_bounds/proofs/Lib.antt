@@ -2,3 +2,4 @@ pub mod Relations
 pub mod Results
 pub mod KeepsBounds
 pub mod TheBounds
+pub mod Example

@@ -50,13 +50,13 @@ use Rattle.exact_bounds.specs.Bounds.{u, v, part, sum-off, product-off, 
 
 -- ---- a rounding as a part of its result
 
-part-least : Least part
-part-least = least-over _ _ share-least small
-
 part-enough : Least (minus (times part (minus (number 1) u)) u)
 part-enough =
     subst (λ z. Least (minus z u)) (sym (Q.over-times u (minus (number 1) u) (Q.positive-not-nought _ small)))
     (subst Least (ring (u ∷ []) t0 (sub (var 0) (var 0)) tt tt tt) (least-number 0))
+
+part-least : Least part
+part-least = least-over _ _ share-least small
 
 -- r is X rounded, and s the size of r
 module _ (r X s : ℚ) (sized : Within r s) (rounded : (b : ℚ) → Within X b → Near r X (times u b)) where

@@ -1,7 +1,7 @@
 -- How far the rules' numbers lie from the exact spline: a moment, the curve and a value in a cell, each within the bound that the
 -- arithmetic of bounds computes for it; and so a query of a built surface.
 use mathlib.Core.Path.{_≡_, refl, sym, _∙_, ap, ap₂, subst, fun-ext}
-use mathlib.Core.Bool.{true}
+use mathlib.Core.Bool.{true, _||_}
 use mathlib.Core.List.{List}
 use Prim.Native.Nat.{ℕ, _+_, _-_, _<_}
 use lib.Dec.{T}
@@ -17,7 +17,20 @@ use Rattle.rules.specs.Curve as RulesC
 use Rattle.rules.specs.Tensor as RulesT
 use Rattle.rules.specs.Query as RulesQ
 use Rattle.rules.specs.Outside.{mode-at, placed-on}
-use Rattle.rules.specs.Calls.{build-refusal}
+use Rattle.rules.specs.Calls.{
+  build-refusal,
+  BuildPromise,
+  stored,
+  answered,
+  query-lengths-refused,
+  query-refusal,
+  query-answer,
+  QueryPromise,
+}
+use Rattle.rules.specs.Refusals.{axes-refused, some-points-refused, tensor-refused, some-number-refused}
+use Rattle.rules.specs.declared.QueryAnswer.{QueryAnswer}
+use Rattle.rules.proofs.Cases.{passed}
+use Rattle.base_numbers.proofs.Scan.{neither}
 use Rattle.rules.specs.declared.End.{End}
 use Rattle.rules.specs.declared.End.the-variants.{NotAKnot, FirstDerivative, SecondDerivative}
 use Rattle.rules.specs.declared.Condition.{Condition}
@@ -25,7 +38,7 @@ use Rattle.rules.specs.declared.Condition.the-variants.{Endpoints, Periodic}
 use Rattle.rules.proofs.Tables.{at-table}
 use Rattle.base_floats.specs.Place.{AllFit}
 use Rattle.base_floats.proofs.Parts.{part-fits}
-use Rattle.query_answer.proofs.Held.{placed-has}
+use Rattle.query_answer.proofs.Held.{placed-has, stands-then, point-finite}
 use Rattle.exact_arithmetic.specs.Arithmetic.{Arithmetic}
 use Rattle.exact_rationals.specs.Rationals.{ℚ, rationals, number}
 use Rattle.exact_rationals.specs.Values.{value}
@@ -83,11 +96,14 @@ floats-are-the-rules =
       negative = λ a x p. ap Ieee.neg p;
     }
 
+near-equal : (x y : Float) (Y e : ℚ) → x ≡ y → Near (value y) Y e → Near (value x) Y e
+near-equal x y Y e same near = subst (λ z. Near (value z) Y e) (sym same) near
+
 -- what stands within a bound, and is a float of the rules
 near-of : (a : Bounded) (Y : ℚ) (x : Float) (e : ℚ) → Stands a Y → a .float ≡ x → a .bound ≡ within e → Near (value x) Y e
 near-of a Y x e s f b =
     let h : Under (a .float) (within e) Y = subst (λ c. Under (a .float) c Y) b (s .under) in
-    subst (λ z. Near (value z) Y e) f (h .1)
+    near-equal x (a .float) Y e (sym f) (h .1)
 
 -- what holds of two things holds of their equals
 across : {L M N K : Type 0} (R : N → K → Type 0) (f : L → N) (k : M → K) (a b : L) (c d : M) → a ≡ b → c ≡ d → R (f a) (k c) → R (f b) (k d)
@@ -357,3 +373,46 @@ module _
     where
       knot-fits : (i k : ℕ) → T (fits binary64 (at (Sizes.knots g i) k))
       knot-fits i k = part-fits (g .flat-knots) (Sizes.sum-below (Sizes.points g) i) (Sizes.points g i) knots-fit k
+
+-- the calls themselves: what a query answers, of the tensor that a build left, neither of them refused
+module _
+    (g : Sizes.Grid) (samples tensor-out scratch tensor-later scratch-later : List Float)
+    (built : BuildPromise g samples tensor-out scratch 0 tensor-later scratch-later)
+    (coordinates : List Float) (given-back : QueryAnswer) (asked : QueryPromise g tensor-later coordinates given-back)
+    (accepted : given-back .refusal ≡ 0)
+    (knots-fit : AllFit (g .flat-knots)) (samples-fit : AllFit samples) (coordinates-fit : AllFit coordinates)
+    (ends-fit : (i : ℕ) → ConditionFits (Sizes.condition g i)) where
+  none-refused : query-refusal g tensor-later coordinates ≡ 0
+  unfolding query-answer
+  none-refused = sym (ap (λ (a : QueryAnswer). a .refusal) (asked .answer)) ∙ accepted
+
+  tensor-is : tensor-later ≡ RulesT.tensor g samples
+  tensor-is = subst (λ r. tensor-later ≡ stored r tensor-out (RulesT.tensor g samples)) (sym (built .answer)) (built .output)
+
+  value-is : given-back .value ≡ RulesQ.query-in-modes g (RulesT.tensor g samples) (at coordinates)
+  unfolding query-answer
+  value-is =
+      ap (λ (a : QueryAnswer). a .value) (asked .answer)
+      ∙ ap (λ r. answered r (RulesQ.query-in-modes g tensor-later (at coordinates))) none-refused
+      ∙ ap (λ t. RulesQ.query-in-modes g t (at coordinates)) tensor-is
+
+  coordinates-finite : (i : ℕ) → i < g .axes → finite (at coordinates i) ≡ true
+  unfolding query-refusal
+  coordinates-finite i used =
+      let one = passed (axes-refused g) 0 _ none-refused in
+      let two = passed (some-points-refused g) 1 _ (one .1) in
+      let three = passed (tensor-refused g) 2 _ (two .1) in
+      let four = passed (query-lengths-refused g tensor-later coordinates) 3 _ (three .1) in
+      let seven = passed (some-number-refused (g .flat-knots) || some-number-refused coordinates) 6 _ (four .1) in
+      let both = neither (some-number-refused (g .flat-knots)) (some-number-refused coordinates) (seven .0) in
+      point-finite g coordinates (both .1) (stands-then g tensor-later coordinates (one .0) (two .0) (four .0) (both .0)) i used
+
+  pub calls-within : (e : ℚ)
+      → surface-bound g samples (RulesQ.cell-of g (at coordinates)) (placed-on g (at coordinates)) ≡ within e
+      → Near (value (given-back .value))
+      (nested-splines rationals (g .axes) (exact-grid g) (sample rationals (exact-grid g) (values samples))
+      (RulesQ.cell-of g (at coordinates)) (λ i. value (placed-on g (at coordinates) i))) e
+  calls-within e b =
+      near-equal (given-back .value) _ _ e value-is
+      (query-within g samples tensor-out scratch (sym (built .answer)) knots-fit samples-fit ends-fit (at coordinates) coordinates-fit
+      coordinates-finite e b)
