@@ -6,15 +6,13 @@ use mathlib.Core.Logic.{_≢_}
 use mathlib.Core.Bool.{Bool, true, false, cond}
 use mathlib.Core.List.{List}
 use Prim.Native.Nat.{ℕ, _-_, _<_}
-use lib.Dec.{ltb}
 use lib.ListN.{length}
 use lib.Ieee.{Float}
-use borrow.Author.Tests.{lt-ltb}
 use Rattle.rules.specs.Numbers.{at}
 use Rattle.rules.specs.Sizes.{Grid, points, knots, place-of}
 use Rattle.rules.specs.Refusals.{some-number-refused, some-knots-refused, answer-refused}
 use Rattle.rules.specs.Outside.{some-outside-refused}
-use Rattle.rules.specs.Even.{some-uneven-refused}
+use Rattle.rules.specs.Even.{some-uneven-refused, uneven-axis, uneven-interval}
 use Rattle.rules.specs.Query.{even-query}
 use Rattle.rules.specs.Calls.{or-else, answer-of}
 use Rattle.rules.specs.EvenCalls.{nothing-told, even-labels, even-query-refusal, even-query-answer, EvenQueryPromise}
@@ -39,8 +37,10 @@ use Rattle.query_answer.specs.AnswerByWay.{refused-with, refusal-by, AnswerBy}
 use Rattle.query_answer.specs.declared.ways.Way.the-variants.{Direct}
 use Rattle.query_answer.proofs.Answering.{refused-is}
 use Rattle.query_answer.proofs.Promised.{past-4, sizes-refuse}
-use Rattle.query_even.specs.Uneven.{FirstUneven, refused-uneven}
-use Rattle.query_even.specs.declared.uneven.Uneven.{Uneven}
+use Rattle.query_even.specs.Qualities.{lacking-axis, lacking-place}
+use Rattle.query_even.specs.Lacking.{FirstLack, refused-uneven}
+use Rattle.query_even.specs.declared.qualities.Quality.the-variants.{Even}
+use Rattle.query_even.specs.declared.qualities.Lack.{Lack}
 
 -- ---- another refusal than 21
 
@@ -121,20 +121,20 @@ module _ (axes : ℕ) (points-in modes-in : List ℕ) (x tensor coordinates : Li
         → EvenQueryPromise g tensor coordinates r
     check-refuses some = refused-by g tensor coordinates check (refusal-is ∙ rw (← checked) (or-else-met check _ some)) some check-low
 
-    module _ (none : check ≡ 0) (first : Uneven) (tells : FirstUneven g first) where
-      after-check : refusal ≡ later (ltb 0 (first .interval))
-      after-check = refusal-is ∙ rw (← checked, none, tells .refused) refl
+    module _ (none : check ≡ 0) (uneven : Lack) (tells : FirstLack Even g uneven) where
+      after-check : refusal ≡ later (uneven .found)
+      after-check = refusal-is ∙ rw (← checked, none, tells .found) refl
 
       -- an axis is not even
-      pub axis-refuses : first .interval ≢ 0 → (r : EvenAnswer) → r ≡ refused-uneven (first .axis) (first .interval)
+      pub axis-refuses : uneven .found ≡ true → (r : EvenAnswer) → r ≡ refused-uneven (uneven .axis) (uneven .place)
           → EvenQueryPromise g tensor coordinates r
-      unfolding even-query-answer
+      unfolding even-query-answer uneven-axis uneven-interval lacking-axis lacking-place
       axis-refuses some r is =
-          let met : refusal ≡ 21 = after-check ∙ ap later (lt-ltb 0 (first .interval) (omega arith)) in
-          record { answer = is ∙ rw (tells .axis, tells .interval, met) refl }
+          let met : refusal ≡ 21 = after-check ∙ ap later some in
+          record { answer = is ∙ rw (tells .axis, tells .place, met) refl }
 
       -- every axis is: the direct cell answers
-      module _ (even : first .interval ≡ 0) where
+      module _ (even : uneven .found ≡ false) where
         coordinates-finite : some-number-refused coordinates ≡ false
         unfolding knots-and-coordinates-check
         coordinates-finite =

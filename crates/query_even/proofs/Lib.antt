@@ -1,3 +1,3 @@
-mod FirstAxis
+pub mod LackingAxis
 mod Answers
 pub mod HoldIsExtend

@@ -3,13 +3,14 @@ ghost use mathlib.Core.Path.{_≡_};
 ghost use Rattle.rules.specs.EvenCalls.{nothing-told, EvenQueryPromise};
 ghost use Rattle.grid.specs.GridOfCall.{grid};
 ghost use Rattle.query_answer.specs.PointsAndModes.{QueryFits, OfAnyAxes};
-ghost use Rattle.query_even.specs.Uneven.{refused-uneven};
+ghost use Rattle.query_even.specs.Lacking.{refused-uneven};
+use crate::qualities::Quality;
 use query_answer::ways::Way;
 use rules::Axis;
 use rules::EvenAnswer;
 use rules::QueryAnswer;
 
-mod uneven; // uneven.rt: the lowest axis that is not even
+pub mod qualities; // qualities.rt: what the knots must be, and where they are not
 
 // What a query answers, with axis and interval 0.
 fn nothing_told(answer: QueryAnswer) -> EvenAnswer
@@ -85,9 +86,9 @@ pub fn even_query_of_points(
     if refusal != 0 {
         return nothing_told(query_answer::refused(refusal));
     }
-    let first = uneven::first_uneven(axes, points, knots);
-    if first.interval != 0 {
-        return refused_uneven(first.axis, first.interval);
+    let uneven = qualities::first_lacking(Quality::Even, axes, points, knots);
+    if uneven.found {
+        return refused_uneven(uneven.axis, uneven.place);
     }
     nothing_told(query_answer::answer(Way::Direct, axes, points, modes, knots, tensor, coordinates))
 }

@@ -19,34 +19,34 @@ returns c =
     check-refuses _ _ _ _ _ _ (start .pre) all are _ (at-knots-and-coordinates-refusal .knots-and-coordinates-refusal .ensures)
     (at-if1 .if1 .taken) _ _ (at-refused .refused .ensures) (c .nothing-told .ensures)
 
-first-uneven-requires : tie.Need-first-uneven-requires
-first-uneven-requires c κs =
+first-lacking-requires : tie.Need-first-lacking-requires
+first-lacking-requires c κs =
     let start = c .before .before .before .before .before .before .before in
     let fits = start .pre .search-fits in (fits .in-range, fits .four-points, fits .knots-exact)
 
 returns-2 : tie.Need-returns-2
 returns-2 c =
     let at-if2 = c .before in
-    let at-first-uneven = at-if2 .before .before in
-    let at-if1 = at-first-uneven .before in
+    let at-first-lacking = at-if2 .before in
+    let at-if1 = at-first-lacking .before in
     let at-knots-and-coordinates-refusal = at-if1 .before in
     let start = at-knots-and-coordinates-refusal .before .before .before .before .before .before in
     λ all are.
     axis-refuses _ _ _ _ _ _ (start .pre) all are _ (at-knots-and-coordinates-refusal .knots-and-coordinates-refusal .ensures)
-    (at-if1 .if1 .left) _ (at-first-uneven .first-uneven .ensures all (are .points-are)) (at-if2 .if2 .taken) _
+    (at-if1 .if1 .left) _ (at-first-lacking .first-lacking .ensures all (are .points-are)) (at-if2 .if2 .taken) _
     (c .refused-uneven .ensures)
 
 returns-3 : tie.Need-returns-3
 returns-3 c =
     let at-answer = c .before in
     let at-if2 = at-answer .before in
-    let at-first-uneven = at-if2 .before .before in
-    let at-if1 = at-first-uneven .before in
+    let at-first-lacking = at-if2 .before in
+    let at-if1 = at-first-lacking .before in
     let at-knots-and-coordinates-refusal = at-if1 .before in
     let start = at-knots-and-coordinates-refusal .before .before .before .before .before .before in
     λ all are.
     direct-answers _ _ _ _ _ _ (start .pre) all are _ (at-knots-and-coordinates-refusal .knots-and-coordinates-refusal .ensures)
-    (at-if1 .if1 .left) _ (at-first-uneven .first-uneven .ensures all (are .points-are)) (at-if2 .if2 .left) _ _
+    (at-if1 .if1 .left) _ (at-first-lacking .first-lacking .ensures all (are .points-are)) (at-if2 .if2 .left) _ _
     (at-answer .answer .ensures all are) (c .nothing-told2 .ensures)
 
 pub even-query-of-points-spec : {M : Type 1} → statement M
@@ -57,7 +57,7 @@ even-query-of-points-spec =
     (λ c κs. search needs)
     (λ c κs. search needs)
     returns
-    first-uneven-requires
+    first-lacking-requires
     (λ c κs. search needs)
     returns-2
     (λ c κs. search needs)
