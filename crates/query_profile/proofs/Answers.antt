@@ -1,14 +1,15 @@
 -- What the profile answers: sizes and lengths decide, and then the knots, by the first quality that an axis lacks.
-use mathlib.Core.Path.{_≡_, refl, sym, ap, _∙_}
+use mathlib.Core.Path.{_≡_, refl, sym, ap, ap₂, _∙_}
 use mathlib.Core.Logic.{_≢_}
 use mathlib.Core.Bool.{Bool, true, false, cond, _||_}
 use mathlib.Core.List.{List}
-use Prim.Native.Nat.{ℕ, _<_}
+use Prim.Native.Nat.{ℕ, _*_, _^_, _<_}
 use native.Mathlib.Omega.{arith}
 use lib.Dec.{ltb}
 use lib.ListN.{length}
 use lib.Ieee.{Float}
 use borrow.Author.Tests.{ltb-false, le-ltb, ne-eqb}
+use Rattle.rules.specs.Numbers.{any}
 use Rattle.rules.specs.Sizes.{most-axes, most-in-a-tensor, Grid, points, knots, sum-below, product-below, tensor-length, place-of}
 use Rattle.rules.specs.Refusals.{
   axes-refused,
@@ -73,7 +74,12 @@ module _ (g : Grid) where
   pub nothing-told : (number : ℕ) → even-profile-refusal g ≡ number → number < 7 → (r : EvenProfile) → r ≡ profile-of number 0 0
       → EvenProfilePromise g r
   unfolding even-profile-answer
-  nothing-told number met low r is = record { answer = is ∙ rw (met, untold number low, untold number low) refl }
+  nothing-told number met low r is = record {
+    answer = is
+        ∙ ap₂ (profile-of number) (sym (untold number low (λ quality. lacking-axis quality g)))
+        (sym (untold number low (λ quality. lacking-place quality g)))
+        ∙ rw met refl;
+  }
 
 module _ (axes : ℕ) (all : List Axis) (x : List Float) (points-in : List ℕ) (same : place-of points-in ≡ points-of all)
     (number : ℕ) (is : number ≡ profile-sizes-check axes (place-of points-in) (length x)) (some : number ≢ 0) where
@@ -89,7 +95,11 @@ module _ (axes : ℕ) (all : List Axis) (x : List Float) (points-in : List ℕ) 
 
   low : number < 7
   unfolding profile-sizes-check
-  low = rw is (among-sizes (ltb axes 1 || ltb most-axes axes) _ _ _)
+  low =
+      let n = place-of points-in in
+      rw is
+      (among-sizes (ltb axes 1 || ltb most-axes axes) (any (λ i. points-refused (n i)) axes)
+      (ltb most-in-a-tensor (product-below n axes * 2 ^ axes)) (length-refused (length x) (sum-below n axes)))
 
   pub sizes-answer : (r : EvenProfile) → r ≡ profile-of number 0 0 → EvenProfilePromise given r
   sizes-answer = nothing-told given number sizes-met low
@@ -134,7 +144,12 @@ module _ (axes : ℕ) (points-in : List ℕ) (x : List Float) (fits : ProfileFit
       → (lack : Lack) → FirstLack quality g lack → (r : EvenProfile) → r ≡ profile-of number (lack .axis) (lack .place)
       → EvenProfilePromise g r
   unfolding even-profile-answer
-  told number quality asks met lack tells r is = record { answer = is ∙ rw (met, asks, asks, tells .axis, tells .place) refl }
+  told number quality asks met lack tells r is = record {
+    answer = is
+        ∙ ap₂ (profile-of number) (tells .axis ∙ sym (asks (λ other. lacking-axis other g)))
+        (tells .place ∙ sym (asks (λ other. lacking-place other g)))
+        ∙ rw met refl;
+  }
 
   pub told-7 : {numbers : Bool} → numbers ≡ some-number-refused x → numbers ≡ true
       → (lack : Lack) → FirstLack Finite g lack → (r : EvenProfile) → r ≡ profile-of 7 (lack .axis) (lack .place) → EvenProfilePromise g r

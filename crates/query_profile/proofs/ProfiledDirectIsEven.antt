@@ -47,7 +47,7 @@ module _ (among : ℕ → Bool) {refusal : ℕ} (is-among : among refusal ≡ tr
   passed false number other met = (refl, met)
 
 -- no refusal
-none : ℕ → Bool
+abbrev none : ℕ → Bool
 none refusal = eqb refusal 0
 
 -- no refusal, or one that has passed axes and knots: 18 and 10
