@@ -1,5 +1,5 @@
--- The exported profile refuses as the host's own refusal says, or answers as the call promises for what was given; and what the call asks of
--- points and knots is left by that refusal.
+-- The exported profile refuses as the host's own refusal says, or answers as the call promises for what was given; and what the call asks
+-- of points and knots is left by that refusal.
 use mathlib.Core.Path.{_≡_, refl, sym, ap, _∙_}
 use mathlib.Core.List.{List}
 use Prim.Native.Nat.{ℕ, _≤_}

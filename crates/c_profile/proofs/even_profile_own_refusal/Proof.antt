@@ -1,4 +1,5 @@
--- After the rows of the axes one 4, of two tests: the slot is asked first, then the knots, by the number that the pass over the points found.
+-- After the rows of the axes one 4, of two tests: the slot is asked first, then the knots, by the number that the pass over the points
+-- found.
 use mathlib.Core.Path.{_≡_, refl}
 use Rattle.rules.specs.Sizes.{knots-length}
 use Rattle.rules.specs.Refusals.{length-refused}

@@ -1,5 +1,5 @@
--- The knots decide by the first quality that an axis lacks, 7, 8 or 21, and tell where (`told-7`, `told-8`, `told-21`), or nothing is refused
--- (`told-0`); that knots which pass 8 are finite, as the test for 7 requires, is `points-finite`.
+-- The knots decide by the first quality that an axis lacks, 7, 8 or 21, and tell where (`told-7`, `told-8`, `told-21`), or nothing is
+-- refused (`told-0`); that knots which pass 8 are finite, as the test for 7 requires, is `points-finite`.
 use Rattle.rules.specs.Sizes.{place-of}
 use Rattle.grid_checks.proofs.FiniteKnots.{points-finite}
 use Rattle.query_profile.proofs.Answers.{told-7, told-8, told-21, told-0}

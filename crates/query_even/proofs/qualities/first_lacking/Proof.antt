@@ -36,19 +36,23 @@ lacks-requires c κs = walk-size _ _ _ _ _ _ (c .before .before .before .loop .i
 
 mul-first-lack : tie.Need-mul-first-lack Inv-loop μ-loop
 mul-first-lack c =
-    let turned = c .before .before .before .before in omega (arith, walk-within _ _ _ _ _ _ (turned .before .loop .inv) (turned .loop-test .taken))
+    let turned = c .before .before .before .before in
+    omega (arith, walk-within _ _ _ _ _ _ (turned .before .loop .inv) (turned .loop-test .taken))
 
 sub-first-lack : tie.Need-sub-first-lack Inv-loop μ-loop
 sub-first-lack c =
-    let turned = c .before .before .before .before in omega (arith, walk-within _ _ _ _ _ _ (turned .before .loop .inv) (turned .loop-test .taken))
+    let turned = c .before .before .before .before in
+    omega (arith, walk-within _ _ _ _ _ _ (turned .before .loop .inv) (turned .loop-test .taken))
 
 part-first-lack-start : tie.Need-part-first-lack-start Inv-loop μ-loop
 part-first-lack-start c =
-    let turned = c .before .before .before .before in omega (arith, walk-within _ _ _ _ _ _ (turned .before .loop .inv) (turned .loop-test .taken))
+    let turned = c .before .before .before .before in
+    omega (arith, walk-within _ _ _ _ _ _ (turned .before .loop .inv) (turned .loop-test .taken))
 
 part-first-lack-end : tie.Need-part-first-lack-end Inv-loop μ-loop
 part-first-lack-end c =
-    let turned = c .before .before .before .before in omega (arith, walk-within _ _ _ _ _ _ (turned .before .loop .inv) (turned .loop-test .taken))
+    let turned = c .before .before .before .before in
+    omega (arith, walk-within _ _ _ _ _ _ (turned .before .loop .inv) (turned .loop-test .taken))
 
 first-lack-requires : tie.Need-first-lack-requires Inv-loop μ-loop
 first-lack-requires c κs =
