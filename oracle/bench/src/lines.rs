@@ -198,7 +198,14 @@ fn even_profiles(inputs: &Inputs) -> [Line<'_>; 5] {
         name: names.next().expect("every even surface has a name"),
         held_against: "our even query",
         ours: our_even_profile(surface),
-        other: our_even_query(surface),
+        other: without_its_value(our_even_query(surface)),
+    })
+}
+
+fn without_its_value(mut work: Work<'_>) -> Work<'_> {
+    Box::new(move || {
+        black_box(work());
+        0.0
     })
 }
 
