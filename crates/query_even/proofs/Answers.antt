@@ -38,7 +38,7 @@ use Rattle.query_answer.specs.declared.ways.Way.the-variants.{Direct}
 use Rattle.query_answer.proofs.Answering.{refused-is}
 use Rattle.query_answer.proofs.Promised.{past-4, sizes-refuse}
 use Rattle.query_even.specs.Qualities.{lacking-axis, lacking-place}
-use Rattle.query_even.specs.Lacking.{FirstLack, refused-uneven}
+use Rattle.query_even.specs.Lacking.{FirstLack, KnotsPass, refused-uneven}
 use Rattle.query_even.specs.declared.qualities.Quality.the-variants.{Even}
 use Rattle.query_even.specs.declared.qualities.Lack.{Lack}
 
@@ -77,10 +77,12 @@ module _ (axes : ℕ) (all : List Axis) (x tensor coordinates : List Float) (poi
 
 -- ---- they are not
 
-outcome-low : (outside refused : Bool) {refusal : ℕ} → refusal ≡ cond outside 18 (cond refused 10 0) → refusal ≢ 21
-outcome-low true refused is z = omega (arith, is, z)
-outcome-low false true is z = omega (arith, is, z)
-outcome-low false false is z = omega (arith, is, z)
+outcome-low : (numbers outside refused : Bool) {refusal : ℕ} → refusal ≡ cond numbers 7 (cond outside 18 (cond refused 10 0))
+    → refusal ≢ 21
+outcome-low true outside refused is z = omega (arith, is, z)
+outcome-low false true refused is z = omega (arith, is, z)
+outcome-low false false true is z = omega (arith, is, z)
+outcome-low false false false is z = omega (arith, is, z)
 
 module _ (axes : ℕ) (points-in modes-in : List ℕ) (x tensor coordinates : List Float)
     (fits : QueryFits axes points-in modes-in x tensor coordinates) (all : List Axis) (are : AxesOf axes points-in modes-in all) where
@@ -133,29 +135,38 @@ module _ (axes : ℕ) (points-in modes-in : List ℕ) (x tensor coordinates : Li
           let met : refusal ≡ 21 = after-check ∙ ap later some in
           record { answer = is ∙ rw (tells .axis, tells .place, met) refl }
 
-      -- every axis is: the direct cell answers
-      module _ (even : uneven .found ≡ false) where
-        coordinates-finite : some-number-refused coordinates ≡ false
-        unfolding knots-and-coordinates-check
-        coordinates-finite =
-            neither (some-number-refused x) (some-number-refused coordinates)
-            (none-applies (knots-and-coordinates-rows axes (place-of points-in) x coordinates) tt (sym checked ∙ none) .0) .1
+      -- every axis is: the knots pass
+      pub knots-pass : uneven .found ≡ false → KnotsPass g
+      unfolding knots-and-coordinates-check
+      knots-pass even =
+          let rows = none-applies (knots-and-coordinates-rows axes (place-of points-in) x coordinates) tt (sym checked ∙ none) in
+          record {
+            finite = neither (some-number-refused x) (some-number-refused coordinates) (rows .0) .0;
+            rise = sym same-knots ∙ rows .1 .0;
+            even = sym (tells .found) ∙ even;
+          }
 
-        after-axes : refusal ≡ cond outside-refused 18 (cond value-refused 10 0)
-        after-axes = after-check ∙ rw even refl
+  -- where the knots pass the direct cell answers
+  module _ (pass : KnotsPass g) where
+    after-knots : refusal ≡ cond (some-number-refused coordinates) 7 (cond outside-refused 18 (cond value-refused 10 0))
+    unfolding even-query-refusal
+    after-knots =
+        past-4 axes points-in modes-in x tensor coordinates fits all are _ ∙ rw (pass .finite, pass .rise, pass .even) refl
 
-        by-direct : refusal-by Direct g tensor coordinates ≡ refusal
-        unfolding even-query
-        by-direct = rw (coordinates-finite, any-never (λ j. false) axes (λ j l. refl)) (sym after-axes)
+    by-direct : refusal-by Direct g tensor coordinates ≡ refusal
+    unfolding even-query
+    by-direct = rw (any-never (λ j. false) axes (λ j l. refl)) (sym after-knots)
 
-        pub direct-answers : (r : EvenAnswer) (answer : QueryAnswer) → AnswerBy Direct g tensor coordinates answer → r ≡ nothing-told answer
-            → EvenQueryPromise g tensor coordinates r
-        unfolding even-query-answer even-query even-labels
-        direct-answers r answer by is = record {
-          answer = is
-              ∙ ap nothing-told
-              (by .answer
-              ∙ ap (λ (number : ℕ). answer-of number (even-query g tensor (at coordinates)) (even-labels g tensor coordinates))
-              by-direct)
-              ∙ sym (answers-as-query refusal _ _ _ _ (outcome-low outside-refused value-refused after-axes));
-        }
+    pub direct-answers : (r : EvenAnswer) (answer : QueryAnswer) → AnswerBy Direct g tensor coordinates answer → r ≡ nothing-told answer
+        → EvenQueryPromise g tensor coordinates r
+    unfolding even-query-answer even-query even-labels
+    direct-answers r answer by is = record {
+      answer = is
+          ∙ ap nothing-told
+          (by .answer
+          ∙ ap (λ (number : ℕ). answer-of number (even-query g tensor (at coordinates)) (even-labels g tensor coordinates))
+          by-direct)
+          ∙ sym
+          (answers-as-query refusal _ _ _ _
+          (outcome-low (some-number-refused coordinates) outside-refused value-refused after-knots));
+    }

@@ -1,3 +1,4 @@
 pub mod LackingAxis
+mod Passing
 mod Answers
 pub mod HoldIsExtend

@@ -31,7 +31,7 @@ use Rattle.grid_checks.specs.Check.{knots-of-points-refused}
 use Rattle.grid_checks.proofs.Rows.{rows-then, rows-below-10, none-applies, axes-few, in-range, exact, length-fits}
 use Rattle.query_answer.specs.PointsAndModes.{PointsOf}
 use Rattle.query_even.specs.Qualities.{lacking-axis, lacking-place}
-use Rattle.query_even.specs.Lacking.{FirstLack}
+use Rattle.query_even.specs.Lacking.{FirstLack, KnotsPass}
 use Rattle.query_even.specs.declared.qualities.Quality.{Quality}
 use Rattle.query_even.specs.declared.qualities.Quality.the-variants.{Finite, Rising, Even}
 use Rattle.query_even.specs.declared.qualities.Lack.{Lack}
@@ -138,6 +138,10 @@ module _ (axes : ℕ) (points-in : List ℕ) (x : List Float) (fits : ProfileFit
   same-knots : knots-of-points-refused axes (place-of points-in) x ≡ some-knots-refused g
   same-knots = any-ext _ _ axes λ i l.
       rw (are i l, sum-ext (points g) (place-of points-in) i (λ k h. are k (omega arith))) refl
+
+  -- where the knots pass, none does
+  pub passed-0 : KnotsPass g → (r : EvenProfile) → r ≡ profile-of 0 0 0 → EvenProfilePromise g r
+  passed-0 pass = nothing-told g 0 (from-7 ∙ rw (pass .finite, pass .rise, pass .even) refl) (omega arith)
 
   -- the number asks for the quality that an axis lacks
   told : (number : ℕ) (quality : Quality) → ((of : Quality → ℕ) → told-of-lack number of ≡ of quality) → even-profile-refusal g ≡ number

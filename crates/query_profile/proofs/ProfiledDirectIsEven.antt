@@ -33,6 +33,7 @@ use Rattle.rules.proofs.WithoutModes.{
   uneven-refused-same,
 }
 use Rattle.base_numbers.proofs.Scan.{neither}
+use Rattle.query_even.specs.Lacking.{KnotsPass}
 use Rattle.query_direct.specs.DirectCalls.{direct-query-answer}
 use Rattle.query_direct.proofs.DirectIsEven.{direct-is-even}
 use Rattle.query_profile.specs.ProfileCalls.{even-profile-refusal}
@@ -55,12 +56,6 @@ abbrev pub past-knots : ℕ → Bool
 past-knots refusal = eqb refusal 0 || eqb refusal 18 || eqb refusal 10
 
 -- ---- what a profile shows of the knots
-
--- the tests of 7, 8 and 21 that look at knots, none of which applies
-pub record KnotsPass (g : Grid) : Type 0 where
-  pub finite : some-number-refused (g .flat-knots) ≡ false
-  pub rise : some-knots-refused g ≡ false
-  pub even : some-uneven-refused g ≡ false
 
 module _ (g : Grid) where
   pub profiled : even-profile-refusal g ≡ 0 → KnotsPass g

@@ -10,8 +10,8 @@ use grid_checks::lengths;
 use grid_checks::numbers;
 use grid_checks::rising;
 use grid_checks::sizes;
+use query_even::pass;
 use query_even::qualities;
-use query_even::qualities::Lack;
 use query_even::qualities::Quality;
 use rules::Axis;
 
@@ -68,8 +68,9 @@ pub fn even_profile(axes: usize, all: [Axis; 4], knots: &[f64]) -> EvenProfile
     even_profile_of_points(axes, &points, knots)
 }
 
-// The same on axes of these points, where 1 to 4 do not apply. Not a public call: that they do not is required, and four points.
-pub fn even_profile_of_points(axes: usize, points: &[usize], knots: &[f64]) -> EvenProfile
+// The same where knots may be refused: 7, 8 and 21 are looked for one after the other. Not a public call: that 1 to 4 do not apply is
+// required, and four points.
+fn even_profile_by_walks(axes: usize, points: &[usize], knots: &[f64]) -> EvenProfile
     requires { ⌜ ProfileFits axes (now points) (now knots) ⌝ }
     ensures { λ r. ⌜ ProfileAmong axes (now (points .entry)) (now (knots .entry)) r ⌝ }
 {
@@ -85,6 +86,18 @@ pub fn even_profile_of_points(axes: usize, points: &[usize], knots: &[f64]) -> E
     let lack = qualities::first_lacking(Quality::Even, axes, points, knots);
     if lack.found {
         return profile_of(21, lack.axis, lack.place);
+    }
+    profile_of(0, 0, 0)
+}
+
+// The same on axes of these points, where 1 to 4 do not apply: one pass over the knots as the query of even axes makes it, and only where
+// it finds what may be refused the rest. Not a public call: that 1 to 4 do not apply is required, and four points.
+pub fn even_profile_of_points(axes: usize, points: &[usize], knots: &[f64]) -> EvenProfile
+    requires { ⌜ ProfileFits axes (now points) (now knots) ⌝ }
+    ensures { λ r. ⌜ ProfileAmong axes (now (points .entry)) (now (knots .entry)) r ⌝ }
+{
+    if pass::knots_may_be_refused(axes, points, knots) {
+        return even_profile_by_walks(axes, points, knots);
     }
     profile_of(0, 0, 0)
 }

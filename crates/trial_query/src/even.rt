@@ -68,7 +68,12 @@ fn refused_knots() {
     two_axes(b"steps 1 -1 and 1 2", 0.0, 3.0, &[0.25, 0.5]);
     two_axes(b"steps 1 -1 and 1 NaN", 0.0, 0.0 / 0.0, &[0.25, 0.5]);
     let all = grids::one(3, Condition::natural());
-    lines::print_profile(b"knots -1e308 1e308 1.5e308", 1, all, &[-1e308, 1e308, 1.5e308]);
+    lines::print_profile(
+        b"knots -1e308 1e308 1.5e308",
+        1,
+        all,
+        &[-1e308, 1e308, 1.5e308],
+    );
 }
 
 // Five knots, of which the last two are given.
