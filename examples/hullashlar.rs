@@ -393,6 +393,23 @@ pub fn even_query(
     outcome(refusal, (value[0], labels)).map_err(|number| (number, uneven))
 }
 
+/// Whether the knots of even axes can be asked directly; else the refusal, with the axis and its knot or interval where
+/// it is by 7, 8 or 21.
+#[rustfmt::skip]
+pub fn even_profile(axes: &Axes, knots: &[f64]) -> Result<(), (Refusal, [usize; 2])> {
+    let mut told = [0; 2];
+    // SAFETY: each pointer goes with the length of a live slice, and no two slices overlap.
+    let refusal = unsafe {
+        hullashlar_even_profile(
+            axes.count,
+            axes.points.as_ptr(), axes.points.len(),
+            knots.as_ptr(), knots.len(),
+            told.as_mut_ptr(), told.len(),
+        )
+    };
+    outcome(refusal, ()).map_err(|refusal| (refusal, told))
+}
+
 /// The index of the knot that equals the point, of that at the lower index and the next.
 #[rustfmt::skip]
 pub fn exact_index(knots: &[f64], lower: usize, point: f64) -> Result<Option<usize>, Refusal> {

@@ -1,7 +1,7 @@
-/* Hullashlar for C: its twenty-three calls over numbers and plain slices. docs/RULES.md says what each computes and when
- * it refuses, in its chapters Calls, Verify, DirectCalls, ManyCalls, EvenCalls, StepCalls, Read, SheetTensor, Write,
- * SheetSurface, DeviceCell, DeviceCurve, OwnRefusals, CurveExports, TensorExports, VerifyExports, QueryExports,
- * DirectExports, ManyExports, SheetExports, StepExports and DeviceExports.
+/* Hullashlar for C: its twenty-four calls over numbers and plain slices. docs/RULES.md says what each computes and when
+ * it refuses, in its chapters Calls, Verify, DirectCalls, ProfileCalls, ManyCalls, EvenCalls, StepCalls, Read,
+ * SheetTensor, Write, SheetSurface, DeviceCell, DeviceCurve, OwnRefusals, CurveExports, TensorExports, VerifyExports,
+ * QueryExports, DirectExports, ProfileExports, ManyExports, SheetExports, StepExports and DeviceExports.
  *
  * The machine. One header serves every processor: what is counted has 64 bits on each of them, and a size_t is no part
  * of any call. The archive target/staticlib/libhullashlar.a is code for x86-64, with SSE2 and the System V calling
@@ -297,13 +297,27 @@ uint64_t hullashlar_even_query(uint64_t axes,
                                uint64_t *labels, uint64_t labels_length,
                                uint64_t *uneven, uint64_t uneven_length);
 
+/* Whether the knots are such that hullashlar_even_query refuses neither them nor an axis: 7 is looked for in the knots
+ * alone, 8 and 21 are its own. Where 0 is returned, hullashlar_direct_query and hullashlar_direct_queries give its
+ * answers on these points and knots, for every tensor, all modes and all coordinates; where another number is, that call
+ * refuses. So a host makes this call once, where a sheet is loaded, and asks directly afterwards. After 7 told has the
+ * lowest axis with a knot that is infinite or NaN, and the number of its first; after 8 the lowest axis whose knots are
+ * refused, and the number of the lower knot of its first interval that does not rise by a step that a double holds; after
+ * 21 what hullashlar_even_query tells in uneven. All are counted from 0; else it has 0 and 0.
+ * Lengths: points 4; knots as many as the points of all axes together; told 2.
+ * Written: told. Refuses by 1, 2, 3, 4, 7, 8, 21. */
+uint64_t hullashlar_even_profile(uint64_t axes,
+                                 const uint64_t *points, uint64_t points_length,
+                                 const double *knots, uint64_t knots_length,
+                                 uint64_t *told, uint64_t told_length);
+
 /* The value and the labels as of hullashlar_quick_query, in the cells that a division finds, as hullashlar_even_query
  * finds them: in hold the cell of the end knot. Of an axis it looks at the first two knots, at the two of the cell that is
  * found, and in hold and refuse at the last one, whatever the others are; of the tensor at the corners of the cell. Where
- * hullashlar_even_query refuses neither knots nor axes, by 7, 8 or 21, refusal, value and labels are the same: so a host
- * makes that call once, where a sheet is loaded, and this one afterwards. On any other knots the answer is still that of
- * these rules; 8 is given where, of the cell that was found on some axis, a knot is infinite or NaN, or the upper one is
- * not above the lower by a step that a double holds.
+ * hullashlar_even_profile returns 0, refusal, value and labels are those of hullashlar_even_query: so a host makes that
+ * call once, where a sheet is loaded, and this one afterwards. On any other knots the answer is still that of these rules;
+ * 8 is given where, of the cell that was found on some axis, a knot is infinite or NaN, or the upper one is not above the
+ * lower by a step that a double holds.
  * Lengths: as of hullashlar_query.
  * Written: value, labels. Refuses by 1, 2, 3, 4, 22, 7 for coordinates alone, 8, 18, 10. */
 uint64_t hullashlar_direct_query(uint64_t axes,

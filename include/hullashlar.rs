@@ -104,6 +104,12 @@ extern "C" {
         labels: *mut Count, labels_length: Count,
         uneven: *mut Count, uneven_length: Count,
     ) -> Count;
+    pub fn hullashlar_even_profile(
+        axes: Count,
+        points: *const Count, points_length: Count,
+        knots: *const f64, knots_length: Count,
+        told: *mut Count, told_length: Count,
+    ) -> Count;
     pub fn hullashlar_direct_query(
         axes: Count,
         points: *const Count, points_length: Count,

@@ -15,8 +15,8 @@ enum { SLOT = 2 };
 
 /* The calls of hullashlar.h. */
 enum call {
-    MOMENTS, CURVE, SLOPES, BUILD, CHANGE, VERIFY, QUERY, QUICK_QUERY, EVEN_QUERY, DIRECT_QUERY, QUICK_QUERIES, DIRECT_QUERIES,
-    READ, READ_EDITION_1, SHEET_TENSOR, WRITE, EXACT_INDEX, LOCATE_AXIS, LOCATE_STEP_INDEX, STEPPED, CELL_VALUE, CURSOR_NEXT, SURFACE
+    MOMENTS, CURVE, SLOPES, BUILD, CHANGE, VERIFY, QUERY, QUICK_QUERY, EVEN_QUERY, EVEN_PROFILE, DIRECT_QUERY, QUICK_QUERIES,
+    DIRECT_QUERIES, READ, READ_EDITION_1, SHEET_TENSOR, WRITE, EXACT_INDEX, LOCATE_AXIS, LOCATE_STEP_INDEX, STEPPED, CELL_VALUE, CURSOR_NEXT, SURFACE
 };
 
 static struct grid grid;
@@ -203,6 +203,17 @@ static void call_even_query(void)
     record(EVEN_QUERY, answer);
 }
 
+static void call_even_profile(void)
+{
+    fill_slots();
+    uint64_t lengths[] = {HULLASHLAR_AXES, grid.knots_length, 2};
+    disturb(lengths, COUNT(lengths));
+    const uint64_t answer =
+        MEASURED(hullashlar_even_profile(grid.axes, grid.points, lengths[0], grid.knots, lengths[1], found, lengths[2]));
+    hash_slots();
+    record(EVEN_PROFILE, answer);
+}
+
 static void call_direct_query(void)
 {
     fill_slots();
@@ -300,6 +311,7 @@ static void call_on_the_grid(void)
         call_direct_query();
         call_stepped();
     }
+    call_even_profile();
     call_quick_queries();
     call_direct_queries();
     call_verify();

@@ -87,6 +87,7 @@ static void count_the_tensor(void)
     COUNTED(hullashlar_quick_query(2, points, 4, modes, 4, knots, 2 * SIDE, tensor, 4 * SIDE * SIDE, coordinates, 2, value, 1, labels, 4));
     COUNTED(hullashlar_even_query(2, points, 4, modes, 4, knots, 2 * SIDE, tensor, 4 * SIDE * SIDE, coordinates, 2, value, 1, labels, 4,
                                   found, 2));
+    COUNTED(hullashlar_even_profile(2, points, 4, knots, 2 * SIDE, found, 2));
     COUNTED(hullashlar_direct_query(2, points, 4, modes, 4, knots, 2 * SIDE, tensor, 4 * SIDE * SIDE, coordinates, 2, value, 1, labels, 4));
     make_many();
     COUNTED(hullashlar_quick_queries(2, points, 4, modes, 4, knots, 2 * SIDE, tensor, 4 * SIDE * SIDE, many_coordinates, 2 * MANY,

@@ -35,7 +35,7 @@ REFUSALS = {
     "moments": [2, 4, 13, 5, 7, 8, 9, 10], "curve": [2, 4, 7, 8, 10], "slopes": [2, 4, 7, 8, 10],
     "build": [*GRID, 13, 5, 7, 8, 9, 10], "change": [*GRID, 13, 5, 6, 7, 8, 9, 10], "verify": [*GRID, 13, 5, 7, 8, 9, 10],
     "query": [*GRID, 22, 7, 8, 18, 10], "quick_query": [*GRID, 22, 7, 8, 18, 10], "even_query": [*GRID, 22, 7, 8, 21, 18, 10],
-    "direct_query": [*GRID, 22, 7, 8, 18, 10], "quick_queries": [*GRID, 22], "direct_queries": [*GRID, 22],
+    "even_profile": [*GRID, 7, 8, 21], "direct_query": [*GRID, 22, 7, 8, 18, 10], "quick_queries": [*GRID, 22], "direct_queries": [*GRID, 22],
     "read": [4, 11, 12, 1, 2, 13, 22, 3, 14], "read_edition_1": [4, 11, 12, 1, 2, 13, 3, 14],
     "sheet_tensor": [4, 11, 12, 1, 2, 13, 22, 3, 14, 5, 7, 8, 9, 10], "write": [*GRID, 13, 22, 7, 8, 9, 12, 23, 15],
     "exact_index": [2, 4, 6, 7, 8], "locate_axis": [2, 4, 7, 8, 10], "locate_step_index": [2, 4, 22, 7, 8],

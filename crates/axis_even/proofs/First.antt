@@ -56,3 +56,10 @@ module _ (test : ℕ → Bool) where
       go true e u f later = absurd (omega (arith, that-holds (suc d) k (omega arith) e))
       go false e true f later = later (sym (that-fails d k e) ∙ none) (ltb-true k i f)
       go false e false f later = let same : i ≡ k = omega (arith, ltb-false k i f) in rw same e
+
+  -- and where it holds of none, none is found
+  pub found-none : (d k : ℕ) → ((i : ℕ) → k ≤ i → i < k + d → test i ≡ false) → first-that test d k ≡ 0
+  unfolding first-that
+  found-none zero k none = refl
+  found-none (suc d) k none =
+      that-fails d k (none k (omega arith) (omega arith)) ∙ found-none d (suc k) (λ i l h. none i (omega arith) (omega arith))

@@ -1,5 +1,5 @@
 pub mod First
-mod Spacing
+pub mod Spacing
 mod Direct
 mod Counts
 pub mod Cells

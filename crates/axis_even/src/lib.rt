@@ -22,7 +22,7 @@ fn absolute(v: f64) -> f64
 }
 
 // How far a step may lie from the first: 2^-52 doubled ten times, which is 2^-42, of the first.
-fn tolerance(step: f64) -> f64
+pub fn tolerance(step: f64) -> f64
     ensures { λ r. ⌜ r ≡ tolerance step ⌝ }
 {
     absolute(step) * f64::from_bits(0x3D50_0000_0000_0000)
@@ -41,7 +41,7 @@ fn fails(spacing: f64, step: f64, tolerance: f64) -> bool
 
 // Whether a step may be too far from the first: whichever of the two is the larger, it is not where neither difference is above the
 // tolerance.
-fn may_fail(spacing: f64, step: f64, tolerance: f64) -> bool
+pub fn may_fail(spacing: f64, step: f64, tolerance: f64) -> bool
     ensures { λ r. ⌜ r ≡ (lt tolerance (spacing ⊖ step) || lt tolerance (step ⊖ spacing)) ⌝ }
 {
     (tolerance < spacing - step) | (tolerance < step - spacing)

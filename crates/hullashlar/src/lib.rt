@@ -1,4 +1,4 @@
-// The twenty-three calls for C, over numbers and plain slices. Each but the firmware's returns its refusal's number, 0 for none: the
+// The twenty-four calls for C, over numbers and plain slices. Each but the firmware's returns its refusal's number, 0 for none: the
 // host's own first, as c_refusals::own and the crates of exports have them, and then the call's.
 ghost use mathlib.Core.List.{[], _∷_};
 ghost use Rattle.rules.specs.Calls.{SlopesPromise};
@@ -9,6 +9,7 @@ ghost use Rattle.c_tensor.specs.TensorExports.{BuildExport, ChangeExport};
 ghost use Rattle.c_verify.specs.VerifyExports.{VerifyExport};
 ghost use Rattle.c_query.specs.QueryExports.{QueryExport, QuickQueryExport, EvenQueryExport};
 ghost use Rattle.c_direct.specs.DirectExports.{DirectQueryExport};
+ghost use Rattle.c_profile.specs.ProfileExports.{EvenProfileExport};
 ghost use Rattle.c_many.specs.ManyExports.{QuickQueriesExport, DirectQueriesExport};
 ghost use Rattle.c_sheet.specs.SheetExports.{ReadExport, ReadEdition1Export, SheetTensorExport, WriteExport};
 ghost use Rattle.c_device.specs.DeviceExports.{CellExport, NextExport};
@@ -242,6 +243,22 @@ pub extern "C" fn hullashlar_even_query(
         labels,
         uneven,
     )
+}
+
+// Whether the knots are such that the query of even axes refuses neither them nor an axis, looked at once: where 0 is returned, the direct
+// query gives that query's answers for every tensor, modes and coordinates. After 7, 8 and 21 the lowest axis that is refused and its first
+// knot or interval that is go to a slot of two. Refuses 1 2 3 4 7 8 21, in this order, and both are 0 after 1 to 4; and 4 of its own.
+#[no_mangle]
+pub extern "C" fn hullashlar_even_profile(
+    axes: usize,
+    points: &[usize],
+    knots: &[f64],
+    told: &mut [usize],
+) -> usize
+    ensures { λ r.
+        ⌜ EvenProfileExport axes (now (points .entry)) (now (knots .entry)) (now (told .entry)) r (now (told .exit)) ⌝ }
+{
+    c_profile::even_profile(axes, points, knots, told)
 }
 
 // The surface's value at the coordinates and the labels, as of the quick query, in the cell that one division finds on each axis, on any

@@ -6,15 +6,13 @@ use mathlib.Core.Logic.{_≢_}
 use mathlib.Core.Bool.{Bool, true, false, cond}
 use mathlib.Core.List.{List}
 use Prim.Native.Nat.{ℕ, _-_, _<_}
-use lib.Dec.{ltb}
 use lib.ListN.{length}
 use lib.Ieee.{Float}
-use borrow.Author.Tests.{lt-ltb}
 use Rattle.rules.specs.Numbers.{at}
 use Rattle.rules.specs.Sizes.{Grid, points, knots, place-of}
 use Rattle.rules.specs.Refusals.{some-number-refused, some-knots-refused, answer-refused}
 use Rattle.rules.specs.Outside.{some-outside-refused}
-use Rattle.rules.specs.Even.{some-uneven-refused}
+use Rattle.rules.specs.Even.{some-uneven-refused, uneven-axis, uneven-interval}
 use Rattle.rules.specs.Query.{even-query}
 use Rattle.rules.specs.Calls.{or-else, answer-of}
 use Rattle.rules.specs.EvenCalls.{nothing-told, even-labels, even-query-refusal, even-query-answer, EvenQueryPromise}
@@ -39,8 +37,10 @@ use Rattle.query_answer.specs.AnswerByWay.{refused-with, refusal-by, AnswerBy}
 use Rattle.query_answer.specs.declared.ways.Way.the-variants.{Direct}
 use Rattle.query_answer.proofs.Answering.{refused-is}
 use Rattle.query_answer.proofs.Promised.{past-4, sizes-refuse}
-use Rattle.query_even.specs.Uneven.{FirstUneven, refused-uneven}
-use Rattle.query_even.specs.declared.uneven.Uneven.{Uneven}
+use Rattle.query_even.specs.Qualities.{lacking-axis, lacking-place}
+use Rattle.query_even.specs.Lacking.{FirstLack, KnotsPass, refused-uneven}
+use Rattle.query_even.specs.declared.qualities.Quality.the-variants.{Even}
+use Rattle.query_even.specs.declared.qualities.Lack.{Lack}
 
 -- ---- another refusal than 21
 
@@ -77,10 +77,12 @@ module _ (axes : ℕ) (all : List Axis) (x tensor coordinates : List Float) (poi
 
 -- ---- they are not
 
-outcome-low : (outside refused : Bool) {refusal : ℕ} → refusal ≡ cond outside 18 (cond refused 10 0) → refusal ≢ 21
-outcome-low true refused is z = omega (arith, is, z)
-outcome-low false true is z = omega (arith, is, z)
-outcome-low false false is z = omega (arith, is, z)
+outcome-low : (numbers outside refused : Bool) {refusal : ℕ} → refusal ≡ cond numbers 7 (cond outside 18 (cond refused 10 0))
+    → refusal ≢ 21
+outcome-low true outside refused is z = omega (arith, is, z)
+outcome-low false true refused is z = omega (arith, is, z)
+outcome-low false false true is z = omega (arith, is, z)
+outcome-low false false false is z = omega (arith, is, z)
 
 module _ (axes : ℕ) (points-in modes-in : List ℕ) (x tensor coordinates : List Float)
     (fits : QueryFits axes points-in modes-in x tensor coordinates) (all : List Axis) (are : AxesOf axes points-in modes-in all) where
@@ -121,41 +123,50 @@ module _ (axes : ℕ) (points-in modes-in : List ℕ) (x tensor coordinates : Li
         → EvenQueryPromise g tensor coordinates r
     check-refuses some = refused-by g tensor coordinates check (refusal-is ∙ rw (← checked) (or-else-met check _ some)) some check-low
 
-    module _ (none : check ≡ 0) (first : Uneven) (tells : FirstUneven g first) where
-      after-check : refusal ≡ later (ltb 0 (first .interval))
-      after-check = refusal-is ∙ rw (← checked, none, tells .refused) refl
+    module _ (none : check ≡ 0) (uneven : Lack) (tells : FirstLack Even g uneven) where
+      after-check : refusal ≡ later (uneven .found)
+      after-check = refusal-is ∙ rw (← checked, none, tells .found) refl
 
       -- an axis is not even
-      pub axis-refuses : first .interval ≢ 0 → (r : EvenAnswer) → r ≡ refused-uneven (first .axis) (first .interval)
+      pub axis-refuses : uneven .found ≡ true → (r : EvenAnswer) → r ≡ refused-uneven (uneven .axis) (uneven .place)
           → EvenQueryPromise g tensor coordinates r
-      unfolding even-query-answer
+      unfolding even-query-answer uneven-axis uneven-interval lacking-axis lacking-place
       axis-refuses some r is =
-          let met : refusal ≡ 21 = after-check ∙ ap later (lt-ltb 0 (first .interval) (omega arith)) in
-          record { answer = is ∙ rw (tells .axis, tells .interval, met) refl }
+          let met : refusal ≡ 21 = after-check ∙ ap later some in
+          record { answer = is ∙ rw (tells .axis, tells .place, met) refl }
 
-      -- every axis is: the direct cell answers
-      module _ (even : first .interval ≡ 0) where
-        coordinates-finite : some-number-refused coordinates ≡ false
-        unfolding knots-and-coordinates-check
-        coordinates-finite =
-            neither (some-number-refused x) (some-number-refused coordinates)
-            (none-applies (knots-and-coordinates-rows axes (place-of points-in) x coordinates) tt (sym checked ∙ none) .0) .1
+      -- every axis is: the knots pass
+      pub knots-pass : uneven .found ≡ false → KnotsPass g
+      unfolding knots-and-coordinates-check
+      knots-pass even =
+          let rows = none-applies (knots-and-coordinates-rows axes (place-of points-in) x coordinates) tt (sym checked ∙ none) in
+          record {
+            finite = neither (some-number-refused x) (some-number-refused coordinates) (rows .0) .0;
+            rise = sym same-knots ∙ rows .1 .0;
+            even = sym (tells .found) ∙ even;
+          }
 
-        after-axes : refusal ≡ cond outside-refused 18 (cond value-refused 10 0)
-        after-axes = after-check ∙ rw even refl
+  -- where the knots pass the direct cell answers
+  module _ (pass : KnotsPass g) where
+    after-knots : refusal ≡ cond (some-number-refused coordinates) 7 (cond outside-refused 18 (cond value-refused 10 0))
+    unfolding even-query-refusal
+    after-knots =
+        past-4 axes points-in modes-in x tensor coordinates fits all are _ ∙ rw (pass .finite, pass .rise, pass .even) refl
 
-        by-direct : refusal-by Direct g tensor coordinates ≡ refusal
-        unfolding even-query
-        by-direct = rw (coordinates-finite, any-never (λ j. false) axes (λ j l. refl)) (sym after-axes)
+    by-direct : refusal-by Direct g tensor coordinates ≡ refusal
+    unfolding even-query
+    by-direct = rw (any-never (λ j. false) axes (λ j l. refl)) (sym after-knots)
 
-        pub direct-answers : (r : EvenAnswer) (answer : QueryAnswer) → AnswerBy Direct g tensor coordinates answer → r ≡ nothing-told answer
-            → EvenQueryPromise g tensor coordinates r
-        unfolding even-query-answer even-query even-labels
-        direct-answers r answer by is = record {
-          answer = is
-              ∙ ap nothing-told
-              (by .answer
-              ∙ ap (λ (number : ℕ). answer-of number (even-query g tensor (at coordinates)) (even-labels g tensor coordinates))
-              by-direct)
-              ∙ sym (answers-as-query refusal _ _ _ _ (outcome-low outside-refused value-refused after-axes));
-        }
+    pub direct-answers : (r : EvenAnswer) (answer : QueryAnswer) → AnswerBy Direct g tensor coordinates answer → r ≡ nothing-told answer
+        → EvenQueryPromise g tensor coordinates r
+    unfolding even-query-answer even-query even-labels
+    direct-answers r answer by is = record {
+      answer = is
+          ∙ ap nothing-told
+          (by .answer
+          ∙ ap (λ (number : ℕ). answer-of number (even-query g tensor (at coordinates)) (even-labels g tensor coordinates))
+          by-direct)
+          ∙ sym
+          (answers-as-query refusal _ _ _ _
+          (outcome-low (some-number-refused coordinates) outside-refused value-refused after-knots));
+    }

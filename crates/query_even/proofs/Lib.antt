@@ -1,3 +1,4 @@
-mod FirstAxis
+pub mod LackingAxis
+mod Passing
 mod Answers
 pub mod HoldIsExtend

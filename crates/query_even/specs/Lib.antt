@@ -1,1 +1,2 @@
-pub mod Uneven
+pub mod Qualities
+pub mod Lacking

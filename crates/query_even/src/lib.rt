@@ -3,13 +3,15 @@ ghost use mathlib.Core.Path.{_≡_};
 ghost use Rattle.rules.specs.EvenCalls.{nothing-told, EvenQueryPromise};
 ghost use Rattle.grid.specs.GridOfCall.{grid};
 ghost use Rattle.query_answer.specs.PointsAndModes.{QueryFits, OfAnyAxes};
-ghost use Rattle.query_even.specs.Uneven.{refused-uneven};
+ghost use Rattle.query_even.specs.Lacking.{refused-uneven};
+use crate::qualities::Quality;
 use query_answer::ways::Way;
 use rules::Axis;
 use rules::EvenAnswer;
 use rules::QueryAnswer;
 
-mod uneven; // uneven.rt: the lowest axis that is not even
+pub mod pass; // pass.rt: all knots in one pass
+pub mod qualities; // qualities.rt: what the knots must be, and where they are not
 
 // What a query answers, with axis and interval 0.
 fn nothing_told(answer: QueryAnswer) -> EvenAnswer
@@ -66,9 +68,9 @@ pub fn even_query(
     even_query_of_points(axes, &points, &modes, knots, tensor, coordinates)
 }
 
-// The same on axes of these points, with a mode's number for each, where 1 to 4 do not apply. Not a public call: that they do not is
+// The same where knots may be refused: 7, 8 and 21 are looked for one after the other. Not a public call: that 1 to 4 do not apply is
 // required, and four points and four modes.
-pub fn even_query_of_points(
+fn even_query_by_walks(
     axes: usize,
     points: &[usize],
     modes: &[u8],
@@ -85,9 +87,31 @@ pub fn even_query_of_points(
     if refusal != 0 {
         return nothing_told(query_answer::refused(refusal));
     }
-    let first = uneven::first_uneven(axes, points, knots);
-    if first.interval != 0 {
-        return refused_uneven(first.axis, first.interval);
+    let uneven = qualities::first_lacking(Quality::Even, axes, points, knots);
+    if uneven.found {
+        return refused_uneven(uneven.axis, uneven.place);
+    }
+    nothing_told(query_answer::answer(Way::Direct, axes, points, modes, knots, tensor, coordinates))
+}
+
+// The same on axes of these points, with a mode's number for each, where 1 to 4 do not apply. Where one pass over the knots finds nothing
+// that may be refused, the coordinates and the value alone decide. Not a public call: that 1 to 4 do not apply is required, and four points
+// and four modes.
+pub fn even_query_of_points(
+    axes: usize,
+    points: &[usize],
+    modes: &[u8],
+    knots: &[f64],
+    tensor: &[f64],
+    coordinates: &[f64],
+) -> EvenAnswer
+    requires { ⌜ QueryFits axes (now points) (now modes) (now knots) (now tensor) (now coordinates) ⌝ }
+    ensures { λ r.
+        ⌜ OfAnyAxes axes (now (points .entry)) (now (modes .entry)) (now (knots .entry))
+        (λ g. EvenQueryPromise g (now (tensor .entry)) (now (coordinates .entry)) r) ⌝ }
+{
+    if pass::knots_may_be_refused(axes, points, knots) {
+        return even_query_by_walks(axes, points, modes, knots, tensor, coordinates);
     }
     nothing_told(query_answer::answer(Way::Direct, axes, points, modes, knots, tensor, coordinates))
 }

@@ -1,4 +1,5 @@
-// The query of even axes: where its cell is not that of the search, what 21 tells, and hold that replaces first.
+// The query of even axes and their profile: where its cell is not that of the search, what 21 tells, and hold that replaces first; what 7
+// and 8 tell.
 use crate::lines;
 use rules::Condition;
 use rules::Mode;
@@ -50,6 +51,7 @@ fn two_axes(name: &[u8], first: f64, second: f64, coordinates: &[f64]) {
     let mut tensor = [0.0; 36];
     grids::sawtooth(&mut tensor);
     lines::print_even(name, 2, all, &knots, &tensor, coordinates);
+    lines::print_profile(name, 2, all, &knots);
 }
 
 // The lowest axis that is not even, before a coordinate outside; and knots that do not rise, before it.
@@ -61,6 +63,19 @@ fn uneven() {
     two_axes(b"steps 1 2 and 1 0 at 5 1", 3.0, 1.0, &[5.0, 1.0]);
 }
 
+// Knots that are refused: by 8 on the first axis, by 7 on the second before that, and by an interval that overflows.
+fn refused_knots() {
+    two_axes(b"steps 1 -1 and 1 2", 0.0, 3.0, &[0.25, 0.5]);
+    two_axes(b"steps 1 -1 and 1 NaN", 0.0, 0.0 / 0.0, &[0.25, 0.5]);
+    let all = grids::one(3, Condition::natural());
+    lines::print_profile(
+        b"knots -1e308 1e308 1.5e308",
+        1,
+        all,
+        &[-1e308, 1e308, 1.5e308],
+    );
+}
+
 // Five knots, of which the last two are given.
 fn five_knots(name: &[u8], fourth: f64, fifth: f64) {
     let all = grids::one(5, Condition::natural());
@@ -68,6 +83,7 @@ fn five_knots(name: &[u8], fourth: f64, fifth: f64) {
     grids::sawtooth(&mut tensor);
     let knots = [0.0, 1.0, 2.0, fourth, fifth];
     lines::print_even(name, 1, all, &knots, &tensor, &[0.5]);
+    lines::print_profile(name, 1, all, &knots);
 }
 
 // The first interval that fails; and a fourth knot of 3 and 2 to the -42, which is just within the tolerance, and the next float, which is
@@ -97,6 +113,7 @@ fn out_of_reach() {
 pub fn print_examples() {
     modes();
     uneven();
+    refused_knots();
     intervals();
     out_of_reach();
 }

@@ -58,6 +58,16 @@ pub fn print_even(
     print(b"\n");
 }
 
+// The profile of even axes, with the axis that is refused and its knot or interval.
+pub fn print_profile(name: &[u8], axes: usize, all: [Axis; 4], knots: &[f64]) {
+    let answer = query_profile::even_profile(axes, all, knots);
+    print_refusal(name, b"even profile", answer.refusal);
+    print(b" told");
+    print_count(answer.axis);
+    print_count(answer.place);
+    print(b"\n");
+}
+
 // The query, and beside it the quick one.
 pub fn print_full_and_quick(
     name: &[u8],

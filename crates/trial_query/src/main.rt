@@ -1,4 +1,4 @@
-// The worked examples of the quick query and of the query of even axes, beside the query.
+// The worked examples of the quick query, of the query of even axes and of their profile, beside the query.
 mod even; // even.rt: the examples of even axes
 mod lines; // lines.rt: the queries shown as lines
 mod quick; // quick.rt: the examples of the quick query

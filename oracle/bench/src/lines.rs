@@ -44,6 +44,7 @@ pub fn lines(inputs: &Inputs) -> Vec<Line<'_>> {
     lines.extend(queries(inputs));
     lines.extend(quick_queries(inputs));
     lines.extend(even_queries(inputs));
+    lines.extend(even_profiles(inputs));
     lines.extend(changes(inputs));
     lines.extend(verifications(inputs));
     lines.extend([
@@ -180,6 +181,39 @@ fn even_queries(inputs: &Inputs) -> [Line<'_>; 5] {
         held_against: OUR_QUERY,
         ours: our_even_query(surface),
         other: our_query(surface),
+    })
+}
+
+/// Each beside our query of even axes on the same knots, which looks at them as well.
+fn even_profiles(inputs: &Inputs) -> [Line<'_>; 5] {
+    let names = [
+        "even profile, 16",
+        "even profile, one axis of 256",
+        "even profile, 16×16",
+        "even profile, 6×6×6",
+        "even profile, 4×4×4×4",
+    ];
+    let mut names = names.into_iter();
+    inputs.even_surfaces().map(|surface| Line {
+        name: names.next().expect("every even surface has a name"),
+        held_against: "our even query",
+        ours: our_even_profile(surface),
+        other: without_its_value(our_even_query(surface)),
+    })
+}
+
+fn without_its_value(mut work: Work<'_>) -> Work<'_> {
+    Box::new(move || {
+        black_box(work());
+        0.0
+    })
+}
+
+fn our_even_profile(surface: &Surface) -> Work<'_> {
+    Box::new(move || {
+        let looked = hullashlar::even_profile(&surface.axes, &surface.knots);
+        looked.expect(ACCEPTED);
+        0.0
     })
 }
 

@@ -13,7 +13,7 @@ pub struct Stack {
 }
 
 /// The stack of every exported call.
-pub fn stacks() -> [Stack; 23] {
+pub fn stacks() -> [Stack; 24] {
     let shapes = shapes();
     let all: Vec<&Shape> = shapes.iter().collect();
     let lines = lines(&shapes);
@@ -24,6 +24,7 @@ pub fn stacks() -> [Stack; 23] {
         deepest("hullashlar_query", &all, query),
         deepest("hullashlar_quick_query", &all, quick_query),
         deepest("hullashlar_even_query", &all, even_query),
+        deepest("hullashlar_even_profile", &all, even_profile),
         deepest("hullashlar_direct_query", &all, direct_query),
         deepest("hullashlar_quick_queries", &all, quick_queries),
         deepest("hullashlar_direct_queries", &all, direct_queries),
@@ -119,6 +120,14 @@ fn even_query(shape: &Shape) -> usize {
     asked(&shape.even(), |shape, tensor, point| {
         hullashlar::even_query(&shape.axes, &shape.knots, tensor, point).is_ok()
     })
+}
+
+/// On even axes, and on those that are not.
+fn even_profile(shape: &Shape) -> usize {
+    let even = shape.even();
+    let looked =
+        |shape: &Shape| bytes_of(|| hullashlar::even_profile(&shape.axes, &shape.knots).is_ok());
+    looked(&even).max(looked(shape))
 }
 
 fn direct_query(shape: &Shape) -> usize {

@@ -34,6 +34,7 @@ pub enum Call {
     QuickQueries,
     DirectQueries,
     SheetText,
+    EvenProfile,
 }
 
 impl Call {
@@ -73,6 +74,7 @@ impl Call {
                 "labels",
                 "uneven",
             ],
+            Call::EvenProfile => &["axes", "points", "knots", "told"],
             Call::QuickQueries | Call::DirectQueries => &[
                 "axes",
                 "points",
@@ -137,6 +139,7 @@ impl Call {
                 &["point_values", "point_labels", "refusals"]
             }
             Call::EvenQuery => &["value", "labels", "uneven"],
+            Call::EvenProfile => &["told"],
             Call::Read => &[
                 "knots", "samples", "axes", "points", "kinds", "values", "modes", "edition",
             ],

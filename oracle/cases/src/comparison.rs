@@ -37,6 +37,9 @@ const CALLS_IN_TWO_ORDERS: u64 = 8;
 /// A quick query and a full one, or a direct one and one of even axes.
 const CALLS_BESIDE: u64 = 2;
 
+/// The same two, and a look at the knots.
+const CALLS_PROFILED: u64 = 3;
+
 /// A surface is asked at some 60 places, by 6 calls each.
 const CALLS_AT_EVERY_PLACE: u64 = 360;
 
@@ -51,6 +54,7 @@ impl Plan {
             Kind::ChangeList => calls.div_ceil(CHANGES_IN_A_LIST),
             Kind::EitherOrder => calls.div_ceil(CALLS_IN_TWO_ORDERS),
             Kind::QuickBesideFull | Kind::DirectBesideEven => calls.div_ceil(CALLS_BESIDE),
+            Kind::ProfiledDirect => calls.div_ceil(CALLS_PROFILED),
             Kind::AtEveryPlace => calls.div_ceil(CALLS_AT_EVERY_PLACE),
             _ => calls,
         });
@@ -151,6 +155,7 @@ fn compare_kind(subject: &dyn Calls, plan: &Plan, kind: Kind, report: &mut Repor
             }
             Kind::QuickBesideFull => run.quick_beside_full(random),
             Kind::DirectBesideEven => run.direct_beside_even(random),
+            Kind::ProfiledDirect => run.profiled_direct(random),
             Kind::AtEveryPlace => run.at_every_place(random),
             Kind::Write => run.write_and_read(random),
             Kind::WrittenBack => run.written_back(plan.seed, number),
@@ -268,6 +273,37 @@ impl Run<'_> {
             .any(|told| !matches!(told, 0 | 75 | 76));
         if accepted && (refusal != even_refusal || told || !same_arguments(&beside, &direct)) {
             let title = format!("{}, held against the query of even axes", self.title);
+            self.report.difference(self.kind, || {
+                describe(&title, &given, (even_refusal, &beside), (refusal, &direct))
+            });
+        }
+    }
+
+    /// Knots looked at once, a query of even axes and a direct one. Where the first refuses nothing the two answers are
+    /// equal; and by 7, 8 or 21 it refuses what the query of even axes does, unless that meets 7 in a coordinate before.
+    fn profiled_direct(&mut self, random: &mut Random) {
+        let given = generator::profiled(random);
+        let lent = ["axes", "points", "knots"].map(|name| given.argument(name).clone());
+        let mut lent = lent.to_vec();
+        lent.push(Argument::of_numbers(&[75, 76]));
+        let looked = Case::new(Call::EvenProfile, lent);
+        let asked = Case::new(Call::DirectQuery, given.arguments[..8].to_vec());
+        let (profile, _, _) = self.compare(&looked);
+        let (even_refusal, even, _) = self.compare(&given);
+        let (refusal, direct, _) = self.compare(&asked);
+        let beside = Case::new(Call::DirectQuery, even.arguments[..8].to_vec());
+        let same = refusal == even_refusal && same_arguments(&beside, &direct);
+        let mut coordinates = given.argument("coordinates").floats().iter();
+        let coordinate = coordinates.any(|number| !number.is_finite());
+        let holds = match (profile, even_refusal) {
+            // Slices that the profile is not lent.
+            (_, 4 | 22) => true,
+            (0, _) => same,
+            (8 | 21, 7) => coordinate,
+            _ => profile == even_refusal,
+        };
+        if !holds {
+            let title = format!("{}, the knots refused by {profile}", self.title);
             self.report.difference(self.kind, || {
                 describe(&title, &given, (even_refusal, &beside), (refusal, &direct))
             });

@@ -92,6 +92,17 @@ const OF_QUERY: &[Fault] = &[
     overflow,
 ];
 
+/// The faults of the profile of even axes.
+const OF_PROFILE: &[Fault] = &[
+    axes_off,
+    points_off,
+    shape_too_large,
+    length_off,
+    number_not_finite,
+    knots_not_rising,
+    step_overflowing,
+];
+
 /// The faults of a quick query, apart from those of its knots.
 const OF_QUICK_QUERY: &[Fault] = &[
     axes_off,
@@ -163,6 +174,7 @@ fn faults_of(call: Call) -> &'static [Fault] {
         Call::QuickQuery | Call::DirectQuery => OF_QUICK_QUERY,
         Call::QuickQueries | Call::DirectQueries => OF_QUICK_QUERY,
         Call::EvenQuery => OF_QUERY,
+        Call::EvenProfile => OF_PROFILE,
         Call::Write => OF_WRITE,
         Call::Read | Call::ReadEdition1 => &[length_off],
         Call::Surface => OF_SURFACE,
@@ -272,6 +284,7 @@ fn fixed_length_off(random: &mut Random, case: &mut Case) {
         "point_values",
         "point_labels",
         "refusals",
+        "told",
     ];
     let mut fixed = present(case, &names);
     fixed.retain(|name| !matches!(case.argument(name), Argument::Number(_)));

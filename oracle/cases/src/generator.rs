@@ -18,7 +18,8 @@ use reading::{CURVE_SCRATCH, EDITIONS, EXTEND, LONGEST_TENSOR};
 
 /// The kinds of cases: the worked examples, one kind for each call, lists
 /// of changes, the sheets of up to two bytes, changes in two orders, quick queries
-/// beside full ones, direct queries beside those of even axes, the reader's sheets written back, surfaces asked at every place, the
+/// beside full ones, direct queries beside those of even axes, and these where the knots were looked at once, the
+/// reader's sheets written back, surfaces asked at every place, the
 /// device's program, streams of sheets for the report, sheets for the program that prints
 /// their tensors, and slices of no items.
 #[derive(Debug, Clone, Copy, PartialEq, Eq)]
@@ -58,10 +59,12 @@ pub enum Kind {
     DirectQueries,
     SheetText,
     EmptySlice,
+    EvenProfile,
+    ProfiledDirect,
 }
 
 /// Every kind, in the order of the report.
-pub const KINDS: [Kind; 35] = [
+pub const KINDS: [Kind; 37] = [
     Kind::Example,
     Kind::Moments,
     Kind::Curve,
@@ -97,6 +100,8 @@ pub const KINDS: [Kind; 35] = [
     Kind::DirectQueries,
     Kind::SheetText,
     Kind::EmptySlice,
+    Kind::EvenProfile,
+    Kind::ProfiledDirect,
 ];
 
 impl Kind {
@@ -138,6 +143,8 @@ impl Kind {
             Kind::DirectQueries => "direct_queries",
             Kind::SheetText => "sheet_text",
             Kind::EmptySlice => "empty_slice",
+            Kind::EvenProfile => "even_profile",
+            Kind::ProfiledDirect => "profiled_direct",
         }
     }
 
@@ -185,6 +192,8 @@ impl Kind {
             Kind::QuickQueries | Kind::DirectQueries => &[1, 2, 3, 4, 22],
             Kind::SheetText => &[1, 2, 3, 7, 8, 9, 10, 11, 12, 13, 14, 22],
             Kind::EmptySlice => &[4, 5, 11, 15, 20],
+            Kind::EvenProfile => &[1, 2, 3, 4, 7, 8, 21],
+            Kind::ProfiledDirect => &[1, 2, 3, 4, 7, 8, 10, 18, 21, 22],
         }
     }
 
@@ -204,6 +213,7 @@ impl Kind {
                 | Kind::DirectBesideEven
                 | Kind::SheetText
                 | Kind::EmptySlice
+                | Kind::ProfiledDirect
         )
     }
 }
@@ -237,6 +247,9 @@ const FAULTY_BESIDE_DAMAGE: usize = 60;
 /// Axes that are not even are refused without another fault.
 const FAULTY_EVEN: usize = 18;
 
+/// Of knots that are looked at once fewer are refused without a fault.
+const FAULTY_PROFILE: usize = 30;
+
 /// Of many points a fault of a coordinate refuses that point alone.
 const FAULTY_MANY: usize = 44;
 
@@ -269,6 +282,7 @@ pub fn single(kind: Kind, number: usize, random: &mut Random) -> Case {
         Kind::DirectQuery => direct_query(random),
         Kind::QuickQueries => queries(random, Call::QuickQueries),
         Kind::DirectQueries => queries(random, Call::DirectQueries),
+        Kind::EvenProfile => even_profile(random),
         Kind::Example
         | Kind::ChangeList
         | Kind::ShortSheet
@@ -280,7 +294,8 @@ pub fn single(kind: Kind, number: usize, random: &mut Random) -> Case {
         | Kind::Report
         | Kind::DirectBesideEven
         | Kind::SheetText
-        | Kind::EmptySlice => {
+        | Kind::EmptySlice
+        | Kind::ProfiledDirect => {
             panic!("not one call: {}", kind.name())
         }
     }
@@ -428,6 +443,30 @@ pub fn direct_beside_even(random: &mut Random) -> Case {
     let point = Point::generate(random, &grid);
     let mut case = lending::direct_query(random, &grid, &tensor, &point);
     if random.percent(FAULTY_BESIDE) {
+        spoil(random, &mut case);
+    }
+    case
+}
+
+/// Knots of which most are even, to be looked at once; of those that are not, on some axes two things are refused.
+fn even_profile(random: &mut Random) -> Case {
+    let mut grid = Grid::generate(random);
+    make_even(random, &mut grid);
+    let mut case = lending::even_profile(&grid);
+    if random.percent(FAULTY_PROFILE) {
+        spoil(random, &mut case);
+    }
+    case
+}
+
+/// A query on axes of which most are even and some are refused by their knots, to be asked directly where they are not.
+pub fn profiled(random: &mut Random) -> Case {
+    let mut grid = Grid::generate(random);
+    make_even(random, &mut grid);
+    let tensor = tensor(random, &grid);
+    let point = Point::generate(random, &grid);
+    let mut case = lending::even_query(random, &grid, &tensor, &point);
+    if random.percent(FAULTY_EVEN) {
         spoil(random, &mut case);
     }
     case

@@ -158,6 +158,17 @@ pub fn even_query(random: &mut Random, grid: &Grid, tensor: &[f64], point: &Poin
     Case::new(Call::EvenQuery, arguments)
 }
 
+/// The knots of a grid to be looked at once.
+pub fn even_profile(grid: &Grid) -> Case {
+    let arguments = vec![
+        Argument::Number(grid.axes),
+        Argument::of_numbers(&grid.points),
+        Argument::of_floats(&grid.knots),
+        Argument::of_numbers(&[75, 76]),
+    ];
+    Case::new(Call::EvenProfile, arguments)
+}
+
 /// A direct query of a tensor on a grid.
 pub fn direct_query(random: &mut Random, grid: &Grid, tensor: &[f64], point: &Point) -> Case {
     let arguments = query_arguments(random, grid, tensor, point);

@@ -16,6 +16,7 @@ impl Calls for Reading {
             Call::Query | Call::QuickQuery | Call::DirectQuery => of_a_tensor(case.call, arguments),
             Call::QuickQueries | Call::DirectQueries => at_many_points(case.call, arguments),
             Call::EvenQuery => on_even_axes(arguments),
+            Call::EvenProfile => of_knots(arguments),
             Call::Read | Call::ReadEdition1 | Call::SheetTensor | Call::Write => {
                 on_a_sheet(case.call, arguments)
             }
@@ -113,6 +114,14 @@ fn at_many_points(call: Call, arguments: &mut [Argument]) -> usize {
         axes.number(), points.numbers(), modes.bytes(), knots.floats(), tensor.floats(),
         coordinates.floats(), values.floats_mut(), labels.numbers_mut(), refusals.numbers_mut(),
     )
+}
+
+fn of_knots(arguments: &mut [Argument]) -> usize {
+    let [axes, points, knots, told] = arguments else {
+        panic!("a case has the arguments of its call")
+    };
+    let (axes, points, knots) = (axes.number(), points.numbers(), knots.floats());
+    reading::even_profile(axes, points, knots, told.numbers_mut())
 }
 
 #[rustfmt::skip]

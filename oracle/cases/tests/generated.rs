@@ -41,6 +41,7 @@ fn about_sixty_in_a_hundred_are_accepted() {
                 | Kind::ReadEdition1
                 | Kind::DirectBesideEven
                 | Kind::EmptySlice
+                | Kind::ProfiledDirect
         )
     };
     let (mut calls, mut accepted) = (0, 0);

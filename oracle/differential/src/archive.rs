@@ -41,6 +41,7 @@ impl Calls for Archive {
             Call::Surface => surface(arguments),
             Call::ReportText => report_text(arguments),
             Call::Verify => verify(arguments),
+            Call::EvenProfile => even_profile(arguments),
             Call::DirectQuery => direct_query(arguments),
             Call::QuickQueries => quick_queries(arguments),
             Call::DirectQueries => direct_queries(arguments),
@@ -237,6 +238,22 @@ fn even_query(arguments: &mut [Argument]) -> usize {
             axes.number(), points.0, points.1, modes.0, modes.1, knots.0, knots.1,
             tensor.0, tensor.1, coordinates.0, coordinates.1, value.0, value.1,
             labels.0, labels.1, uneven.0, uneven.1,
+        )
+    }
+}
+
+#[rustfmt::skip]
+fn even_profile(arguments: &mut [Argument]) -> usize {
+    let [axes, points, knots, told] = arguments else {
+        panic!("a case has the arguments of its call")
+    };
+    let points = lent(points.numbers());
+    let knots = lent(knots.floats());
+    let told = lent_mut(told.numbers_mut());
+    // SAFETY: each pair is a live slice; no two of them overlap.
+    unsafe {
+        hullashlar_even_profile(
+            axes.number(), points.0, points.1, knots.0, knots.1, told.0, told.1,
         )
     }
 }

@@ -154,6 +154,13 @@ impl Grid {
         );
         ((refusal, value[0], labels), uneven)
     }
+
+    /// The refusal of the profile of even axes, and the axis and the place that it tells.
+    pub fn even_profile(&self) -> (usize, [usize; 2]) {
+        let mut told = [0; 2];
+        let refusal = reading::even_profile(self.axes, &self.points, &self.knots, &mut told);
+        (refusal, told)
+    }
 }
 
 /// The refusal of a query, its value and its labels.

@@ -1,4 +1,4 @@
-//! The quick query and the query of even axes as lines, and the worked examples of them.
+//! The quick query, the query of even axes and their profile as lines, and the worked examples of them.
 
 use crate::grid::{Ends, Grid};
 use crate::line::{counts, patterns};
@@ -44,6 +44,15 @@ impl Surface {
         let (refusal, value, labels) = answer;
         let (value, labels, uneven) = (patterns(&[value]), counts(&labels), counts(&uneven));
         format!("{name}: even query {refusal}{value} labels{labels} uneven{uneven}\n")
+    }
+
+    fn profile(&self, name: &str) -> String {
+        let (refusal, told) = self.grid.even_profile();
+        format!("{name}: even profile {refusal} told{}\n", counts(&told))
+    }
+
+    fn even_and_profile(&self, name: &str, point: &[f64]) -> String {
+        self.even(name, point) + &self.profile(name)
     }
 
     fn full_and_quick(&self, name: &str, point: &[f64]) -> String {
@@ -115,12 +124,14 @@ fn even_modes() -> String {
     lines
 }
 
+/// Two axes of three knots, of which the last are given.
+fn two_axes(name: &str, last: [f64; 2], point: [f64; 2]) -> String {
+    let knots: [&[f64]; 2] = [&[0.0, 1.0, last[0]], &[0.0, 1.0, last[1]]];
+    Surface::new(&knots, REFUSE, sawtooth(36)).even_and_profile(name, &point)
+}
+
 /// What 21 tells, and what comes before it and after it.
 fn uneven() -> String {
-    let two_axes = |name, last: [f64; 2], point: [f64; 2]| {
-        let knots: [&[f64]; 2] = [&[0.0, 1.0, last[0]], &[0.0, 1.0, last[1]]];
-        Surface::new(&knots, REFUSE, sawtooth(36)).even(name, &point)
-    };
     let outside = [5.0, 1.0];
     [
         two_axes("steps 1 1 and 1 1", [2.0, 2.0], [0.25, 1.75]),
@@ -132,10 +143,22 @@ fn uneven() -> String {
     .concat()
 }
 
+/// What 8 tells, and 7 before it; and an interval that overflows.
+fn refused_knots() -> String {
+    let inside = [0.25, 0.5];
+    [
+        two_axes("steps 1 -1 and 1 2", [0.0, 3.0], inside),
+        two_axes("steps 1 -1 and 1 NaN", [0.0, f64::NAN], inside),
+        Surface::line(&[-1e308, 1e308, 1.5e308]).profile("knots -1e308 1e308 1.5e308"),
+    ]
+    .concat()
+}
+
 /// The first interval that fails, and the tolerance, which is 2 to the -42 for a step of 1.
 fn intervals() -> String {
-    let five_knots =
-        |name, fourth, fifth| Surface::line(&[0.0, 1.0, 2.0, fourth, fifth]).even(name, &[0.5]);
+    let five_knots = |name, fourth, fifth| {
+        Surface::line(&[0.0, 1.0, 2.0, fourth, fifth]).even_and_profile(name, &[0.5])
+    };
     let last_even = 3.0 + 2f64.powi(-42);
     [
         five_knots("steps 1 1 2 4", 4.0, 8.0),
@@ -161,6 +184,7 @@ pub fn examples() -> String {
         two_knots(),
         even_modes(),
         uneven(),
+        refused_knots(),
         intervals(),
         out_of_reach(),
     ]

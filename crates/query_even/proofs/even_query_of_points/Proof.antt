@@ -1,65 +1,31 @@
--- On any axes with these points and modes the first that applies decides: 7 or 8 (`check-refuses`), 21 with the uneven axis and its
--- interval (`axis-refuses`), else what the cell by division answers, 18 and 10 among it (`direct-answers`).
-use Rattle.query_even.proofs.Answers.{check-refuses, axis-refuses, direct-answers}
+-- Where the pass over the knots leaves its flag down, they pass 7, 8 and 21, and the cell by division answers (`direct-answers`); else the
+-- three are looked for one after the other.
+use Rattle.query_even.proofs.Answers.{direct-answers}
 use borrow.Author.Needs.{needs}
 use Rattle.query_even.proofs.even_query_of_points.Statement.{statement}
 use Rattle.query_even.proofs.even_query_of_points.Tie as tie
 
-knots-and-coordinates-refusal-requires : tie.Need-knots-and-coordinates-refusal-requires
-knots-and-coordinates-refusal-requires c κs =
+knots-may-be-refused-requires : tie.Need-knots-may-be-refused-requires
+knots-may-be-refused-requires c κs =
     let fits = c .before .before .before .before .before .pre .search-fits in (fits .in-range, fits .four-points, fits .knots-exact)
-
-returns : tie.Need-returns
-returns c =
-    let at-refused = c .before in
-    let at-if1 = at-refused .before in
-    let at-knots-and-coordinates-refusal = at-if1 .before in
-    let start = at-knots-and-coordinates-refusal .before .before .before .before .before .before in
-    λ all are.
-    check-refuses _ _ _ _ _ _ (start .pre) all are _ (at-knots-and-coordinates-refusal .knots-and-coordinates-refusal .ensures)
-    (at-if1 .if1 .taken) _ _ (at-refused .refused .ensures) (c .nothing-told .ensures)
-
-first-uneven-requires : tie.Need-first-uneven-requires
-first-uneven-requires c κs =
-    let start = c .before .before .before .before .before .before .before in
-    let fits = start .pre .search-fits in (fits .in-range, fits .four-points, fits .knots-exact)
 
 returns-2 : tie.Need-returns-2
 returns-2 c =
-    let at-if2 = c .before in
-    let at-first-uneven = at-if2 .before .before in
-    let at-if1 = at-first-uneven .before in
-    let at-knots-and-coordinates-refusal = at-if1 .before in
-    let start = at-knots-and-coordinates-refusal .before .before .before .before .before .before in
-    λ all are.
-    axis-refuses _ _ _ _ _ _ (start .pre) all are _ (at-knots-and-coordinates-refusal .knots-and-coordinates-refusal .ensures)
-    (at-if1 .if1 .left) _ (at-first-uneven .first-uneven .ensures all (are .points-are)) (at-if2 .if2 .taken) _
-    (c .refused-uneven .ensures)
-
-returns-3 : tie.Need-returns-3
-returns-3 c =
     let at-answer = c .before in
-    let at-if2 = at-answer .before in
-    let at-first-uneven = at-if2 .before .before in
-    let at-if1 = at-first-uneven .before in
-    let at-knots-and-coordinates-refusal = at-if1 .before in
-    let start = at-knots-and-coordinates-refusal .before .before .before .before .before .before in
+    let at-if1 = at-answer .before in
+    let at-pass = at-if1 .before in
+    let start = at-pass .before .before .before .before .before .before in
     λ all are.
-    direct-answers _ _ _ _ _ _ (start .pre) all are _ (at-knots-and-coordinates-refusal .knots-and-coordinates-refusal .ensures)
-    (at-if1 .if1 .left) _ (at-first-uneven .first-uneven .ensures all (are .points-are)) (at-if2 .if2 .left) _ _
-    (at-answer .answer .ensures all are) (c .nothing-told2 .ensures)
+    direct-answers _ _ _ _ _ _ (start .pre) all are (at-pass .knots-may-be-refused .ensures (at-if1 .if1 .left) all (are .points-are)) _ _
+    (at-answer .answer .ensures all are) (c .nothing-told .ensures)
 
 pub even-query-of-points-spec : {M : Type 1} → statement M
 even-query-of-points-spec =
     tie.close
     (tie.spec
-    knots-and-coordinates-refusal-requires
+    knots-may-be-refused-requires
+    (λ c κs. search needs)
+    (λ c. search needs)
     (λ c κs. search needs)
     (λ c κs. search needs)
-    returns
-    first-uneven-requires
-    (λ c κs. search needs)
-    returns-2
-    (λ c κs. search needs)
-    (λ c κs. search needs)
-    returns-3)
+    returns-2)

@@ -1,0 +1,2 @@
+mod Exported
+pub mod Unique

@@ -1,0 +1,2 @@
+pub mod ProfileCalls
+pub mod Profiled
