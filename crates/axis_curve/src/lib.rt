@@ -109,7 +109,7 @@ fn work_moments(
     let n = knots.len();
     base_numbers::copy(&mut scratch[0..n], samples);
     axis_moments::compute_m(scratch, knots, condition);
-    if base_numbers::any_of_many_not_finite(&scratch[MOMENTS..MOMENTS + n]) {
+    if base_numbers::any_not_finite(&scratch[MOMENTS..MOMENTS + n]) {
         base_numbers::clear(scratch);
         return 10;
     }

@@ -1,4 +1,3 @@
 pub mod Scan
 pub mod Front
 pub mod Finite
-pub mod Quarters

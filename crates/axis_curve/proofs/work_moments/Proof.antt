@@ -10,7 +10,7 @@ use Rattle.axis_curve.proofs.work_moments.Statement.{statement}
 use Rattle.axis_curve.proofs.work_moments.Tie as tie
 use Rattle.axis_curve.proofs.work_moments.Reads as reads
 use Rattle.axis_curve.proofs.work_moments.Lts as lts
-use Rattle.base_numbers.proofs.any_of_many_not_finite.Reads as any-of-many-not-finite-reads
+use Rattle.base_numbers.proofs.any_not_finite.Reads as any-not-finite-reads
 use Rattle.base_numbers.proofs.clear.Reads as clear-reads
 use Rattle.base_numbers.proofs.copy.Reads as copy-reads
 use Rattle.axis_moments.proofs.compute_m.Reads as compute-m-reads
@@ -30,20 +30,20 @@ copy-requires c κs = search needs
 compute-m-requires : tie.Need-compute-m-requires
 compute-m-requires c κs = search needs
 
-add-any-of-many-not-finite : tie.Need-add-any-of-many-not-finite
-add-any-of-many-not-finite c = search needs
+add-any-not-finite : tie.Need-add-any-not-finite
+add-any-not-finite c = search needs
 
-sub-any-of-many-not-finite : tie.Need-sub-any-of-many-not-finite
-sub-any-of-many-not-finite c = search needs
+sub-any-not-finite : tie.Need-sub-any-not-finite
+sub-any-not-finite c = search needs
 
-part-any-of-many-not-finite-start : tie.Need-part-any-of-many-not-finite-start
-part-any-of-many-not-finite-start c = search needs
+part-any-not-finite-start : tie.Need-part-any-not-finite-start
+part-any-not-finite-start c = search needs
 
-part-any-of-many-not-finite-end : tie.Need-part-any-of-many-not-finite-end
-part-any-of-many-not-finite-end c = search needs
+part-any-not-finite-end : tie.Need-part-any-not-finite-end
+part-any-not-finite-end c = search needs
 
-any-of-many-not-finite-requires : tie.Need-any-of-many-not-finite-requires
-any-of-many-not-finite-requires c κs = search needs
+any-not-finite-requires : tie.Need-any-not-finite-requires
+any-not-finite-requires c κs = search needs
 
 clear-requires : tie.Need-clear-requires
 clear-requires c κs = search needs
@@ -55,15 +55,15 @@ returns : tie.Need-returns
 returns c =
     let at-clear = c .before .before in
     let at-if1 = at-clear .before .before in
-    let at-any-of-many-not-finite = at-if1 .before in
-    let at-compute-m = at-any-of-many-not-finite .before .before .before .before .before in
+    let at-any-not-finite = at-if1 .before in
+    let at-compute-m = at-any-not-finite .before .before .before .before .before in
     let at-copy = at-compute-m .before .before .before .before in
     let start = at-copy .before .before .before .before .before .before in
     let a = start .args in
     let n = 1792 + length (a .knots .now) - 1792 in
     moments-bad (a .knots .now) (a .samples .now) (a .condition) (a .moments .now) (a .scratch .now) _ _ (start .pre .0 .0)
     (start .pre .1 .0) (rw (at-copy .copy .ensures, sub-zero)) (at-compute-m .compute-m .ensures)
-    n (omega arith) _ (at-any-of-many-not-finite .any-of-many-not-finite .ensures) (at-if1 .if1 .taken) _ (at-clear .clear .ensures)
+    n (omega arith) _ (at-any-not-finite .any-not-finite .ensures) (at-if1 .if1 .taken) _ (at-clear .clear .ensures)
 
 add-copy : tie.Need-add-copy
 add-copy c = search needs
@@ -94,15 +94,15 @@ returns-2 c =
     let at-clear2 = c .before .before in
     let at-copy2 = at-clear2 .before .before .before .before in
     let at-if1 = at-copy2 .before .before .before .before in
-    let at-any-of-many-not-finite = at-if1 .before in
-    let at-compute-m = at-any-of-many-not-finite .before .before .before .before .before in
+    let at-any-not-finite = at-if1 .before in
+    let at-compute-m = at-any-not-finite .before .before .before .before .before in
     let at-copy = at-compute-m .before .before .before .before in
     let start = at-copy .before .before .before .before .before .before in
     let a = start .args in
     let n = 1792 + length (a .knots .now) - 1792 in
     moments-good (a .knots .now) (a .samples .now) (a .condition) (a .moments .now) (a .scratch .now) _ _ (start .pre .0 .0)
     (start .pre .1 .0) (rw (at-copy .copy .ensures, sub-zero)) (at-compute-m .compute-m .ensures)
-    n (omega arith) _ (at-any-of-many-not-finite .any-of-many-not-finite .ensures) (at-if1 .if1 .left) n (omega arith) _ _
+    n (omega arith) _ (at-any-not-finite .any-not-finite .ensures) (at-if1 .if1 .left) n (omega arith) _ _
     (at-copy2 .copy2 .ensures)
     (at-clear2 .clear2 .ensures)
 
@@ -115,11 +115,11 @@ work-moments-spec =
     part-copy-end
     copy-requires
     compute-m-requires
-    add-any-of-many-not-finite
-    sub-any-of-many-not-finite
-    part-any-of-many-not-finite-start
-    part-any-of-many-not-finite-end
-    any-of-many-not-finite-requires
+    add-any-not-finite
+    sub-any-not-finite
+    part-any-not-finite-start
+    part-any-not-finite-end
+    any-not-finite-requires
     clear-requires
     same-length
     returns
