@@ -2,8 +2,8 @@
 use mathlib.Core.Path.{refl}
 use Rattle.grid_checks.proofs.Rows.{first, second}
 use borrow.Author.Needs.{needs}
-use Rattle.query_many.proofs.lengths.points_lengths_refused.Statement.{statement}
-use Rattle.query_many.proofs.lengths.points_lengths_refused.Tie as tie
+use Rattle.many_points.proofs.lengths.points_lengths_refused.Statement.{statement}
+use Rattle.many_points.proofs.lengths.points_lengths_refused.Tie as tie
 
 returns : tie.Need-returns
 returns c = first _ (first _ (c .before .parts-refused .ensures) (c .if1 .taken)) refl

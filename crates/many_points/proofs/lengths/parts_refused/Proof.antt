@@ -1,8 +1,8 @@
 -- Another quotient than the count is another length; with this one the remainder tells (`same-quotient`).
 use borrow.Author.Needs.{needs}
-use Rattle.query_many.proofs.Parts.{other-quotient, same-quotient}
-use Rattle.query_many.proofs.lengths.parts_refused.Statement.{statement}
-use Rattle.query_many.proofs.lengths.parts_refused.Tie as tie
+use Rattle.many_points.proofs.Parts.{other-quotient, same-quotient}
+use Rattle.many_points.proofs.lengths.parts_refused.Statement.{statement}
+use Rattle.many_points.proofs.lengths.parts_refused.Tie as tie
 
 returns : tie.Need-returns
 returns c = other-quotient _ _ _ (c .before .pre) (c .if1 .taken)

@@ -7,15 +7,12 @@ use lib.Ieee.{Float}
 use Rattle.rules.specs.Numbers.{at}
 use Rattle.rules.specs.Sizes.{most-axes, place-of}
 use Rattle.rules.specs.declared.QueryAnswer.{QueryAnswer}
-use Rattle.query_answer.specs.PointsAndModes.{QueryFits}
-use Rattle.query_answer.specs.AnswerByWay.{AnswerAmong}
-use Rattle.query_answer.specs.declared.ways.Way.{Way}
-use Rattle.query_many.specs.ManyCalls.{point-of}
+use Rattle.many_points.specs.ManyPoints.{point-of}
 
--- what refusals 1 to 4 leave of so many points: each can be answered, and each has its places
-pub record PointsFit (axes : ℕ) (points modes : List ℕ) (knots tensor coordinates values : List Float) (labels : List ℕ) (count : ℕ) : Type
+-- what refusals 1 to 4 leave of so many points: each fits, so it can be answered, and each has its places
+pub record PointsFit (Fits : List Float → Type 0) (axes : ℕ) (coordinates values : List Float) (labels : List ℕ) (count : ℕ) : Type
     0 where
-  pub fits : (j : ℕ) → j < count → QueryFits axes points modes knots tensor (point-of axes coordinates j)
+  pub fits : (j : ℕ) → j < count → Fits (point-of axes coordinates j)
   pub coordinates-exact : length coordinates ≡ axes * count
   pub values-exact : length values ≡ count
   pub labels-exact : length labels ≡ most-axes * count
@@ -33,11 +30,12 @@ pub record AnswerPut (values : List Float) (labels refusals : List ℕ) (j : ℕ
   pub its-labels : labels-later ≡ with-labels labels (most-axes * j) (given .labels)
   pub refusal : refusals-later ≡ set refusals j (given .refusal)
 
-module _ (way : Way) (axes : ℕ) (points modes : List ℕ) (knots tensor coordinates : List Float) where
-  -- the answer by this way stands in the places of point j
+-- by what an answer at a point is
+module _ (Is : List Float → QueryAnswer → Type 0) (axes : ℕ) (coordinates : List Float) where
+  -- the answer at point j stands in its places
   pub record StandsAt (values : List Float) (labels refusals : List ℕ) (j : ℕ) : Type 0 where
     pub given : QueryAnswer
-    pub among : AnswerAmong way axes points modes knots tensor (point-of axes coordinates j) given
+    pub is : Is (point-of axes coordinates j) given
     pub value : at values j ≡ given .value
     pub its-labels : (i : ℕ) → i < most-axes → place-of labels (most-axes * j + i) ≡ place-of (given .labels) i
     pub refusal : place-of refusals j ≡ given .refusal

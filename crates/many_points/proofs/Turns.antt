@@ -1,7 +1,7 @@
--- The turns of `answer_each`, on plain lists: the points before the one that the loop has come to have their answers in their places, and
--- the coordinates of that one begin at `begin`.
+-- The turns of a loop that answers point after point, on plain lists: the points before the one that it has come to have their answers in
+-- their places, and the coordinates of that one begin at `begin`.
 use native.Mathlib.Omega.{arith}
-use mathlib.Core.Path.{_≡_, refl, subst, _∙_}
+use mathlib.Core.Path.{_≡_, refl, sym, subst, _∙_}
 use mathlib.Core.List.{List}
 use Prim.Native.Nat.{ℕ, suc, _+_, _-_, _*_, _<_, _≤_}
 use native.Mathlib.Nat.{add-sub-cancel-left, mul-le-mul-left, mul-suc, mul-zero}
@@ -11,25 +11,23 @@ use lib.Seq.{getD-set-same, getD-set-other}
 use lib.Ieee.{Float, nan}
 use borrow.Author.Count.{below-more}
 use Rattle.rules.specs.declared.QueryAnswer.{QueryAnswer}
-use Rattle.query_answer.specs.PointsAndModes.{QueryFits}
-use Rattle.query_answer.specs.AnswerByWay.{AnswerAmong}
-use Rattle.query_answer.specs.declared.ways.Way.{Way}
-use Rattle.query_many.specs.ManyCalls.{point-of}
-use Rattle.query_many.specs.PointByPoint.{PointsFit, AnswerPut, StandsAt, FirstStand}
-use Rattle.query_many.proofs.Labels.{labels-below, as-many-labels, labels-there}
+use Rattle.many_points.specs.ManyPoints.{point-of}
+use Rattle.many_points.specs.PointByPoint.{PointsFit, AnswerPut, StandsAt, FirstStand}
+use Rattle.many_points.proofs.Labels.{labels-below, as-many-labels, labels-there}
 
-module _ (way : Way) (axes : ℕ) (points modes : List ℕ) (knots tensor coordinates : List Float) (count : ℕ) where
+-- by what a point's coordinates must be, and what an answer at them is
+module _ (Fits : List Float → Type 0) (Is : List Float → QueryAnswer → Type 0) (axes : ℕ) (coordinates : List Float) (count : ℕ) where
   -- the loop has come to point j
   pub record Turn (values : List Float) (labels refusals : List ℕ) (begin j : ℕ) : Type 0 where
-    pub fit : (k : ℕ) → k < count → QueryFits axes points modes knots tensor (point-of axes coordinates k)
+    pub fit : (k : ℕ) → k < count → Fits (point-of axes coordinates k)
     pub exact : length coordinates ≡ axes * count
     pub begun : begin ≡ axes * j
     pub most : j ≤ count
-    pub stand : FirstStand way axes points modes knots tensor coordinates count j values labels refusals
+    pub stand : FirstStand Is axes coordinates count j values labels refusals
 
   pub turn-first :
       (values : List Float) (labels refusals : List ℕ) → length refusals ≡ count
-      → PointsFit axes points modes knots tensor coordinates values labels count → Turn values labels refusals 0 0
+      → PointsFit Fits axes coordinates values labels count → Turn values labels refusals 0 0
   turn-first values labels refusals as-many given = record {
     fit = given .fits;
     exact = given .coordinates-exact;
@@ -52,8 +50,8 @@ module _ (way : Way) (axes : ℕ) (points modes : List ℕ) (knots tensor coordi
     part-is : take (begin + axes - begin) (drop begin coordinates) ≡ point-of axes coordinates j
     part-is = rw (add-sub-cancel-left, turn .begun) refl
 
-    pub part-fits : QueryFits axes points modes knots tensor (take (begin + axes - begin) (drop begin coordinates))
-    part-fits = rw part-is (turn .fit j lt)
+    pub part-fits : Fits (take (begin + axes - begin) (drop begin coordinates))
+    part-fits = subst Fits (sym part-is) (turn .fit j lt)
 
     pub room : (j < length refusals) × (length values ≡ length refusals) × (length labels ≡ 4 * length refusals)
     room =
@@ -70,25 +68,25 @@ module _ (way : Way) (axes : ℕ) (points modes : List ℕ) (knots tensor coordi
     abbrev pub lent : List Float
     lent = take (begin + axes - begin) (drop begin coordinates)
 
-    module _ (given : QueryAnswer) (among : AnswerAmong way axes points modes knots tensor lent given)
+    module _ (given : QueryAnswer) (its : Is lent given)
         (values-later : List Float) (labels-later refusals-later : List ℕ)
         (put : AnswerPut values labels refusals j given values-later labels-later refusals-later) where
-      here : StandsAt way axes points modes knots tensor coordinates values-later labels-later refusals-later j
+      here : StandsAt Is axes coordinates values-later labels-later refusals-later j
       here = record {
         given = given;
-        among = subst (λ (p : List Float). AnswerAmong way axes points modes knots tensor p given) part-is among;
+        is = subst (λ (p : List Float). Is p given) part-is its;
         value = rw (put .value) (getD-set-same values j (given .value) nan (omega (arith, turn .stand .values-count)));
         its-labels = λ i few.
             rw (put .its-labels) (labels-there labels (4 * j) (given .labels) (omega (arith, turn .stand .labels-count)) i few);
         refusal = rw (put .refusal) (getD-set-same refusals j (given .refusal) 0 (omega (arith, turn .stand .refusals-count)));
       }
 
-      before : (k : ℕ) → k < j → StandsAt way axes points modes knots tensor coordinates values-later labels-later refusals-later k
+      before : (k : ℕ) → k < j → StandsAt Is axes coordinates values-later labels-later refusals-later k
       before k below =
           let old = turn .stand .each k below in
           record {
             given = old .given;
-            among = old .among;
+            is = old .is;
             value = rw (put .value) (getD-set-other values j k (given .value) nan (λ e. omega arith) ∙ old .value);
             its-labels = λ i few.
                 rw (put .its-labels) (labels-below labels (4 * j) (given .labels) (4 * k + i) (omega arith) ∙ old .its-labels i few);
@@ -111,7 +109,7 @@ module _ (way : Way) (axes : ℕ) (points modes : List ℕ) (knots tensor coordi
 
   pub turn-last :
       (values : List Float) (labels refusals : List ℕ) (begin j : ℕ) → Turn values labels refusals begin j → count ≤ j
-      → FirstStand way axes points modes knots tensor coordinates count count values labels refusals
+      → FirstStand Is axes coordinates count count values labels refusals
   turn-last values labels refusals begin j turn all =
-      subst (λ (k : ℕ). FirstStand way axes points modes knots tensor coordinates count k values labels refusals)
+      subst (λ (k : ℕ). FirstStand Is axes coordinates count k values labels refusals)
       (let e : j ≡ count = omega (arith, turn .most) in e) (turn .stand)

@@ -2,7 +2,7 @@
 ghost use mathlib.Core.Path.{_≡_};
 ghost use Prim.Native.Nat.{_*_, _≤_};
 ghost use Rattle.rules.specs.Refusals.{length-refused};
-ghost use Rattle.query_many.specs.ManyCalls.{points-lengths-refused};
+ghost use Rattle.many_points.specs.ManyPoints.{points-lengths-refused};
 use grid_checks::lengths;
 
 // Whether a length is not that of so many parts of one size: by division, since the product may be more than a number holds. Not a public

@@ -6,7 +6,7 @@ use Prim.Native.Nat.{ℕ, zero, suc, _+_, _<_}
 use lib.ListN.{length, set, length-set}
 use lib.Seq.{getD-set-same, getD-set-other}
 use Rattle.rules.specs.Sizes.{place-of}
-use Rattle.query_many.specs.PointByPoint.{with-labels}
+use Rattle.many_points.specs.PointByPoint.{with-labels}
 
 module _ (labels : List ℕ) (place : ℕ) (found : List ℕ) where
   -- the labels with one of the four in its place, with two, with three

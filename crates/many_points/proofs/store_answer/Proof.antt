@@ -3,8 +3,8 @@ use mathlib.Core.Path.{refl}
 use native.Mathlib.Omega.{arith}
 use lib.ListN.{length-set}
 use borrow.Author.Needs.{needs}
-use Rattle.query_many.proofs.each.store_answer.Statement.{statement}
-use Rattle.query_many.proofs.each.store_answer.Tie as tie
+use Rattle.many_points.proofs.store_answer.Statement.{statement}
+use Rattle.many_points.proofs.store_answer.Tie as tie
 
 returns : tie.Need-returns
 returns c = record { value = refl; its-labels = refl; refusal = refl }
