@@ -90,15 +90,17 @@ module _ (axes : ℕ) (n : ℕ → ℕ) (x coordinates : List Float) where
         its;
   }
 
-  -- what the rows of sizes and lengths leave where none of them applies
-  sizes-known :
-      (samples : ℕ) → NoneApplies (stepped-sizes-rows axes n (length x) samples (length coordinates))
-      → InRange axes n × (product-below n axes * 2 ^ axes ≤ most-in-a-tensor) × (length x ≡ sum-below n axes)
-      × (samples ≡ product-below n axes) × (length coordinates ≡ axes)
-  sizes-known samples rows =
+-- what the rows of sizes and lengths leave where none of them applies
+module _ (axes : ℕ) (n : ℕ → ℕ) (knots samples coordinates : ℕ) where
+  abbrev SizesKnown : Type 0
+  SizesKnown =
+      InRange axes n × (product-below n axes * 2 ^ axes ≤ most-in-a-tensor) × (knots ≡ sum-below n axes)
+      × (samples ≡ product-below n axes) × (coordinates ≡ axes)
+
+  sizes-known : NoneApplies (stepped-sizes-rows axes n knots samples coordinates) → SizesKnown
+  sizes-known rows =
       let few = axes-few {axes = axes} (rows .0) in
-      let lengths =
-      exact-3 (length x) (sum-below n axes) samples (product-below n axes) (length coordinates) axes (rows .1 .1 .1 .0) in (
+      let lengths = exact-3 knots (sum-below n axes) samples (product-below n axes) coordinates axes (rows .1 .1 .1 .0) in (
         in-range (few .0) (few .1) (rows .1 .0),
         ltb-false most-in-a-tensor (product-below n axes * 2 ^ axes) (rows .1 .1 .0),
         lengths .0,
@@ -106,13 +108,9 @@ module _ (axes : ℕ) (n : ℕ → ℕ) (x coordinates : List Float) where
         lengths .2,
       )
 
-  pub sizes-accepted :
-      (samples : ℕ) → stepped-sizes-check axes n (length x) samples (length coordinates) ≡ 0
-      → InRange axes n × (product-below n axes * 2 ^ axes ≤ most-in-a-tensor) × (length x ≡ sum-below n axes)
-      × (samples ≡ product-below n axes) × (length coordinates ≡ axes)
+  pub sizes-accepted : stepped-sizes-check axes n knots samples coordinates ≡ 0 → SizesKnown
   unfolding stepped-sizes-check
-  sizes-accepted samples none =
-      sizes-known samples (none-applies (stepped-sizes-rows axes n (length x) samples (length coordinates)) tt none)
+  sizes-accepted none = sizes-known (none-applies (stepped-sizes-rows axes n knots samples coordinates) tt none)
 
 pub stepped-given :
     (g : Grid) (samples coordinates : List Float) → stepped-check g samples coordinates ≡ 0 → SteppedGiven g samples coordinates
@@ -121,7 +119,7 @@ stepped-given g samples coordinates e =
     let none = none-applies (stepped-rows g samples coordinates) tt e in
     let later = none .1 .1 .1 .1 in
     let sizes =
-    sizes-known (g .axes) (points g) (g .flat-knots) coordinates (length samples)
+    sizes-known (g .axes) (points g) (length (g .flat-knots)) (length samples) (length coordinates)
     (none .0, (none .1 .0, (none .1 .1 .0, (none .1 .1 .1 .0, tt)))) in
     record {
       axes-given =

@@ -168,7 +168,7 @@ module _ (axes : ℕ) (points-in : List ℕ) (x samples coordinates : List Float
     pub axes-accepted : AxesGiven axes (place-of points-in) x coordinates
     unfolding knots-and-coordinates-check
     axes-accepted =
-        let sizes = sizes-accepted axes (place-of points-in) x coordinates (length samples) (fits .none-refused) in
+        let sizes = sizes-accepted axes (place-of points-in) (length x) (length samples) (length coordinates) (fits .none-refused) in
         let rows = none-applies (knots-and-coordinates-rows axes (place-of points-in) x samples) tt (sym checked ∙ none) in
         axes-given axes (place-of points-in) x coordinates (sizes .0) (sizes .1) (sizes .2) (sizes .4) (rows .1 .0) finite
 
@@ -176,5 +176,5 @@ module _ (axes : ℕ) (points-in : List ℕ) (x samples coordinates : List Float
         (number : ℕ) (indices : List ℕ) → OnAxes (place-of points-in) x directions coordinates axes number indices
         → number < length samples
     place-within number indices on =
-        let sizes = sizes-accepted axes (place-of points-in) x coordinates (length samples) (fits .none-refused) in
+        let sizes = sizes-accepted axes (place-of points-in) (length x) (length samples) (length coordinates) (fits .none-refused) in
         omega (arith, on .numbered, sizes .3, flat-below (place-of points-in) axes (place-of indices) (on .inside))

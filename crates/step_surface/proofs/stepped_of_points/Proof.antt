@@ -8,7 +8,7 @@ use Rattle.step_surface.proofs.stepped_of_points.Tie as tie
 knots-and-coordinates-refusal-requires : tie.Need-knots-and-coordinates-refusal-requires
 knots-and-coordinates-refusal-requires c κs =
     let start = c .before .before .before .before in
-    let sizes = sizes-accepted _ _ (start .args .knots .now) (start .args .coordinates .now) _ (start .pre .none-refused) in
+    let sizes = sizes-accepted _ _ _ _ _ (start .pre .none-refused) in
     (sizes .0, start .pre .four-points, sizes .2)
 
 pub stepped-of-points-spec : {M : Type 1} → statement M
