@@ -12,7 +12,8 @@ use Rattle.grid.specs.GridOfCall.{InRange}
 use Rattle.step_checks.specs.StepChecks.{stepped-sizes-check}
 use Rattle.step_checks.proofs.Accepted.{sizes-accepted}
 use Rattle.step_surface.specs.OnPoints.{SurfaceFits, OfAnyPoints}
-use Rattle.step_many.specs.ManySteps.{indices-as-labels, SteppedAmong}
+use Rattle.step_many.specs.ManySteps.{indices-as-labels}
+use Rattle.step_many.specs.StepByStep.{SteppedAmong}
 
 module _ (axes : ℕ) (points : List ℕ) (x samples : List Float) (four : length points ≡ 4)
     (none : stepped-sizes-check axes (place-of points) (length x) (length samples) axes ≡ 0) where

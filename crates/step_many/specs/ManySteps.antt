@@ -1,6 +1,5 @@
 -- The chapter ManySteps of docs/RULES.md: the stepped surface at many points by one call. The four indices of a point stand where a query
 -- has its labels.
-use mathlib.Core.Path.{_≡_}
 use mathlib.Core.Bool.{cond, _||_}
 use mathlib.Core.List.{List}
 use Prim.Native.Nat.{ℕ}
@@ -13,16 +12,10 @@ use Rattle.rules.specs.declared.QueryAnswer.{QueryAnswer}
 use Rattle.rules.specs.declared.StepDirection.{StepDirection}
 use Rattle.rules.specs.declared.SteppedAnswer.{SteppedAnswer}
 use Rattle.many_points.specs.ManyPoints.{point-of, points-lengths-refused, EachAnswered}
-use Rattle.step_surface.specs.OnPoints.{OfAnyPoints}
 
 -- an answer of the stepped surface with its indices as labels
 abbrev pub indices-as-labels : SteppedAnswer → QueryAnswer
 indices-as-labels given = record { refusal = given .refusal; value = given .value; labels = given .indices }
-
--- such an answer at a point, whichever axes have these points
-abbrev pub SteppedAmong : ℕ → List ℕ → List StepDirection → List Float → List Float → List Float → QueryAnswer → Type 0
-SteppedAmong axes points directions x samples coordinates r =
-    OfAnyPoints axes points x (λ g. r ≡ indices-as-labels (stepped-answer g directions samples coordinates))
 
 module _ (g : Grid) (directions : List StepDirection) (samples coordinates values-lent : List Float) (indices-lent refusals-lent : List ℕ)
   where

@@ -5,7 +5,7 @@ ghost use lib.ListN.{length};
 ghost use Rattle.rules.specs.Sizes.{place-of};
 ghost use Rattle.many_points.specs.PointByPoint.{PointsFit, FirstStand};
 ghost use Rattle.step_checks.specs.StepChecks.{stepped-sizes-check};
-ghost use Rattle.step_many.specs.ManySteps.{SteppedAmong};
+ghost use Rattle.step_many.specs.StepByStep.{SteppedAmong};
 use many_points::store_answer;
 use rules::QueryAnswer;
 use rules::StepDirection;

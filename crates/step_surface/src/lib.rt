@@ -28,7 +28,8 @@ fn steps_on_axes(
 ) -> Steps
     requires { ⌜ (length (now points) ≡ 4) × AxesGiven axes (place-of (now points)) (now knots) (now coordinates) ⌝ }
     ensures { λ r.
-        ⌜ OnAxes (place-of (now (points .entry))) (now (knots .entry)) directions (now (coordinates .entry)) axes (r .number) (r .indices) ⌝ }
+        ⌜ OnAxes (place-of (now (points .entry))) (now (knots .entry)) directions (now (coordinates .entry)) axes (r .number)
+        (r .indices) ⌝ }
 {
     let mut indices = [0; 4];
     let mut number = 0;

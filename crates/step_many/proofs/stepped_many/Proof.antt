@@ -3,7 +3,7 @@
 use mathlib.Core.Path.{_≡_, refl, sym, ap, _∙_}
 use Prim.Native.Nat.{ℕ}
 use Rattle.many_points.proofs.Answered.{none-written, all-written}
-use Rattle.step_many.specs.ManySteps.{SteppedAmong}
+use Rattle.step_many.specs.StepByStep.{SteppedAmong}
 use Rattle.step_many.proofs.Refusing.{refusal-met, both-pass}
 use borrow.Author.Needs.{needs}
 use Rattle.step_many.proofs.stepped_many.Statement.{statement}

@@ -11,7 +11,8 @@ returns : tie.Need-returns
 returns c =
     let at-refusal = c .before .before in
     let at-points-of = at-refusal .before .before in
-    sizes-refuse _ _ _ _ _ _ (at-points-of .points-of .result) (at-points-of .points-of .ensures) (at-refusal .stepped-sizes-refusal .ensures) (c .before .if1 .taken) _
+    sizes-refuse _ _ _ _ _ _ (at-points-of .points-of .result) (at-points-of .points-of .ensures)
+    (at-refusal .stepped-sizes-refusal .ensures) (c .before .if1 .taken) _
     (c .refused .ensures)
 
 stepped-of-points-requires : tie.Need-stepped-of-points-requires

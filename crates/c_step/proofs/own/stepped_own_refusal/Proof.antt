@@ -74,7 +74,8 @@ some-direction-refused-requires c κs =
     let at-slots = at-if2 .before in
     let s = start (at-slots .before) .args in (
       range (at-slots .before) .few-axes,
-      directions-four (s .numbers .now) (s .value .now) (s .indices .now) (sym (at-slots .stepped-slots-refused .ensures) ∙ at-if2 .if2 .left),
+      directions-four (s .numbers .now) (s .value .now) (s .indices .now)
+          (sym (at-slots .stepped-slots-refused .ensures) ∙ at-if2 .if2 .left),
     )
 
 returns-4 : tie.Need-returns-4

@@ -7,7 +7,7 @@ use Prim.Native.Nat.{_-_}
 use lib.ListN.{length}
 use lib.Ieee.{Float}
 use Rattle.many_points.proofs.Turns.{Turn, turn-first, end-within, part-fits, room, fewer-left, turn-next, turn-last}
-use Rattle.step_many.specs.ManySteps.{SteppedAmong}
+use Rattle.step_many.specs.StepByStep.{SteppedAmong}
 use Rattle.step_many.proofs.Stepping.{knots-fit, point-fits, among}
 use borrow.Author.Needs.{needs}
 use Rattle.step_many.proofs.each.answer_each.Statement.{statement}
