@@ -50,6 +50,7 @@ ERRORS = [
     "query_direct/found_cell_not_looked_at",
     "query_many/coordinates_of_the_first_point",
     "query_profile/place_of_8_told_after_7",
+    "step_many/refusal_of_knots_for_each_point",
 ]
 
 # The errors that the report of a stream of many sheets is to find.

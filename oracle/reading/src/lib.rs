@@ -26,7 +26,7 @@ mod write;
 pub use curve::{curve, moments, slopes};
 pub use device::{cell_value, cursor_next, device_text};
 pub use ends::{conditions, Condition};
-pub use many::{direct_queries, quick_queries};
+pub use many::{direct_queries, quick_queries, stepped_many};
 pub use modes::{EXTEND, HOLD, REFUSE};
 pub use profile::even_profile;
 pub use query::{direct_query, even_query, query, quick_query};
