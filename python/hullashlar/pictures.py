@@ -83,6 +83,11 @@ class Scene:
         *_, last = self.surfaces.values()
         return last
 
+    @property
+    def changed_point(self) -> list[float]:
+        """Where the changed sample stands."""
+        return point_of(self.last, self.changed or ())
+
     def name(self, axis: int) -> str:
         """What an axis is called."""
         return self.names[axis] if axis < len(self.names) else f"axis {axis}"
@@ -92,6 +97,11 @@ class Scene:
         """What the surface is called."""
         axes = len(self.last.axes)
         return self.names[axes] if axes < len(self.names) else "value"
+
+
+def point_of(surface: Surface, place: tuple[int, ...]) -> list[float]:
+    """The knots of a place."""
+    return [float(row[index]) for row, index in zip(surface.axes, place, strict=True)]
 
 
 def stale_surface(surface: Surface, place: tuple[int, ...], value: float) -> Surface:
@@ -112,7 +122,7 @@ def scene_of(surface: Surface, changed: Changed | None, stale: bool, at: Sequenc
         surfaces = {"before": surface, "after": after}
         if stale:
             surfaces = {"before": surface, "stale": stale_surface(surface, place, value), "after": after}
-    point = list(at) if at else [float(row[index]) for row, index in zip(surface.axes, place, strict=True)]
+    point = list(at) if at else point_of(surface, place)
     if len(point) != len(surface.axes):
         raise ValueError(f"a point of {len(point)} coordinates, but there are {len(surface.axes)} axes")
     return Scene(surfaces, point, names or [], place if changed else None)
@@ -231,7 +241,7 @@ def clearance(spots: Values, taken: Values) -> Values:
 def lines_drawn(scene: Scene) -> Values:
     """Points of a map that are drawn over: the ring of a change, or the lines of the cuts."""
     if scene.changed:
-        return np.array([scene.point])
+        return np.array([scene.changed_point])
     rows = [np.linspace(row[0], row[-1], MAP) for row in scene.last.axes]
     return np.concatenate([line_through(scene.point, axis, row) for axis, row in enumerate(rows)])
 
@@ -282,7 +292,7 @@ def finish_map(scene: Scene, panel: Panel, title: str, ring: str) -> None:
     panel.plot(across.ravel(), up.ravel(), "o", color=INK, markersize=3.2, markeredgecolor="white", markeredgewidth=0.6,
                clip_on=False, zorder=5)
     if scene.changed:
-        panel.plot(*scene.point, "o", color="none", markeredgecolor=ring, markersize=10, markeredgewidth=1.8)
+        panel.plot(*scene.changed_point, "o", color="none", markeredgecolor=ring, markersize=10, markeredgewidth=1.8)
     panel.grid(False)
     panel.set_title(title)
     panel.set_xlabel(scene.name(0))

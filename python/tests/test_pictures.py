@@ -63,12 +63,22 @@ def test_no_letters_are_cut_off_or_overlap(axes, changed, stale):
 
 
 @pytest.mark.filterwarnings("error")
-def test_flat_and_huge_surfaces_are_drawn(tmp_path):
-    row = np.arange(4.0)
-    for samples in (np.zeros((4, 4)), 1e300 * np.random.default_rng(1).normal(size=(4, 4))):
-        surface = Surface([row, row], samples)
-        draw_surface(surface, tmp_path / "map.png")
-        draw_surface(surface, tmp_path / "change.png", ((1, 1), float(samples[1, 1])), stale=True)
+@pytest.mark.parametrize("axes", SIZES)
+def test_flat_and_huge_surfaces_are_drawn(tmp_path, axes):
+    rows, shape, place = [np.arange(4.0)] * axes, (4,) * axes, (1,) * axes
+    for samples in (np.zeros(shape), 1e300 * np.random.default_rng(1).normal(size=shape)):
+        surface = Surface(rows, samples)
+        draw_surface(surface, tmp_path / "picture.png")
+        draw_surface(surface, tmp_path / "change.png", (place, float(samples[place])), stale=True)
+
+
+def test_the_ring_is_around_the_changed_sample():
+    scene = scene_of(surface_of(2), ((1, 2), 3.0), False, [0.5, 0.5], None)
+    draw_scene(scene)
+    for panel in scene.figure.axes:
+        if panel.get_title() in ("before", "after", "after − before"):
+            ring = panel.get_lines()[-1]
+            assert (ring.get_markerfacecolor(), *ring.get_xydata().tolist()) == ("none", [1.0, 2.0])
 
 
 def test_the_same_picture_has_the_same_bytes(tmp_path):
