@@ -27,7 +27,7 @@ CASES = --moments 60000 --curve 60000 --slopes 60000 --build 50000 --change 5000
     --direct_query 200000 --direct_beside_even 120000 --quick_queries 100000 --direct_queries 100000 \
     --read 240000 --read_edition_1 60000 --sheet_tensor 120000 --short_sheet 65793 \
     --write 240000 --written_back 120000 --surface 120000 \
-    --exact_index 60000 --locate_axis 60000 --locate_step_index 100000 --stepped 100000 \
+    --exact_index 60000 --locate_axis 60000 --locate_step_index 100000 --stepped 100000 --stepped_many 100000 \
     --cell_value 8520460 --cursor_next 200000 --device_curve 4101 --report 24000 --sheet_text 4000 --empty_slice 40000
 SEED = 20240917
 

@@ -486,6 +486,36 @@ pub fn stepped(
     outcome(refusal, (value[0], indices))
 }
 
+/// The stepped surface at many points, one after the other: a value, four indices and a refusal for each.
+#[rustfmt::skip]
+#[allow(clippy::too_many_arguments)]
+pub fn stepped_many(
+    axes: &Axes,
+    directions: [u8; 4],
+    knots: &[f64],
+    samples: &[f64],
+    coordinates: &[f64],
+    values: &mut [f64],
+    indices: &mut [usize],
+    refusals: &mut [usize],
+) -> Result<(), Refusal> {
+    // SAFETY: each pointer goes with the length of a live slice, and no two slices overlap.
+    let refusal = unsafe {
+        hullashlar_stepped_many(
+            axes.count,
+            axes.points.as_ptr(), axes.points.len(),
+            directions.as_ptr(), directions.len(),
+            knots.as_ptr(), knots.len(),
+            samples.as_ptr(), samples.len(),
+            coordinates.as_ptr(), coordinates.len(),
+            values.as_mut_ptr(), values.len(),
+            indices.as_mut_ptr(), indices.len(),
+            refusals.as_mut_ptr(), refusals.len(),
+        )
+    };
+    outcome(refusal, ())
+}
+
 /// The value of a cell in whole numbers, p0, p1, d0, d1, at position k of 256.
 #[rustfmt::skip]
 pub fn cell_value(cell: [i32; 4], k: i32) -> Result<i32, Refusal> {

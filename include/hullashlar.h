@@ -1,7 +1,7 @@
-/* Hullashlar for C: its twenty-three calls over numbers and plain slices. docs/RULES.md says what each computes and when
- * it refuses, in its chapters Calls, Verify, DirectCalls, ManyCalls, EvenCalls, StepCalls, Read, SheetTensor, Write,
- * SheetSurface, DeviceCell, DeviceCurve, OwnRefusals, CurveExports, TensorExports, VerifyExports, QueryExports,
- * DirectExports, ManyExports, SheetExports, StepExports and DeviceExports.
+/* Hullashlar for C: its twenty-four calls over numbers and plain slices. docs/RULES.md says what each computes and when
+ * it refuses, in its chapters Calls, Verify, DirectCalls, ManyPoints, ManyCalls, EvenCalls, StepCalls, ManySteps, Read,
+ * SheetTensor, Write, SheetSurface, DeviceCell, DeviceCurve, OwnRefusals, CurveExports, TensorExports, VerifyExports,
+ * QueryExports, DirectExports, ManyExports, SheetExports, StepExports, ManyStepExports and DeviceExports.
  *
  * The machine. One header serves every processor: what is counted has 64 bits on each of them, and a size_t is no part
  * of any call. The archive target/staticlib/libhullashlar.a is code for x86-64, with SSE2 and the System V calling
@@ -455,6 +455,23 @@ uint64_t hullashlar_stepped(uint64_t axes,
                             const double *coordinates, uint64_t coordinates_length,
                             double *value, uint64_t value_length,
                             uint64_t *indices, uint64_t indices_length);
+
+/* Many points of one stepped surface by one call: as many as refusals are lent, none too. The coordinates of a point stand
+ * after those of the point before it, and so do its four indices. The value, the indices and the refusal of each point are
+ * those that hullashlar_stepped gives for that point alone, 0 for none; a point that is refused stops nothing. Knots and
+ * samples are looked at once: where they are refused, by 7 or 8, each point is.
+ * Lengths: points and directions 4; knots as many as the points of all axes together; samples one for each place of the
+ * grid; for n refusals coordinates axes * n; values n; indices 4 * n.
+ * Written: values, indices, refusals. Refuses by 1, 2, 3, 4, 22, and then nothing is written. */
+uint64_t hullashlar_stepped_many(uint64_t axes,
+                                 const uint64_t *points, uint64_t points_length,
+                                 const uint8_t *directions, uint64_t directions_length,
+                                 const double *knots, uint64_t knots_length,
+                                 const double *samples, uint64_t samples_length,
+                                 const double *coordinates, uint64_t coordinates_length,
+                                 double *values, uint64_t values_length,
+                                 uint64_t *indices, uint64_t indices_length,
+                                 uint64_t *refusals, uint64_t refusals_length);
 
 /* ---- For aids without a float unit: whole numbers alone, in the calls and inside them. ---- */
 

@@ -213,6 +213,17 @@ extern "C" {
         value: *mut f64, value_length: Count,
         indices: *mut Count, indices_length: Count,
     ) -> Count;
+    pub fn hullashlar_stepped_many(
+        axes: Count,
+        points: *const Count, points_length: Count,
+        directions: *const u8, directions_length: Count,
+        knots: *const f64, knots_length: Count,
+        samples: *const f64, samples_length: Count,
+        coordinates: *const f64, coordinates_length: Count,
+        values: *mut f64, values_length: Count,
+        indices: *mut Count, indices_length: Count,
+        refusals: *mut Count, refusals_length: Count,
+    ) -> Count;
     pub fn hullashlar_cell_value(
         p0: i32,
         p1: i32,

@@ -49,6 +49,7 @@ ERRORS = [
     "tensor_verify/values_in_place_of_bits",
     "query_direct/found_cell_not_looked_at",
     "query_many/coordinates_of_the_first_point",
+    "step_many/refusal_of_knots_for_each_point",
 ]
 
 # The errors that the report of a stream of many sheets is to find.

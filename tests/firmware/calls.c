@@ -16,7 +16,7 @@ enum { SLOT = 2 };
 /* The calls of hullashlar.h. */
 enum call {
     MOMENTS, CURVE, SLOPES, BUILD, CHANGE, VERIFY, QUERY, QUICK_QUERY, EVEN_QUERY, DIRECT_QUERY, QUICK_QUERIES, DIRECT_QUERIES,
-    READ, READ_EDITION_1, SHEET_TENSOR, WRITE, EXACT_INDEX, LOCATE_AXIS, LOCATE_STEP_INDEX, STEPPED, CELL_VALUE, CURSOR_NEXT, SURFACE
+    READ, READ_EDITION_1, SHEET_TENSOR, WRITE, EXACT_INDEX, LOCATE_AXIS, LOCATE_STEP_INDEX, STEPPED, STEPPED_MANY, CELL_VALUE, CURSOR_NEXT, SURFACE
 };
 
 static struct grid grid;
@@ -288,6 +288,18 @@ static void call_direct_queries(void)
     record_many(DIRECT_QUERIES, answer, count);
 }
 
+static void call_stepped_many(void)
+{
+    const uint64_t count = make_many();
+    uint64_t lengths[] = {HULLASHLAR_AXES, HULLASHLAR_AXES, grid.knots_length, grid.samples_length, grid.axes * count, count,
+                          HULLASHLAR_AXES * count, count};
+    disturb(lengths, COUNT(lengths));
+    const uint64_t answer = MEASURED(hullashlar_stepped_many(
+        grid.axes, grid.points, lengths[0], grid.directions, lengths[1], grid.knots, lengths[2], grid.samples, lengths[3],
+        many.coordinates, lengths[4], many.values, lengths[5], many.labels, lengths[6], many.refusals, lengths[7]));
+    record_many(STEPPED_MANY, answer, count);
+}
+
 static void call_on_the_grid(void)
 {
     make_grid(&grid);
@@ -302,6 +314,7 @@ static void call_on_the_grid(void)
     }
     call_quick_queries();
     call_direct_queries();
+    call_stepped_many();
     call_verify();
     call_change();
     call_query();

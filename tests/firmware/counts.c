@@ -121,6 +121,10 @@ static void count_steps(void)
     COUNTED(hullashlar_locate_axis(SIDE, knots, SIDE, coordinates[0], found, 2, value, 1));
     COUNTED(hullashlar_locate_step_index(SIDE, knots, SIDE, 1, coordinates[0], slot, 1));
     COUNTED(hullashlar_stepped(2, points, 4, directions, 4, knots, 2 * SIDE, samples, SIDE * SIDE, coordinates, 2, value, 1, labels, 4));
+    make_many();
+    COUNTED(hullashlar_stepped_many(2, points, 4, directions, 4, knots, 2 * SIDE, samples, SIDE * SIDE, many_coordinates, 2 * MANY,
+                                    many_values, MANY, many_labels, HULLASHLAR_AXES * MANY, many_refusals, MANY));
+    hold_accepted();
 }
 
 static void count_the_device_and_the_surface(void)

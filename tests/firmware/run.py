@@ -39,13 +39,13 @@ REFUSALS = {
     "read": [4, 11, 12, 1, 2, 13, 22, 3, 14], "read_edition_1": [4, 11, 12, 1, 2, 13, 3, 14],
     "sheet_tensor": [4, 11, 12, 1, 2, 13, 22, 3, 14, 5, 7, 8, 9, 10], "write": [*GRID, 13, 22, 7, 8, 9, 12, 23, 15],
     "exact_index": [2, 4, 6, 7, 8], "locate_axis": [2, 4, 7, 8, 10], "locate_step_index": [2, 4, 22, 7, 8],
-    "stepped": [*GRID, 22, 7, 8], "cell_value": [4, 19, 20], "cursor_next": [4, 19, 20],
+    "stepped": [*GRID, 22, 7, 8], "stepped_many": [*GRID, 22], "cell_value": [4, 19, 20], "cursor_next": [4, 19, 20],
     "surface": [11, 12, 1, 2, 13, 22, 3, 14, 16, 17, 7, 8, 9, 10, 18],
 }
 REFUSED_PATTERN = 0x7FF8000000000000
 
 # By what a point must have been refused at least once where many are asked by one call, beside being accepted.
-OF_POINTS = {"quick_queries": [7, 8, 18, 10], "direct_queries": [7, 8, 18, 10]}
+OF_POINTS = {"quick_queries": [7, 8, 18, 10], "direct_queries": [7, 8, 18, 10], "stepped_many": [7, 8]}
 
 
 def names():

@@ -9,8 +9,9 @@ use Rattle.rules.specs.Sizes.{knots-length, tensor-length}
 use Rattle.grid_checks.proofs.Rows.{NoneApplies, none-applies, axes-few, in-range, exact, exact-3}
 use Rattle.c_refusals.specs.OwnRefusals.{sizes-given}
 use Rattle.c_refusals.proofs.Rows.{refused-given, sum-given, product-given}
-use Rattle.query_many.specs.PointByPoint.{PointsFit}
-use Rattle.query_many.proofs.Refusing.{coordinates-of-point}
+use Rattle.many_points.specs.PointByPoint.{PointsFit}
+use Rattle.many_points.proofs.InTurn.{coordinates-of-point}
+use Rattle.query_answer.specs.PointsAndModes.{QueryFits}
 use Rattle.c_many.specs.ManyExports.{queries-own-rows, queries-own-refusal}
 
 module _ (axes : ℕ) (points modes : List ℕ) (knots tensor coordinates values : List Float) (labels refusals : List ℕ)
@@ -30,7 +31,7 @@ module _ (axes : ℕ) (points modes : List ℕ) (knots tensor coordinates values
       exact-3 (length coordinates) (axes * length refusals) (length values) (length refusals) (length labels) (4 * length refusals)
       (rows .1 .1 .1 .1 .1 .1 .1 .0)
 
-  pub points-fit : PointsFit axes points modes knots tensor coordinates values labels (length refusals)
+  pub points-fit : PointsFit (QueryFits axes points modes knots tensor) axes coordinates values labels (length refusals)
   points-fit =
       let g = sizes-given axes points in
       let products = product-given axes points few in

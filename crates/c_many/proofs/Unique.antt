@@ -4,7 +4,7 @@ use mathlib.Core.Path.{_≡_}
 use mathlib.Core.List.{List}
 use Prim.Native.Nat.{ℕ}
 use lib.Ieee.{Float}
-use Rattle.query_many.proofs.Unique.{same-answers}
+use Rattle.many_points.proofs.Unique.{same-answers}
 use Rattle.c_many.specs.ManyExports.{QuickQueriesExport, DirectQueriesExport}
 
 module _ (axes : ℕ) (points modes : List ℕ) (knots tensor-lent coordinates values-lent : List Float) (labels-lent refusals-lent : List ℕ)

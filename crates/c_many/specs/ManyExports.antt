@@ -8,8 +8,8 @@ use Rattle.rules.specs.Sizes.{most-axes, knots-length, tensor-length}
 use Rattle.rules.specs.Refusals.{length-refused}
 use Rattle.rules.specs.Calls.{quick-query-answer}
 use Rattle.grid_checks.specs.Tables.{Refusal, row, lowest}
+use Rattle.many_points.specs.ManyPoints.{point-of, points-lengths-refused, EachAnswered}
 use Rattle.query_direct.specs.DirectCalls.{direct-query-answer}
-use Rattle.query_many.specs.ManyCalls.{point-of, points-lengths-refused, EachAnswered}
 use Rattle.c_axes.specs.Axes.{grid-in-modes, some-modes-refused}
 use Rattle.c_refusals.specs.OwnRefusals.{sizes-given, axes-rows}
 

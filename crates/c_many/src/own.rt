@@ -4,7 +4,7 @@ ghost use Rattle.c_many.specs.ManyExports.{queries-own-refusal};
 use c_axes::some_modes_refused;
 use c_refusals::own::axes_own_sizes;
 use grid_checks::lengths::length_refused;
-use query_many::lengths::points_lengths_refused;
+use many_points::lengths::points_lengths_refused;
 
 // What the axes meet, and then 4 for the modes, the knots, the tensor and what is lent of the points, and 22. It is 0 where none applies.
 pub fn queries_own_refusal(

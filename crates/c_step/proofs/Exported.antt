@@ -6,7 +6,6 @@ use lib.Ieee.{Float}
 use Rattle.rules.specs.Numbers.{plus-zero, table}
 use Rattle.rules.specs.Sizes.{most-axes}
 use Rattle.rules.specs.StepCalls.{found, located, ExactPromise, AxisPromise, StepPromise, stepped-answer, SteppedPromise}
-use Rattle.rules.specs.declared.Axis.{Axis}
 use Rattle.rules.specs.declared.StepDirection.{StepDirection}
 use Rattle.rules.specs.declared.StepDirection.the-variants.{Upper}
 use Rattle.rules.specs.declared.ExactIndex.{ExactIndex}
@@ -17,9 +16,11 @@ use Rattle.rules.specs.declared.ExactAnswer.{ExactAnswer}
 use Rattle.rules.specs.declared.AxisAnswer.{AxisAnswer}
 use Rattle.rules.specs.declared.StepAnswer.{StepAnswer}
 use Rattle.rules.specs.declared.SteppedAnswer.{SteppedAnswer}
+use Rattle.step_surface.specs.OnPoints.{OfAnyPoints}
 use Rattle.c_axes.specs.Axes.{axes-without-ends}
 use Rattle.c_refusals.specs.Slots.{in-slot, QueryStored}
 use Rattle.c_refusals.proofs.Exported.{own-answer, no-value, no-count, no-labels, call-answer}
+use Rattle.c_refusals.proofs.Rows.{given-below}
 use Rattle.c_step.specs.Directions.{direction-of-number, directions-given}
 use Rattle.c_step.specs.StepExports.{
   in-pair,
@@ -34,6 +35,7 @@ use Rattle.c_step.specs.StepExports.{
   stepped-own-refusal,
   SteppedExport,
 }
+use Rattle.c_step.proofs.Lengths.{few}
 
 -- every number other than 0 is that of Upper
 pub upper-of : (number : ℕ) → (number ≡ 0 → ⊥) → Upper ≡ direction-of-number number
@@ -126,13 +128,13 @@ module _ (axes : ℕ) (points numbers : List ℕ) (knots samples coordinates val
   }
 
   pub stepped-called :
-      r ≡ 0 → (all : List Axis) → all ≡ axes-without-ends axes points → (d : List StepDirection) → d ≡ directions-given axes numbers
-      → (a : SteppedAnswer) {v : List Float} {i : List ℕ}
-      → SteppedPromise (record { axes = axes; entries = all; flat-knots = knots }) d samples coordinates a
+      r ≡ 0 → (d : List StepDirection) → d ≡ directions-given axes numbers → (a : SteppedAnswer) {v : List Float} {i : List ℕ}
+      → OfAnyPoints axes points knots (λ g. SteppedPromise g d samples coordinates a)
       → QueryStored value-lent indices-lent (a .value) (a .indices) v i
       → SteppedExport axes points numbers knots samples coordinates value-lent indices-lent (a .refusal) v i
-  stepped-called none all are d given a p in-place =
-      let q = (rw (are, given) at p) .answer in
+  stepped-called none d given a promised in-place =
+      let few = few axes points numbers knots samples coordinates value-lent indices-lent e none in
+      let q = (rw given at (promised (axes-without-ends axes points) (given-below axes points few))) .answer in
       record {
         answer = call-answer _ e none (ap (λ (b : SteppedAnswer). b .refusal) q);
         answer-stored = rw (sym e ∙ none) (rw q at in-place);

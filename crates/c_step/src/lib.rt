@@ -1,7 +1,6 @@
 // The calls of steps as `hullashlar` exports them, over numbers and plain slices. Each returns its refusal's number, 0 for none, in the
 // order that own.rt says.
 ghost use Rattle.c_step.specs.StepExports.{ExactExport, AxisExport, StepExport, SteppedExport};
-use c_axes::axes_without_ends;
 use c_refusals::slots::store_count;
 use c_refusals::slots::store_query;
 use rules::AxisLocation;
@@ -108,9 +107,8 @@ pub fn stepped(
         store_query(value, indices, 0.0, [0; 4]);
         return refusal;
     }
-    let all = axes_without_ends(axes, points);
     let given = directions::directions_given(axes, directions);
-    let answer = step_surface::stepped(axes, all, given, knots, samples, coordinates);
+    let answer = step_surface::stepped_of_points(axes, points, given, knots, samples, coordinates);
     let found = answer.indices;
     store_query(value, indices, answer.value, found);
     answer.refusal

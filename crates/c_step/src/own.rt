@@ -10,8 +10,7 @@ ghost use Rattle.c_step.specs.StepExports.{
 };
 use crate::directions;
 use crate::slots;
-use c_axes::axes_without_ends;
-use c_refusals::own::axes_own_refusal;
+use c_refusals::own::axes_own_sizes;
 use c_refusals::own::query_slots_refused;
 use grid_checks::lengths;
 use grid_checks::sizes;
@@ -86,17 +85,16 @@ pub fn stepped_own_refusal(
         ⌜ r ≡ stepped-own-refusal axes (now (points .entry)) (now (numbers .entry)) (now (knots .entry)) (now (samples .entry))
         (now (coordinates .entry)) (now (value .entry)) (now (indices .entry)) ⌝ }
 {
-    let refusal = axes_own_refusal(axes, points);
-    if refusal != 0 {
-        return refusal;
+    let found = axes_own_sizes(axes, points);
+    if found.refusal != 0 {
+        return found.refusal;
     }
     if stepped_slots_refused(numbers, value, indices) {
         return 4;
     }
-    let all = axes_without_ends(axes, points);
     if step_checks::stepped_lengths_refused(
         axes,
-        all,
+        found,
         knots.len(),
         samples.len(),
         coordinates.len(),

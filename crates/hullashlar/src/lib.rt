@@ -1,9 +1,10 @@
-// The twenty-three calls for C, over numbers and plain slices. Each but the firmware's returns its refusal's number, 0 for none: the
+// The twenty-four calls for C, over numbers and plain slices. Each but the firmware's returns its refusal's number, 0 for none: the
 // host's own first, as c_refusals::own and the crates of exports have them, and then the call's.
 ghost use mathlib.Core.List.{[], _∷_};
 ghost use Rattle.rules.specs.Calls.{SlopesPromise};
 ghost use Rattle.sheet_surface.specs.SheetSurface.{SurfacePromise};
 ghost use Rattle.c_step.specs.StepExports.{ExactExport, AxisExport, StepExport, SteppedExport};
+ghost use Rattle.c_step_many.specs.ManyStepExports.{SteppedManyExport};
 ghost use Rattle.c_curve.specs.CurveExports.{MomentsExport, CurveExport};
 ghost use Rattle.c_tensor.specs.TensorExports.{BuildExport, ChangeExport};
 ghost use Rattle.c_verify.specs.VerifyExports.{VerifyExport};
@@ -540,6 +541,39 @@ pub extern "C" fn hullashlar_stepped(
         coordinates,
         value,
         indices,
+    )
+}
+
+// The stepped surface at as many points as refusals are lent, a coordinate on each axis and four indices for each, one point after the
+// other: at each what the stepped surface gives for it. Refuses 1, 4 for the points of the axes, 2, 3, 4 for every other slice, and 22, and
+// then nothing is written.
+#[no_mangle]
+pub extern "C" fn hullashlar_stepped_many(
+    axes: usize,
+    points: &[usize],
+    directions: &[u8],
+    knots: &[f64],
+    samples: &[f64],
+    coordinates: &[f64],
+    values: &mut [f64],
+    indices: &mut [usize],
+    refusals: &mut [usize],
+) -> usize
+    ensures { λ r.
+        ⌜ SteppedManyExport axes (now (points .entry)) (now (directions .entry)) (now (knots .entry)) (now (samples .entry))
+        (now (coordinates .entry)) (now (values .entry)) (now (indices .entry)) (now (refusals .entry)) r (now (values .exit))
+        (now (indices .exit)) (now (refusals .exit)) ⌝ }
+{
+    c_step_many::stepped_many(
+        axes,
+        points,
+        directions,
+        knots,
+        samples,
+        coordinates,
+        values,
+        indices,
+        refusals,
     )
 }
 

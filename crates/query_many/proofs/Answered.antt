@@ -1,92 +1,32 @@
--- Where the answers by one way stand in the places of all points, and each is that of a call for one point, the call for many gives them.
-use native.Mathlib.Omega.{arith}
-use mathlib.Core.Path.{_≡_, refl, sym, ap, subst, _∙_}
-use mathlib.Core.Logic.{_≢_}
+-- The answer at each point by the search is that of the quick query, and by a division that of the direct one.
+use mathlib.Core.Path.{_≡_}
 use mathlib.Core.List.{List}
-use Prim.Native.Nat.{ℕ, _+_, _*_, _/_, _%_, _<_}
-use lib.ListN.{length}
-use lib.Ieee.{Float, nan}
-use Rattle.rules.specs.Sizes.{Grid, place-of}
-use Rattle.rules.specs.Calls.{stored, quick-query-answer}
+use Prim.Native.Nat.{ℕ, _<_}
+use lib.Ieee.{Float}
+use Rattle.rules.specs.Sizes.{Grid}
+use Rattle.rules.specs.Calls.{quick-query-answer}
 use Rattle.rules.specs.declared.Axis.{Axis}
 use Rattle.rules.specs.declared.QueryAnswer.{QueryAnswer}
-use Rattle.rules.proofs.Refused.{unchanged}
-use Rattle.rules.proofs.Tables.{table-is}
 use Rattle.grid.specs.GridOfCall.{grid}
+use Rattle.many_points.specs.ManyPoints.{point-of}
 use Rattle.query_answer.specs.PointsAndModes.{AxesOf, QueryFits}
-use Rattle.query_answer.specs.AnswerByWay.{AnswerBy}
-use Rattle.query_answer.specs.declared.ways.Way.{Way}
+use Rattle.query_answer.specs.AnswerByWay.{AnswerAmong}
 use Rattle.query_answer.specs.declared.ways.Way.the-variants.{Searched, Divided}
 use Rattle.query_quick.proofs.Answers.{search-answers}
 use Rattle.query_direct.specs.DirectCalls.{direct-query-answer}
 use Rattle.query_direct.proofs.Answers.{division-answers}
-use Rattle.query_many.specs.ManyCalls.{point-of, values-of, labels-among, refusals-of, EachAnswered}
-use Rattle.query_many.specs.PointByPoint.{FirstStand}
-
--- ---- nothing is written
-
-pub none-written :
-    (own : ℕ) (answers : ℕ → QueryAnswer) (values : List Float) (labels refusals : List ℕ) {r : ℕ} → r ≡ own → r ≢ 0
-    → EachAnswered own answers values labels refusals r values labels refusals
-none-written own answers values labels refusals e some =
-    let met : own ≢ 0 = λ z. some (e ∙ z) in
-    record {
-      answer = e;
-      values = unchanged own values _ met;
-      labels = unchanged own labels _ met;
-      refusals = unchanged own refusals _ met;
-    }
-
--- ---- every answer is
-
-module _ (way : Way) (axes : ℕ) (points modes : List ℕ) (knots tensor coordinates : List Float) (all : List Axis)
-    (are : AxesOf axes points modes all) (answers : ℕ → QueryAnswer) (count : ℕ)
-    (is : (j : ℕ) → j < count → (r : QueryAnswer) → AnswerBy way (grid axes all knots) tensor (point-of axes coordinates j) r
-    → r ≡ answers j)
-    (values : List Float) (labels refusals : List ℕ)
-    (stand : FirstStand way axes points modes knots tensor coordinates count count values labels refusals) where
-  given-is : (j : ℕ) (l : j < count) → stand .each j l .given ≡ answers j
-  given-is j l = is j l (stand .each j l .given) (stand .each j l .among all are)
-
-  values-are : values ≡ values-of count answers
-  values-are =
-      table-is nan values count _ (stand .values-count)
-      (λ j l. stand .each j l .value ∙ ap (λ (a : QueryAnswer). a .value) (given-is j l))
-
-  refusals-are : refusals ≡ refusals-of count answers
-  refusals-are =
-      table-is 0 refusals count _ (stand .refusals-count)
-      (λ j l. stand .each j l .refusal ∙ ap (λ (a : QueryAnswer). a .refusal) (given-is j l))
-
-  labels-are : labels ≡ labels-among count answers
-  labels-are =
-      table-is 0 labels (4 * count) _ (stand .labels-count) λ e l.
-      let below : e / 4 < count = omega arith in
-      ap (place-of labels) (let split : e ≡ 4 * (e / 4) + e % 4 = omega arith in split)
-      ∙ stand .each (e / 4) below .its-labels (e % 4) (omega arith)
-      ∙ ap (λ (a : QueryAnswer). place-of (a .labels) (e % 4)) (given-is (e / 4) below)
-
-  pub all-written :
-      (own : ℕ) → own ≡ 0 → (values-lent : List Float) (labels-lent refusals-lent : List ℕ) → length refusals-lent ≡ count
-      → EachAnswered own answers values-lent labels-lent refusals-lent 0 values labels refusals
-  all-written own none values-lent labels-lent refusals-lent as-many = record {
-    answer = sym none;
-    values = rw (none, as-many) values-are;
-    labels = rw (none, as-many) labels-are;
-    refusals = rw (none, as-many) refusals-are;
-  }
-
--- ---- each way's answer is that of its call
 
 module _ (axes : ℕ) (points modes : List ℕ) (knots tensor coordinates : List Float) (all : List Axis) (are : AxesOf axes points modes all)
     (count : ℕ) (fits : (j : ℕ) → j < count → QueryFits axes points modes knots tensor (point-of axes coordinates j)) where
   abbrev g : Grid
   g = grid axes all knots
 
-  pub each-quick : (j : ℕ) → j < count → (r : QueryAnswer) → AnswerBy Searched g tensor (point-of axes coordinates j) r
+  pub each-quick :
+      (j : ℕ) → j < count → (r : QueryAnswer) → AnswerAmong Searched axes points modes knots tensor (point-of axes coordinates j) r
       → r ≡ quick-query-answer g tensor (point-of axes coordinates j)
-  each-quick j l r by = search-answers axes points modes knots tensor _ (fits j l) all are r by .answer
+  each-quick j l r among = search-answers axes points modes knots tensor _ (fits j l) all are r (among all are) .answer
 
-  pub each-direct : (j : ℕ) → j < count → (r : QueryAnswer) → AnswerBy Divided g tensor (point-of axes coordinates j) r
+  pub each-direct :
+      (j : ℕ) → j < count → (r : QueryAnswer) → AnswerAmong Divided axes points modes knots tensor (point-of axes coordinates j) r
       → r ≡ direct-query-answer g tensor (point-of axes coordinates j)
-  each-direct j l r by = division-answers axes points modes knots tensor _ (fits j l) all are r by .answer
+  each-direct j l r among = division-answers axes points modes knots tensor _ (fits j l) all are r (among all are) .answer

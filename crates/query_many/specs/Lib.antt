@@ -1,2 +1,1 @@
 pub mod ManyCalls
-pub mod PointByPoint

@@ -1,33 +1,10 @@
 // One point answered after the other.
-ghost use mathlib.Core.Path.{_≡_};
-ghost use Prim.Native.Nat.{_*_, _<_};
 ghost use lib.ListN.{length};
-ghost use Rattle.query_many.specs.PointByPoint.{PointsFit, AnswerPut, FirstStand};
+ghost use Rattle.many_points.specs.PointByPoint.{PointsFit, FirstStand};
+ghost use Rattle.query_answer.specs.PointsAndModes.{QueryFits};
+ghost use Rattle.query_answer.specs.AnswerByWay.{AnswerAmong};
+use many_points::store_answer;
 use query_answer::ways::Way;
-use rules::QueryAnswer;
-
-// The answer of point `place` goes to its places. Not a public call: there are such places.
-fn store_answer(
-    values: &mut [f64],
-    labels: &mut [usize],
-    refusals: &mut [usize],
-    place: usize,
-    given: QueryAnswer,
-)
-    requires { ⌜ (place < length (now refusals)) × (length (now values) ≡ length (now refusals))
-        × (length (now labels) ≡ 4 * length (now refusals)) ⌝ }
-    ensures { λ _.
-        ⌜ AnswerPut (now (values .entry)) (now (labels .entry)) (now (refusals .entry)) place given (now (values .exit))
-        (now (labels .exit)) (now (refusals .exit)) ⌝ }
-{
-    let found = given.labels;
-    values[place] = given.value;
-    labels[4 * place] = found[0];
-    labels[4 * place + 1] = found[1];
-    labels[4 * place + 2] = found[2];
-    labels[4 * place + 3] = found[3];
-    refusals[place] = given.refusal;
-}
 
 // The answer at each point by one way, on axes of these points, with a mode's number for each. Not a public call: what refusals 1 to 4
 // leave is required.
@@ -43,10 +20,10 @@ pub fn answer_each(
     labels: &mut [usize],
     refusals: &mut [usize],
 )
-    requires { ⌜ PointsFit axes (now points) (now modes) (now knots) (now tensor) (now coordinates) (now values) (now labels)
-        (length (now refusals)) ⌝ }
+    requires { ⌜ PointsFit (QueryFits axes (now points) (now modes) (now knots) (now tensor)) axes (now coordinates) (now values)
+        (now labels) (length (now refusals)) ⌝ }
     ensures { λ _.
-        ⌜ FirstStand way axes (now (points .entry)) (now (modes .entry)) (now (knots .entry)) (now (tensor .entry))
+        ⌜ FirstStand (AnswerAmong way axes (now (points .entry)) (now (modes .entry)) (now (knots .entry)) (now (tensor .entry))) axes
         (now (coordinates .entry)) (length (now (refusals .entry))) (length (now (refusals .entry))) (now (values .exit))
         (now (labels .exit)) (now (refusals .exit)) ⌝ }
 {

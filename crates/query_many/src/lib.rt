@@ -8,11 +8,12 @@ ghost use Rattle.rules.specs.Calls.{or-else};
 ghost use mathlib.Core.Bool.{cond};
 ghost use Rattle.grid.specs.GridOfCall.{grid};
 ghost use Rattle.grid_checks.specs.Check.{query-sizes-check};
-ghost use Rattle.query_many.specs.ManyCalls.{points-lengths-refused, QuickQueriesPromise, DirectQueriesPromise};
+ghost use Rattle.many_points.specs.ManyPoints.{points-lengths-refused};
+ghost use Rattle.query_many.specs.ManyCalls.{QuickQueriesPromise, DirectQueriesPromise};
+use many_points::lengths;
 use query_answer::ways::Way;
 use rules::Axis;
 
-pub mod lengths; // lengths.rt: what is lent of so many points
 pub mod each; // each.rt: one point after the other
 
 // What both meet of sizes and lengths: 1, 2, 3, 4, or 0. Not a public call: it requires four points.

@@ -2,24 +2,34 @@
 use mathlib.Core.Path.{_≡_, refl, sym, ap, _∙_}
 use mathlib.Core.Bool.{false, _||_}
 use mathlib.Core.List.{List}
-use Prim.Native.Nat.{ℕ, _-_, _<_}
+use Prim.Native.Nat.{ℕ, _-_, _*_, _^_, _<_, _≤_}
 use native.Mathlib.Omega.{arith}
-use lib.ListN.{length}
+use lib.ListN.{length, take, drop, length-drop}
+use lib.Seq.{length-take-le}
 use lib.Ieee.{Float}
 use lib.Ieee.Scale.{finite}
-use borrow.Author.Tests.{ltb-false, not-false}
+use borrow.Author.Tests.{ltb-false, le-ltb, not-false}
 use Rattle.rules.specs.Numbers.{at}
-use Rattle.rules.specs.Sizes.{Grid, points, knots-length, knots, samples-length, tensor-length}
+use Rattle.rules.specs.Sizes.{most-in-a-tensor, Grid, points, sum-below, product-below}
 use Rattle.rules.specs.Refusals.{points-refused, number-refused, some-number-refused, knots-refused}
 use Rattle.base_numbers.proofs.Scan.{neither, any-at}
-use Rattle.grid.proofs.Knots.{knots-of-axis}
-use Rattle.grid_checks.specs.Checked.{GridGiven}
-use Rattle.grid_checks.proofs.Rows.{none-applies, exact, exact-3}
-use Rattle.grid_checks.proofs.Accepted.{grid-known}
+use Rattle.grid.specs.GridOfCall.{InRange}
+use Rattle.grid.proofs.Products.{sum-within}
+use Rattle.grid_checks.specs.Check.{knots-of-points-refused}
+use Rattle.grid_checks.proofs.Rows.{NoneApplies, none-applies, axes-few, in-range, exact, exact-3}
 use Rattle.grid_checks.proofs.FiniteKnots.{axis-finite}
 use Rattle.axis_locate.proofs.Accepted.{accepted-rise}
-use Rattle.step_checks.specs.StepChecks.{point-rows, point-check, exact-rows, exact-check, stepped-rows, stepped-check}
-use Rattle.step_checks.specs.StepsChecked.{PointGiven, ExactGiven, SteppedGiven}
+use Rattle.step_checks.specs.StepChecks.{
+  point-rows,
+  point-check,
+  exact-rows,
+  exact-check,
+  stepped-sizes-rows,
+  stepped-sizes-check,
+  stepped-rows,
+  stepped-check,
+}
+use Rattle.step_checks.specs.StepsChecked.{PointGiven, ExactGiven, AxesGiven, SteppedGiven}
 
 -- ---- the calls on one axis
 
@@ -55,38 +65,65 @@ module _ (n : ℕ) (x : List Float) where
 
 -- ---- the stepped surface
 
-module _ (g : Grid) (samples coordinates : List Float) where
-  module _ (given : GridGiven g (tensor-length g)) (fine : (i : ℕ) → i < g .axes → points-refused (points g i) ≡ false)
-      (count : length coordinates ≡ g .axes) (coordinates-finite : some-number-refused coordinates ≡ false) where
-    on-axis : (i : ℕ) → i < g .axes → PointGiven (points g i) (knots g i) (at coordinates i)
-    on-axis i l =
-        let n = points g i in
-        let x = knots g i in
-        let long = knots-of-axis g (given .knots-exact) i l in
-        let rise = given .knots-rise i l in
-        known n x (at coordinates i) (fine i l) long
-        (axis-finite x n {refused = false} (fine i l) long (sym (ap (knots-refused x) long ∙ rise)) refl)
-        (any-at (λ k. number-refused (at coordinates k)) (length coordinates) coordinates-finite i (omega arith))
-        rise
+module _ (axes : ℕ) (n : ℕ → ℕ) (x coordinates : List Float) where
+  -- the knots of axis i
+  abbrev part : ℕ → List Float
+  part i = take (n i) (drop (sum-below n i) x)
 
-  pub stepped-given : stepped-check g samples coordinates ≡ 0 → SteppedGiven g samples coordinates
-  unfolding stepped-check
-  stepped-given e =
-      let none = none-applies (stepped-rows g samples coordinates) tt e in
-      let later = none .1 .1 .1 in
-      let lengths =
-      exact-3 (length (g .flat-knots)) (knots-length g) (length samples) (samples-length g) (length coordinates) (g .axes) (later .0) in
-      let three =
-      neither (some-number-refused (g .flat-knots) || some-number-refused samples) (some-number-refused coordinates) (later .1 .0) in
-      let numbers = neither (some-number-refused (g .flat-knots)) (some-number-refused samples) (three .0) in
-      let given = grid-known g (tensor-length g) (none .0) (none .1 .0) (none .1 .1 .0) (lengths .0) refl (numbers .0) (later .1 .1 .0) in
-      record {
-        axes-given = record {
-          in-range = given .in-range;
-          small = given .small;
-          knots-exact = lengths .0;
-          coordinates-exact = lengths .2;
-          on-axis = on-axis given (any-at (λ i. points-refused (points g i)) (g .axes) (none .1 .0)) (lengths .2) (three .1);
-        };
-        samples-exact = lengths .1;
-      }
+  pub axes-given :
+      InRange axes n → product-below n axes * 2 ^ axes ≤ most-in-a-tensor → length x ≡ sum-below n axes → length coordinates ≡ axes
+      → knots-of-points-refused axes n x ≡ false → some-number-refused coordinates ≡ false → AxesGiven axes n x coordinates
+  axes-given range small knots-exact count rise coordinates-finite = record {
+    in-range = range;
+    small = small;
+    knots-exact = knots-exact;
+    coordinates-exact = count;
+    on-axis = λ i l.
+        let fine : points-refused (n i) ≡ false =
+        rw (le-ltb (n i) 2 (range .some-points i l), le-ltb 256 (n i) (range .few-points i l)) refl in
+        let long : length (part i) ≡ n i =
+        length-take-le (n i) (drop (sum-below n i) x) (rw length-drop (omega (arith, knots-exact, sum-within n i axes l))) in
+        let its = any-at (λ j. knots-refused (part j) (n j)) axes rise i l in
+        known (n i) (part i) (at coordinates i) fine long
+        (axis-finite (part i) (n i) {refused = false} fine long (sym (ap (knots-refused (part i)) long ∙ its)) refl)
+        (any-at (λ k. number-refused (at coordinates k)) (length coordinates) coordinates-finite i (omega arith))
+        its;
+  }
+
+-- what the rows of sizes and lengths leave where none of them applies
+module _ (axes : ℕ) (n : ℕ → ℕ) (knots samples coordinates : ℕ) where
+  abbrev SizesKnown : Type 0
+  SizesKnown =
+      InRange axes n × (product-below n axes * 2 ^ axes ≤ most-in-a-tensor) × (knots ≡ sum-below n axes)
+      × (samples ≡ product-below n axes) × (coordinates ≡ axes)
+
+  sizes-known : NoneApplies (stepped-sizes-rows axes n knots samples coordinates) → SizesKnown
+  sizes-known rows =
+      let few = axes-few {axes = axes} (rows .0) in
+      let lengths = exact-3 knots (sum-below n axes) samples (product-below n axes) coordinates axes (rows .1 .1 .1 .0) in (
+        in-range (few .0) (few .1) (rows .1 .0),
+        ltb-false most-in-a-tensor (product-below n axes * 2 ^ axes) (rows .1 .1 .0),
+        lengths .0,
+        lengths .1,
+        lengths .2,
+      )
+
+  pub sizes-accepted : stepped-sizes-check axes n knots samples coordinates ≡ 0 → SizesKnown
+  unfolding stepped-sizes-check
+  sizes-accepted none = sizes-known (none-applies (stepped-sizes-rows axes n knots samples coordinates) tt none)
+
+pub stepped-given :
+    (g : Grid) (samples coordinates : List Float) → stepped-check g samples coordinates ≡ 0 → SteppedGiven g samples coordinates
+unfolding stepped-check
+stepped-given g samples coordinates e =
+    let none = none-applies (stepped-rows g samples coordinates) tt e in
+    let later = none .1 .1 .1 .1 in
+    let sizes =
+    sizes-known (g .axes) (points g) (length (g .flat-knots)) (length samples) (length coordinates)
+    (none .0, (none .1 .0, (none .1 .1 .0, (none .1 .1 .1 .0, tt)))) in
+    record {
+      axes-given =
+          axes-given (g .axes) (points g) (g .flat-knots) coordinates (sizes .0) (sizes .1) (sizes .2) (sizes .4) (later .1 .0)
+          (neither (some-number-refused (g .flat-knots) || some-number-refused samples) (some-number-refused coordinates) (later .0) .1);
+      samples-exact = sizes .3;
+    }

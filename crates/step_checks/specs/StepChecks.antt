@@ -1,10 +1,11 @@
 -- What each public call of steps looks at before it works: the rows of rules' StepCalls, but for that of an outcome.
-use mathlib.Core.Bool.{_||_}
+use mathlib.Core.Bool.{Bool, _||_}
 use mathlib.Core.List.{List, [], _∷_, _++_}
 use Prim.Native.Nat.{ℕ}
+use lib.Dec.{ltb}
 use lib.ListN.{length}
 use lib.Ieee.{Float}
-use Rattle.rules.specs.Sizes.{Grid, knots-length, samples-length}
+use Rattle.rules.specs.Sizes.{most-axes, Grid, points, sum-below, product-below}
 use Rattle.rules.specs.Refusals.{
   points-refused,
   length-refused,
@@ -15,7 +16,7 @@ use Rattle.rules.specs.Refusals.{
   some-knots-refused,
 }
 use Rattle.grid_checks.specs.Tables.{Refusal, row, lowest}
-use Rattle.grid_checks.specs.Check.{sizes-rows}
+use Rattle.grid_checks.specs.Check.{points-rows}
 
 -- ---- the calls on one axis of n points
 
@@ -53,14 +54,26 @@ module _ (n : ℕ) (knots : List Float) where
 
 -- ---- the stepped surface
 
+-- of axes with n i points on axis i: 4 of its lengths
+abbrev pub stepped-lengths-refused : ℕ → (ℕ → ℕ) → ℕ → ℕ → ℕ → Bool
+stepped-lengths-refused axes n knots samples coordinates =
+    length-refused knots (sum-below n axes) || length-refused samples (product-below n axes) || length-refused coordinates axes
+
+-- what it meets of its sizes and lengths
+abbrev pub stepped-sizes-rows : ℕ → (ℕ → ℕ) → ℕ → ℕ → ℕ → List Refusal
+stepped-sizes-rows axes n knots samples coordinates =
+    row 1 (ltb axes 1 || ltb most-axes axes)
+    ∷ (points-rows axes n ++ (row 4 (stepped-lengths-refused axes n knots samples coordinates) ∷ []))
+
+unfoldable pub stepped-sizes-check : ℕ → (ℕ → ℕ) → ℕ → ℕ → ℕ → ℕ
+stepped-sizes-check axes n knots samples coordinates = lowest (stepped-sizes-rows axes n knots samples coordinates) 0
+
+-- and with what it meets of the numbers
 module _ (g : Grid) (samples coordinates : List Float) where
   abbrev pub stepped-rows : List Refusal
   stepped-rows =
-      sizes-rows g ++ (
-      row 4
-      (length-refused (length (g .flat-knots)) (knots-length g) || length-refused (length samples) (samples-length g)
-      || length-refused (length coordinates) (g .axes))
-      ∷ row 7 (some-number-refused (g .flat-knots) || some-number-refused samples || some-number-refused coordinates)
+      stepped-sizes-rows (g .axes) (points g) (length (g .flat-knots)) (length samples) (length coordinates) ++ (
+      row 7 (some-number-refused (g .flat-knots) || some-number-refused samples || some-number-refused coordinates)
       ∷ row 8 (some-knots-refused g)
       ∷ []
       )

@@ -2,8 +2,8 @@
 use mathlib.Core.Path.{_≡_}
 use mathlib.Core.Bool.{true}
 use mathlib.Core.List.{List}
-use Prim.Native.Nat.{ℕ, _+_, _≤_, _<_}
-use lib.ListN.{length}
+use Prim.Native.Nat.{ℕ, _+_, _*_, _^_, _≤_, _<_}
+use lib.ListN.{length, take, drop}
 use lib.Ieee.{Float}
 use lib.Ieee.Scale.{finite}
 use Rattle.rules.specs.Numbers.{at}
@@ -13,10 +13,9 @@ use Rattle.rules.specs.Sizes.{
   most-in-a-tensor,
   Grid,
   points,
-  knots-length,
-  knots,
+  sum-below,
+  product-below,
   samples-length,
-  tensor-length,
 }
 use Rattle.grid.specs.GridOfCall.{InRange}
 use Rattle.axis_locate.specs.CellFound.{Rising}
@@ -33,15 +32,16 @@ pub record ExactGiven (n : ℕ) (x : List Float) (lower : ℕ) (point : Float) :
   pub point-given : PointGiven n x point
   pub next-knot : lower + 1 < n
 
--- of a grid and coordinates: GridGiven without a tensor, and with knots that are Rising on each axis, as a step wants them
-pub record AxesGiven (g : Grid) (coordinates : List Float) : Type 0 where
-  pub in-range : InRange (g .axes) (points g)
-  pub small : tensor-length g ≤ most-in-a-tensor
-  pub knots-exact : length (g .flat-knots) ≡ knots-length g
-  pub coordinates-exact : length coordinates ≡ g .axes
-  pub on-axis : (i : ℕ) → i < g .axes → PointGiven (points g i) (knots g i) (at coordinates i)
+-- of axes with n i points on axis i, knots and coordinates: GridGiven without a tensor, and with knots that are Rising on each axis, as a
+-- step wants them
+pub record AxesGiven (axes : ℕ) (n : ℕ → ℕ) (x coordinates : List Float) : Type 0 where
+  pub in-range : InRange axes n
+  pub small : product-below n axes * 2 ^ axes ≤ most-in-a-tensor
+  pub knots-exact : length x ≡ sum-below n axes
+  pub coordinates-exact : length coordinates ≡ axes
+  pub on-axis : (i : ℕ) → i < axes → PointGiven (n i) (take (n i) (drop (sum-below n i) x)) (at coordinates i)
 
--- of these and samples
+-- of these, as a grid, and samples
 pub record SteppedGiven (g : Grid) (samples coordinates : List Float) : Type 0 where
-  pub axes-given : AxesGiven g coordinates
+  pub axes-given : AxesGiven (g .axes) (points g) (g .flat-knots) coordinates
   pub samples-exact : length samples ≡ samples-length g

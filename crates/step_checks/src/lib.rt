@@ -1,17 +1,18 @@
-// The refusals of steps as code: for each public call the first number that it meets before it works, and 0 where there is none. The pass
-// over the knots for refusal 8 is made before they are looked at for refusal 7, as in `grid_checks`.
+// The refusals of steps as code: for each public call the first number that it meets before it works, and 0 where there is none; of the
+// stepped surface those of its sizes and lengths. The pass over the knots for refusal 8 is made before they are looked at for refusal 7, as
+// in `grid_checks`.
 ghost use mathlib.Core.Path.{_≡_};
 ghost use mathlib.Core.Bool.{false, _||_};
+ghost use Prim.Native.Nat.{_/_, _^_, _≤_};
 ghost use lib.ListN.{length};
-ghost use Rattle.rules.specs.Sizes.{knots-length, samples-length};
+ghost use Rattle.rules.specs.Sizes.{place-of};
 ghost use Rattle.rules.specs.Refusals.{points-refused, length-refused};
-ghost use Rattle.grid.specs.GridOfCall.{grid, sizes-of, points-of, InRange};
-ghost use Rattle.step_checks.specs.StepChecks.{axis-check, numbers-check, point-check, exact-check, stepped-check};
+ghost use Rattle.step_checks.specs.StepChecks.{axis-check, numbers-check, point-check, exact-check, stepped-sizes-check};
 use grid_checks::lengths;
 use grid_checks::numbers;
 use grid_checks::rising;
 use grid_checks::sizes;
-use rules::Axis;
+use grid_checks::sizes::Sizes;
 
 // What the points and the number of knots of an axis meet: 2, 4, or 0.
 fn axis_refusal(points: usize, knots: usize) -> usize
@@ -69,57 +70,49 @@ pub fn exact_refusal(points: usize, knots: &[f64], lower: usize, point: f64) -> 
     numbers_refusal(knots, point)
 }
 
-// Whether knots, samples or coordinates are not as long as a stepped surface asks for. Not a public call: it requires what refusals 1 and 2
-// leave, one to four axes of 2 to 256 points.
+// Whether knots, samples or coordinates are not as long as a stepped surface on axes of these sizes asks for: of a tensor's numbers one for
+// each mask is a sample. Not a public call: at most four axes are required.
 pub fn stepped_lengths_refused(
     axes: usize,
-    all: [Axis; 4],
+    sizes: Sizes,
     knots: usize,
     samples: usize,
     coordinates: usize,
 ) -> bool
-    requires { ⌜ InRange axes (points-of all) ⌝ }
+    requires { ⌜ axes ≤ 4 ⌝ }
     ensures { λ r.
         ⌜ r ≡
-        (length-refused knots (knots-length (sizes-of axes all)) || length-refused samples (samples-length (sizes-of axes all))
-        || length-refused coordinates axes)
-        ⌝ }
+        (length-refused knots (sizes .knots) || length-refused samples (sizes .numbers / 2 ^ axes) || length-refused coordinates axes) ⌝ }
 {
-    if lengths::length_refused(knots, grid::knots_length(axes, all)) {
+    if lengths::length_refused(knots, sizes.knots) {
         return true;
     }
-    if lengths::length_refused(samples, grid::samples_length(axes, all)) {
+    if lengths::length_refused(samples, sizes.numbers >> axes) {
         return true;
     }
     lengths::length_refused(coordinates, axes)
 }
 
-// What the stepped surface meets: 1, 2, 3, 4, 7, 8, or 0.
-pub fn stepped_refusal(
+// What the stepped surface meets of its sizes and lengths: 1, 2, 3, 4, or 0. Not a public call: four points are required.
+pub fn stepped_sizes_refusal(
     axes: usize,
-    all: [Axis; 4],
-    knots: &[f64],
-    samples: &[f64],
-    coordinates: &[f64],
+    points: &[usize],
+    knots: usize,
+    samples: usize,
+    coordinates: usize,
 ) -> usize
-    ensures { λ r. ⌜ r ≡ stepped-check (grid axes all (now (knots .entry))) (now (samples .entry)) (now (coordinates .entry)) ⌝ }
+    requires { ⌜ length (now points) ≡ 4 ⌝ }
+    ensures { λ r. ⌜ r ≡ stepped-sizes-check axes (place-of (now (points .entry))) knots samples coordinates ⌝ }
 {
-    let refusal = sizes::sizes_refusal(axes, all);
-    if refusal != 0 {
-        return refusal;
+    if sizes::axes_refused(axes) {
+        return 1;
     }
-    if stepped_lengths_refused(axes, all, knots.len(), samples.len(), coordinates.len()) {
+    let found = sizes::sizes_of_points(axes, points);
+    if found.refusal != 0 {
+        return found.refusal;
+    }
+    if stepped_lengths_refused(axes, found, knots, samples, coordinates) {
         return 4;
-    }
-    let knots_refused = rising::some_knots_refused(axes, all, knots);
-    if numbers::slices_refused(knots_refused, knots, samples) {
-        return 7;
-    }
-    if base_numbers::any_not_finite(coordinates) {
-        return 7;
-    }
-    if knots_refused {
-        return 8;
     }
     0
 }

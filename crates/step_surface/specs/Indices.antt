@@ -1,18 +1,23 @@
--- The indices of the steps, axis by axis.
+-- The indices of the steps, axis by axis, and the number of their place.
 use mathlib.Core.Path.{_≡_}
 use mathlib.Core.List.{List}
 use Prim.Native.Nat.{ℕ, _-_, _<_, _≤_}
-use lib.ListN.{length}
+use lib.ListN.{length, take, drop}
 use lib.Ieee.{Float}
 use Rattle.rules.specs.Numbers.{at}
-use Rattle.rules.specs.Sizes.{most-axes, Grid, points, knots, place-of}
+use Rattle.rules.specs.Sizes.{most-axes, sum-below, place-of, flat}
 use Rattle.rules.specs.Step.{step-index}
 use Rattle.rules.specs.StepCalls.{direction}
 use Rattle.rules.specs.declared.StepDirection.{StepDirection}
 
--- those of the first i axes are the steps', on the grid, and past them stand zeros
-pub record OnAxes (g : Grid) (directions : List StepDirection) (coordinates : List Float) (i : ℕ) (indices : List ℕ) : Type 0 where
+-- of axes with n k points on axis k: the indices on the first i are the steps', on the grid, their place has this number, and past them
+-- stand zeros
+pub record OnAxes (n : ℕ → ℕ) (x : List Float) (directions : List StepDirection) (coordinates : List Float) (i number : ℕ)
+    (indices : List ℕ) : Type 0 where
   pub four : length indices ≡ most-axes
-  pub found : (j : ℕ) → j < i → place-of indices j ≡ step-index (direction directions j) (knots g j) (points g j - 1) (at coordinates j)
-  pub inside : (j : ℕ) → j < i → place-of indices j < points g j
+  pub found :
+      (j : ℕ) → j < i
+      → place-of indices j ≡ step-index (direction directions j) (take (n j) (drop (sum-below n j) x)) (n j - 1) (at coordinates j)
+  pub inside : (j : ℕ) → j < i → place-of indices j < n j
   pub unused : (j : ℕ) → i ≤ j → j < most-axes → place-of indices j ≡ 0
+  pub numbered : number ≡ flat n i (place-of indices)

@@ -1,3 +1,4 @@
+pub mod OnPoints
 pub mod Indices
 pub mod OneSample
 pub mod SteppedMeaning

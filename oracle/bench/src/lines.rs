@@ -59,6 +59,8 @@ pub fn lines(inputs: &Inputs) -> Vec<Line<'_>> {
         step("index of a step, 256", &inputs.line_of_256),
         stepped("stepped, 16×16", &inputs.two_axes),
         stepped("stepped, 4×4×4×4", &inputs.four_axes),
+        stepped_many("stepped at 64 points, 16×16", &inputs.two_axes),
+        stepped_many("stepped at 64 points, 4×4×4×4", &inputs.four_axes),
         cell(),
         cursor("step of a cursor, 1 cell", 1),
         cursor("step of a cursor, 255 cells", 255),
@@ -564,6 +566,46 @@ fn stepped<'a>(name: &'static str, surface: &'a Surface) -> Line<'a> {
         }),
     }
 }
+
+/// Many points by one call, and each by a call of its own.
+fn stepped_many<'a>(name: &'static str, surface: &'a Surface) -> Line<'a> {
+    let point = surface.middle_point();
+    let coordinates = point.repeat(STEPPED_AT);
+    Line {
+        name,
+        held_against: "our stepped surface, one by one",
+        ours: Box::new(move || {
+            let (mut values, mut indices) = ([0.0; STEPPED_AT], [0; 4 * STEPPED_AT]);
+            let mut refusals = [0; STEPPED_AT];
+            let Surface {
+                axes,
+                knots,
+                samples,
+                ..
+            } = surface;
+            let (values, indices) = (&mut values, &mut indices);
+            let refusals = &mut refusals;
+            let answer = hullashlar::stepped_many(
+                axes, [0; 4], knots, samples, &coordinates, values, indices, refusals,
+            );
+            answer.expect(ACCEPTED);
+            values.iter().sum()
+        }),
+        other: Box::new(move || {
+            let Surface {
+                axes,
+                knots,
+                samples,
+                ..
+            } = surface;
+            let one = |_| hullashlar::stepped(axes, [0; 4], knots, samples, &point);
+            (0..STEPPED_AT).map(|at| one(at).expect(ACCEPTED).0).sum()
+        }),
+    }
+}
+
+/// How many points are stepped at by one call.
+const STEPPED_AT: usize = 64;
 
 /// A cell of the device, and a position in it.
 const CELL: [i32; 4] = [-3_000, 12_345, 90_000, -70_000];

@@ -38,6 +38,7 @@ pub fn stacks() -> [Stack; 23] {
         deepest("hullashlar_locate_axis", &lines, locate_axis),
         deepest("hullashlar_locate_step_index", &lines, step),
         deepest("hullashlar_stepped", &all, stepped),
+        deepest("hullashlar_stepped_many", &all, stepped_many),
         deepest("hullashlar_cell_value", &[[5, 7, 300, -400]], cell_value),
         deepest("hullashlar_cursor_next", &[1, 255], cursor_next),
         deepest("hullashlar_surface", &all, surface),
@@ -247,6 +248,26 @@ fn stepped(shape: &Shape) -> usize {
     let points = shape.coordinates().into_iter();
     most(points.map(|point| {
         bytes_of(|| hullashlar::stepped(axes, [0, 1, 0, 1], knots, samples, &point).is_ok())
+    }))
+}
+
+fn stepped_many(shape: &Shape) -> usize {
+    let Shape {
+        axes,
+        knots,
+        samples,
+    } = shape;
+    let points = shape.coordinates().into_iter();
+    most(points.map(|point| {
+        let (mut values, mut indices, mut refusals) = ([0.0], [0; 4], [0]);
+        let (values, indices, refusals) = (&mut values, &mut indices, &mut refusals);
+        bytes_of(|| {
+            let directions = [0, 1, 0, 1];
+            hullashlar::stepped_many(
+                axes, directions, knots, samples, &point, values, indices, refusals,
+            )
+            .is_ok()
+        })
     }))
 }
 

@@ -33,6 +33,7 @@ pub enum Call {
     DirectQuery,
     QuickQueries,
     DirectQueries,
+    SteppedMany,
     SheetText,
 }
 
@@ -112,6 +113,17 @@ impl Call {
                 "value",
                 "indices",
             ],
+            Call::SteppedMany => &[
+                "axes",
+                "points",
+                "directions",
+                "knots",
+                "samples",
+                "coordinates",
+                "point_values",
+                "point_indices",
+                "refusals",
+            ],
             Call::CellValue => &["p0", "p1", "d0", "d1", "k", "value"],
             Call::CursorNext => &["curve", "cursor", "value"],
             Call::DeviceText => &["curve", "text", "length"],
@@ -150,6 +162,7 @@ impl Call {
             Call::LocateAxis => &["location", "fraction"],
             Call::LocateStepIndex => &["index"],
             Call::Stepped => &["value", "indices"],
+            Call::SteppedMany => &["point_values", "point_indices", "refusals"],
             Call::CellValue => &["value"],
             Call::CursorNext => &["cursor", "value"],
             Call::DeviceText | Call::ReportText | Call::SheetText => &["text", "length"],

@@ -170,7 +170,7 @@ fn faults_of(call: Call) -> &'static [Fault] {
         Call::ExactIndex => OF_EXACT_INDEX,
         Call::LocateAxis => OF_CURVE,
         Call::LocateStepIndex => OF_STEP,
-        Call::Stepped => OF_STEPPED,
+        Call::Stepped | Call::SteppedMany => OF_STEPPED,
         Call::CellValue
         | Call::CursorNext
         | Call::DeviceText
@@ -271,6 +271,7 @@ fn fixed_length_off(random: &mut Random, case: &mut Case) {
         "edition",
         "point_values",
         "point_labels",
+        "point_indices",
         "refusals",
     ];
     let mut fixed = present(case, &names);

@@ -56,12 +56,13 @@ pub enum Kind {
     DirectBesideEven,
     QuickQueries,
     DirectQueries,
+    SteppedMany,
     SheetText,
     EmptySlice,
 }
 
 /// Every kind, in the order of the report.
-pub const KINDS: [Kind; 35] = [
+pub const KINDS: [Kind; 36] = [
     Kind::Example,
     Kind::Moments,
     Kind::Curve,
@@ -95,6 +96,7 @@ pub const KINDS: [Kind; 35] = [
     Kind::DirectBesideEven,
     Kind::QuickQueries,
     Kind::DirectQueries,
+    Kind::SteppedMany,
     Kind::SheetText,
     Kind::EmptySlice,
 ];
@@ -136,6 +138,7 @@ impl Kind {
             Kind::DirectBesideEven => "direct_beside_even",
             Kind::QuickQueries => "quick_queries",
             Kind::DirectQueries => "direct_queries",
+            Kind::SteppedMany => "stepped_many",
             Kind::SheetText => "sheet_text",
             Kind::EmptySlice => "empty_slice",
         }
@@ -182,7 +185,7 @@ impl Kind {
             Kind::DirectQuery => &[1, 2, 3, 4, 7, 8, 10, 18, 22],
             Kind::DirectBesideEven => &[1, 2, 3, 4, 7, 10, 18, 21, 22],
             // From 7 on each point has its own.
-            Kind::QuickQueries | Kind::DirectQueries => &[1, 2, 3, 4, 22],
+            Kind::QuickQueries | Kind::DirectQueries | Kind::SteppedMany => &[1, 2, 3, 4, 22],
             Kind::SheetText => &[1, 2, 3, 7, 8, 9, 10, 11, 12, 13, 14, 22],
             Kind::EmptySlice => &[4, 5, 11, 15, 20],
         }
@@ -240,6 +243,9 @@ const FAULTY_EVEN: usize = 18;
 /// Of many points a fault of a coordinate refuses that point alone.
 const FAULTY_MANY: usize = 44;
 
+/// The same of a knot or a sample.
+const FAULTY_STEPPED_MANY: usize = 54;
+
 /// Of the tensors to be verified some have samples that cannot be built.
 const FAULTY_TO_VERIFY: usize = 28;
 
@@ -269,6 +275,7 @@ pub fn single(kind: Kind, number: usize, random: &mut Random) -> Case {
         Kind::DirectQuery => direct_query(random),
         Kind::QuickQueries => queries(random, Call::QuickQueries),
         Kind::DirectQueries => queries(random, Call::DirectQueries),
+        Kind::SteppedMany => stepped_many(random),
         Kind::Example
         | Kind::ChangeList
         | Kind::ShortSheet
@@ -489,17 +496,40 @@ fn locate_step_index(random: &mut Random) -> Case {
     altered_at_times(random, case)
 }
 
-/// The sample that generated coordinates step to. What stands past the axes in use is not read.
+/// The sample that generated coordinates step to.
 fn stepped(random: &mut Random) -> Case {
     let grid = Grid::generate(random);
-    let mut directions = [2, 255, 3, 4];
-    for direction in &mut directions[..grid.axes] {
-        *direction = random.below(2) as u8;
-    }
+    let directions = directions(random, &grid);
     let samples = list(random, grid.samples());
     let coordinates = grid.coordinates(random);
     let case = lending::stepped(random, &grid, directions, &samples, &coordinates);
     altered_at_times(random, case)
+}
+
+/// A direction for each axis. What stands past the axes in use is not read.
+fn directions(random: &mut Random, grid: &Grid) -> [u8; 4] {
+    let mut directions = [2, 255, 3, 4];
+    for direction in &mut directions[..grid.axes] {
+        *direction = random.below(2) as u8;
+    }
+    directions
+}
+
+/// The samples that up to six points step to. A fault of the knots, the samples or a coordinate is one of
+/// points, and the call is accepted.
+fn stepped_many(random: &mut Random) -> Case {
+    let grid = Grid::generate(random);
+    let directions = directions(random, &grid);
+    let samples = list(random, grid.samples());
+    let mut coordinates = Vec::new();
+    for _ in 0..random.below(7) {
+        coordinates.extend(grid.coordinates(random));
+    }
+    let mut case = lending::stepped_many(random, &grid, directions, &samples, &coordinates);
+    if random.percent(FAULTY_STEPPED_MANY) {
+        spoil(random, &mut case);
+    }
+    case
 }
 
 /// A sheet to be read: first a small one with all that a sweep does to it, by the number of the

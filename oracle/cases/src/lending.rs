@@ -265,6 +265,29 @@ pub fn stepped(
     Case::new(Call::Stepped, arguments)
 }
 
+/// The samples that many points step to on a grid, whose coordinates stand one point after the other.
+pub fn stepped_many(
+    random: &mut Random,
+    grid: &Grid,
+    directions: [u8; 4],
+    samples: &[f64],
+    coordinates: &[f64],
+) -> Case {
+    let count = coordinates.len() / grid.axes;
+    let arguments = vec![
+        Argument::Number(grid.axes),
+        Argument::of_numbers(&grid.points),
+        Argument::of_bytes(&directions),
+        Argument::of_floats(&grid.knots),
+        Argument::of_floats(samples),
+        Argument::of_floats(coordinates),
+        room(random, count),
+        Argument::of_numbers(&vec![78; 4 * count]),
+        Argument::of_numbers(&vec![79; count]),
+    ];
+    Case::new(Call::SteppedMany, arguments)
+}
+
 /// A sheet, the two buffers, and room for its axes. What is no number keeps no payload
 /// in them, so they are filled with numbers.
 fn sheet_arguments(random: &mut Random, bytes: &[u8]) -> Vec<Argument> {

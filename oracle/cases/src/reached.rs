@@ -587,7 +587,7 @@ fn last(knots: &[f64]) -> f64 {
 fn no_direction(case: &Case) -> bool {
     match case.call {
         Call::LocateStepIndex => case.argument("direction").number() > 1,
-        Call::Stepped => {
+        Call::Stepped | Call::SteppedMany => {
             let axes = case.argument("axes").number();
             let directions = case.argument("directions").bytes();
             directions.iter().take(axes).any(|number| *number > 1)

@@ -20,9 +20,11 @@ impl Calls for Reading {
                 on_a_sheet(case.call, arguments)
             }
             Call::Surface => of_a_sheet(arguments),
-            Call::ExactIndex | Call::LocateAxis | Call::LocateStepIndex | Call::Stepped => {
-                by_steps(case.call, arguments)
-            }
+            Call::ExactIndex
+            | Call::LocateAxis
+            | Call::LocateStepIndex
+            | Call::Stepped
+            | Call::SteppedMany => by_steps(case.call, arguments),
             Call::CellValue | Call::CursorNext | Call::DeviceText => {
                 of_the_device(case.call, arguments)
             }
@@ -220,6 +222,14 @@ fn by_steps(call: Call, arguments: &mut [Argument]) -> usize {
         ) => reading::stepped(
             axes.number(), points.numbers(), directions.bytes(), knots.floats(),
             samples.floats(), coordinates.floats(), value.floats_mut(), indices.numbers_mut(),
+        ),
+        (
+            Call::SteppedMany,
+            [axes, points, directions, knots, samples, coordinates, values, indices, refusals],
+        ) => reading::stepped_many(
+            axes.number(), points.numbers(), directions.bytes(), knots.floats(),
+            samples.floats(), coordinates.floats(), values.floats_mut(), indices.numbers_mut(),
+            refusals.numbers_mut(),
         ),
         _ => panic!("a case has the arguments of its call"),
     }

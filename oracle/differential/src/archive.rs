@@ -34,6 +34,7 @@ impl Calls for Archive {
             Call::LocateAxis => locate_axis(arguments),
             Call::LocateStepIndex => locate_step_index(arguments),
             Call::Stepped => stepped(arguments),
+            Call::SteppedMany => stepped_many(arguments),
             Call::CellValue => cell_value(arguments),
             Call::CursorNext => cursor_next(arguments),
             Call::DeviceText => device_text(arguments),
@@ -476,6 +477,31 @@ fn stepped(arguments: &mut [Argument]) -> usize {
             axes.number(), points.0, points.1, directions.0, directions.1, knots.0, knots.1,
             samples.0, samples.1, coordinates.0, coordinates.1, value.0, value.1,
             indices.0, indices.1,
+        )
+    }
+}
+
+#[rustfmt::skip]
+fn stepped_many(arguments: &mut [Argument]) -> usize {
+    let [axes, points, directions, knots, samples, coordinates, values, indices, refusals] =
+        arguments
+    else {
+        panic!("a case has the arguments of its call")
+    };
+    let points = lent(points.numbers());
+    let directions = lent(directions.bytes());
+    let knots = lent(knots.floats());
+    let samples = lent(samples.floats());
+    let coordinates = lent(coordinates.floats());
+    let values = lent_mut(values.floats_mut());
+    let indices = lent_mut(indices.numbers_mut());
+    let refusals = lent_mut(refusals.numbers_mut());
+    // SAFETY: each pair is a live slice; no two of them overlap.
+    unsafe {
+        hullashlar_stepped_many(
+            axes.number(), points.0, points.1, directions.0, directions.1, knots.0, knots.1,
+            samples.0, samples.1, coordinates.0, coordinates.1, values.0, values.1,
+            indices.0, indices.1, refusals.0, refusals.1,
         )
     }
 }

@@ -25,7 +25,7 @@ mod write;
 pub use curve::{curve, moments, slopes};
 pub use device::{cell_value, cursor_next, device_text};
 pub use ends::{conditions, Condition};
-pub use many::{direct_queries, quick_queries};
+pub use many::{direct_queries, quick_queries, stepped_many};
 pub use modes::{EXTEND, HOLD, REFUSE};
 pub use query::{direct_query, even_query, query, quick_query};
 pub use refusals::CURVE_SCRATCH;

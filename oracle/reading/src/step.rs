@@ -142,3 +142,8 @@ fn directions(numbers: &[u8]) -> Result<Vec<StepDirection>, Refusal> {
     };
     numbers.iter().map(direction).collect()
 }
+
+/// 22 where a number is that of no direction.
+pub fn directions_stand(numbers: &[u8]) -> Result<(), Refusal> {
+    directions(numbers).map(|_| ())
+}

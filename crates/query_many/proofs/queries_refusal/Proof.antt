@@ -2,7 +2,8 @@
 use mathlib.Core.Path.{refl}
 use Rattle.grid_checks.proofs.Rows.{stop, pass}
 use borrow.Author.Needs.{needs}
-use Rattle.query_many.proofs.Refusing.{sizes-stop, sizes-pass, some-axes}
+use Rattle.many_points.proofs.InTurn.{sizes-stop, sizes-pass}
+use Rattle.query_many.proofs.Refusing.{some-axes}
 use Rattle.query_many.proofs.queries_refusal.Statement.{statement}
 use Rattle.query_many.proofs.queries_refusal.Tie as tie
 

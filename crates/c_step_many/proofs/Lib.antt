@@ -1,0 +1,2 @@
+mod Given
+pub mod Unique

@@ -1,0 +1,2 @@
+pub mod ManyPoints
+pub mod PointByPoint

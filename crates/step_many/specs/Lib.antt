@@ -1,0 +1,2 @@
+pub mod ManySteps
+pub mod StepByStep
