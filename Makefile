@@ -192,12 +192,12 @@ expected:
 # A Python that has numpy: Debian's packages belong to /usr/bin/python3, which need not be the first on the path.
 PYTHON = $(shell for python in python3 /usr/bin/python3; do $$python -c 'import numpy' 2> /dev/null && echo $$python && break; done)
 
-# What the Python package hands numbers to: the proved archive as a shared library, and the program that reports.
+# What the Python package hands numbers to: the proved archive as a shared library, with loops over some of its calls, and the program that reports.
 python: archive-here
 	rt check sheet_report
 	mkdir -p python/hullashlar/proved
-	gcc -shared -nostartfiles -Wl,--whole-archive $(ARCHIVES)/libhullashlar.a -Wl,--no-whole-archive -Wl,--no-undefined \
-	    -o python/hullashlar/proved/libhullashlar.so
+	gcc -std=c11 -Wall -Wextra -Werror -O2 -Iinclude -shared -fPIC -nostartfiles python/point_by_point.c \
+	    -Wl,--whole-archive $(ARCHIVES)/libhullashlar.a -Wl,--no-whole-archive -Wl,--no-undefined -o python/hullashlar/proved/libhullashlar.so
 	cp target/bin/sheet_report python/hullashlar/proved/
 
 # The package's tests; README.md says which packages they want.

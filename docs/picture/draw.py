@@ -20,7 +20,8 @@ STYLE = """
   .sample { fill: #1f2328; stroke: #ffffff; stroke-width: 1.5; }
   .old { fill: #ffffff; stroke: #8c959f; stroke-width: 2; }
   .arrow { fill: none; stroke: #8c959f; stroke-width: 1.6; }
-  text { font-family: system-ui, "Segoe UI", Helvetica, Arial, "DejaVu Sans", sans-serif; font-size: 14px; fill: #1f2328; }
+  text { font-family: system-ui, "Segoe UI", Helvetica, Arial, "DejaVu Sans", sans-serif; font-size: 14px; fill: #1f2328;
+    paint-order: stroke; stroke: #ffffff; stroke-width: 6px; stroke-linejoin: round; }
   .title { font-size: 17px; font-weight: 600; }
   .quiet { fill: #59636e; }
   .red { fill: #b3202a; }
@@ -33,7 +34,7 @@ STYLE = """
     .error { fill: #ff6b63; fill-opacity: 0.18; }
     .sample { fill: #f0f6fc; stroke: #0d1117; }
     .old { fill: #0d1117; }
-    text { fill: #f0f6fc; }
+    text { fill: #f0f6fc; stroke: #0d1117; }
     .quiet { fill: #9198a1; }
     .red { fill: #ff8a83; }
     .blue { fill: #79b8ff; }

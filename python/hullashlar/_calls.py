@@ -1,4 +1,4 @@
-"""The exported calls of include/hullashlar.h, each declared once.
+"""The exported calls of include/hullashlar.h and the loops of python/point_by_point.c over some of them, each declared once.
 
 A call takes numbers as they are and arrays as a pointer and a length, so that no length is ever written by hand. What a call
 answers is its refusal, 0 for none; :func:`hullashlar.refusals.accept` turns it into an exception.
@@ -7,7 +7,6 @@ answers is its refusal, 0 for none; :func:`hullashlar.refusals.accept` turns it 
 from __future__ import annotations
 
 import ctypes
-from collections.abc import Iterator
 from pathlib import Path
 from typing import Any, NamedTuple
 
@@ -32,28 +31,14 @@ MOST_COUNT = 2**64 - 1
 PROVED = Path(__file__).with_name("proved")
 LIBRARY = PROVED / "libhullashlar.so"
 
-# Half of it is subnormal: zero where the thread flushes such numbers, under which no call has the rules' bits.
-SMALLEST_NORMAL = 2.0**-1022
+# Half of the first is subnormal: zero where the thread flushes such numbers. The second is lost beside 1 where it rounds to the nearest.
+SMALLEST_NORMAL, QUARTER_OF_A_UNIT = 2.0**-1022, 2.0**-54
 
 
 class Slice(NamedTuple):
     """A parameter that is a pointer and a length."""
 
     dtype: type[np.generic]
-
-
-class Rows(NamedTuple):
-    """An argument of which :meth:`Call.of_each` lends one row at a time."""
-
-    array: NDArray[Any]
-
-    def turns(self, parameter: Any) -> Iterator[Any]:
-        """The first word of each row: where it lies, or for a parameter that is a number the number itself."""
-        if not isinstance(parameter, Slice):
-            yield from self.array
-            return
-        start, step = self.array.ctypes.data, self.array.strides[0]
-        yield from (start + row * step for row in range(len(self.array)))
 
 
 COUNT, PATTERN = ctypes.c_uint64, ctypes.c_uint64
@@ -72,10 +57,12 @@ def load() -> ctypes.CDLL:
 _library = load()
 
 
-def no_flushing() -> None:
-    """Refuses to compute where this thread takes subnormal numbers for zero, as libraries built with -ffast-math make it do."""
+def look_at_floats() -> None:
+    """Refuses to compute under float settings that move answers: asks what the header's hullashlar_floats_ready asks."""
     if SMALLEST_NORMAL / 2 == 0.0:
         raise FloatingPointError("this thread flushes subnormal numbers to zero: load no library that was built with -ffast-math")
+    if not 1.0 + QUARTER_OF_A_UNIT == 1.0 == 1.0 - QUARTER_OF_A_UNIT:
+        raise FloatingPointError("this thread does not round to the nearest number: let it do so before a call")
 
 
 def count(number: int) -> int:
@@ -84,11 +71,11 @@ def count(number: int) -> int:
 
 
 class Call:
-    """One exported call."""
+    """One call of the shared library: a proved one, or a loop over one."""
 
-    def __init__(self, name: str, *parameters: Any) -> None:
+    def __init__(self, name: str, *parameters: Any, of: str = "hullashlar") -> None:
         self._parameters = parameters
-        self._function = getattr(_library, f"hullashlar_{name}")
+        self._function = getattr(_library, f"{of}_{name}")
         self._function.restype = ctypes.c_uint64
         self._function.argtypes = [part for parameter in parameters for part in self._parts(parameter)]
 
@@ -98,34 +85,17 @@ class Call:
 
     def __call__(self, *arguments: Any) -> int:
         """What the call returns."""
-        no_flushing()
+        look_at_floats()
         words: list[Any] = []
         for parameter, argument in zip(self._parameters, arguments, strict=True):
             words += lent(argument, parameter) if isinstance(parameter, Slice) else [argument]
         return int(self._function(*words))
 
-    def of_each(self, points: int, *arguments: Any) -> NDArray[np.uint64]:
-        """What the call returns for each point, for calls that take one point alone: `Rows` are lent one row after the other."""
-        no_flushing()
-        words: list[Any] = []
-        moving: dict[int, Iterator[Any]] = {}
-        for parameter, argument in zip(self._parameters, arguments, strict=True):
-            if isinstance(argument, Rows):
-                moving[len(words)] = argument.turns(parameter)
-                argument = argument.array[:1].reshape(-1)
-            words += lent(argument, parameter) if isinstance(parameter, Slice) else [argument]
-        returned = np.empty(points, np.uint64)
-        for point, turn in enumerate(zip(*moving.values(), strict=True)):
-            for position, word in zip(moving, turn, strict=True):
-                words[position] = word
-            returned[point] = self._function(*words)
-        return returned
-
 
 def lent(array: NDArray[Any], parameter: Slice) -> list[int]:
     """The address and the length of an array that lies as a call takes it."""
     if array.dtype != parameter.dtype or not (array.flags.c_contiguous and array.flags.aligned):
-        raise TypeError(f"a call takes a plain array of {parameter.dtype.__name__}, and not one of {array.dtype}")
+        raise TypeError(f"a call takes an array of {parameter.dtype.__name__} without gaps, and this one of {array.dtype} is not so")
     return [array.ctypes.data, array.size]
 
 
@@ -157,3 +127,7 @@ stepped = Call("stepped", *_ASKED, FLOATS, COUNTS)
 cell_value = Call("cell_value", WHOLE, WHOLE, WHOLE, WHOLE, WHOLE, WHOLES)
 cursor_next = Call("cursor_next", BYTES, CURSORS, WHOLES)
 surface = Call("surface", BYTES, PATTERN, PATTERN, PATTERN, PATTERN)
+
+step_each = Call("stepped", *_ASKED, FLOATS, COUNTS, of="point_by_point")
+query_each = Call("query", *_ASKED, FLOATS, COUNTS, of="point_by_point")
+curve_each = Call("curve", COUNT, FLOATS, FLOATS, FLOATS, FLOATS, FLOATS, COUNTS, of="point_by_point")

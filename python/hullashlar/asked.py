@@ -9,7 +9,7 @@ from numpy.typing import ArrayLike, NDArray
 
 from . import _calls
 from .axes import Axes, floats
-from ._calls import Call, Rows
+from ._calls import Call
 from .refusals import Refused, accept
 
 Values = NDArray[np.float64]
@@ -38,6 +38,13 @@ def by_pieces(call: Call, axes: Axes, numbers: Values, points: Values) -> tuple[
         asked = points[piece]
         slots = values[piece], labels[: len(asked)].reshape(-1), refusals[piece]
         accept(call(*axes.asked, numbers, asked.reshape(-1), *slots))
+    return values, refusals
+
+
+def point_by_point(call: Call, surface: tuple[Any, ...], points: Values) -> tuple[Values, Refusals]:
+    """Values and refusals by a loop over a call for one point."""
+    values, refusals = np.empty(len(points)), np.empty(len(points), np.uint64)
+    accept(call(*surface, points.reshape(-1), values, refusals))
     return values, refusals
 
 
@@ -81,10 +88,8 @@ def quick(axes: Axes, tensor: Values, points: Values) -> tuple[Values, Refusals]
 
 
 def full(axes: Axes, tensor: Values, points: Values) -> tuple[Values, Refusals]:
-    """Values and refusals by the query that looks at all knots each time: it takes one point, so it is called for each."""
-    values, labels = np.zeros((len(points), 1)), np.zeros(_calls.AXES, np.uint64)
-    refusals = _calls.query.of_each(len(points), *axes.asked, tensor, Rows(points), Rows(values), labels)
-    return values[:, 0], refusals
+    """Values and refusals by the query that looks at all knots each time."""
+    return point_by_point(_calls.query_each, (*axes.asked, tensor), points)
 
 
 HOW = {"quick": quick, "full": full, "direct": direct}

@@ -2,9 +2,9 @@
 
 from __future__ import annotations
 
-import operator
 from collections.abc import Sequence
 from dataclasses import dataclass
+from numbers import Real
 from typing import Any, Union
 
 import numpy as np
@@ -42,9 +42,14 @@ def row_of(numbers: ArrayLike, what: str) -> NDArray[np.float64]:
     return row
 
 
+def is_pair(said: Any) -> bool:
+    """Whether this is a sequence of two."""
+    return isinstance(said, (Sequence, np.ndarray)) and not isinstance(said, str) and len(said) == 2
+
+
 def is_number_pair(end: Any) -> bool:
     """Whether this is one end said by an order and a value, as (1, 0.5)."""
-    return not isinstance(end, str) and len(end) == 2 and not any(isinstance(part, (str, Sequence)) for part in end)
+    return is_pair(end) and all(isinstance(part, Real) for part in end)
 
 
 def end_numbers(end: End) -> tuple[int, float]:
@@ -55,13 +60,15 @@ def end_numbers(end: End) -> tuple[int, float]:
         return WORDS[end]
     if not is_number_pair(end) or end[0] not in (FIRST_DERIVATIVE, SECOND_DERIVATIVE):
         raise ValueError(f"{end!r} is no end: an end is a word, or the order 1 or 2 of a derivative and its value")
-    return operator.index(end[0]), float(end[1])
+    return int(end[0]), float(end[1])
 
 
 def for_each_axis(said: Any, axes: int, what: str) -> list[Any]:
     """What is said once for all axes, or once for each of them."""
     if isinstance(said, str):
         return [said] * axes
+    if not isinstance(said, (Sequence, np.ndarray)):
+        raise ValueError(f"{what}={said!r}: say a word, or one for each axis")
     if len(said) != axes:
         raise ValueError(f"{what} for {len(said)} axes, but there are {axes}")
     return list(said)
@@ -70,9 +77,10 @@ def for_each_axis(said: Any, axes: int, what: str) -> list[Any]:
 def ends_of_axes(ends: Any, axes: int) -> list[AxisEnds]:
     """The ends of each axis: a word, or a lower and an upper end, for all axes or one such for each.
 
-    Two ends of which one is an order and a value are the two ends of every axis; any other sequence has one for each axis.
+    Two ends of which one is an order and a value are the two ends of every axis, and so are any two ends where there is one axis; any other
+    sequence has one for each axis.
     """
-    if not isinstance(ends, str) and len(ends) == 2 and any(is_number_pair(end) for end in ends):
+    if is_pair(ends) and (axes == 1 or any(is_number_pair(end) for end in ends)):
         return [(ends[0], ends[1])] * axes
     return for_each_axis(ends, axes, "ends")
 
@@ -81,7 +89,7 @@ def pair_of_ends(ends: AxisEnds) -> tuple[End, End]:
     """The lower and the upper end of one axis."""
     if isinstance(ends, str):
         return ends, ends
-    if len(ends) != 2:
+    if not is_pair(ends):
         raise ValueError(f"{ends!r} are no ends of an axis: name a lower end and an upper one")
     return ends[0], ends[1]
 

@@ -22,6 +22,11 @@ LONG = 1 << 23
 BAR = 40
 
 
+def number(word: str) -> float:
+    """The number that an argument says."""
+    return text.plain_number(word)
+
+
 def read_sheet(path: str) -> Surface:
     """The surface of a sheet's file."""
     return Surface.read(Path(path).read_bytes())
@@ -41,14 +46,17 @@ def show(options: argparse.Namespace) -> int:
 
 def pack(options: argparse.Namespace) -> int:
     """A text as the sheet that it says."""
-    sheet = text.sheet_of_text(Path(options.text).read_text(encoding="utf-8"))
+    sheet = text.sheet_of_text(text.text_of_file(options.text))
     Path(options.output).write_bytes(sheet)
     return ACCEPTED
 
 
 def query(options: argparse.Namespace) -> int:
     """The value of a sheet's surface at a point."""
-    print(text.decimals(read_sheet(options.sheet)(options.point, how=options.how)))
+    surface = read_sheet(options.sheet)
+    if len(options.point) != len(surface.axes):
+        raise ValueError(f"{len(options.point)} coordinates, but the sheet has {len(surface.axes)} axes")
+    print(text.decimals(surface(options.point, how=options.how)))
     return ACCEPTED
 
 
@@ -57,7 +65,8 @@ def moved(before: Surface, after: Surface) -> str:
     others = before.tensor.view(np.uint64) != after.tensor.view(np.uint64)
     if not others.any():
         return "no number moved"
-    farthest = np.abs(after.tensor - before.tensor).max()
+    with np.errstate(over="ignore"):
+        farthest = np.abs(after.tensor - before.tensor).max()
     return f"{np.count_nonzero(others)} of {others.size} numbers moved, by {text.decimals(farthest)} at most"
 
 
@@ -75,7 +84,7 @@ def change(options: argparse.Namespace) -> int:
 
 def verify(options: argparse.Namespace) -> int:
     """Whether the tensor of a text is that of its own samples."""
-    said, tensor = text.tensor_of_text(Path(options.tensor).read_text(encoding="utf-8"))
+    said, tensor = text.tensor_of_text(text.text_of_file(options.tensor))
     print(Surface.of_tensor(tensor=tensor, **said).verify())
     return ACCEPTED
 
@@ -106,8 +115,8 @@ def print_report(path: str, report: Report) -> None:
     """A report in words and a table."""
     how = "stopped before its end" if report.stopped else "read to its end"
     print(f"{path}: sheets {report.sheets}, accepted {report.accepted}, {how}")
-    for number, sheets_refused in report.refused.items():
-        print(f"  refused {number} ({REFUSALS[number][0]}): {sheets_refused}")
+    for refusal, sheets_refused in report.refused.items():
+        print(f"  refused {refusal} ({REFUSALS[refusal][0]}): {sheets_refused}")
     print("  order     entries    not zero  largest")
     for order, derivatives in enumerate(report.orders):
         print(f"  {order:5}{derivatives.entries:12}{derivatives.nonzero:12}  {text.decimals(derivatives.largest)}")
@@ -115,7 +124,7 @@ def print_report(path: str, report: Report) -> None:
 
 def why_stopped(report: Report) -> str:
     """The refusal of the sheet in which a report stopped: it is the last, and of the numbers that a reader has."""
-    unread = [number for number in report.refused if number not in (7, 8, 9, 10)]
+    unread = [refusal for refusal in report.refused if refusal not in (7, 8, 9, 10)]
     return str(Refused(unread[0])) if unread else "a report ends at a million sheets"
 
 
@@ -145,7 +154,7 @@ def draw(options: argparse.Namespace) -> int:
     changed = None
     if options.change:
         *place, value = options.change
-        changed = tuple(int(index) for index in place), float(value)
+        changed = tuple(int(index) for index in place), number(value)
     draw_surface(read_sheet(options.sheet), options.output, changed, options.stale, options.at, options.names)
     return ACCEPTED
 
@@ -191,12 +200,12 @@ def parser_of(program: str) -> argparse.ArgumentParser:
     command.add_argument("-o", dest="output", metavar="SHEET", required=True)
     command = commands.add(query, "ask the surface of a sheet at a point", "query gain.sheet 1.5 60")
     command.add_argument("sheet", metavar="SHEET")
-    command.add_argument("point", metavar="X", type=float, nargs="+", help="a coordinate for each axis")
+    command.add_argument("point", metavar="X", type=number, nargs="+", help="a coordinate for each axis")
     command.add_argument("--how", choices=("quick", "full", "direct"), default="quick")
     command = commands.add(change, "change a sample", "change gain.sheet --at 2 2 --to 15 -o changed.sheet")
     command.add_argument("sheet", metavar="SHEET")
     command.add_argument("--at", metavar="I", type=int, nargs="+", required=True, help="an index for each axis, from 0")
-    command.add_argument("--to", metavar="VALUE", type=float, required=True)
+    command.add_argument("--to", metavar="VALUE", type=number, required=True)
     command.add_argument("-o", dest="output", metavar="NEW", required=True)
     examples = "show gain.sheet --tensor -o tensor.txt", "verify tensor.txt"
     command = commands.add(verify, "verify the tensor of a text that show --tensor has written", *examples)
@@ -206,7 +215,7 @@ def parser_of(program: str) -> argparse.ArgumentParser:
     command = commands.add(draw, "draw the surface of a sheet", "draw gain.sheet --change 2 2 15 --stale -o gain.svg")
     command.add_argument("sheet", metavar="SHEET")
     command.add_argument("-o", dest="output", metavar="FILE", required=True, help="an svg or a png")
-    command.add_argument("--at", metavar="X", type=float, nargs="+", help="the point that cuts go through")
+    command.add_argument("--at", metavar="X", type=number, nargs="+", help="the point that cuts go through")
     command.add_argument("--change", metavar="I", nargs="+", help="the indices of a sample and a new value: before, after, the difference")
     command.add_argument("--stale", action="store_true", help="also what a loader that keeps old derivatives would show")
     command.add_argument("--names", metavar="NAME", nargs="+", help="what each axis is, and behind them what the surface is")

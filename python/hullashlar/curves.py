@@ -8,8 +8,7 @@ import numpy as np
 from numpy.typing import ArrayLike, NDArray
 
 from . import _calls
-from ._calls import Rows
-from .asked import as_points, settled
+from .asked import as_points, point_by_point, settled
 from .axes import end_slots, floats, row_of
 from .refusals import accept
 
@@ -32,10 +31,8 @@ class Curve:
     def __call__(self, points: ArrayLike, on_refusal: str = "raise") -> Any:
         """The curve's values at points, an array of any shape; beyond the knots the outermost cubics go on."""
         rows, shape = as_points(floats(points)[..., np.newaxis], 1)
-        values = np.zeros((len(rows), 1))
         lane = (self.knots.size, self.knots, self.samples, self.moments)
-        refusals = _calls.curve.of_each(len(rows), *lane, Rows(rows[:, 0]), Rows(values))
-        return settled(values[:, 0], refusals, shape, on_refusal)
+        return settled(*point_by_point(_calls.curve_each, lane, rows), shape, on_refusal)
 
 
 def curve(knots: ArrayLike, samples: ArrayLike, ends: Any = "not-a-knot") -> Curve:

@@ -2,6 +2,7 @@
 
 from __future__ import annotations
 
+import itertools
 from collections.abc import Sequence
 from dataclasses import dataclass, field
 from functools import partial
@@ -28,6 +29,12 @@ FINE, MAP = 601, 161
 
 # A difference of nothing at all is drawn as if this were its most.
 SMALLEST = 2.0**-1022
+
+# How high a legend's strip is, as a part of a panel's height.
+STRIP = 0.1
+
+# How much room a label has around it on a map, as a part of the map's side.
+ROOM = 0.09
 
 # How much of an axis is drawn beyond its knots, as a part of its length.
 BEYOND = 0.08
@@ -76,6 +83,11 @@ class Scene:
         *_, last = self.surfaces.values()
         return last
 
+    @property
+    def changed_point(self) -> list[float]:
+        """Where the changed sample stands."""
+        return point_of(self.last, self.changed or ())
+
     def name(self, axis: int) -> str:
         """What an axis is called."""
         return self.names[axis] if axis < len(self.names) else f"axis {axis}"
@@ -85,6 +97,11 @@ class Scene:
         """What the surface is called."""
         axes = len(self.last.axes)
         return self.names[axes] if axes < len(self.names) else "value"
+
+
+def point_of(surface: Surface, place: tuple[int, ...]) -> list[float]:
+    """The knots of a place."""
+    return [float(row[index]) for row, index in zip(surface.axes, place, strict=True)]
 
 
 def stale_surface(surface: Surface, place: tuple[int, ...], value: float) -> Surface:
@@ -105,7 +122,7 @@ def scene_of(surface: Surface, changed: Changed | None, stale: bool, at: Sequenc
         surfaces = {"before": surface, "after": after}
         if stale:
             surfaces = {"before": surface, "stale": stale_surface(surface, place, value), "after": after}
-    point = list(at) if at else [float(row[index]) for row, index in zip(surface.axes, place, strict=True)]
+    point = list(at) if at else point_of(surface, place)
     if len(point) != len(surface.axes):
         raise ValueError(f"a point of {len(point)} coordinates, but there are {len(surface.axes)} axes")
     return Scene(surfaces, point, names or [], place if changed else None)
@@ -154,9 +171,16 @@ def draw_cut(scene: Scene, panel: Panel, axis: int) -> None:
 
 
 def other_coordinates(scene: Scene, axis: int) -> str:
-    """Where a cut lies on the other axes."""
+    """Where a cut lies on the other axes, a line for each."""
     others = [f"{scene.name(other)}: {at:g}" for other, at in enumerate(scene.point) if other != axis]
-    return ", ".join(others)
+    return "\n".join(others)
+
+
+def draw_legend(strip: Panel, panel: Panel) -> None:
+    """The legend of a panel in a strip of its own, where it covers nothing."""
+    lines, names = panel.get_legend_handles_labels()
+    strip.set_axis_off()
+    strip.legend(lines, names, loc="center", ncols=len(names), borderaxespad=0.0).set_in_layout(False)
 
 
 def draw_cut_difference(scene: Scene, panel: Panel, axis: int) -> None:
@@ -172,19 +196,19 @@ def draw_cut_difference(scene: Scene, panel: Panel, axis: int) -> None:
     panel.set_xlim(*drawn_range(row))
     panel.set_xlabel(scene.name(axis))
     panel.set_ylabel("difference")
-    panel.legend()
 
 
 def draw_end_slopes(scene: Scene, panel: Panel) -> None:
-    """The slopes at both ends of a curve, as the tensor has them."""
+    """The slopes at both ends of a curve, as the tensor has them: lines of a seventh of the axis, or of a third of the curve's height."""
     row, tensor = scene.last.axes[0], scene.last.tensor
-    reach = (row[-1] - row[0]) / 7
+    low, high = panel.get_ylim()
     for place, side in ((0, 1), (-1, -1)):
-        sample, slope = tensor[place]
-        ends = [row[place], row[place] + side * reach]
-        panel.plot(ends, [sample, sample + side * reach * slope], color=ORANGE, linewidth=1.6, zorder=4)
-        panel.annotate(f"slope {slope:.4g}", (ends[1], sample + side * reach * slope), color=ORANGE, fontsize=9, ha="center",
-                       xytext=(0, 7 if slope * side >= 0 else -14), textcoords="offset points")
+        knot, (sample, slope) = float(row[place]), map(float, tensor[place])
+        steepness = abs(slope) * float(row[-1] - row[0]) / (high - low)
+        reach = side * float(row[-1] - row[0]) / max(7.0, 3.0 * steepness)
+        panel.plot([knot, knot + reach], [sample, sample + reach * slope], color=ORANGE, linewidth=2.2, zorder=4,
+                   linestyle=("-", (0, (2, 1)))[place], label=f"slope {slope:.4g} at {knot:g}")
+    panel.set_ylim(low, high)
 
 
 def map_of(surface: Surface) -> tuple[Values, Values, Values]:
@@ -201,6 +225,44 @@ def levels_of(*maps: Values) -> Values:
     return levels
 
 
+def spots_of(surface: Surface, points: Values) -> Values:
+    """Points as parts of a map, of which 0 and 1 are the frame."""
+    low, high = (np.array([row[end] for row in surface.axes]) for end in (0, -1))
+    spots: Values = (points - low) / (high - low)
+    return spots
+
+
+def clearance(spots: Values, taken: Values) -> Values:
+    """How far each spot is from the nearest that is taken."""
+    away: Values = np.hypot(*np.moveaxis(spots[:, np.newaxis] - taken, -1, 0)).min(axis=1)
+    return away
+
+
+def lines_drawn(scene: Scene) -> Values:
+    """Points of a map that are drawn over: the ring of a change, or the lines of the cuts."""
+    if scene.changed:
+        return np.array([scene.changed_point])
+    rows = [np.linspace(row[0], row[-1], MAP) for row in scene.last.axes]
+    return np.concatenate([line_through(scene.point, axis, row) for axis, row in enumerate(rows)])
+
+
+def label_contours(scene: Scene, panel: Panel, lines: Any) -> None:
+    """Writes its level on each contour line where there is room: away from the frame, from other labels and from what is drawn over the
+    map, and as far as can be from measured points."""
+    surface = scene.last
+    measured = spots_of(surface, np.stack(np.meshgrid(*surface.axes), axis=-1).reshape(-1, 2))
+    taken, places = spots_of(surface, lines_drawn(scene)), []
+    for line in itertools.chain.from_iterable(lines.allsegs):
+        spots = spots_of(surface, line)
+        room = np.minimum(clearance(spots, taken), np.minimum(spots, 1.0 - spots).min(axis=1))
+        free = np.flatnonzero(room > ROOM)
+        if free.size > 0 and np.ptp(spots, axis=0).max() > 2 * ROOM:
+            best = free[np.argmax(clearance(spots[free], measured))]
+            taken = np.append(taken, spots[best : best + 1], axis=0)
+            places.append(line[best])
+    panel.clabel(lines, fontsize=9, fmt="%g", manual=places, use_clabeltext=True)
+
+
 def draw_map(scene: Scene, panel: Panel, values: Values, levels: Values, title: str) -> Any:
     """A map with contour lines and the measured points; answers what a bar of its colours is made of."""
     across, up, _ = map_of(scene.last)
@@ -208,8 +270,8 @@ def draw_map(scene: Scene, panel: Panel, values: Values, levels: Values, title: 
     between = levels[(levels > np.nanmin(values)) & (levels < np.nanmax(values))]
     if between.size > 0:
         lines = panel.contour(across, up, values.T, between, colors=INK, linewidths=0.7, alpha=0.7)
-        panel.clabel(lines, fontsize=8, fmt="%g")
-    finish_map(scene, panel, title)
+        label_contours(scene, panel, lines)
+    finish_map(scene, panel, title, RED)
     return filled
 
 
@@ -220,16 +282,17 @@ def draw_map_difference(scene: Scene, panel: Panel, difference: Values, title: s
     ticks = MaxNLocator(12, symmetric=True).tick_values(-most, most)
     half = (ticks[1] - ticks[0]) / 2
     filled = panel.contourf(across, up, difference.T, np.append(ticks - half, ticks[-1] + half), cmap=DIFFERENCES)
-    finish_map(scene, panel, title)
+    finish_map(scene, panel, title, INK)
     scene.figure.colorbar(filled, ax=panel, ticks=ticks)
 
 
-def finish_map(scene: Scene, panel: Panel, title: str) -> None:
-    """The measured points, the changed one, and the names of the axes."""
+def finish_map(scene: Scene, panel: Panel, title: str, ring: str) -> None:
+    """The measured points, a ring around the changed one, and the names of the axes."""
     across, up = np.meshgrid(*scene.last.axes, indexing="ij")
-    panel.plot(across.ravel(), up.ravel(), "o", color=INK, markersize=3.2, markeredgecolor="white", markeredgewidth=0.6, clip_on=False)
+    panel.plot(across.ravel(), up.ravel(), "o", color=INK, markersize=3.2, markeredgecolor="white", markeredgewidth=0.6,
+               clip_on=False, zorder=5)
     if scene.changed:
-        panel.plot(*scene.point, "o", color="none", markeredgecolor=RED, markersize=10, markeredgewidth=1.8)
+        panel.plot(*scene.changed_point, "o", color="none", markeredgecolor=ring, markersize=10, markeredgewidth=1.8)
     panel.grid(False)
     panel.set_title(title)
     panel.set_xlabel(scene.name(0))
@@ -239,17 +302,17 @@ def finish_map(scene: Scene, panel: Panel, title: str) -> None:
 def draw_one_axis(scene: Scene) -> None:
     """The curve, its samples and the slopes at its ends; of a change the difference below."""
     if scene.changed is None:
-        scene.figure.set_size_inches(7.4, 4.2)
-        panel = scene.figure.subplots()
+        scene.figure.set_size_inches(7.4, 4.4)
+        strip, panel = scene.figure.subplots(2, 1, height_ratios=[STRIP, 1])
         draw_cut(scene, panel, 0)
         draw_end_slopes(scene, panel)
+        draw_legend(strip, panel)
         return
-    scene.figure.set_size_inches(7.4, 5.8)
-    above, below = scene.figure.subplots(2, 1, height_ratios=[2, 1], sharex=True)
-    draw_cut(scene, above, 0)
-    above.legend()
-    above.set_xlabel("")
-    draw_cut_difference(scene, below, 0)
+    scene.figure.set_size_inches(7.4, 6.6)
+    strips_and_panels = scene.figure.subplots(4, 1, height_ratios=[STRIP, 1, STRIP, 0.6])
+    for draw, strip, panel in zip((draw_cut, draw_cut_difference), strips_and_panels[::2], strips_and_panels[1::2], strict=True):
+        draw(scene, panel, 0)
+        draw_legend(strip, panel)
 
 
 def draw_two_axes(scene: Scene) -> None:
@@ -267,41 +330,58 @@ def draw_two_axes(scene: Scene) -> None:
 
 
 def draw_changed_map(scene: Scene) -> None:
-    """Maps before and after, their difference, and below them what a stale loader shows, or the cuts alone."""
-    scene.figure.set_size_inches(10.4, 6.4)
-    panels = scene.figure.subplots(2, 3)
+    """Maps before and after and their difference, and below them two cuts, or what a stale loader shows and a cut."""
+    scene.figure.set_size_inches(10.4, 6.6)
     maps = {name: map_of(surface)[2] for name, surface in scene.surfaces.items()}
     levels = levels_of(*maps.values())
-    draw_map(scene, panels[0, 0], maps["before"], levels, "before")
-    filled = draw_map(scene, panels[0, 1], maps["after"], levels, "after")
-    scene.figure.colorbar(filled, ax=panels[0, 1])
-    draw_map_difference(scene, panels[0, 2], maps["after"] - maps["before"], "after − before")
-    cuts = [panels[1, 0], panels[1, 1]]
+    rows, heights = [["before", "after", "after − before"], ["cut 0", "cut 1", "legend"]], [1.0, 1.0]
     if "stale" in maps:
-        draw_map(scene, panels[1, 0], maps["stale"], levels, "stale")
-        draw_map_difference(scene, panels[1, 1], maps["stale"] - maps["after"], "stale − after")
-        cuts = [panels[1, 2]]
-    else:
-        panels[1, 2].set_axis_off()
-    for axis, panel in enumerate(cuts, 2 - len(cuts)):
-        draw_cut(scene, panel, axis)
-        panel.set_title(other_coordinates(scene, axis))
-        panel.legend()
+        rows[1:], heights = [[".", ".", "legend"], ["stale", "stale − after", "cut 1"]], [1.0, STRIP, 1.0]
+    panels = scene.figure.subplot_mosaic(rows, height_ratios=heights)
+    for name, values in maps.items():
+        filled = draw_map(scene, panels[name], values, levels, name)
+    scene.figure.colorbar(filled, ax=panels["after"])
+    for name, panel in panels.items():
+        if " − " in name:
+            one, other = name.split(" − ")
+            draw_map_difference(scene, panel, maps[one] - maps[other], name)
+        elif name.startswith("cut"):
+            axis = int(name[-1])
+            draw_cut(scene, panel, axis)
+            panel.set_title(other_coordinates(scene, axis))
+    draw_legend(panels["legend"], panels["cut 1"])
 
 
 def draw_cuts(scene: Scene) -> None:
     """A cut along every axis; of a change its difference below each."""
-    axes = len(scene.last.axes)
-    rows = 1 if scene.changed is None else 2
-    scene.figure.set_size_inches(3.3 * axes, 3.6 * rows)
-    panels = scene.figure.subplots(rows, axes, squeeze=False)
-    for axis in range(axes):
-        draw_cut(scene, panels[0, axis], axis)
-        panels[0, axis].set_title(other_coordinates(scene, axis), fontsize=9)
-        if scene.changed is not None:
-            draw_cut_difference(scene, panels[1, axis], axis)
+    axes = range(len(scene.last.axes))
+    rows = [[f"cut {axis}" for axis in axes]]
     if scene.changed is not None:
-        panels[0, 0].legend()
+        rows = [["cuts" for _ in axes], *rows, ["differences" for _ in axes], [f"difference {axis}" for axis in axes]]
+    heights = [STRIP, 1.1, STRIP, 1][-len(rows) :]
+    scene.figure.set_size_inches(3.3 * len(axes), 3.6 * sum(heights))
+    panels = scene.figure.subplot_mosaic(rows, height_ratios=heights)
+    for axis in axes:
+        draw_cut(scene, panels[f"cut {axis}"], axis)
+        panels[f"cut {axis}"].set_title(other_coordinates(scene, axis), fontsize=9)
+        if scene.changed is not None:
+            draw_cut_difference(scene, panels[f"difference {axis}"], axis)
+    if scene.changed is not None:
+        draw_legend(panels["cuts"], panels["cut 0"])
+        draw_legend(panels["differences"], panels["difference 0"])
+
+
+def draw_scene(scene: Scene) -> None:
+    """Draws a scene into its figure."""
+    axes = len(scene.last.axes)
+    if axes == 1:
+        draw_one_axis(scene)
+    elif axes > 2:
+        draw_cuts(scene)
+    elif scene.changed:
+        draw_changed_map(scene)
+    else:
+        draw_two_axes(scene)
 
 
 def draw_surface(
@@ -314,17 +394,11 @@ def draw_surface(
 ) -> None:
     """Draws a surface into an svg or a png. With `changed`, a place and a value, it shows before, after and the difference; with `stale`
     also what a loader that keeps old derivatives would show. Cuts go through the point `at`; `names` are of the axes and of the value."""
-    if Path(path).suffix not in KINDS:
+    kind = Path(path).suffix.lower()
+    if kind not in KINDS:
         raise ValueError(f"{path}: a picture is a file that ends in {' or '.join(KINDS)}")
     with matplotlib.rc_context(STYLE):
         scene = scene_of(surface, changed, stale, at, names)
-        if len(surface.axes) == 1:
-            draw_one_axis(scene)
-        elif len(surface.axes) > 2:
-            draw_cuts(scene)
-        elif changed:
-            draw_changed_map(scene)
-        else:
-            draw_two_axes(scene)
-        metadata = {"Date": None} if Path(path).suffix == ".svg" else None
+        draw_scene(scene)
+        metadata = {"Date": None} if kind == ".svg" else None
         scene.figure.savefig(path, dpi=120, metadata=metadata)

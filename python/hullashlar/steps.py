@@ -5,12 +5,10 @@ from __future__ import annotations
 from collections.abc import Sequence
 from typing import Any
 
-import numpy as np
 from numpy.typing import ArrayLike
 
 from . import _calls
-from ._calls import Rows
-from .asked import as_points, settled
+from .asked import as_points, point_by_point, settled
 from .axes import DIRECTIONS, Axes, code_slots
 from .surface import grid_shape, in_shape
 
@@ -33,6 +31,4 @@ def stepped(
     grid.modes = code_slots(directions, grid.number, DIRECTIONS, "directions")
     numbers = in_shape(samples, grid_shape(axes), "samples")
     rows, shape = as_points(points, grid.number)
-    values, indices = np.zeros((len(rows), 1)), np.zeros(_calls.AXES, np.uint64)
-    refusals = _calls.stepped.of_each(len(rows), *grid.asked, numbers, Rows(rows), Rows(values), indices)
-    return settled(values[:, 0], refusals, shape, on_refusal)
+    return settled(*point_by_point(_calls.step_each, (*grid.asked, numbers), rows), shape, on_refusal)

@@ -22,9 +22,11 @@ row for each place of the grid, in which the sample comes first and then the der
 
 from __future__ import annotations
 
+import io
 import itertools
 import math
 from collections.abc import Iterator, Sequence
+from pathlib import Path
 from typing import Any, NamedTuple
 
 import numpy as np
@@ -150,6 +152,15 @@ def text_of_tensor(parts: Parts, tensor: NDArray[np.float64]) -> str:
 # ---- From a text to a sheet.
 
 
+def text_of_file(path: str) -> str:
+    """The text of a file in UTF-8, with or without the mark that some editors put before it."""
+    letters = Path(path).read_bytes()
+    try:
+        return letters.decode("utf-8-sig")
+    except UnicodeDecodeError as fault:
+        raise TextFault(letters.count(b"\n", 0, fault.start) + 1, "this is no text in UTF-8") from None
+
+
 class Line(NamedTuple):
     """The words of a line behind its first."""
 
@@ -161,7 +172,7 @@ class Lines:
     """The lines of a text that say something, one after the other."""
 
     def __init__(self, text: str) -> None:
-        lines = [(number, line.partition("#")[0].split()) for number, line in enumerate(text.splitlines(), 1)]
+        lines = [(number, line.partition("#")[0].split()) for number, line in enumerate(io.StringIO(text, newline=None), 1)]
         self._lines = [(number, words) for number, words in lines if words]
         self._end = len(lines) + 1
         self.number = self._lines[0][0] if self._lines else self._end
@@ -198,10 +209,17 @@ class Row(NamedTuple):
     numbers: list[float]
 
 
+def plain_number(word: str) -> float:
+    """The number that a word is; 1_5, which Python takes for 15, is none."""
+    if "_" in word or not word.isascii():
+        raise ValueError(f"{word!r} is no number")
+    return float(word)
+
+
 def number_of(line: int, word: str) -> float:
     """The finite number that a word is."""
     try:
-        number = float(word)
+        number = plain_number(word)
     except ValueError:
         raise TextFault(line, f"{word!r} is no number") from None
     if not math.isfinite(number):
@@ -216,7 +234,7 @@ def numbers_of(line: Line) -> Row:
 
 def whole_of(line: Line) -> int:
     """The one whole number of a line."""
-    if len(line.words) != 1 or not line.words[0].isdecimal():
+    if len(line.words) != 1 or not (line.words[0].isascii() and line.words[0].isdecimal()):
         raise TextFault(line.number, "one whole number should stand here")
     return int(line.words[0])
 

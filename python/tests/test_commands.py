@@ -66,6 +66,12 @@ def test_change_says_what_moved(typed):
     assert said.endswith("no number moved\n")
 
 
+def test_change_of_huge_numbers(typed):
+    line = Surface([[0.0, 1e10]], [-1.5e308, 0.0], "natural")
+    (typed.folder / "huge.sheet").write_bytes(line.write())
+    assert fine(typed(f"{COMMAND} change huge.sheet --at 0 --to 1.5e308 -o new.sheet")).endswith("by inf at most\n")
+
+
 def test_change_keeps_the_edition(typed):
     (typed.folder / "first.sheet").write_bytes(Surface([[0.0, 1.0]], [0.0, 1.0], "natural").write(edition=1))
     fine(typed(f"{COMMAND} change first.sheet --at 1 --to 2 -o new.sheet"))
@@ -150,6 +156,7 @@ def test_a_refusal_is_status_1_and_one_sentence(typed, line, sentence):
         "query gain.sheet",
         "query gain.sheet 1",
         "query gain.sheet one 60",
+        "query gain.sheet 1_5 60",
         "change gain.sheet --at 1 --to 2 -o new.sheet",
         "change gain.sheet --at one 1 --to 2 -o new.sheet",
         "draw gain.sheet -o picture.txt",

@@ -1,4 +1,4 @@
-"""The declared calls, sizes and refusals are those of include/hullashlar.h."""
+"""The declared calls, sizes and refusals are those of include/hullashlar.h, and the loops those of python/point_by_point.c."""
 
 import ctypes
 import re
@@ -17,36 +17,56 @@ TYPES = {
 }
 
 
+# What each kind of pointer is an array of.
+ELEMENTS = {"double": "float64", "size_t": "uint64", "uint64_t": "uint64", "uint8_t": "uint8", "int32_t": "int32", "uint32_t": "uint32"}
+
+
+def uncommented(path):
+    return re.sub(r"/\*.*?\*/", "", path.read_text(encoding="utf-8"), flags=re.DOTALL)
+
+
 @pytest.fixture(scope="module")
 def header(root):
-    text = (root / "include" / "hullashlar.h").read_text(encoding="utf-8")
-    return re.sub(r"/\*.*?\*/", "", text, flags=re.DOTALL)
+    return uncommented(root / "include" / "hullashlar.h")
 
 
-def declared(header):
-    """The name and the parameters of every call."""
-    return re.findall(r"^(?:size_t|uint64_t) hullashlar_(\w+)\((.*?)\);", header, flags=re.DOTALL | re.MULTILINE)
+@pytest.fixture(scope="module")
+def functions(root, header):
+    """The name and the parameters of every function that the shared library has."""
+    texts = header + uncommented(root / "python" / "point_by_point.c")
+    return dict(re.findall(r"^(?:size_t|uint64_t) (\w+)\((.*?)\)(?:;|\n\{)", texts, flags=re.DOTALL | re.MULTILINE))
+
+
+def declared():
+    """Every call of the package, by its name in C."""
+    calls = [call for call in vars(_calls).values() if isinstance(call, _calls.Call)]
+    return {call._function.__name__: call for call in calls}
 
 
 def parameter_type(parameter):
     return ctypes.c_void_p if "*" in parameter else TYPES[parameter.split()[0]]
 
 
-def test_every_call_is_declared_as_the_header_has_it(header):
-    calls = dict(declared(header))
-    ours = {name: call for name, call in vars(_calls).items() if isinstance(call, _calls.Call)}
-    assert set(ours) == set(calls)
-    for name, parameters in calls.items():
+def test_every_call_is_declared_as_c_has_it(functions):
+    calls = declared()
+    assert set(calls) == set(functions)
+    for name, parameters in functions.items():
         types = [parameter_type(parameter) for parameter in parameters.split(",")]
-        assert ours[name]._function.argtypes == types, name
+        assert calls[name]._function.argtypes == types, name
 
 
-def test_every_element_is_of_the_header_s_type(header):
-    elements = {"double": "float64", "size_t": "uint64", "uint64_t": "uint64", "uint8_t": "uint8", "int32_t": "int32", "uint32_t": "uint32"}
-    for name, parameters in declared(header):
+def test_every_element_is_of_c_s_type(functions):
+    calls = declared()
+    for name, parameters in functions.items():
         pointed = re.findall(r"(\w+) \*", parameters)
-        slices = [part for part in getattr(_calls, name)._parameters if isinstance(part, _calls.Slice)]
-        assert [part.dtype.__name__ for part in slices] == [elements[word] for word in pointed], name
+        slices = [part for part in calls[name]._parameters if isinstance(part, _calls.Slice)]
+        assert [part.dtype.__name__ for part in slices] == [ELEMENTS[word] for word in pointed], name
+
+
+def test_the_loops_are_the_only_functions_beside_the_header_s(functions):
+    assert {name for name in functions if not name.startswith("hullashlar_")} == {
+        "point_by_point_query", "point_by_point_curve", "point_by_point_stepped",
+    }
 
 
 def test_sizes(header):

@@ -1,6 +1,7 @@
 """The package installs without a network, and then needs neither the repository nor a compiler; and what it asks of its thread."""
 
 import os
+import platform
 import shutil
 import subprocess
 import sys
@@ -33,6 +34,17 @@ def test_no_library_is_said_plainly(root, tmp_path):
     shutil.copytree(root / "python" / "hullashlar", tmp_path / "hullashlar", ignore=shutil.ignore_patterns("proved", "__pycache__"))
     done = run([sys.executable, "-c", "import hullashlar"], tmp_path, PYTHONPATH=str(tmp_path))
     assert done.returncode == 1 and "run `make python` in the repository first" in done.stderr
+
+
+ROUNDING_UP = {"x86_64": 0x800, "aarch64": 0x400000}
+
+
+@pytest.mark.skipif(platform.machine() not in ROUNDING_UP, reason="wants the machine's number for rounding up")
+def test_a_thread_that_rounds_up_is_not_computed_under(root, tmp_path):
+    rounds = f"ctypes.CDLL('libm.so.6').fesetround({ROUNDING_UP[platform.machine()]})"
+    program = f"import ctypes, hullashlar; assert {rounds} == 0; hullashlar.cell_value(0, 0, 0, 0, 0)"
+    done = run([sys.executable, "-c", program], tmp_path, PYTHONPATH=str(root / "python"))
+    assert "FloatingPointError: this thread does not round to the nearest number" in done.stderr
 
 
 @pytest.mark.skipif(shutil.which("gcc") is None, reason="wants gcc")

@@ -5,7 +5,7 @@ import pickle
 import numpy as np
 import pytest
 
-from hullashlar import Refused, Stale, Surface, _calls, cell_value, curve, sheet_value
+from hullashlar import Refused, Stale, Surface, _calls, cell_value, curve, sheet_value, stepped
 from hullashlar.refusals import REFUSALS, accept
 
 LINE = [[0.0, 1.0, 2.0]]
@@ -135,9 +135,21 @@ def test_wrong_usage_is_no_refusal():
         lambda: Surface([[[0.0, 1.0, 2.0]]], HILL, "natural"),
         lambda: curve([[0.0, 1.0]], [0.0, 1.0], "natural"),
         lambda: Surface(LINE, HILL, "natrual"),
-        lambda: Surface(LINE, HILL, ["natural", "natural"]),
+        lambda: Surface(LINE, HILL, ["natural"] * 3),
+        lambda: Surface(LINE * 2, [HILL] * 3, ["natural"] * 3),
         lambda: Surface(LINE, HILL, ((3, 0.0), (1, 0.0))),
+        lambda: Surface(LINE, HILL, ((1, "0.5"), (1, 0.0))),
+        lambda: Surface(LINE, HILL, (1, 0.5)),
+        lambda: Surface(LINE, HILL, [(1, 0.5)]),
+        lambda: Surface(LINE, HILL, [["natural"]]),
+        lambda: Surface(LINE, HILL, [None]),
+        lambda: Surface(LINE, HILL, None),
+        lambda: Surface(LINE, HILL, 2),
         lambda: Surface(LINE, HILL, "natural", "clamp"),
+        lambda: Surface(LINE, HILL, "natural", None),
+        lambda: Surface(LINE, HILL, "natural", ["hold", "hold"]),
+        lambda: Surface(LINE, HILL, "natural", [1]),
+        lambda: stepped(LINE, HILL, [0.5], "down"),
         lambda: hill()([[0.5, 0.5]]),
         lambda: hill()([0.5], how="fast"),
         lambda: hill()([0.5], on_refusal="ignore"),
@@ -162,6 +174,26 @@ def test_a_curve_is_refused_too():
     with pytest.raises(Refused):
         line([0.5, np.inf])
     np.testing.assert_array_equal(line([0.5, np.inf], on_refusal="nan"), [0.5, np.nan])
+
+
+def test_the_loops_write_nothing_where_a_length_does_not_fit():
+    surface, line = hill(), curve(LINE[0], HILL, "natural")
+    loops = {
+        _calls.query_each: (*surface._axes.asked, surface._tensor),
+        _calls.step_each: (*surface._axes.asked, surface.samples.flatten()),
+        _calls.curve_each: (3, line.knots, line.samples, line.moments),
+    }
+    for loop, lane in loops.items():
+        for coordinates, values in ((2, 3), (3, 2), (4, 3), (3, 4)):
+            written, refusals = np.full(values, 9.0), np.full(3, 99, np.uint64)
+            assert loop(*lane, np.ones(coordinates), written, refusals) == 4
+            assert (written == 9.0).all() and (refusals == 99).all()
+        written, refusals = np.full(3, 9.0), np.full(3, 99, np.uint64)
+        assert loop(*lane, np.ones(3), written, refusals) == 0
+        assert (written == 1.0).all() and (refusals == 0).all()
+    axes = (2**63, *surface._axes.asked[1:])
+    for loop in (_calls.query_each, _calls.step_each):
+        assert loop(*axes, surface._tensor, np.empty(0), np.zeros(2), np.zeros(2, np.uint64)) == 4
 
 
 def test_exceptions_can_be_sent_to_another_process():

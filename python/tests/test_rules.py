@@ -1,5 +1,7 @@
 """The worked examples of docs/RULES.md."""
 
+import itertools
+
 import numpy as np
 import pytest
 
@@ -82,6 +84,40 @@ def test_measured_points_are_read(gain_sheet):
 
 
 PAIR = ((1, 0.5), (2, -0.0))
+
+
+@pytest.mark.parametrize(
+    "said, meant",
+    [
+        ("not-a-knot", "not-a-knot"),
+        (["periodic"], "periodic"),
+        (PAIR, PAIR),
+        ([PAIR], PAIR),
+        (np.array(PAIR), PAIR),
+        (("natural", "clamped"), ((2, 0.0), (1, 0.0))),
+        (["clamped", "clamped"], "clamped"),
+        (("not-a-knot", (2, 1.0)), ("not-a-knot", (2, 1.0))),
+    ],
+)
+def test_how_the_ends_of_one_axis_are_said(said, meant):
+    row, samples = np.arange(5.0), np.random.default_rng(5).normal(size=5)
+    surface = Surface([row], samples, said, ["hold"])
+    assert (repr(surface.ends), surface.outside) == (repr((meant,)), ("hold",))
+    assert surface.tensor[:, 1].tobytes() == curve(row, samples, said).slopes.tobytes()
+
+
+@pytest.mark.parametrize("outside", [*itertools.product(["extend", "hold", "refuse"], repeat=2), "extend", "hold", "refuse"])
+def test_what_is_outside_each_axis(outside):
+    row, samples = np.arange(5.0), np.random.default_rng(6).normal(size=(5, 5))
+    surface = Surface([row, row], samples, outside=outside)
+    modes = [outside] * 2 if isinstance(outside, str) else outside
+    assert surface.outside == tuple(modes)
+    for axis, mode in enumerate(modes):
+        beyond, end = np.full(2, 1.5), np.full(2, 1.5)
+        beyond[axis], end[axis] = 4.5, 4.0
+        value = surface(beyond, on_refusal="nan")
+        assert np.isnan(value) == (mode == "refuse")
+        assert (value == surface(end)) == (mode == "hold")
 
 
 @pytest.mark.parametrize(

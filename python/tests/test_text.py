@@ -5,7 +5,7 @@ import pytest
 
 from hullashlar import Surface
 from hullashlar.sheets import read
-from hullashlar.text import TextFault, sheet_of_text, tensor_of_text, text_of_sheet
+from hullashlar.text import TextFault, sheet_of_text, tensor_of_text, text_of_file, text_of_sheet
 
 TWO_AXES = """\
 edition 2
@@ -85,6 +85,20 @@ def test_what_an_editor_may_do():
     assert sheet_of_text(edited) == sheet_of_text(TWO_AXES)
 
 
+def test_what_editors_put_into_a_file(tmp_path):
+    path = tmp_path / "edited.txt"
+    edited = TWO_AXES.replace("samples", "# a page\x0c, a break\u2028 and \x85\nsamples").replace("\n", "\r\n")
+    path.write_bytes(b"\xef\xbb\xbf" + edited.encode())
+    assert sheet_of_text(text_of_file(path)) == sheet_of_text(TWO_AXES)
+
+
+def test_a_file_that_is_no_text_names_its_line(tmp_path):
+    path = tmp_path / "edited.txt"
+    path.write_bytes(TWO_AXES.encode().replace(b"ends natural", b"ends natural # \xff"))
+    with pytest.raises(TextFault, match="^line 4: this is no text in UTF-8$"):
+        text_of_file(path)
+
+
 def swapped(old, new):
     assert old in TWO_AXES
     return TWO_AXES.replace(old, new, 1)
@@ -114,6 +128,9 @@ def swapped(old, new):
         (swapped("knots 0.0 1.0\n", "knots 0.0 one\n"), 6, "'one' is no number"),
         (swapped("0.1", "inf"), 17, "refused 7 (number)"),
         (swapped("0.0  0.1", "x  0.1"), 17, "'x' is no number"),
+        (swapped("0.0  0.1", "1_5  0.1"), 17, "'1_5' is no number"),
+        (swapped("0.0  0.1", "\u0661  0.1"), 17, "'\u0661' is no number"),
+        (swapped("edition 2", "edition \u0662"), 1, "one whole number should stand here"),
         (swapped("0.0  0.1", "0.1"), 17, "3 samples should stand in a row, and not 2"),
         (swapped("  0.0  0.1  1e-05  # 1.0\n", ""), 17, "2 rows of samples should stand here, and there are 1"),
         (TWO_AXES + "slice 0\n", 18, "the text should end here, and 'slice' stands"),
