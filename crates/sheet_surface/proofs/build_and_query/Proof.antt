@@ -27,10 +27,14 @@ returns c =
     ∙ build-refused _ (start b .args .patterns) _ (b .tensor-in-scratch .ensures .refused) (c .before .if1 .taken)
 
 knots-length-requires : tie.Need-knots-length-requires
-knots-length-requires c κs = let b = c .before .before .before .before .before .before .before in range _ _ _ _ _ _ (start b .pre .0)
+knots-length-requires c κs =
+    let b = c .before .before .before .before .before .before .before in
+    range _ _ _ _ _ _ (start b .pre .0)
 
 tensor-length-requires : tie.Need-tensor-length-requires
-tensor-length-requires c κs = let b = c .before .before .before .before .before .before .before .before in range _ _ _ _ _ _ (start b .pre .0)
+tensor-length-requires c κs =
+    let b = c .before .before .before .before .before .before .before .before in
+    range _ _ _ _ _ _ (start b .pre .0)
 
 abbrev built : tie.After-tensor-length → tie.After-tensor-in-scratch
 built l = l .before .before .before .before .before .before .before .before .before
