@@ -318,7 +318,7 @@ module _ (A B : Arithmetic) (R : A .Number → B .Number → Type 0) (respected 
             (s-alike i ⊖ h-alike i ⊗ (respected .two ⊗ on-m i ⊕ on-m (i + 1)) ⊘ respected .six)
             (s-alike (n - 1) ⊕ h-alike (n - 1) ⊗ (on-m (n - 1) ⊕ respected .two ⊗ on-m n) ⊘ respected .six)
 
-    lane-slope-alike : (n : ℕ) (c : Condition Both) (y : List (A .Number)) (y′ : List (B .Number)) → Alike (at A y) (at B y′)
+    pub lane-slope-alike : (n : ℕ) (c : Condition Both) (y : List (A .Number)) (y′ : List (B .Number)) → Alike (at A y) (at B y′)
         → Alike (Curve.lane-slope A x n (left c) y) (Curve.lane-slope B x′ n (right c) y′)
     unfolding Curve.lane-slope Moments.moments
     lane-slope-alike n c y y′ on-y =

@@ -1,36 +1,19 @@
--- How far the rules' numbers lie from the exact spline: a moment, the curve and a value in a cell, each within the bound that the
--- arithmetic of bounds computes for it; and so a query of a built surface.
+-- How far the rules' numbers lie from exact ones: a moment, a knot slope, the curve, a number of the tensor and a value in a cell lie each
+-- within the bound that the arithmetic of bounds has for it.
 use mathlib.Core.Path.{_≡_, refl, sym, _∙_, ap, ap₂, subst, fun-ext}
-use mathlib.Core.Bool.{true, _||_}
-use mathlib.Core.List.{List}
-use Prim.Native.Nat.{ℕ, _+_, _-_, _<_}
+use mathlib.Core.List.{List, map}
+use Prim.Native.Nat.{ℕ, _+_, _<_}
 use lib.Dec.{T}
 use native.Mathlib.Omega.{arith}
-use lib.ListN.{length, List·getD-map}
+use lib.ListN.{getD, List·getD-map}
 use lib.Ieee as Ieee
 use lib.Ieee.{Float, nan, binary64, fits}
-use lib.Ieee.Scale.{finite}
 use Rattle.rules.specs.Numbers.{_⊖_, at}
 use Rattle.rules.specs.Sizes as Sizes
 use Rattle.rules.specs.Moments as RulesM
 use Rattle.rules.specs.Curve as RulesC
 use Rattle.rules.specs.Tensor as RulesT
 use Rattle.rules.specs.Query as RulesQ
-use Rattle.rules.specs.Outside.{mode-at, placed-on}
-use Rattle.rules.specs.Calls.{
-  build-refusal,
-  BuildPromise,
-  stored,
-  answered,
-  query-lengths-refused,
-  query-refusal,
-  query-answer,
-  QueryPromise,
-}
-use Rattle.rules.specs.Refusals.{axes-refused, some-points-refused, tensor-refused, some-number-refused}
-use Rattle.rules.specs.declared.QueryAnswer.{QueryAnswer}
-use Rattle.rules.proofs.Cases.{passed}
-use Rattle.base_numbers.proofs.Scan.{neither}
 use Rattle.rules.specs.declared.End.{End}
 use Rattle.rules.specs.declared.End.the-variants.{NotAKnot, FirstDerivative, SecondDerivative}
 use Rattle.rules.specs.declared.Condition.{Condition}
@@ -38,7 +21,6 @@ use Rattle.rules.specs.declared.Condition.the-variants.{Endpoints, Periodic}
 use Rattle.rules.proofs.Tables.{at-table}
 use Rattle.base_floats.specs.Place.{AllFit}
 use Rattle.base_floats.proofs.Parts.{part-fits}
-use Rattle.query_answer.proofs.Held.{placed-has, stands-then, point-finite}
 use Rattle.exact_arithmetic.specs.Arithmetic.{Arithmetic}
 use Rattle.exact_rationals.specs.Rationals.{ℚ, rationals, number}
 use Rattle.exact_rationals.specs.Values.{value}
@@ -46,15 +28,13 @@ use Rattle.exact_spline.specs.Ends as Exact
 use Rattle.exact_spline.specs.Sizes as ExactSizes
 use Rattle.exact_spline.specs.Moments.{moment, moments}
 use Rattle.exact_spline.specs.Steps as Steps
-use Rattle.exact_spline.specs.Curve.{cubic, curve-in-cell}
+use Rattle.exact_spline.specs.Curve.{cubic, curve-in-cell, lane-slope}
 use Rattle.exact_spline.specs.Tensor.{sample, entry}
 use Rattle.exact_spline.specs.Query.{value-from}
-use Rattle.exact_spline.specs.Nested.{nested-splines}
 use Rattle.exact_floats.specs.Floats as Floats
 use Rattle.exact_floats.specs.Floats.{floats}
-use Rattle.exact_floats.proofs.TheSame.{moment-same, entry-same, whole-curve-same, whole-surface-same}
+use Rattle.exact_floats.proofs.TheSame.{moment-same, entry-same, lane-slope-same, whole-curve-same, whole-surface-same}
 use Rattle.exact_calls.specs.Exactly.{exact, values, exact-end, exact-condition, exact-grid}
-use Rattle.exact_calls.proofs.TheCalls.{query-call-surface}
 use Rattle.exact_rounding.specs.Near.{Near}
 use Rattle.exact_bounds.specs.Bounds.{
   Bound,
@@ -66,6 +46,7 @@ use Rattle.exact_bounds.specs.Bounds.{
   given-condition,
   given-grid,
   moment-bound,
+  slope-bound,
   curve-bound,
   entry-bound,
   surface-bound,
@@ -77,10 +58,10 @@ use Rattle.exact_bounds.proofs.Relations.{Respected}
 use Rattle.exact_bounds.proofs.KeepsBounds.{Under, Stands, given-stands, operations-keep-bounds}
 
 -- the floats of the arithmetic of bounds are those of the rules
-abbrev Is : Bounded → Float → Type 0
+abbrev pub Is : Bounded → Float → Type 0
 Is a x = a .float ≡ x
 
-floats-are-the-rules : Respected bounded floats Is
+pub floats-are-the-rules : Respected bounded floats Is
 floats-are-the-rules =
     record {
       absent = refl;
@@ -96,7 +77,8 @@ floats-are-the-rules =
       negative = λ a x p. ap Ieee.neg p;
     }
 
-near-equal : (x y : Float) (Y e : ℚ) → x ≡ y → Near (value y) Y e → Near (value x) Y e
+-- of equal floats
+pub near-equal : (x y : Float) (Y e : ℚ) → x ≡ y → Near (value y) Y e → Near (value x) Y e
 near-equal x y Y e same near = subst (λ z. Near (value z) Y e) (sym same) near
 
 -- what stands within a bound, and is a float of the rules
@@ -198,6 +180,35 @@ module _ (x y : List Float) (n : ℕ) (c : Condition) (x-fits : AllFit x) (y-fit
   pub moment-within : (k : ℕ) (e : ℚ) → moment-bound x y n c k ≡ within e
       → Near (value (RulesM.moment x y n c k)) (moment rationals (exact x) (exact y) n (exact-condition c) k) e
   moment-within k e b = near-of (in-bounds k) _ _ e (stands k) (is k ∙ sym (moment-same x y n c k)) b
+
+  -- and a knot slope
+  abbrev slope-there : ℕ → Bounded
+  slope-there i = lane-slope bounded (λ k. given (at x k)) n (given-condition c) (map given y) i
+
+  sample-at : (k : ℕ) → given (at y k) ≡ getD (map given y) k (given nan)
+  sample-at k = sym (List·getD-map given y k nan)
+
+  value-at : (k : ℕ) → value (at y k) ≡ getD (values y) k (number 0)
+  value-at k = sym (List·getD-map value y k nan)
+
+  slope-stands : (i : ℕ) → Stands (slope-there i) (lane-slope rationals (exact x) n (exact-condition c) (values y) i)
+  slope-stands i =
+      across Stands (λ d. lane-slope bounded (λ k. given (at x k)) n d (map given y) i)
+      (λ d. lane-slope rationals (exact x) n d (values y) i) _ _ _ _ (condition-bounds c c-fits) (condition-exact c c-fits)
+      (Relations.lane-slope-alike bounded rationals Stands operations-keep-bounds (λ k. given (at x k)) (exact x)
+      (λ k. given-stands (at x k) (x-fits k)) n (with-condition c c-fits) (map given y) (values y)
+      (λ k. across Stands (λ a. a) (λ a. a) _ _ _ _ (sample-at k) (value-at k) (given-stands (at y k) (y-fits k))) i)
+
+  slope-is : (i : ℕ) → Is (slope-there i) (lane-slope floats (at x) n (Floats.condition c) y i)
+  slope-is i =
+      across Is (λ d. lane-slope bounded (λ k. given (at x k)) n d (map given y) i) (λ d. lane-slope floats (at x) n d y i)
+      _ _ _ _ (condition-given c) (condition-float c)
+      (Relations.lane-slope-alike bounded floats Is floats-are-the-rules (λ k. given (at x k)) (at x) (λ k. refl) n (as-condition c)
+      (map given y) y (λ k. ap (λ (a : Bounded). a .float) (sym (sample-at k))) i)
+
+  pub slope-within : (i : ℕ) (e : ℚ) → slope-bound x y n c i ≡ within e
+      → Near (value (RulesC.lane-slope x n c y i)) (lane-slope rationals (exact x) n (exact-condition c) (values y) i) e
+  slope-within i e b = near-of (slope-there i) _ _ e (slope-stands i) (slope-is i ∙ sym (lane-slope-same x n c y i)) b
 
   -- and the curve in a cell, at a point, of the exact spline's value there
   module _ (i : ℕ) (inside : i < n) (p : Float) (p-fits : T (fits binary64 p)) where
@@ -351,68 +362,3 @@ module _ (g : Sizes.Grid) (samples : List Float) (cells : Sizes.Place) (point : 
       → Near (value (RulesQ.value-in g (RulesT.tensor g samples) cells point))
       (value-from rationals (exact-grid g) (sample rationals (exact-grid g) (values samples)) cells (λ i. value (point i))) e
   surface-within e b = near-of in-cell _ _ e in-cell-stands (in-cell-is ∙ sym same-surface) b
-
--- ---- the calls: a query of a built surface, at finite coordinates, lies within its bound of the spline of splines
-
-module _
-    (g : Sizes.Grid) (samples tensor-out scratch : List Float) (accepted : build-refusal g samples tensor-out scratch ≡ 0)
-    (knots-fit : AllFit (g .flat-knots)) (samples-fit : AllFit samples) (ends-fit : (i : ℕ) → ConditionFits (Sizes.condition g i)) where
-  pub query-within :
-      (point : ℕ → Float) → ((i : ℕ) → T (fits binary64 (point i))) → ((i : ℕ) → i < g .axes → finite (point i) ≡ true)
-      → (e : ℚ) → surface-bound g samples (RulesQ.cell-of g point) (placed-on g point) ≡ within e
-      → Near (value (RulesQ.query-in-modes g (RulesT.tensor g samples) point))
-      (nested-splines rationals (g .axes) (exact-grid g) (sample rationals (exact-grid g) (values samples)) (RulesQ.cell-of g point)
-      (λ i. value (placed-on g point i))) e
-  unfolding RulesQ.query-in-modes
-  query-within point point-fits finite-point e b =
-      subst (λ z. Near (value (RulesQ.value-in g (RulesT.tensor g samples) (RulesQ.cell-of g point) (placed-on g point))) z e)
-      (query-call-surface g samples tensor-out scratch accepted point finite-point)
-      (surface-within g samples (RulesQ.cell-of g point) (placed-on g point) knots-fit samples-fit ends-fit
-      (λ i. placed-has (Sizes.knots g i) (point i) (λ (x : Float). T (fits binary64 x)) (knot-fits i 0)
-      (knot-fits i (length (Sizes.knots g i) - 1)) (point-fits i) (mode-at g i)) e b)
-    where
-      knot-fits : (i k : ℕ) → T (fits binary64 (at (Sizes.knots g i) k))
-      knot-fits i k = part-fits (g .flat-knots) (Sizes.sum-below (Sizes.points g) i) (Sizes.points g i) knots-fit k
-
--- the calls themselves: what a query answers, of the tensor that a build left, neither of them refused
-module _
-    (g : Sizes.Grid) (samples tensor-out scratch tensor-later scratch-later : List Float)
-    (built : BuildPromise g samples tensor-out scratch 0 tensor-later scratch-later)
-    (coordinates : List Float) (given-back : QueryAnswer) (asked : QueryPromise g tensor-later coordinates given-back)
-    (accepted : given-back .refusal ≡ 0)
-    (knots-fit : AllFit (g .flat-knots)) (samples-fit : AllFit samples) (coordinates-fit : AllFit coordinates)
-    (ends-fit : (i : ℕ) → ConditionFits (Sizes.condition g i)) where
-  none-refused : query-refusal g tensor-later coordinates ≡ 0
-  unfolding query-answer
-  none-refused = sym (ap (λ (a : QueryAnswer). a .refusal) (asked .answer)) ∙ accepted
-
-  tensor-is : tensor-later ≡ RulesT.tensor g samples
-  tensor-is = subst (λ r. tensor-later ≡ stored r tensor-out (RulesT.tensor g samples)) (sym (built .answer)) (built .output)
-
-  value-is : given-back .value ≡ RulesQ.query-in-modes g (RulesT.tensor g samples) (at coordinates)
-  unfolding query-answer
-  value-is =
-      ap (λ (a : QueryAnswer). a .value) (asked .answer)
-      ∙ ap (λ r. answered r (RulesQ.query-in-modes g tensor-later (at coordinates))) none-refused
-      ∙ ap (λ t. RulesQ.query-in-modes g t (at coordinates)) tensor-is
-
-  coordinates-finite : (i : ℕ) → i < g .axes → finite (at coordinates i) ≡ true
-  unfolding query-refusal
-  coordinates-finite i used =
-      let one = passed (axes-refused g) 0 _ none-refused in
-      let two = passed (some-points-refused g) 1 _ (one .1) in
-      let three = passed (tensor-refused g) 2 _ (two .1) in
-      let four = passed (query-lengths-refused g tensor-later coordinates) 3 _ (three .1) in
-      let seven = passed (some-number-refused (g .flat-knots) || some-number-refused coordinates) 6 _ (four .1) in
-      let both = neither (some-number-refused (g .flat-knots)) (some-number-refused coordinates) (seven .0) in
-      point-finite g coordinates (both .1) (stands-then g tensor-later coordinates (one .0) (two .0) (four .0) (both .0)) i used
-
-  pub calls-within : (e : ℚ)
-      → surface-bound g samples (RulesQ.cell-of g (at coordinates)) (placed-on g (at coordinates)) ≡ within e
-      → Near (value (given-back .value))
-      (nested-splines rationals (g .axes) (exact-grid g) (sample rationals (exact-grid g) (values samples))
-      (RulesQ.cell-of g (at coordinates)) (λ i. value (placed-on g (at coordinates) i))) e
-  calls-within e b =
-      near-equal (given-back .value) _ _ e value-is
-      (query-within g samples tensor-out scratch (sym (built .answer)) knots-fit samples-fit ends-fit (at coordinates) coordinates-fit
-      coordinates-finite e b)

@@ -1,7 +1,7 @@
 -- The chapter Bounds of docs/RULES.md: an arithmetic whose numbers are floats, each with a bound of how far it lies from the number that
 -- exact arithmetic has in its place; and what the rules give in it.
 use mathlib.Core.Bool.{true, cond}
-use mathlib.Core.List.{List}
+use mathlib.Core.List.{List, map}
 use Prim.Native.Nat.{ℕ}
 use lib.Dec.{T}
 use lib.Ieee.{Float, nan, neg, binary64, fits}
@@ -18,7 +18,7 @@ use Rattle.exact_rationals.specs.Rationals.{ℚ, number, minus, over, rationals
 use Rattle.exact_spline.specs.Ends as Exact
 use Rattle.exact_spline.specs.Sizes.{Grid}
 use Rattle.exact_spline.specs.Moments.{moment}
-use Rattle.exact_spline.specs.Curve.{curve-in-cell}
+use Rattle.exact_spline.specs.Curve.{curve-in-cell, lane-slope}
 use Rattle.exact_spline.specs.Tensor.{entry}
 use Rattle.exact_spline.specs.Query.{value-from}
 use Rattle.exact_rounding.specs.Near.{size, share, tiny}
@@ -154,6 +154,10 @@ given-grid g =
 -- the bound of moment k of the spline through samples y at n + 1 knots x
 abbrev pub moment-bound : (x y : List Float) (n : ℕ) → DeclaredCondition.Condition → ℕ → Bound
 moment-bound x y n c k = moment bounded (λ i. given (Rules.at x i)) (λ i. given (Rules.at y i)) n (given-condition c) k .bound
+
+-- the bound of its slope at knot i
+abbrev pub slope-bound : (x y : List Float) (n : ℕ) → DeclaredCondition.Condition → ℕ → Bound
+slope-bound x y n c i = lane-slope bounded (λ k. given (Rules.at x k)) n (given-condition c) (map given y) i .bound
 
 -- the bound of its value at a point, in cell i
 abbrev pub curve-bound : (x y : List Float) (n : ℕ) → DeclaredCondition.Condition → ℕ → Float → Bound

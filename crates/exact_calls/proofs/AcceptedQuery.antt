@@ -35,7 +35,7 @@ use Rattle.exact_calls.proofs.AcceptedGrid.{accepted-surface}
 use Rattle.exact_calls.proofs.Located as Located
 
 -- the knots of an axis that refusal 8 lets pass are finite
-finite-knots : (x : List Float) (n : ℕ) → 0 < n → knots-refused x (n + 1) ≡ false → (k : ℕ) → k ≤ n → finite (at x k) ≡ true
+pub finite-knots : (x : List Float) (n : ℕ) → 0 < n → knots-refused x (n + 1) ≡ false → (k : ℕ) → k ≤ n → finite (at x k) ≡ true
 unfolding Steps.h
 finite-knots x n some eight k inside = go (decLt k n)
   where
