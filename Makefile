@@ -192,7 +192,7 @@ expected:
 # A Python that has numpy: Debian's packages belong to /usr/bin/python3, which need not be the first on the path.
 PYTHON = $(shell for python in python3 /usr/bin/python3; do $$python -c 'import numpy' 2> /dev/null && echo $$python && break; done)
 
-# What the Python package hands numbers to: the proved archive as a shared library, with loops over some of its calls, and the program that reports.
+# What the Python package hands numbers to: the proved archive as a shared library, with loops over two of its calls, and the program that reports.
 python: archive-here
 	rt check sheet_report
 	mkdir -p python/hullashlar/proved

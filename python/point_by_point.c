@@ -1,4 +1,4 @@
-/* The full query, the curve and steps at many points, for the Python package: the exported call for one point, point after point. These
+/* The full query and the curve at many points, for the Python package: the exported call for one point, point after point. These two
  * loops are C and not proved. They compute no number: a value is what the call has stored, and a refusal what it has returned. */
 #include "hullashlar.h"
 
@@ -20,25 +20,6 @@ uint64_t point_by_point_query(uint64_t axes,
     for (uint64_t at = 0; at < refusals_length; at++)
         refusals[at] = hullashlar_query(axes, points, points_length, modes, modes_length, knots, knots_length, tensor, tensor_length,
                                         &coordinates[axes * at], axes, &values[at], 1, labels, HULLASHLAR_AXES);
-    return HULLASHLAR_ACCEPTED;
-}
-
-/* The same of hullashlar_stepped. */
-uint64_t point_by_point_stepped(uint64_t axes,
-                                const uint64_t *points, uint64_t points_length,
-                                const uint8_t *directions, uint64_t directions_length,
-                                const double *knots, uint64_t knots_length,
-                                const double *samples, uint64_t samples_length,
-                                const double *coordinates, uint64_t coordinates_length,
-                                double *values, uint64_t values_length,
-                                uint64_t *refusals, uint64_t refusals_length)
-{
-    uint64_t indices[HULLASHLAR_AXES];
-    if (axes > HULLASHLAR_AXES || coordinates_length != axes * refusals_length || values_length != refusals_length)
-        return HULLASHLAR_REFUSED_LENGTH;
-    for (uint64_t at = 0; at < refusals_length; at++)
-        refusals[at] = hullashlar_stepped(axes, points, points_length, directions, directions_length, knots, knots_length, samples,
-                                          samples_length, &coordinates[axes * at], axes, &values[at], 1, indices, HULLASHLAR_AXES);
     return HULLASHLAR_ACCEPTED;
 }
 

@@ -1,4 +1,4 @@
-"""The exported calls of include/hullashlar.h and the loops of python/point_by_point.c over some of them, each declared once.
+"""The exported calls of include/hullashlar.h and the loops of python/point_by_point.c over two of them, each declared once.
 
 A call takes numbers as they are and arrays as a pointer and a length, so that no length is ever written by hand. What a call
 answers is its refusal, 0 for none; :func:`hullashlar.refusals.accept` turns it into an exception.
@@ -124,10 +124,10 @@ exact_index = Call("exact_index", COUNT, FLOATS, COUNT, FLOAT, COUNTS)
 locate_axis = Call("locate_axis", COUNT, FLOATS, FLOAT, COUNTS, FLOATS)
 locate_step_index = Call("locate_step_index", COUNT, FLOATS, BYTE, FLOAT, COUNTS)
 stepped = Call("stepped", *_ASKED, FLOATS, COUNTS)
+stepped_many = Call("stepped_many", *_ASKED, FLOATS, COUNTS, COUNTS)
 cell_value = Call("cell_value", WHOLE, WHOLE, WHOLE, WHOLE, WHOLE, WHOLES)
 cursor_next = Call("cursor_next", BYTES, CURSORS, WHOLES)
 surface = Call("surface", BYTES, PATTERN, PATTERN, PATTERN, PATTERN)
 
-step_each = Call("stepped", *_ASKED, FLOATS, COUNTS, of="point_by_point")
 query_each = Call("query", *_ASKED, FLOATS, COUNTS, of="point_by_point")
 curve_each = Call("curve", COUNT, FLOATS, FLOATS, FLOATS, FLOATS, FLOATS, COUNTS, of="point_by_point")

@@ -8,7 +8,7 @@ from typing import Any
 from numpy.typing import ArrayLike
 
 from . import _calls
-from .asked import as_points, point_by_point, settled
+from .asked import as_points, by_pieces, settled
 from .axes import DIRECTIONS, Axes, code_slots
 from .surface import grid_shape, in_shape
 
@@ -31,4 +31,4 @@ def stepped(
     grid.modes = code_slots(directions, grid.number, DIRECTIONS, "directions")
     numbers = in_shape(samples, grid_shape(axes), "samples")
     rows, shape = as_points(points, grid.number)
-    return settled(*point_by_point(_calls.step_each, (*grid.asked, numbers), rows), shape, on_refusal)
+    return settled(*by_pieces(_calls.stepped_many, grid, numbers, rows), shape, on_refusal)

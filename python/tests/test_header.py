@@ -64,9 +64,7 @@ def test_every_element_is_of_c_s_type(functions):
 
 
 def test_the_loops_are_the_only_functions_beside_the_header_s(functions):
-    assert {name for name in functions if not name.startswith("hullashlar_")} == {
-        "point_by_point_query", "point_by_point_curve", "point_by_point_stepped",
-    }
+    assert {name for name in functions if not name.startswith("hullashlar_")} == {"point_by_point_query", "point_by_point_curve"}
 
 
 def test_sizes(header):

@@ -180,7 +180,6 @@ def test_the_loops_write_nothing_where_a_length_does_not_fit():
     surface, line = hill(), curve(LINE[0], HILL, "natural")
     loops = {
         _calls.query_each: (*surface._axes.asked, surface._tensor),
-        _calls.step_each: (*surface._axes.asked, surface.samples.flatten()),
         _calls.curve_each: (3, line.knots, line.samples, line.moments),
     }
     for loop, lane in loops.items():
@@ -192,8 +191,7 @@ def test_the_loops_write_nothing_where_a_length_does_not_fit():
         assert loop(*lane, np.ones(3), written, refusals) == 0
         assert (written == 1.0).all() and (refusals == 0).all()
     axes = (2**63, *surface._axes.asked[1:])
-    for loop in (_calls.query_each, _calls.step_each):
-        assert loop(*axes, surface._tensor, np.empty(0), np.zeros(2), np.zeros(2, np.uint64)) == 4
+    assert _calls.query_each(*axes, surface._tensor, np.empty(0), np.zeros(2), np.zeros(2, np.uint64)) == 4
 
 
 def test_exceptions_can_be_sent_to_another_process():
