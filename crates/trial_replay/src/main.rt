@@ -14,6 +14,7 @@ use trial_replay_items::words::held;
 use trial_replay_items::words::word;
 use trial_replay_points::direct_queries;
 use trial_replay_points::direct_query;
+use trial_replay_points::even_profile;
 use trial_replay_points::quick_queries;
 use trial_replay_sheets::read;
 use trial_replay_sheets::read_edition_1;
@@ -58,6 +59,7 @@ fn case_at(list: &[u8], place: usize) -> Replayed {
         20 => direct_query(list, begin),
         21 => quick_queries(list, begin),
         22 => direct_queries(list, begin),
+        23 => even_profile(list, begin),
         _ => Replayed {
             same: false,
             next: begin,

@@ -1,4 +1,4 @@
-// The cases of the direct query and of the queries of many points, each replayed through the exported call: whether it answers as the list
+// The cases of the profile of even axes, of the direct query and of the queries of many points, each replayed through the exported call: whether it answers as the list
 // says, and leaves every slice so. No list makes a function here trap.
 use trial_replay_items::Replayed;
 use trial_replay_items::compared::Compared;
@@ -11,6 +11,42 @@ use trial_replay_items::items::numbers_at;
 use trial_replay_items::items::numbers_given;
 use trial_replay_items::words::after;
 use trial_replay_items::words::word;
+
+// A case of the profile with the slot that the call writes, which is given at a place; the arguments end at `answer`.
+fn even_profile_answered(
+    list: &[u8],
+    begin: usize,
+    given: usize,
+    answer: usize,
+    told: &mut [usize],
+) -> Replayed {
+    let at_points = after(begin, 1);
+    let at_knots = after_given(list, at_points);
+    let points = numbers_given(list, at_points);
+    let points_end = numbers_at(list, at_points);
+    let knots = floats_given(list, at_knots);
+    let knots_end = floats_at(list, at_knots);
+    let refusal = hullashlar::hullashlar_even_profile(
+        word(list, begin) as usize,
+        &points[0..points_end],
+        &knots[0..knots_end],
+        told,
+    );
+    let returned = Compared::returned(list, given, answer, refusal);
+    let told_seen = returned.numbers(list, told);
+    told_seen.replayed()
+}
+
+// A case of the profile of even axes, whose arguments begin at a place.
+pub fn even_profile(list: &[u8], begin: usize) -> Replayed {
+    let at_points = after(begin, 1);
+    let at_knots = after_given(list, at_points);
+    let at_told = after_given(list, at_knots);
+    let answer = after_given(list, at_told);
+    let mut told = numbers_given(list, at_told);
+    let told_end = numbers_at(list, at_told);
+    even_profile_answered(list, begin, at_told, answer, &mut told[0..told_end])
+}
 
 // The call with the slices that it writes: the others are given at their places, and it gives its refusal.
 fn direct_query_on(list: &[u8], begin: usize, value: &mut [f64], labels: &mut [usize]) -> usize {
