@@ -1,5 +1,5 @@
-// The cases of the profile of even axes, of the direct query and of the queries of many points, each replayed through the exported call: whether it answers as the list
-// says, and leaves every slice so. No list makes a function here trap.
+// The cases of the profile of even axes, of the direct query and of the queries of many points, each replayed through the exported call:
+// whether it answers as the list says, and leaves every slice so. No list makes a function here trap.
 use trial_replay_items::Replayed;
 use trial_replay_items::compared::Compared;
 use trial_replay_items::items::after_given;
