@@ -24,7 +24,8 @@ test:
 CASES = --moments 60000 --curve 60000 --slopes 60000 --build 50000 --change 50000 --verify 100000 \
     --change_list 20000 --either_order 60000 --query 400000 --quick_query 200000 --quick_beside_full 530000 \
     --even_query 240000 --at_every_place 5000 \
-    --direct_query 200000 --direct_beside_even 120000 --quick_queries 100000 --direct_queries 100000 \
+    --direct_query 200000 --direct_beside_even 120000 --even_profile 200000 --profiled_direct 120000 \
+    --quick_queries 100000 --direct_queries 100000 \
     --read 240000 --read_edition_1 60000 --sheet_tensor 120000 --short_sheet 65793 \
     --write 240000 --written_back 120000 --surface 120000 \
     --exact_index 60000 --locate_axis 60000 --locate_step_index 100000 --stepped 100000 --stepped_many 100000 \

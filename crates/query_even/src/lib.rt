@@ -113,5 +113,6 @@ pub fn even_query_of_points(
     if pass::knots_may_be_refused(axes, points, knots) {
         return even_query_by_walks(axes, points, modes, knots, tensor, coordinates);
     }
-    nothing_told(query_answer::answer(Way::Direct, axes, points, modes, knots, tensor, coordinates))
+    let answer = query_answer::answer(Way::Direct, axes, points, modes, knots, tensor, coordinates);
+    nothing_told(answer)
 }

@@ -1,4 +1,5 @@
-// All knots looked at in one pass for 7, 8 and 21: a flag is kept to the last knot of each axis, so the compiler looks at several at a time.
+// All knots looked at in one pass for 7, 8 and 21: a flag is kept to the last knot of each axis, so the compiler looks at several at a
+// time.
 ghost use mathlib.Core.Path.{_≡_};
 ghost use mathlib.Core.Bool.{false};
 ghost use Prim.Native.Nat.{_≤_};

@@ -5,6 +5,7 @@ use hullashlar::hullashlar_change;
 use hullashlar::hullashlar_curve;
 use hullashlar::hullashlar_direct_queries;
 use hullashlar::hullashlar_direct_query;
+use hullashlar::hullashlar_even_profile;
 use hullashlar::hullashlar_even_query;
 use hullashlar::hullashlar_exact_index;
 use hullashlar::hullashlar_locate_axis;
@@ -15,6 +16,7 @@ use hullashlar::hullashlar_quick_queries;
 use hullashlar::hullashlar_quick_query;
 use hullashlar::hullashlar_slopes;
 use hullashlar::hullashlar_stepped;
+use hullashlar::hullashlar_stepped_many;
 use hullashlar::hullashlar_surface;
 use hullashlar::hullashlar_verify;
 use hullashlar::hullashlar_write;
@@ -64,6 +66,8 @@ pub fn asked(
         19 => hullashlar_verify(count, n, x, a, b, c, e, p, q) as u64,
         20 => hullashlar_direct_query(count, n, x, a, b, c, d, o) as u64,
         21 => hullashlar_quick_queries(count, n, x, a, b, c, d, o, p) as u64,
-        _ => hullashlar_direct_queries(count, n, x, a, b, c, d, o, p) as u64,
+        22 => hullashlar_direct_queries(count, n, x, a, b, c, d, o, p) as u64,
+        23 => hullashlar_even_profile(count, n, a, o) as u64,
+        _ => hullashlar_stepped_many(count, n, x, a, b, c, d, o, p) as u64,
     }
 }

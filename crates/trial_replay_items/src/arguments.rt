@@ -47,6 +47,8 @@ fn letters_of(call: u64) -> [u8; 12] {
         20 => *b"0nxabcDO    ",
         21 => *b"0nxabcDOP   ",
         22 => *b"0nxabcDOP   ",
+        23 => *b"0naO        ",
+        24 => *b"0nxabcDOP   ",
         _ => [END; 12],
     }
 }

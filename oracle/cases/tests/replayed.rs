@@ -69,7 +69,7 @@ impl Words {
             }
             "axes" | "points" | "place" | "labels" | "lanes" | "length" | "uneven" | "found"
             | "location" | "index" | "indices" | "edition" | "cursor" | "point_labels"
-            | "refusals" => self.numbers(),
+            | "refusals" | "told" => self.numbers(),
             "value" if matches!(call, Call::CellValue | Call::CursorNext) => self.numbers(),
             _ => {
                 let floats: Vec<f64> = self.slice().into_iter().map(f64::from_bits).collect();
@@ -112,7 +112,7 @@ fn the_list_gives_the_readings_answers_back() {
         seen[number][refusal] += 1;
     }
     assert_eq!(words.words.len(), 0);
-    assert!((300..=1000).contains(&count), "{count}");
+    assert!((300..=1200).contains(&count), "{count}");
     assert!(STORED.len() < ROOM, "{}", STORED.len());
     assert!(seen.iter().all(|refusals| refusals[0] >= 20));
     let refused = |number: usize| seen.iter().any(|refusals| refusals[number] > 0);
