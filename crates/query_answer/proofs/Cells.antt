@@ -14,6 +14,7 @@ use Rattle.rules.specs.Refusals.{step-refused, found-cell-refused}
 use Rattle.rules.proofs.EvenAxes.{direct-cell-inside}
 use Rattle.base_numbers.proofs.Scan.{neither}
 use Rattle.base_numbers.proofs.Finite.{finite-difference}
+use Rattle.rules.specs.Search.{lower-index}
 use Rattle.axis_locate.specs.CellFound.{Located}
 use Rattle.query_answer.specs.Ways.{direct-cell-in, cell-on, by-search, CellOn}
 use Rattle.query_answer.specs.declared.ways.Way.{Way}
@@ -22,27 +23,31 @@ use Rattle.query_answer.specs.declared.ways.Way.the-variants.{Walked, Se
 -- ---- the cell
 
 module _ (x : List Float) (p placed : Float) (cell : ℕ) {way : Way} where
-  pub walked-cell : way ≡ Walked → Located x p cell → CellOn way x p placed cell
-  walked-cell e located = rw e (record { found = located .found; inside = located .inside; rising = λ search. located .rising })
+  pub found-by-search : by-search way ≡ true → Located x p cell → CellOn way x p placed cell
+  found-by-search search located = record {
+    found = located .found ∙ sym (named way search);
+    inside = located .inside;
+    rising = λ again. located .rising;
+  }
+    where
+      named : (w : Way) → by-search w ≡ true → cell-on w x p placed ≡ lower-index x p
+      named Walked e = refl
+      named Searched e = refl
+      named Direct e = absurd (true≢false (sym e))
+      named Divided e = absurd (true≢false (sym e))
 
-  pub searched-cell : way ≡ Searched → Located x p cell → CellOn way x p placed cell
-  searched-cell e located = rw e (record { found = located .found; inside = located .inside; rising = λ search. located .rising })
-
-  -- so by both ways of division
-  by-division :
-      cell-on way x p placed ≡ direct-cell-in x placed → by-search way ≡ false → 2 ≤ length x → cell ≡ direct-cell-in x placed
-      → CellOn way x p placed cell
-  by-division named unsearched some is = record {
-    found = is ∙ sym named;
+  pub found-by-division : by-search way ≡ false → 2 ≤ length x → cell ≡ direct-cell-in x placed → CellOn way x p placed cell
+  found-by-division unsearched some is = record {
+    found = is ∙ sym (named way unsearched);
     inside = omega (arith, is, direct-cell-inside (at x 0) (h x 0) (length x) placed);
     rising = λ search. absurd (true≢false (sym search ∙ unsearched));
   }
-
-  pub direct-cell-found : way ≡ Direct → 2 ≤ length x → cell ≡ direct-cell-in x placed → CellOn way x p placed cell
-  direct-cell-found e = by-division (ap (λ (w : Way). cell-on w x p placed) e) (ap by-search e)
-
-  pub divided-cell-found : way ≡ Divided → 2 ≤ length x → cell ≡ direct-cell-in x placed → CellOn way x p placed cell
-  divided-cell-found e = by-division (ap (λ (w : Way). cell-on w x p placed) e) (ap by-search e)
+    where
+      named : (w : Way) → by-search w ≡ false → cell-on w x p placed ≡ direct-cell-in x placed
+      named Walked e = absurd (true≢false e)
+      named Searched e = absurd (true≢false e)
+      named Direct e = refl
+      named Divided e = refl
 
 -- ---- the knots of a found cell
 

@@ -5,7 +5,7 @@ use mathlib.Core.Path.{_≡_, refl, sym, subst, _∙_}
 use mathlib.Core.Bool.{Bool, true, false, not, _||_}
 use mathlib.Core.List.{List}
 use Prim.Native.Nat.{ℕ, _+_, _-_, _<_, _≤_}
-use native.Mathlib.Nat.{add-sub-cancel-left}
+use native.Mathlib.Nat.{zero-add, add-sub-cancel-left}
 use native.Mathlib.Numerals.{add-one}
 use lib.ListN.{length, set, take, drop, length-set, length-drop, getD-replicate}
 use lib.Seq.{length-take-le, getD-set-same, getD-set-other}
@@ -188,3 +188,42 @@ module _ (way : Way) (axes : ℕ) (points-in modes-in : List ℕ) (x coordinates
           placed = subst (λ (k : ℕ). CellsPlaced points-in k lower weights) all-axes (turn .placed);
           on = λ all are. subst (λ (k : ℕ). FoundOn way (grid axes all x) coordinates k lower weights r) all-axes (turn .found all are);
         }
+
+-- ---- the one axis there is: the turn of it alone
+
+module _ (way : Way) (points-in modes-in : List ℕ) (x coordinates : List Float) (lower : List ℕ) (weights : List Float)
+    (given : SearchFits 1 points-in modes-in x coordinates × Unfound lower weights) where
+  first : Turn way 1 points-in modes-in x coordinates lower weights (record { coordinates = false; knots = false; outside = false }) 0 0
+  first = turn-first way 1 points-in modes-in x coordinates lower weights given
+
+  pub four-cells : length lower ≡ 4
+  four-cells = first .placed .four
+
+  -- its knots are all of them
+  abbrev whole : List Float
+  whole = take (place-of points-in 0 - 0) (drop 0 x)
+
+  is-part : whole ≡ part way 1 points-in modes-in x coordinates lower weights _ 0 0 first
+  is-part = rw (zero-add (place-of points-in 0)) refl
+
+  pub all-within : place-of points-in 0 ≤ length x
+  all-within =
+      rw (zero-add (place-of points-in 0)) at
+      (end-within way 1 points-in modes-in x coordinates lower weights _ 0 0 first (omega arith))
+
+  pub whole-size : (2 ≤ length whole) × (length whole ≤ 256)
+  whole-size = rw is-part (size-given way 1 points-in modes-in x coordinates lower weights _ 0 0 first (omega arith))
+
+  module _ (placed : PlacedPoint) (stands : Placed (mode-of-number (place-of modes-in 0)) whole (at coordinates 0) placed) (cell : ℕ)
+      (on : CellOn way whole (at coordinates 0) (placed .coordinate) cell)
+      (later : List Float) (stored : WeightsStored weights 0 whole cell (placed .coordinate) later)
+      (number knots-refused : Bool) (is-number : number ≡ finite (at coordinates 0))
+      (judged : knots-refused ≡ knots-refused-by way whole cell) where
+    pub found-on-one :
+        FoundAmong way 1 points-in modes-in x coordinates (set lower 0 cell) later
+        (record { coordinates = not number; knots = knots-refused; outside = placed .refused })
+    found-on-one =
+        turn-last way 1 points-in modes-in x coordinates _ _ _ _ _
+        (turn-next way 1 points-in modes-in x coordinates lower weights _ 0 0 first (omega arith) placed (rw is-part at stands) cell
+        (rw is-part at on) later (rw is-part at stored) number knots-refused is-number (rw is-part at judged))
+        (omega arith)

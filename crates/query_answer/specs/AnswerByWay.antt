@@ -17,6 +17,7 @@ use Rattle.axis_locate.specs.CellFound.{Rising}
 use Rattle.query_answer.specs.PointsAndModes.{OfAnyAxes}
 use Rattle.query_answer.specs.Ways.{by-search}
 use Rattle.query_answer.specs.CellsFound.{cells-by, knots-refuse}
+use Rattle.query_answer.specs.declared.Outcome.{Outcome}
 use Rattle.query_answer.specs.declared.ways.Way.{Way}
 use Rattle.query_answer.specs.declared.ways.Way.the-variants.{Walked, Searched, Direct, Divided}
 
@@ -27,6 +28,10 @@ refused-with refusal = record { refusal = refusal; value = plus-zero; labels = r
 -- the answer of a value and the cell that it was worked out in
 abbrev pub answer-in : Float → List ℕ → QueryAnswer
 answer-in value lower = answer-of (cond (answer-refused value) 10 0) value lower
+
+-- an answer whose labels stand in a slice
+abbrev pub with-labels : Outcome → List ℕ → QueryAnswer
+with-labels outcome labels = record { refusal = outcome .refusal; value = outcome .value; labels = labels }
 
 -- the refusal where knots are refused: of a walk it may be 7
 abbrev pub knots-refusal : Way → List Float → ℕ

@@ -1,11 +1,15 @@
 // What every query answers once its sizes and lengths are in order: its cell found on the axes, and 7, 8, 18 and 10 in this order. None of
-// these is a public call: `answer` requires what refusals 1 to 4 leave, with four points and four modes.
+// these is a public call: `answer_to` requires what refusals 1 to 4 leave, with four points, four modes and room for four labels.
 ghost use mathlib.Core.Path.{_≡_};
+ghost use lib.ListN.{length, replicate};
+ghost use Rattle.rules.specs.Sizes.{most-axes};
 ghost use Rattle.rules.specs.Outside.{mode-number};
 ghost use Rattle.query_answer.specs.PointsAndModes.{ModesOf, QueryFits};
-ghost use Rattle.query_answer.specs.AnswerByWay.{refused-with, answer-in, knots-refusal, AnswerAmong};
+ghost use Rattle.query_answer.specs.CellsFound.{FoundAmong};
+ghost use Rattle.query_answer.specs.AnswerByWay.{refused-with, answer-in, with-labels, knots-refusal, AnswerAmong};
 use rules::Axis;
 use rules::QueryAnswer;
+use searched::Refusals;
 use ways::Way;
 
 pub mod ways; // ways.rt: the ways of finding a cell
@@ -60,21 +64,165 @@ fn knots_refusal(way: Way, knots: &[f64]) -> usize
     }
 }
 
-// A value and the cell that it was worked out in, or 10.
-fn answer_in(value: f64, lower: [usize; 4]) -> QueryAnswer
-    ensures { λ r. ⌜ r ≡ answer-in value lower ⌝ }
-{
-    if base_numbers::is_finite(value) {
-        return QueryAnswer {
-            refusal: 0,
-            value,
-            labels: lower,
-        };
-    }
-    refused(10)
+// An answer without its labels, which go to a slice of the caller's: a struct that holds them goes through memory, and this one does not.
+pub struct Outcome {
+    pub refusal: usize,
+    pub value: f64,
 }
 
-// The answer at a point on axes of these points, with a mode's number for each: of their ends nothing is read.
+// All four labels 0.
+fn clear_labels(labels: &mut [usize])
+    requires { ⌜ length (now labels) ≡ 4 ⌝ }
+    ensures { λ _. ⌜ now (labels .exit) ≡ replicate most-axes 0 ⌝ }
+{
+    labels[0] = 0;
+    labels[1] = 0;
+    labels[2] = 0;
+    labels[3] = 0;
+}
+
+// A refusal: its number, +0.0, and labels 0.
+fn refuse(labels: &mut [usize], refusal: usize) -> Outcome
+    requires { ⌜ length (now labels) ≡ 4 ⌝ }
+    ensures { λ r. ⌜ with-labels r (now (labels .exit)) ≡ refused-with refusal ⌝ }
+{
+    clear_labels(labels);
+    Outcome {
+        refusal,
+        value: 0.0,
+    }
+}
+
+// A value, where the labels are the cell that it was worked out in, or 10.
+fn outcome_of(labels: &mut [usize], value: f64) -> Outcome
+    requires { ⌜ length (now labels) ≡ 4 ⌝ }
+    ensures { λ r. ⌜ with-labels r (now (labels .exit)) ≡ answer-in value (now (labels .entry)) ⌝ }
+{
+    if base_numbers::is_finite(value) {
+        return Outcome { refusal: 0, value };
+    }
+    refuse(labels, 10)
+}
+
+// The answer by what was found on the axes.
+fn answer_found(
+    way: Way,
+    axes: usize,
+    points: &[usize],
+    modes: &[u8],
+    knots: &[f64],
+    tensor: &[f64],
+    coordinates: &[f64],
+    refusals: Refusals,
+    labels: &mut [usize],
+    weights: &[f64],
+) -> Outcome
+    requires { ⌜ QueryFits axes (now points) (now modes) (now knots) (now tensor) (now coordinates)
+        × FoundAmong way axes (now points) (now modes) (now knots) (now coordinates) (now labels) (now weights) refusals ⌝ }
+    ensures { λ r.
+        ⌜ AnswerAmong way axes (now (points .entry)) (now (modes .entry)) (now (knots .entry)) (now (tensor .entry))
+        (now (coordinates .entry)) (with-labels r (now (labels .exit))) ⌝ }
+{
+    if refusals.coordinates {
+        return refuse(labels, 7);
+    }
+    if refusals.knots {
+        return refuse(labels, knots_refusal(way, knots));
+    }
+    if refusals.outside {
+        return refuse(labels, 18);
+    }
+    let value = query_cell::value(axes, points, labels, weights, tensor);
+    outcome_of(labels, value)
+}
+
+// The answer on one axis, whose cell and weights stay in registers.
+fn answer_on_one(
+    way: Way,
+    points: &[usize],
+    modes: &[u8],
+    knots: &[f64],
+    tensor: &[f64],
+    coordinates: &[f64],
+    labels: &mut [usize],
+) -> Outcome
+    requires { ⌜ QueryFits 1 (now points) (now modes) (now knots) (now tensor) (now coordinates) × (length (now labels) ≡ 4) ⌝ }
+    ensures { λ r.
+        ⌜ AnswerAmong way 1 (now (points .entry)) (now (modes .entry)) (now (knots .entry)) (now (tensor .entry))
+        (now (coordinates .entry)) (with-labels r (now (labels .exit))) ⌝ }
+{
+    clear_labels(labels);
+    let mut weights = [0.0; 16];
+    let refusals = searched::search_on_one(
+        way,
+        points,
+        modes,
+        knots,
+        coordinates,
+        labels,
+        &mut weights,
+    );
+    answer_found(
+        way,
+        1,
+        points,
+        modes,
+        knots,
+        tensor,
+        coordinates,
+        refusals,
+        labels,
+        &weights,
+    )
+}
+
+// The answer at a point on axes of these points, with a mode's number for each: of their ends nothing is read. The labels are those of
+// the answer, whatever they were.
+pub fn answer_to(
+    way: Way,
+    axes: usize,
+    points: &[usize],
+    modes: &[u8],
+    knots: &[f64],
+    tensor: &[f64],
+    coordinates: &[f64],
+    labels: &mut [usize],
+) -> Outcome
+    requires { ⌜ QueryFits axes (now points) (now modes) (now knots) (now tensor) (now coordinates) × (length (now labels) ≡ 4) ⌝ }
+    ensures { λ r.
+        ⌜ AnswerAmong way axes (now (points .entry)) (now (modes .entry)) (now (knots .entry)) (now (tensor .entry))
+        (now (coordinates .entry)) (with-labels r (now (labels .exit))) ⌝ }
+{
+    if axes == 1 {
+        return answer_on_one(way, points, modes, knots, tensor, coordinates, labels);
+    }
+    clear_labels(labels);
+    let mut weights = [0.0; 16];
+    let refusals = searched::search_on_axes(
+        way,
+        axes,
+        points,
+        modes,
+        knots,
+        coordinates,
+        labels,
+        &mut weights,
+    );
+    answer_found(
+        way,
+        axes,
+        points,
+        modes,
+        knots,
+        tensor,
+        coordinates,
+        refusals,
+        labels,
+        &weights,
+    )
+}
+
+// The same, with its labels.
 pub fn answer(
     way: Way,
     axes: usize,
@@ -89,27 +237,20 @@ pub fn answer(
         ⌜ AnswerAmong way axes (now (points .entry)) (now (modes .entry)) (now (knots .entry)) (now (tensor .entry))
         (now (coordinates .entry)) r ⌝ }
 {
-    let mut lower = [0; 4];
-    let mut weights = [0.0; 16];
-    let refusals = searched::search_on_axes(
+    let mut labels = [0; 4];
+    let outcome = answer_to(
         way,
         axes,
         points,
         modes,
         knots,
+        tensor,
         coordinates,
-        &mut lower,
-        &mut weights,
+        &mut labels,
     );
-    if refusals.coordinates {
-        return refused(7);
+    QueryAnswer {
+        refusal: outcome.refusal,
+        value: outcome.value,
+        labels,
     }
-    if refusals.knots {
-        return refused(knots_refusal(way, knots));
-    }
-    if refusals.outside {
-        return refused(18);
-    }
-    let value = query_cell::value(axes, points, &lower, &weights, tensor);
-    answer_in(value, lower)
 }

@@ -28,6 +28,37 @@ fn store_weights(weights: &mut [f64], axis: usize, knots: &[f64], lower: usize, 
     weights[4 * axis + 3] = of_axis.h11;
 }
 
+// The one axis there is: what a turn of `search_on_axes` does, with no place that is worked out while it runs, so that cell and weights
+// stay in registers. The knots are lent anew: a slice that is handed on as it came is read whole, which waits for its words to be stored.
+pub fn search_on_one(
+    way: Way,
+    points: &[usize],
+    modes: &[u8],
+    knots: &[f64],
+    coordinates: &[f64],
+    lower: &mut [usize],
+    weights: &mut [f64],
+) -> Refusals
+    requires { ⌜ SearchFits 1 (now points) (now modes) (now knots) (now coordinates) × Unfound (now lower) (now weights) ⌝ }
+    ensures { λ r.
+        ⌜ FoundAmong way 1 (now (points .entry)) (now (modes .entry)) (now (knots .entry)) (now (coordinates .entry)) (now (lower .exit))
+        (now (weights .exit)) r ⌝ }
+{
+    let end = points[0];
+    let point = coordinates[0];
+    let placed = outside::place_on_axis(modes[0], &knots[0..end], point);
+    let cell = ways::cell_on_axis(way, &knots[0..end], point, placed.coordinate);
+    lower[0] = cell;
+    store_weights(weights, 0, &knots[0..end], cell, placed.coordinate);
+    let finite = base_numbers::is_finite(point);
+    let knots_refused = ways::knots_refused(way, &knots[0..end], cell);
+    Refusals {
+        coordinates: !finite,
+        knots: knots_refused,
+        outside: placed.refused,
+    }
+}
+
 // The cells go to `lower`, which is 0 past the axes in use, and the weights to `weights`. Of the knots it reads, besides those that are
 // looked at for 8, the first and the last of an axis, those that the halvings look at, and the two of the cell.
 pub fn search_on_axes(

@@ -425,6 +425,11 @@ module _ (axes left : ℕ) (points lower : List ℕ) (tensor : List Float) (w : 
   pub removed-first : left ≡ axes → FirstRemoved axes points lower tensor w later → Removed axes left points lower tensor w cell later
   removed-first same removed = record { first = λ all. removed; further = λ other. absurd (other same) }
 
+  -- one axis in all is the one that is left
+  pub removed-only :
+      axes ≡ 1 → 1 ≤ left → left ≤ axes → FirstRemoved 1 points lower tensor w later → Removed axes left points lower tensor w cell later
+  removed-only one some few removed = removed-first (omega arith) (rw one removed)
+
   pub removed-further :
       (half : ℕ) → left ≢ axes → half ≡ 2 ^ (left - 1) → Blended cell later (half * half) w
       → Removed axes left points lower tensor w cell later

@@ -144,7 +144,8 @@ fn remove_first(
     }
 }
 
-// The lowest of the axes that are left removed: where all are left, from the tensor, and else in the cell.
+// The lowest of the axes that are left removed: where all are left, from the tensor, and else in the cell. Whether there is one axis is
+// asked first: where the compiler knows that, it has nothing else to compile.
 fn remove_lowest(
     cell: &mut [f64],
     axes: usize,
@@ -158,6 +159,10 @@ fn remove_lowest(
     ensures { λ _. ⌜ Removed axes left (now (points .entry)) (now (lower .entry)) (now (tensor .entry)) weights
         (now (cell .entry)) (now (cell .exit)) ⌝ }
 {
+    if axes == 1 {
+        remove_first(cell, 1, points, lower, weights, tensor);
+        return;
+    }
     if left == axes {
         remove_first(cell, axes, points, lower, weights, tensor);
         return;
@@ -192,8 +197,9 @@ fn blend(
 }
 
 // The surface's value in a cell, with room for what is left of the largest without its first axis. What stands there at first is never
-// read: ones the compiler stores itself, and for zeros it calls the host's memset. Not a public call: that there is such a cell is
-// required, and the lengths of all slices.
+// read: ones the compiler stores itself, and for zeros it calls the host's memset. On one axis it follows the two calls of the blend while
+// it compiles, and keeps of all that room one number in a register. Not a public call: that there is such a cell is required, and the
+// lengths of all slices.
 pub fn value(axes: usize, points: &[usize], lower: &[usize], weights: &[f64], tensor: &[f64]) -> f64
     requires { ⌜ CellAt axes (place-of (now points)) (place-of (now lower))
         × ((length (now points) ≡ 4) × (length (now lower) ≡ 4) × (length (now weights) ≡ 16))
@@ -204,6 +210,10 @@ pub fn value(axes: usize, points: &[usize], lower: &[usize], weights: &[f64], te
         → r ≡ blended axes (place-of (now (points .entry))) (place-of (now (lower .entry))) widths ts (now (tensor .entry)))
         ⌝ }
 {
+    if axes == 1 {
+        let mut cell = [1.0; 64];
+        return blend(&mut cell, 1, 1, &points, &lower, &weights, &tensor);
+    }
     let mut cell = [1.0; 64];
     blend(&mut cell, axes, axes, &points, &lower, &weights, &tensor)
 }

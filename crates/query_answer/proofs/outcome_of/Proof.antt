@@ -2,22 +2,25 @@
 use mathlib.Core.Path.{_∙_}
 use borrow.Author.Needs.{needs}
 use Rattle.query_answer.proofs.Answering.{accepted, not-accepted}
-use Rattle.query_answer.proofs.answer_in.Statement.{statement}
-use Rattle.query_answer.proofs.answer_in.Tie as tie
+use Rattle.query_answer.proofs.outcome_of.Statement.{statement}
+use Rattle.query_answer.proofs.outcome_of.Tie as tie
 
 returns : tie.Need-returns
 returns c = accepted _ _ (c .before .is-finite .ensures) (c .if1 .taken)
 
 returns-2 : tie.Need-returns-2
 returns-2 c =
-    c .refused .ensures
-    ∙ not-accepted (c .before .before .before .args .value) _ (c .before .before .is-finite .ensures) (c .before .if1 .left)
+    let at-if1 = c .before .before .before .before in
+    let s = at-if1 .before .before .before in
+    c .before .before .refuse .ensures
+    ∙ not-accepted (s .args .value) (s .args .labels .now) (at-if1 .before .is-finite .ensures) (at-if1 .if1 .left)
 
-pub answer-in-spec : {M : Type 1} → statement M
-answer-in-spec =
+pub outcome-of-spec : {M : Type 1} → statement M
+outcome-of-spec =
     tie.close
     (tie.spec
     (λ c κs. search needs)
     returns
     (λ c κs. search needs)
+    (λ c. search needs)
     returns-2)
