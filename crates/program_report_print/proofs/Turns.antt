@@ -13,8 +13,8 @@ use Rattle.report_totals.specs.declared.Totals.{Totals}
 use Rattle.report_totals.proofs.Sheets.{running-none, sheets-most}
 use Rattle.program_streams.specs.declared.Input.{Input}
 use Rattle.report.specs.Feeding.{Stands, Fed}
-use Rattle.report.specs.declared.Step.{Step}
-use Rattle.report.proofs.Steps.{stands-none, fed-last}
+use Rattle.report.specs.declared.Progress.{Progress}
+use Rattle.report.proofs.Progressing.{stands-none, fed-last}
 use Rattle.program_report_print.specs.AroundReads.{said, Lent, Refilled, Whole, Told}
 use Rattle.program_report_print.specs.declared.Outcome.{Outcome}
 
@@ -67,9 +67,9 @@ module _ (before : List ℕ) (first : ℕ) where
 
   module _ (buffer : List ℕ) (sum : Totals) (filled brought : ℕ) (turn : Turn buffer sum filled brought) where
     -- the input has ended
-    pub turn-ends : (step : Step) → filled < length buffer → Fed sum (take (filled - 0) buffer) 1 step
-        → Told before first buffer (said step brought filled)
-    turn-ends step l fed =
+    pub turn-ends : (progress : Progress) → filled < length buffer → Fed sum (take (filled - 0) buffer) 1 progress
+        → Told before first buffer (said progress brought filled)
+    turn-ends progress l fed =
         let all : filled - 0 ≡ filled = omega arith in
         let stands = rw (append-nil, append-nil) at (turn .stands []) in
         record {
@@ -80,17 +80,17 @@ module _ (before : List ℕ) (first : ℕ) where
             begins = turn .begins;
             at-once = turn .at-once;
             ends = turn .ends;
-            ended = λ k. fed-last sum (take filled buffer) (turn .input) step (rw all at fed) stands;
+            ended = λ k. fed-last sum (take filled buffer) (turn .input) progress (rw all at fed) stands;
             cut = λ k more. absurd (omega arith);
           };
         }
 
     -- the buffer is full
-    module _ (full : length buffer ≤ filled) (step : Step) (fed : Fed sum buffer enough-bytes step) where
+    module _ (full : length buffer ≤ filled) (progress : Progress) (fed : Fed sum buffer enough-bytes progress) where
       full-stands : (more : List ℕ) → Stands sum (buffer ++ more) (turn .input ++ more)
       full-stands more = rw (take-all filled buffer full) at (turn .stands more)
 
-      pub turn-stops : step .stopped ≡ true → Told before first buffer (said step brought filled)
+      pub turn-stops : progress .stopped ≡ true → Told before first buffer (said progress brought filled)
       turn-stops off = record {
         read = λ short. refl;
         whole = λ ok. record {
@@ -113,24 +113,24 @@ module _ (before : List ℕ) (first : ℕ) where
         whole = λ ok. let z : _≡_ {A = ℕ} 0 1 = cc in absurd (omega arith);
       }
 
-      pub turn-less : step .stopped ≡ false → most-sheets - step .totals .sheets < most-sheets - sum .sheets
+      pub turn-less : progress .stopped ≡ false → most-sheets - progress .totals .sheets < most-sheets - sum .sheets
       turn-less on =
           let lent = turn .lent .long in
           let same = turn .same in
           let more = fed .counts on (omega arith) in
-          let most = sheets-most (step .totals) (fed .takes .running on) in omega arith
+          let most = sheets-most (progress .totals) (fed .takes .running on) in omega arith
 
       -- the bytes that were not taken are moved to the front, and more are read behind them
-      module _ (on : step .stopped ≡ false) (moved later : List ℕ) (read : Input)
-          (moved-long : length moved ≡ length buffer) (kept-are : take (length buffer - step .taken) moved ≡ drop (step .taken) buffer)
-          (later-long : length later ≡ length moved) (refill : Refilled moved (length moved - step .taken) later read) where
+      module _ (on : progress .stopped ≡ false) (moved later : List ℕ) (read : Input)
+          (moved-long : length moved ≡ length buffer) (kept-are : take (length buffer - progress .taken) moved ≡ drop (progress .taken) buffer)
+          (later-long : length later ≡ length moved) (refill : Refilled moved (length moved - progress .taken) later read) where
         abbrev kept : ℕ
-        kept = length moved - step .taken
+        kept = length moved - progress .taken
 
         abbrev came : List ℕ
         came = take (read .length) (drop kept later)
 
-        kept-is : kept ≡ length buffer - step .taken
+        kept-is : kept ≡ length buffer - progress .taken
         kept-is = omega arith
 
         came-long : length came ≡ read .length
@@ -139,12 +139,12 @@ module _ (before : List ℕ) (first : ℕ) where
             let rest = length-drop kept later in
             let most = refill .most in omega arith
 
-        in-front : take (kept + read .length) later ≡ drop (step .taken) buffer ++ came
+        in-front : take (kept + read .length) later ≡ drop (progress .taken) buffer ++ came
         in-front =
-            let front : take kept later ≡ drop (step .taken) buffer = refill .front ∙ (rw (← kept-is) at kept-are) in
+            let front : take kept later ≡ drop (progress .taken) buffer = refill .front ∙ (rw (← kept-is) at kept-are) in
             take-add kept (read .length) later ∙ rw front
 
-        brought-most : brought + read .length ≤ 524288 * (step .totals .sheets + 1)
+        brought-most : brought + read .length ≤ 524288 * (progress .totals .sheets + 1)
         brought-most =
             let lent = turn .lent .long in
             let same = turn .same in
@@ -156,7 +156,7 @@ module _ (before : List ℕ) (first : ℕ) where
         pub brought-fits : brought + read .length ≤ 524288 * (most-sheets + 1)
         brought-fits =
             let most = brought-most in
-            let sheets = sheets-most (step .totals) (fed .takes .running on) in omega arith
+            let sheets = sheets-most (progress .totals) (fed .takes .running on) in omega arith
 
         still-ends : drop ((brought + read .length) - (kept + read .length)) (turn .input ++ came) ≡ take (kept + read .length) later
         still-ends =
@@ -164,12 +164,12 @@ module _ (before : List ℕ) (first : ℕ) where
             let taken = fed .takes .inside in
             let most = turn .most in
             let long = turn .long in
-            let start : (brought + read .length) - (kept + read .length) ≡ (brought - filled) + step .taken = omega arith in
-            let kept-end : drop ((brought - filled) + step .taken) (turn .input) ≡ drop (step .taken) buffer =
-            sym (drop-drop (step .taken) (brought - filled) (turn .input)) ∙ rw (turn .ends, take-all filled buffer full) in
-            rw (start, drop-append-le ((brought - filled) + step .taken) (turn .input) came (omega arith), in-front, kept-end)
+            let start : (brought + read .length) - (kept + read .length) ≡ (brought - filled) + progress .taken = omega arith in
+            let kept-end : drop ((brought - filled) + progress .taken) (turn .input) ≡ drop (progress .taken) buffer =
+            sym (drop-drop (progress .taken) (brought - filled) (turn .input)) ∙ rw (turn .ends, take-all filled buffer full) in
+            rw (start, drop-append-le ((brought - filled) + progress .taken) (turn .input) came (omega arith), in-front, kept-end)
 
-        pub turn-next : Turn later (step .totals) (kept + read .length) (brought + read .length)
+        pub turn-next : Turn later (progress .totals) (kept + read .length) (brought + read .length)
         turn-next = record {
           lent = turn .lent;
           same = later-long ∙ moved-long ∙ turn .same;
@@ -179,7 +179,7 @@ module _ (before : List ℕ) (first : ℕ) where
           input = turn .input ++ came;
           stands = λ more.
               let rest = came ++ more in
-              rw (in-front, append-assoc (drop (step .taken) buffer) came more, append-assoc (turn .input) came more)
+              rw (in-front, append-assoc (drop (progress .taken) buffer) came more, append-assoc (turn .input) came more)
               (fed .takes .goes-on on (turn .input ++ rest) rest (λ l. absurd (omega arith)) (full-stands rest));
           long = length-append (turn .input) came ∙ (let a = turn .long in let b = came-long in omega arith);
           least = let least = turn .least in omega arith;

@@ -6,7 +6,7 @@ use Prim.Native.Nat.{ℕ, _+_, _-_, _<_, _≤_}
 use lib.ListN.{length, take, drop}
 use Rattle.program_streams.specs.declared.Input.{Input}
 use Rattle.report.specs.Report.{report-of}
-use Rattle.report.specs.declared.Step.{Step}
+use Rattle.report.specs.declared.Progress.{Progress}
 use Rattle.program_report_print.specs.declared.Outcome.{Outcome}
 
 -- the program's buffer, with the bytes of the first piece in its front
@@ -19,8 +19,8 @@ pub record Refilled (before : List ℕ) (kept : ℕ) (later : List ℕ) (input :
   pub most : kept + input .length ≤ length later
   pub front : take kept later ≡ take kept before
 
--- what the last step of a report says, after so many bytes
-abbrev pub said : Step → ℕ → ℕ → Outcome
+-- what is said of where a report has come to at last, after so many bytes
+abbrev pub said : Progress → ℕ → ℕ → Outcome
 said last brought filled = record {
   failed = false;
   report = record { totals = last .totals; stopped = last .stopped };

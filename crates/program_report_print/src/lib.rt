@@ -6,7 +6,7 @@ ghost use lib.ListN.{length, take, drop};
 ghost use Rattle.program_report_print.specs.AroundReads.{said, Lent, Refilled, Told};
 use program_streams::Input;
 use program_streams::read_input;
-use report::Step;
+use report::Progress;
 use report::feed;
 use report_totals::Report;
 use report_totals::none;
@@ -56,8 +56,8 @@ fn unread() -> Outcome
     }
 }
 
-// What the last step of a report says, after so many bytes.
-fn told(last: Step, brought: usize, filled: usize) -> Outcome
+// What the last progress of a report says, after so many bytes.
+fn told(last: Progress, brought: usize, filled: usize) -> Outcome
     ensures { λ r. ⌜ r ≡ said last brought filled ⌝ }
 {
     let totals = last.totals;

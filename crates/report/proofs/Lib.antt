@@ -1,7 +1,7 @@
 mod Fronts
 mod CountedAlone
 mod Streams
-pub mod Steps
+pub mod Progressing
 pub mod Pieces
 mod Bounds
 mod Unique

@@ -11,8 +11,8 @@ use Rattle.report_totals.specs.declared.Totals.{Totals}
 use Rattle.report_totals.specs.declared.Report.{Report}
 use Rattle.report.specs.Report.{report-of}
 use Rattle.report.specs.Feeding.{Stands, Fed}
-use Rattle.report.specs.declared.Step.{Step}
-use Rattle.report.proofs.Steps.{stands-none, fed-last}
+use Rattle.report.specs.declared.Progress.{Progress}
+use Rattle.report.proofs.Progressing.{stands-none, fed-last}
 
 -- the pieces together
 unfoldable pub joined : List (List ℕ) → List ℕ
@@ -28,16 +28,16 @@ joined-snoc (first ∷ pieces) piece = rw (joined-snoc pieces piece, append-asso
 -- together a feeding takes its sheets; nothing is used of it but its promise
 pub data Through : List (List ℕ) → Totals → List ℕ → Type 0 where
   start : {totals : Totals} → totals ≡ totals-of [] → Through [] totals []
-  next : {pieces : List (List ℕ)} {totals : Totals} {held : List ℕ} (piece : List ℕ) (step : Step) → Through pieces totals held
-      → Fed totals (held ++ piece) enough-bytes step → step .stopped ≡ false
-      → Through (pieces ++ (piece ∷ [])) (step .totals) (drop (step .taken) (held ++ piece))
+  next : {pieces : List (List ℕ)} {totals : Totals} {held : List ℕ} (piece : List ℕ) (progress : Progress) → Through pieces totals held
+      → Fed totals (held ++ piece) enough-bytes progress → progress .stopped ≡ false
+      → Through (pieces ++ (piece ∷ [])) (progress .totals) (drop (progress .taken) (held ++ piece))
 
 -- one piece more
-stands-piece : (totals : Totals) (held piece before : List ℕ) (step : Step)
+stands-piece : (totals : Totals) (held piece before : List ℕ) (progress : Progress)
     → ((more : List ℕ) → Stands totals (held ++ more) (before ++ more))
-    → Fed totals (held ++ piece) enough-bytes step → step .stopped ≡ false
-    → (more : List ℕ) → Stands (step .totals) (drop (step .taken) (held ++ piece) ++ more) ((before ++ piece) ++ more)
-stands-piece totals held piece before step stands fed on more =
+    → Fed totals (held ++ piece) enough-bytes progress → progress .stopped ≡ false
+    → (more : List ℕ) → Stands (progress .totals) (drop (progress .taken) (held ++ piece) ++ more) ((before ++ piece) ++ more)
+stands-piece totals held piece before progress stands fed on more =
     rw (append-assoc before piece more)
     (fed .takes .goes-on on (before ++ (piece ++ more)) more (λ l. absurd (omega arith)) (rw append-assoc (stands (piece ++ more))))
 
@@ -49,28 +49,28 @@ stood-start : (totals : Totals) → totals ≡ totals-of [] → Stood [] totals 
 unfolding joined
 stood-start totals said more = stands-none totals more said
 
-stood-next : (pieces : List (List ℕ)) (totals : Totals) (held piece : List ℕ) (step : Step) → Stood pieces totals held
-    → Fed totals (held ++ piece) enough-bytes step → step .stopped ≡ false
-    → Stood (pieces ++ (piece ∷ [])) (step .totals) (drop (step .taken) (held ++ piece))
-stood-next pieces totals held piece step stood fed on more =
-    rw (joined-snoc pieces piece) (stands-piece totals held piece (joined pieces) step stood fed on more)
+stood-next : (pieces : List (List ℕ)) (totals : Totals) (held piece : List ℕ) (progress : Progress) → Stood pieces totals held
+    → Fed totals (held ++ piece) enough-bytes progress → progress .stopped ≡ false
+    → Stood (pieces ++ (piece ∷ [])) (progress .totals) (drop (progress .taken) (held ++ piece))
+stood-next pieces totals held piece progress stood fed on more =
+    rw (joined-snoc pieces piece) (stands-piece totals held piece (joined pieces) progress stood fed on more)
 
 through : {pieces : List (List ℕ)} {totals : Totals} {held : List ℕ} → Through pieces totals held → Stood pieces totals held
 through (start {totals} said) = stood-start totals said
-through (next {pieces} {totals} {held} piece step before fed on) = stood-next pieces totals held piece step (through before) fed on
+through (next {pieces} {totals} {held} piece progress before fed on) = stood-next pieces totals held piece progress (through before) fed on
 
 -- at the end of the last piece: the report of all pieces together
-pub in-pieces : {pieces : List (List ℕ)} {totals : Totals} {held : List ℕ} → Through pieces totals held → (step : Step)
-    → Fed totals held 1 step
-    → _≡_ {A = Report} (record { totals = step .totals; stopped = step .stopped }) (report-of (joined pieces))
-in-pieces {pieces} {totals} {held} before step fed =
-    fed-last totals held (joined pieces) step fed (rw (append-nil, append-nil) at (through before []))
+pub in-pieces : {pieces : List (List ℕ)} {totals : Totals} {held : List ℕ} → Through pieces totals held → (progress : Progress)
+    → Fed totals held 1 progress
+    → _≡_ {A = Report} (record { totals = progress .totals; stopped = progress .stopped }) (report-of (joined pieces))
+in-pieces {pieces} {totals} {held} before progress fed =
+    fed-last totals held (joined pieces) progress fed (rw (append-nil, append-nil) at (through before []))
 
 -- in a piece before: the report of these pieces with any others behind them
 pub in-pieces-stopped : {pieces : List (List ℕ)} {totals : Totals} {held : List ℕ} → Through pieces totals held
-    → (piece : List ℕ) (step : Step)
-    → Fed totals (held ++ piece) enough-bytes step → step .stopped ≡ true
-    → (more : List ℕ) → _≡_ {A = Report} (record { totals = step .totals; stopped = true }) (report-of (joined pieces ++ (piece ++ more)))
-in-pieces-stopped {pieces} {totals} {held} before piece step fed off more =
+    → (piece : List ℕ) (progress : Progress)
+    → Fed totals (held ++ piece) enough-bytes progress → progress .stopped ≡ true
+    → (more : List ℕ) → _≡_ {A = Report} (record { totals = progress .totals; stopped = true }) (report-of (joined pieces ++ (piece ++ more)))
+in-pieces-stopped {pieces} {totals} {held} before piece progress fed off more =
     fed .takes .stops off (joined pieces ++ (piece ++ more)) more (λ l. absurd (omega arith))
     (rw append-assoc (through before (piece ++ more)))

@@ -1,4 +1,4 @@
--- Where a report stands in its stream, and what a step and a feeding promise.
+-- Where a report stands in its stream, and what one sheet further and a feeding promise.
 use mathlib.Core.Path.{_≡_}
 use mathlib.Core.Bool.{true, false}
 use mathlib.Core.List.{List, [], _++_}
@@ -13,7 +13,7 @@ use Rattle.report_totals.specs.Counting.{Running, Adds}
 use Rattle.report_totals.specs.declared.Totals.{Totals}
 use Rattle.report_totals.specs.declared.Report.{Report}
 use Rattle.report.specs.Report.{sheet-at, after, stream-of, report-of}
-use Rattle.report.specs.declared.Step.{Step}
+use Rattle.report.specs.declared.Progress.{Progress}
 
 -- in its input a report has come to `rest`: what it counted are the sheets in front of that
 pub record Stands (totals : Totals) (rest input : List ℕ) : Type 0 where
@@ -39,24 +39,24 @@ pub record SheetCounted (totals : Totals) (bytes : List ℕ) (later : Totals) (r
   pub refused : refusal ≡ sheet-at bytes .refusal
   pub adds : Adds totals (sheet-at bytes .refusal) (sheet-at bytes .tensor) later
 
--- a step or a feeding on some bytes, which may be the front of any rest of any input: the report has then come to what it left of these
+-- one sheet further or a feeding on some bytes, which may be the front of any rest of any input: the report has then come to what it left of these
 -- bytes, or it stops and has the report of that input. It may look at n bytes
-pub record Takes (totals : Totals) (bytes : List ℕ) (n : ℕ) (step : Step) : Type 0 where
-  pub inside : step .taken ≤ length bytes
-  pub running : step .stopped ≡ false → Running (step .totals)
-  pub goes-on : step .stopped ≡ false → (input more : List ℕ) → Shown n more → Stands totals (bytes ++ more) input
-      → Stands (step .totals) (drop (step .taken) bytes ++ more) input
-  pub stops : step .stopped ≡ true → (input more : List ℕ) → Shown n more → Stands totals (bytes ++ more) input
-      → _≡_ {A = Report} (record { totals = step .totals; stopped = true }) (report-of input)
+pub record Takes (totals : Totals) (bytes : List ℕ) (n : ℕ) (progress : Progress) : Type 0 where
+  pub inside : progress .taken ≤ length bytes
+  pub running : progress .stopped ≡ false → Running (progress .totals)
+  pub goes-on : progress .stopped ≡ false → (input more : List ℕ) → Shown n more → Stands totals (bytes ++ more) input
+      → Stands (progress .totals) (drop (progress .taken) bytes ++ more) input
+  pub stops : progress .stopped ≡ true → (input more : List ℕ) → Shown n more → Stands totals (bytes ++ more) input
+      → _≡_ {A = Report} (record { totals = progress .totals; stopped = true }) (report-of input)
 
 -- one sheet was taken
-pub record Stepped (totals : Totals) (bytes : List ℕ) (step : Step) : Type 0 where
-  pub takes : Takes totals bytes (length bytes) step
-  pub some : step .stopped ≡ false → 1 ≤ step .taken
-  pub counts : step .stopped ≡ false → step .totals .sheets ≡ totals .sheets + 1
+pub record Progressed (totals : Totals) (bytes : List ℕ) (progress : Progress) : Type 0 where
+  pub takes : Takes totals bytes (length bytes) progress
+  pub some : progress .stopped ≡ false → 1 ≤ progress .taken
+  pub counts : progress .stopped ≡ false → progress .totals .sheets ≡ totals .sheets + 1
 
 -- a feeding, which ends where fewer bytes are left than it is to have at least
-pub record Fed (totals : Totals) (bytes : List ℕ) (least : ℕ) (step : Step) : Type 0 where
-  pub takes : Takes totals bytes least step
-  pub all : step .stopped ≡ false → length bytes < step .taken + least
-  pub counts : step .stopped ≡ false → least ≤ length bytes → totals .sheets < step .totals .sheets
+pub record Fed (totals : Totals) (bytes : List ℕ) (least : ℕ) (progress : Progress) : Type 0 where
+  pub takes : Takes totals bytes least progress
+  pub all : progress .stopped ≡ false → length bytes < progress .taken + least
+  pub counts : progress .stopped ≡ false → least ≤ length bytes → totals .sheets < progress .totals .sheets

@@ -4,7 +4,7 @@ ghost use Prim.Native.Nat.{_≤_};
 ghost use lib.ListN.{length};
 ghost use Rattle.report_totals.specs.Counting.{Running};
 ghost use Rattle.report.specs.Report.{ReportPromise};
-ghost use Rattle.report.specs.Feeding.{Buffers, Looked, SheetCounted, Stepped, Fed};
+ghost use Rattle.report.specs.Feeding.{Buffers, Looked, SheetCounted, Progressed, Fed};
 use grid_codes::classes::is_unread;
 use grid_scratch::TENSOR;
 use report_front::look_at_front;
@@ -18,7 +18,7 @@ use sheet_read::ReadAnswer;
 
 // Where a report has come to: its totals, how many of the bytes that it was given it has passed over, and whether it ends before the input
 // does. Where it does, no more is promised of `taken` than that it is not above the number of those bytes.
-pub struct Step {
+pub struct Progress {
     pub totals: Totals,
     pub taken: usize,
     pub stopped: bool,
@@ -80,7 +80,7 @@ fn count_sheet(
     count_read(totals, bytes, sheet, knots, samples, scratch)
 }
 
-// One step: the front sheet is looked at, built and counted, and the report stops in it where it was not read. Not a public call: it
+// One progress: the front sheet is looked at, built and counted, and the report stops in it where it was not read. Not a public call: it
 // requires totals of some stream, a byte at least, and the three buffers.
 fn take_sheet(
     totals: Totals,
@@ -88,12 +88,12 @@ fn take_sheet(
     knots: &mut [f64],
     samples: &mut [f64],
     scratch: &mut [f64],
-) -> Step
+) -> Progress
     requires { ⌜ Running totals × (1 ≤ length (now bytes)) × Buffers (now knots) (now samples) (now scratch) ⌝ }
-    ensures { λ r. ⌜ Stepped totals (now (bytes .entry)) r ⌝ }
+    ensures { λ r. ⌜ Progressed totals (now (bytes .entry)) r ⌝ }
 {
     if totals.sheets == 1000000 {
-        return Step {
+        return Progress {
             totals,
             taken: 0,
             stopped: true,
@@ -105,14 +105,14 @@ fn take_sheet(
     let counted = count_sheet(totals, &bytes[0..size], sheet, knots, samples, scratch);
     let later = counted.totals;
     let refusal = counted.refusal;
-    Step {
+    Progress {
         totals: later,
         taken: size,
         stopped: is_unread(refusal),
     }
 }
 
-// Step after step, until fewer than `least` bytes are left or the report stops. Not a public call: it requires totals of some stream, a
+// Sheet after sheet, until fewer than `least` bytes are left or the report stops. Not a public call: it requires totals of some stream, a
 // `least` that is not 0, and the three buffers.
 fn take_sheets(
     totals: Totals,
@@ -121,7 +121,7 @@ fn take_sheets(
     knots: &mut [f64],
     samples: &mut [f64],
     scratch: &mut [f64],
-) -> Step
+) -> Progress
     requires { ⌜ Running totals × (1 ≤ least) × Buffers (now knots) (now samples) (now scratch) ⌝ }
     ensures { λ r. ⌜ Fed totals (now (bytes .entry)) least r ⌝ }
 {
@@ -133,7 +133,7 @@ fn take_sheets(
         let stopped = next.stopped;
         let taken = next.taken;
         if stopped {
-            return Step {
+            return Progress {
                 totals: so_far,
                 taken: at,
                 stopped: true,
@@ -142,7 +142,7 @@ fn take_sheets(
         sum = so_far;
         at += taken;
     }
-    Step {
+    Progress {
         totals: sum,
         taken: at,
         stopped: false,
@@ -152,7 +152,7 @@ fn take_sheets(
 // The same with the buffers on the stack, for a program that reads a stream in pieces. Not a public call: it requires totals of some
 // stream, and a `least` that is not 0. Before the input's end `least` is to be 65,536, since so many bytes show a sheet whatever follows
 // them; at its end 1.
-pub fn feed(totals: Totals, bytes: &[u8], least: usize) -> Step
+pub fn feed(totals: Totals, bytes: &[u8], least: usize) -> Progress
     requires { ⌜ Running totals × (1 ≤ least) ⌝ }
     ensures { λ r. ⌜ Fed totals (now (bytes .entry)) least r ⌝ }
 {

@@ -2,7 +2,7 @@
 -- report of all of them (`fed-last`).
 use native.Mathlib.Omega.{arith}
 use Rattle.report_totals.proofs.Sheets.{running-none}
-use Rattle.report.proofs.Steps.{stands-none, fed-last}
+use Rattle.report.proofs.Progressing.{stands-none, fed-last}
 use borrow.Author.Needs.{needs}
 use Rattle.report.proofs.report_of_bytes.Statement.{statement}
 use Rattle.report.proofs.report_of_bytes.Tie as tie

@@ -1,6 +1,6 @@
--- One step of a report: the front sheet is looked at, built and counted by its own bytes, and the report stops where it was not read.
+-- One sheet further: the front sheet is looked at, built and counted by its own bytes, and the report stops where it was not read.
 use Rattle.report.specs.Report.{stops}
-use Rattle.report.proofs.Steps.{step-full, own-looked, took}
+use Rattle.report.proofs.Progressing.{progress-full, own-looked, took}
 use borrow.Author.Needs.{needs}
 use Rattle.report.proofs.take_sheet.Statement.{statement}
 use Rattle.report.proofs.take_sheet.Tie as tie
@@ -8,7 +8,7 @@ use Rattle.report.proofs.take_sheet.Tie as tie
 returns : tie.Need-returns
 returns c =
     let start = c .before .before .before .before .before .before in
-    step-full _ _ (start .pre .1) (c .if1 .taken)
+    progress-full _ _ (start .pre .1) (c .if1 .taken)
 
 part-count-sheet-end : tie.Need-part-count-sheet-end
 part-count-sheet-end c = c .before .look-at-front .ensures .inside

@@ -1,12 +1,12 @@
 -- Where the report had come to these bytes of an input, it has now come to those from `at` on, and the buffers keep their lengths.
--- The measure is the bytes left: a step that does not stop takes at least one.
+-- The measure is the bytes left: a turn that does not stop takes at least one.
 use borrow.Author.Needs.{needs}
 use mathlib.Core.Path.{refl}
 use native.Mathlib.Omega.{arith}
 use Prim.Native.Nat.{_-_}
 use lib.ListN.{length, drop, length-drop}
-use Rattle.report.specs.Feeding.{Stepped}
-use Rattle.report.proofs.Steps.{Alike, alike-buffers, Turn, turn-first, turn-part, turn-next, turn-stops, turn-last}
+use Rattle.report.specs.Feeding.{Progressed}
+use Rattle.report.proofs.Progressing.{Alike, alike-buffers, Turn, turn-first, turn-part, turn-next, turn-stops, turn-last}
 use Rattle.report.proofs.take_sheets.Statement.{statement}
 use Rattle.report.proofs.take_sheets.Tie as tie
 
@@ -39,10 +39,10 @@ take-sheet-requires c κs =
 abbrev head : tie.After-take-sheet Inv-loop μ-loop → tie.At-loop Inv-loop μ-loop
 head b = b .before .before .before .before .before .before
 
-stepped : (b : tie.After-take-sheet Inv-loop μ-loop)
-    → Stepped (head b .loop .sum) (drop (head b .loop .at) (head b .before .before .before .before .before .args .bytes .now))
+progressed : (b : tie.After-take-sheet Inv-loop μ-loop)
+    → Progressed (head b .loop .sum) (drop (head b .loop .at) (head b .before .before .before .before .before .args .bytes .now))
     (b .take-sheet .result)
-stepped b =
+progressed b =
     let at-loop-test = b .before .before .before .before .before in
     rw (turn-part _ _ _ _ _ (head b .loop .inv .0) (at-loop-test .loop-test .taken)) at (b .take-sheet .ensures)
 
@@ -50,13 +50,13 @@ returns : tie.Need-returns Inv-loop μ-loop
 returns c =
     let b = c .before .before .before .before .before .before .before .before in
     let at-loop-test = b .before .before .before .before .before in
-    turn-stops _ _ _ _ _ (head b .loop .inv .0) (at-loop-test .loop-test .taken) _ (stepped b) (c .if1 .taken)
+    turn-stops _ _ _ _ _ (head b .loop .inv .0) (at-loop-test .loop-test .taken) _ (progressed b) (c .if1 .taken)
 
 add-at : tie.Need-add-at Inv-loop μ-loop
 add-at c =
     let b = c .before .before .before .before .before .before .before .before in
     let at-loop-test = b .before .before .before .before .before in
-    let next = turn-next _ _ _ _ _ (head b .loop .inv .0) (at-loop-test .loop-test .taken) _ (stepped b) (c .if1 .left) in
+    let next = turn-next _ _ _ _ _ (head b .loop .inv .0) (at-loop-test .loop-test .taken) _ (progressed b) (c .if1 .left) in
     let most = next .most in
     let good = head b .before .before .before .before .before .good in
     let fits = head b .before .before .before .before .before .fits in omega arith
@@ -65,8 +65,8 @@ loop-less : tie.Need-loop-less Inv-loop μ-loop
 loop-less c =
     let b = c .before .before .before .before .before .before .before .before in
     let at-loop-test = b .before .before .before .before .before in
-    let some = stepped b .some (c .if1 .left) in
-    let next = turn-next _ _ _ _ _ (head b .loop .inv .0) (at-loop-test .loop-test .taken) _ (stepped b) (c .if1 .left) in
+    let some = progressed b .some (c .if1 .left) in
+    let next = turn-next _ _ _ _ _ (head b .loop .inv .0) (at-loop-test .loop-test .taken) _ (progressed b) (c .if1 .left) in
     let most = next .most in omega arith
 
 loop-again : tie.Need-loop-again Inv-loop μ-loop
@@ -75,7 +75,7 @@ loop-again c =
     let at-loop-test = b .before .before .before .before .before in
     let alike = head b .loop .inv .1 in
     let kept = b .take-sheet .kept in (
-      turn-next _ _ _ _ _ (head b .loop .inv .0) (at-loop-test .loop-test .taken) _ (stepped b) (c .if1 .left),
+      turn-next _ _ _ _ _ (head b .loop .inv .0) (at-loop-test .loop-test .taken) _ (progressed b) (c .if1 .left),
       record { knots-alike = omega arith; samples-alike = omega arith; scratch-alike = omega arith },
     )
 

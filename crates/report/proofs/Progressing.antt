@@ -1,4 +1,4 @@
--- What a step and a feeding promise: where they leave the report in its stream.
+-- What one sheet further and a feeding promise: where they leave the report in its stream.
 use mathlib.Core.Path.{_≡_, refl, sym, ap, _∙_}
 use mathlib.Core.Bool.{Bool, true, false}
 use mathlib.Core.Logic.{⊎-elim}
@@ -19,8 +19,8 @@ use Rattle.report_totals.specs.declared.Totals.{Totals}
 use Rattle.report_totals.specs.declared.Report.{Report}
 use Rattle.report_totals.proofs.Sheets.{running-none, running-next, sheets-are}
 use Rattle.report.specs.Report.{front-sheet, stops, after, stops-here, stream-of, report-of}
-use Rattle.report.specs.Feeding.{Stands, Shown, Buffers, Looked, SheetCounted, Stepped, Fed}
-use Rattle.report.specs.declared.Step.{Step}
+use Rattle.report.specs.Feeding.{Stands, Shown, Buffers, Looked, SheetCounted, Progressed, Fed}
+use Rattle.report.specs.declared.Progress.{Progress}
 use Rattle.report.proofs.Fronts.{front-some, front-small}
 use Rattle.report.proofs.Streams.{stream-end, stream-full, next-stops, next-goes-on, after-after, after-end, after-stop}
 
@@ -43,12 +43,12 @@ stands-end totals input s =
     reported totals input seen false (s .running .said)
     (s .same ∙ ap (after seen) (stream-end (most-sheets - length seen)) ∙ after-end seen)
 
--- ---- a step
+-- ---- one sheet further
 
 module _ (totals : Totals) (bytes : List ℕ) (some : 1 ≤ length bytes) where
   -- as many sheets as a report has
-  pub step-full : totals .sheets ≡ most-sheets → Stepped totals bytes (record { totals = totals; taken = 0; stopped = true })
-  step-full full = record {
+  pub progress-full : totals .sheets ≡ most-sheets → Progressed totals bytes (record { totals = totals; taken = 0; stopped = true })
+  progress-full full = record {
     takes = record {
       inside = omega arith;
       running = λ e. absurd (true-not-false e);
@@ -99,10 +99,10 @@ module _ (totals : Totals) (bytes : List ℕ) (some : 1 ≤ length bytes) where
           (s .same
           ∙ rw (count, next-stops left bytes more some shown e) (after-after seen front stops-here ∙ after-stop (seen ++ (front ∷ []))))
 
-    pub step-sheet : (run : Running totals) (size : ℕ) (stopped : Bool) → size ≡ front-size bytes → size ≤ length bytes
+    pub progress-sheet : (run : Running totals) (size : ℕ) (stopped : Bool) → size ≡ front-size bytes → size ≤ length bytes
         → stopped ≡ stops (front .refusal)
-        → Stepped totals bytes (record { totals = later; taken = size; stopped = stopped })
-    step-sheet run size stopped e inside q = record {
+        → Progressed totals bytes (record { totals = later; taken = size; stopped = stopped })
+    progress-sheet run size stopped e inside q = record {
       takes = record {
         inside = inside;
         running = λ on. running-next totals later front run adds (fewer run) (front-small bytes);
@@ -118,19 +118,19 @@ pub own-looked : (bytes : List ℕ) (size : ℕ) (sheet : ReadAnswer) → size �
     → Looked (take (size - 0) bytes) sheet
 own-looked bytes size sheet e looked = let here : size - 0 ≡ front-size bytes = omega arith in rw here looked
 
--- a step by the answers of its calls: how the bytes of the front sheet were counted
+-- one sheet further, by the answers of the calls: how the bytes of the front sheet were counted
 pub took :
     (totals later : Totals) (bytes : List ℕ) (size refusal : ℕ) (stopped : Bool) → 1 ≤ length bytes → Running totals
     → (totals .sheets ≡ most-sheets → ⊥) → size ≡ front-size bytes → size ≤ length bytes
     → SheetCounted totals (take (size - 0) bytes) later refusal → stopped ≡ stops refusal
-    → Stepped totals bytes (record { totals = later; taken = size; stopped = stopped })
+    → Progressed totals bytes (record { totals = later; taken = size; stopped = stopped })
 unfolding front-sheet
 took totals later bytes size refusal stopped some run room e inside counted q =
     let here : size - 0 ≡ front-size bytes = omega arith in
     let own : SheetCounted totals (front-bytes bytes) later refusal = rw here at counted in
-    step-sheet totals bytes some later (own .adds) room run size stopped e inside (q ∙ ap stops (own .refused))
+    progress-sheet totals bytes some later (own .adds) room run size stopped e inside (q ∙ ap stops (own .refused))
 
--- ---- a feeding: one step after the other
+-- ---- a feeding: one sheet after the other
 
 -- buffers of the same lengths
 pub record Alike (knots₀ samples₀ scratch₀ knots samples scratch : List Float) : Type 0 where
@@ -170,24 +170,24 @@ module _ (first : Totals) (bytes : List ℕ) (least : ℕ) where
     shown-left : (more : List ℕ) → Shown least more → Shown (length (drop at bytes)) more
     shown-left more shown l = shown (let long = length-drop at bytes in omega arith)
 
-    module _ (step : Step) (stepped : Stepped totals (drop at bytes) step) where
-      pub turn-next : step .stopped ≡ false → Turn (step .totals) (at + step .taken)
+    module _ (progress : Progress) (progressed : Progressed totals (drop at bytes) progress) where
+      pub turn-next : progress .stopped ≡ false → Turn (progress .totals) (at + progress .taken)
       turn-next on = record {
-        most = let inside = stepped .takes .inside in let long = length-drop at bytes in let most = turn .most in omega arith;
-        running = stepped .takes .running on;
-        rises = let count = stepped .counts on in let before = turn .rises in omega arith;
-        counts = λ l. let count = stepped .counts on in let before = turn .rises in omega arith;
+        most = let inside = progressed .takes .inside in let long = length-drop at bytes in let most = turn .most in omega arith;
+        running = progressed .takes .running on;
+        rises = let count = progressed .counts on in let before = turn .rises in omega arith;
+        counts = λ l. let count = progressed .counts on in let before = turn .rises in omega arith;
         stands = λ input more shown s.
-            rw drop-drop at (stepped .takes .goes-on on input more (shown-left more shown) (turn .stands input more shown s));
+            rw drop-drop at (progressed .takes .goes-on on input more (shown-left more shown) (turn .stands input more shown s));
       }
 
-      pub turn-stops : step .stopped ≡ true → Fed first bytes least (record { totals = step .totals; taken = at; stopped = true })
+      pub turn-stops : progress .stopped ≡ true → Fed first bytes least (record { totals = progress .totals; taken = at; stopped = true })
       turn-stops off = record {
         takes = record {
           inside = turn .most;
           running = λ e. absurd (true-not-false e);
           goes-on = λ e. absurd (true-not-false e);
-          stops = λ e input more shown s. stepped .takes .stops off input more (shown-left more shown) (turn .stands input more shown s);
+          stops = λ e input more shown s. progressed .takes .stops off input more (shown-left more shown) (turn .stands input more shown s);
         };
         all = λ e. absurd (true-not-false e);
         counts = λ e. absurd (true-not-false e);
@@ -208,15 +208,15 @@ module _ (first : Totals) (bytes : List ℕ) (least : ℕ) where
 
 -- ---- the feeding at the end of the input
 
-fed-ends : (totals : Totals) (bytes input : List ℕ) (step : Step) → Fed totals bytes 1 step → Stands totals bytes input → (b : Bool)
-    → step .stopped ≡ b
-    → _≡_ {A = Report} (record { totals = step .totals; stopped = b }) (report-of input)
-fed-ends totals bytes input step fed s true e = fed .takes .stops e input [] (λ l. refl) (rw append-nil s)
-fed-ends totals bytes input step fed s false e =
-    let none : drop (step .taken) bytes ++ [] ≡ [] =
-    rw (drop-of-length-le bytes {i = step .taken} (let all = fed .all e in omega arith), append-nil) in
-    stands-end (step .totals) input (rw none at (fed .takes .goes-on e input [] (λ l. refl) (rw append-nil s)))
+fed-ends : (totals : Totals) (bytes input : List ℕ) (progress : Progress) → Fed totals bytes 1 progress → Stands totals bytes input → (b : Bool)
+    → progress .stopped ≡ b
+    → _≡_ {A = Report} (record { totals = progress .totals; stopped = b }) (report-of input)
+fed-ends totals bytes input progress fed s true e = fed .takes .stops e input [] (λ l. refl) (rw append-nil s)
+fed-ends totals bytes input progress fed s false e =
+    let none : drop (progress .taken) bytes ++ [] ≡ [] =
+    rw (drop-of-length-le bytes {i = progress .taken} (let all = fed .all e in omega arith), append-nil) in
+    stands-end (progress .totals) input (rw none at (fed .takes .goes-on e input [] (λ l. refl) (rw append-nil s)))
 
-pub fed-last : (totals : Totals) (bytes input : List ℕ) (step : Step) → Fed totals bytes 1 step → Stands totals bytes input
-    → _≡_ {A = Report} (record { totals = step .totals; stopped = step .stopped }) (report-of input)
-fed-last totals bytes input step fed s = fed-ends totals bytes input step fed s (step .stopped) refl
+pub fed-last : (totals : Totals) (bytes input : List ℕ) (progress : Progress) → Fed totals bytes 1 progress → Stands totals bytes input
+    → _≡_ {A = Report} (record { totals = progress .totals; stopped = progress .stopped }) (report-of input)
+fed-last totals bytes input progress fed s = fed-ends totals bytes input progress fed s (progress .stopped) refl
