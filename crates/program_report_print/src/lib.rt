@@ -56,7 +56,7 @@ fn unread() -> Outcome
     }
 }
 
-// What the last progress of a report says, after so many bytes.
+// What is said of where a report has come to at last, after so many bytes.
 fn told(last: Progress, brought: usize, filled: usize) -> Outcome
     ensures { λ r. ⌜ r ≡ said last brought filled ⌝ }
 {

@@ -80,7 +80,7 @@ fn count_sheet(
     count_read(totals, bytes, sheet, knots, samples, scratch)
 }
 
-// One progress: the front sheet is looked at, built and counted, and the report stops in it where it was not read. Not a public call: it
+// One sheet further: the front sheet is looked at, built and counted, and the report stops in it where it was not read. Not a public call: it
 // requires totals of some stream, a byte at least, and the three buffers.
 fn take_sheet(
     totals: Totals,
