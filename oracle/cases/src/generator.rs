@@ -56,9 +56,9 @@ pub enum Kind {
     DirectBesideEven,
     QuickQueries,
     DirectQueries,
-    SteppedMany,
     SheetText,
     EmptySlice,
+    SteppedMany,
 }
 
 /// Every kind, in the order of the report.

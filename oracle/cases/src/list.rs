@@ -24,7 +24,7 @@ use crate::reading_calls::Reading;
 use crate::report::NUMBERS;
 
 /// The calls in the order of their numbers; what programs print is none of them.
-pub const CALLS: [Call; 23] = [
+pub const CALLS: [Call; 24] = [
     Call::Moments,
     Call::Curve,
     Call::Slopes,
@@ -48,6 +48,7 @@ pub const CALLS: [Call; 23] = [
     Call::DirectQuery,
     Call::QuickQueries,
     Call::DirectQueries,
+    Call::SteppedMany,
 ];
 
 /// The seed of the list; another one makes another list.
