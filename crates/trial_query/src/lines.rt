@@ -37,6 +37,24 @@ pub fn print_quick(
     print(b"\n");
 }
 
+// The direct query.
+pub fn print_direct(
+    name: &[u8],
+    axes: usize,
+    all: [Axis; 4],
+    knots: &[f64],
+    tensor: &[f64],
+    coordinates: &[f64],
+) {
+    let answer = query_direct::direct_query(axes, all, knots, tensor, coordinates);
+    let labels = answer.labels;
+    print_refusal(name, b"direct query", answer.refusal);
+    print_number(answer.value);
+    print(b" labels");
+    print_counts(labels);
+    print(b"\n");
+}
+
 // The query of even axes, with the axis that is not even and its interval.
 pub fn print_even(
     name: &[u8],

@@ -57,11 +57,11 @@ pub enum Kind {
     DirectBesideEven,
     QuickQueries,
     DirectQueries,
-    SteppedMany,
     SheetText,
     EmptySlice,
     EvenProfile,
     ProfiledDirect,
+    SteppedMany,
 }
 
 /// Every kind, in the order of the report.

@@ -24,7 +24,7 @@ use crate::reading_calls::Reading;
 use crate::report::NUMBERS;
 
 /// The calls in the order of their numbers; what programs print is none of them.
-pub const CALLS: [Call; 24] = [
+pub const CALLS: [Call; 25] = [
     Call::Moments,
     Call::Curve,
     Call::Slopes,
@@ -49,6 +49,7 @@ pub const CALLS: [Call; 24] = [
     Call::QuickQueries,
     Call::DirectQueries,
     Call::EvenProfile,
+    Call::SteppedMany,
 ];
 
 /// The seed of the list; another one makes another list.

@@ -68,7 +68,7 @@ impl Words {
                 Argument::of_bytes(&bytes)
             }
             "axes" | "points" | "place" | "labels" | "lanes" | "length" | "uneven" | "found"
-            | "location" | "index" | "indices" | "edition" | "cursor" | "point_labels"
+            | "location" | "index" | "indices" | "edition" | "cursor" | "point_labels" | "point_indices"
             | "refusals" | "told" => self.numbers(),
             "value" if matches!(call, Call::CellValue | Call::CursorNext) => self.numbers(),
             _ => {

@@ -1,5 +1,7 @@
 //! Ends and axes as the calls of the reading take them.
 
+use crate::line::BEFORE;
+
 /// The kinds of an axis's two ends, and their values.
 #[derive(Clone, Copy)]
 pub struct Ends {
@@ -26,6 +28,25 @@ impl Ends {
         Self::of([2, 2], [lower, upper])
     }
 }
+
+/// What stands in labels and refusals before a call.
+const UNWRITTEN: usize = 9;
+
+/// A call for many points.
+pub type Many = fn(
+    usize,
+    &[usize],
+    &[u8],
+    &[f64],
+    &[f64],
+    &[f64],
+    &mut [f64],
+    &mut [usize],
+    &mut [usize],
+) -> usize;
+
+/// The refusal of such a call, and the values, the labels and the refusals of three points.
+pub type Three = (usize, [f64; 3], [usize; 12], [usize; 3]);
 
 /// Axes with their knots.
 #[derive(Clone)]
@@ -116,6 +137,34 @@ impl Grid {
     /// The same of the quick query.
     pub fn quick_query(&self, modes: [u8; 4], tensor: &[f64], coordinates: &[f64]) -> Answer {
         self.ask(reading::quick_query, modes, tensor, coordinates)
+    }
+
+    /// The same of the direct query.
+    pub fn direct_query(&self, modes: [u8; 4], tensor: &[f64], coordinates: &[f64]) -> Answer {
+        self.ask(reading::direct_query, modes, tensor, coordinates)
+    }
+
+    /// What a call leaves of three points, with a number, a mode's or a direction's, for each axis.
+    pub fn ask_three(
+        &self,
+        call: Many,
+        numbers: [u8; 4],
+        surface: &[f64],
+        coordinates: &[f64],
+    ) -> Three {
+        let (mut values, mut labels, mut refusals) = ([BEFORE; 3], [UNWRITTEN; 12], [UNWRITTEN; 3]);
+        let refusal = call(
+            self.axes,
+            &self.points,
+            &numbers,
+            &self.knots,
+            surface,
+            coordinates,
+            &mut values,
+            &mut labels,
+            &mut refusals,
+        );
+        (refusal, values, labels, refusals)
     }
 
     fn ask(&self, query: Query, modes: [u8; 4], tensor: &[f64], coordinates: &[f64]) -> Answer {

@@ -1,6 +1,7 @@
-//! The quick query, the query of even axes and their profile as lines, and the worked examples of them.
+//! The quick query, the query of even axes and their profile, and the direct query as lines, and many points by
+//! one call; the worked examples of them.
 
-use crate::grid::{Ends, Grid};
+use crate::grid::{Ends, Grid, Many};
 use crate::line::{counts, patterns};
 use crate::surface::{query_in_mode, sawtooth};
 use reading::{EXTEND, HOLD, REFUSE};
@@ -53,6 +54,12 @@ impl Surface {
 
     fn even_and_profile(&self, name: &str, point: &[f64]) -> String {
         self.even(name, point) + &self.profile(name)
+    }
+
+    fn direct(&self, name: &str, point: &[f64]) -> String {
+        let (refusal, value, labels) = self.grid.direct_query([self.mode; 4], &self.tensor, point);
+        let (value, labels) = (patterns(&[value]), counts(&labels));
+        format!("{name}: direct query {refusal}{value} labels{labels}\n")
     }
 
     fn full_and_quick(&self, name: &str, point: &[f64]) -> String {
@@ -176,6 +183,79 @@ fn out_of_reach() -> String {
     surface.full_and_even("knots -1e308 0 1e308 at 1e308", &[1e308])
 }
 
+/// The cell by one division on any knots, and what is refused of it.
+fn direct() -> String {
+    let line = |name, mode, last, point| {
+        let tensor = vec![0.0, 1.0, 1.0, 1.0, 2.0, 1.0];
+        Surface::new(&[&[0.0, 1.0, last]], mode, tensor).direct(name, &[point])
+    };
+    [
+        line("direct at 1", EXTEND, 2.0, 1.0),
+        line("direct at 0.5, last knot 9", EXTEND, 9.0, 0.5),
+        line("direct at 1.5, last knot 1", EXTEND, 1.0, 1.5),
+        line("direct at 5, in hold", HOLD, 2.0, 5.0),
+        line("direct at 5, in refuse", REFUSE, 2.0, 5.0),
+        line("direct at NaN", EXTEND, 2.0, f64::NAN),
+    ]
+    .concat()
+}
+
+/// The line of a call at three points.
+fn three(
+    name: &str,
+    (call, many): (&str, Many),
+    axes: &[&[f64]],
+    numbers: [u8; 4],
+    surface: &[f64],
+    coordinates: &[f64],
+) -> String {
+    let grid = Surface::new(axes, EXTEND, Vec::new()).grid;
+    let (refusal, values, labels, refusals) = grid.ask_three(many, numbers, surface, coordinates);
+    let (values, labels) = (patterns(&values), counts(&labels));
+    let refusals = counts(&refusals);
+    format!("{name}: {call} {refusal}{values} labels{labels} refusals{refusals}\n")
+}
+
+/// Many points by one call of either query.
+fn many_queries() -> String {
+    let tensor = [0.0, 1.0, 2.0, -1.0, 1.0, 0.5, -3.0, 2.0];
+    let both = |name, mode, knots: &[f64], coordinates: &[f64]| {
+        let calls: [(&str, Many); 2] = [
+            ("quick queries", reading::quick_queries),
+            ("direct queries", reading::direct_queries),
+        ];
+        calls.map(|call| three(name, call, &[knots], [mode; 4], &tensor, coordinates))
+    };
+    let uneven = [0.0, 1.0, 2.0, 4.0];
+    let even = [0.0, 1.0, 2.0, 3.0];
+    let nan = f64::NAN;
+    [
+        both("many at 1 NaN 3.25", EXTEND, &uneven, &[1.0, nan, 3.25]),
+        both("many at 1 9 3", REFUSE, &even, &[1.0, 9.0, 3.0]),
+        both("many of two coordinates", HOLD, &uneven, &[1.0, nan]),
+    ]
+    .concat()
+    .concat()
+}
+
+/// Many points stepped at by one call.
+fn many_steps() -> String {
+    let call: (&str, Many) = ("stepped many", reading::stepped_many);
+    let (samples, nan) = ([5.0, 6.0, 8.0], f64::NAN);
+    let line = |name, knots: &[f64], coordinates: &[f64]| {
+        three(name, call, &[knots], [0; 4], &samples, coordinates)
+    };
+    let two: [&[f64]; 2] = [&[0.0, 1.0, 3.0], &[-2.0, 0.5, 1.0]];
+    let at = [2.25, 0.75, 3.0, nan, -1.0, -2.0];
+    [
+        line("steps at 0.5 NaN 9", &[0.0, 1.0, 2.0], &[0.5, nan, 9.0]),
+        line("steps on knots 0 2 1", &[0.0, 2.0, 1.0], &[0.5, nan, 9.0]),
+        line("steps of two coordinates", &[0.0, 1.0, 2.0], &[0.5, nan]),
+        three("steps on two axes", call, &two, [0, 1, 0, 0], &sawtooth(9), &at),
+    ]
+    .concat()
+}
+
 /// What the program trial_query prints.
 pub fn examples() -> String {
     [
@@ -187,6 +267,9 @@ pub fn examples() -> String {
         refused_knots(),
         intervals(),
         out_of_reach(),
+        direct(),
+        many_queries(),
+        many_steps(),
     ]
     .concat()
 }

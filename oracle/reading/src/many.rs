@@ -112,13 +112,13 @@ fn checked(
 
 /// The grid of the axes, with a number, a mode's or a direction's, for each of four: 1, 4 for points that
 /// are not four, 2, 3, and 4 for the numbers, the knots and what is lent of the points.
-fn checked_shape(
+fn checked_shape<'a>(
     axes: usize,
-    points: &[usize],
+    points: &'a [usize],
     numbers: &[u8],
     knots: &[f64],
     [coordinates, values, labels, count]: [usize; 4],
-) -> Result<Shape, Refusal> {
+) -> Result<Shape<'a>, Refusal> {
     let shape = Shape::checked(axes, points)?;
     require(numbers.len() == 4, 4)?;
     require(knots.len() == shape.knots_length(), 4)?;

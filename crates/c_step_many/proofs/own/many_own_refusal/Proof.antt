@@ -60,7 +60,8 @@ told c =
 past-lengths : (c : tie.Else3) → Past (rows (start (c .before .before .before .before))) 6
 past-lengths c answer e = past-directions (c .before .before) _ (pass _ (told (c .before)) (c .if3 .left) e)
 
-past-points : (c : tie.Else4) → Past (rows (start (c .before .before .before .before .before .before))) 7
+past-points : (c : tie.Else4) → let at-if3 = c .before .before in
+    Past (rows (start (at-if3 .before .before .before .before))) 7
 past-points c answer e = past-lengths (c .before .before) _ (pass _ (c .before .points-lengths-refused .ensures) (c .if4 .left) e)
 
 -- ---- the answers
