@@ -122,7 +122,8 @@ module _ (before : List ℕ) (first : ℕ) where
 
       -- the bytes that were not taken are moved to the front, and more are read behind them
       module _ (on : progress .stopped ≡ false) (moved later : List ℕ) (read : Input)
-          (moved-long : length moved ≡ length buffer) (kept-are : take (length buffer - progress .taken) moved ≡ drop (progress .taken) buffer)
+          (moved-long : length moved ≡ length buffer)
+          (kept-are : take (length buffer - progress .taken) moved ≡ drop (progress .taken) buffer)
           (later-long : length later ≡ length moved) (refill : Refilled moved (length moved - progress .taken) later read) where
         abbrev kept : ℕ
         kept = length moved - progress .taken

@@ -70,7 +70,8 @@ in-pieces {pieces} {totals} {held} before progress fed =
 pub in-pieces-stopped : {pieces : List (List ℕ)} {totals : Totals} {held : List ℕ} → Through pieces totals held
     → (piece : List ℕ) (progress : Progress)
     → Fed totals (held ++ piece) enough-bytes progress → progress .stopped ≡ true
-    → (more : List ℕ) → _≡_ {A = Report} (record { totals = progress .totals; stopped = true }) (report-of (joined pieces ++ (piece ++ more)))
+    → (more : List ℕ)
+    → _≡_ {A = Report} (record { totals = progress .totals; stopped = true }) (report-of (joined pieces ++ (piece ++ more)))
 in-pieces-stopped {pieces} {totals} {held} before piece progress fed off more =
     fed .takes .stops off (joined pieces ++ (piece ++ more)) more (λ l. absurd (omega arith))
     (rw append-assoc (through before (piece ++ more)))

@@ -208,8 +208,8 @@ module _ (first : Totals) (bytes : List ℕ) (least : ℕ) where
 
 -- ---- the feeding at the end of the input
 
-fed-ends : (totals : Totals) (bytes input : List ℕ) (progress : Progress) → Fed totals bytes 1 progress → Stands totals bytes input → (b : Bool)
-    → progress .stopped ≡ b
+fed-ends : (totals : Totals) (bytes input : List ℕ) (progress : Progress) → Fed totals bytes 1 progress → Stands totals bytes input
+    → (b : Bool) → progress .stopped ≡ b
     → _≡_ {A = Report} (record { totals = progress .totals; stopped = b }) (report-of input)
 fed-ends totals bytes input progress fed s true e = fed .takes .stops e input [] (λ l. refl) (rw append-nil s)
 fed-ends totals bytes input progress fed s false e =

@@ -39,8 +39,8 @@ pub record SheetCounted (totals : Totals) (bytes : List ℕ) (later : Totals) (r
   pub refused : refusal ≡ sheet-at bytes .refusal
   pub adds : Adds totals (sheet-at bytes .refusal) (sheet-at bytes .tensor) later
 
--- one sheet further or a feeding on some bytes, which may be the front of any rest of any input: the report has then come to what it left of these
--- bytes, or it stops and has the report of that input. It may look at n bytes
+-- one sheet further or a feeding on some bytes, which may be the front of any rest of any input: the report has then come to what it left
+-- of these bytes, or it stops and has the report of that input. It may look at n bytes
 pub record Takes (totals : Totals) (bytes : List ℕ) (n : ℕ) (progress : Progress) : Type 0 where
   pub inside : progress .taken ≤ length bytes
   pub running : progress .stopped ≡ false → Running (progress .totals)

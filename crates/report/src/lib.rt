@@ -80,8 +80,8 @@ fn count_sheet(
     count_read(totals, bytes, sheet, knots, samples, scratch)
 }
 
-// One sheet further: the front sheet is looked at, built and counted, and the report stops in it where it was not read. Not a public call: it
-// requires totals of some stream, a byte at least, and the three buffers.
+// One sheet further: the front sheet is looked at, built and counted, and the report stops in it where it was not read. Not a public call:
+// it requires totals of some stream, a byte at least, and the three buffers.
 fn take_sheet(
     totals: Totals,
     bytes: &[u8],
