@@ -51,7 +51,7 @@ fn replay(list: &[u8]) {
 }
 
 fn main() {
-    let mut list = [0u8; 720896];
+    let mut list = [0u8; 655360];
     let n = io::read_full(STDIN_FILENO, &mut list);
     replay(&list[..n]);
 }
