@@ -69,12 +69,11 @@ def settled(values: Values, refusals: Refusals, shape: tuple[int, ...], on_refus
     return values.reshape(shape)[()]
 
 
-def look_for_even(axes: Axes, tensor: Values) -> None:
+def look_for_even(axes: Axes) -> None:
     """Refuses by 21 where the knots of an axis are not evenly spaced, and says where."""
-    value, labels, uneven = np.zeros(1), np.zeros(_calls.AXES, np.uint64), np.zeros(2, np.uint64)
-    first = np.array([row[0] for row in axes.rows])
-    refusal = _calls.even_query(*axes.asked, tensor, first, value, labels, uneven)
-    accept(refusal, f"on axis {uneven[0]} behind knot {uneven[1]}" if refusal == 21 else "")
+    told = np.zeros(2, np.uint64)
+    refusal = _calls.even_profile(axes.number, axes.points, axes.knots, told)
+    accept(refusal, f"on axis {told[0]} behind knot {told[1]}" if refusal == 21 else "")
 
 
 def direct(axes: Axes, tensor: Values, points: Values) -> tuple[Values, Refusals]:

@@ -164,7 +164,7 @@ class Surface:
         hullashlar.refusals.Refused: refused 18 (outside) at points[1], the first of 1 of 2: Ask between ...
         """
         if how == "direct" and not self._even:
-            look_for_even(self._axes, self._tensor)
+            look_for_even(self._axes)
             self._even = True
         return values_at(how, self._axes, self._tensor, points, on_refusal)
 
