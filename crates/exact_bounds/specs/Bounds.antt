@@ -51,6 +51,7 @@ pub data Bound : Type 0 where
   unknown : Bound
   within : ℚ → Bound
 
+-- a float, and how far it is off at most
 pub record Bounded : Type 0 where
   pub float : Float
   pub bound : Bound
@@ -84,6 +85,7 @@ where-positive x (no h) b = unknown
 abbrev pub given : Float → Bounded
 given x = record { float = x; bound = where-finite x (number 0) }
 
+-- the rules' own sum, difference, product and quotient, each with its bound
 abbrev pub bounded-sum : Bounded → Bounded → Bounded
 bounded-sum a b =
     let r : Float = Rules._⊕_ (a .float) (b .float) in
@@ -133,6 +135,7 @@ bounded =
 
 -- ---- what a call is given, and what the rules make of it there
 
+-- an end, a condition and a grid, their numbers exact
 abbrev pub given-end : Declared.End → Exact.End Bounded
 given-end End.NotAKnot = Exact.NotAKnot
 given-end (End.FirstDerivative x) = Exact.FirstDerivative (given x)
