@@ -18,6 +18,9 @@ MOST_AXES = 4
 IN_REGISTERS = 6
 WORD = 8
 
+# A jump to an address that was put on the stack.
+KEPT = re.compile(r"jmp\s+QWORD PTR \[rsp\+0x[0-9a-f]+\]$")
+
 
 def disassembled(archive):
     """The instructions of each function: address, text, and the name that a relocation puts there, with the place behind it."""
@@ -53,14 +56,24 @@ def table_at(relocated):
     return None
 
 
+def places_in(taken, instructions, sections):
+    """The places of one table of a function: it ends where the next begins."""
+    section, begin = taken
+    begins = {other for _, _, relocated in instructions if (other := table_at(relocated))}
+    end = min((other for of, other in begins if of == section and other > begin), default=1 << 32)
+    return [sections[section][at] - at + begin for at in range(begin, end, 4) if at in sections[section]]
+
+
 def places_of(here, instructions, sections, name):
-    """Where a jump by a register goes: to the places of the table whose address was taken before it."""
-    begins = {taken for _, _, relocated in instructions if (taken := table_at(relocated))}
+    """Where a jump by a table goes: to the places of the table whose address was taken before it; where the address that it goes to was
+    kept on the stack since then, to those of every table of the function."""
     for _, text, relocated in reversed(instructions[max(0, here - 8) : here]):
         if (taken := table_at(relocated)) and text.startswith("lea"):
-            section, begin = taken
-            end = min((other for of, other in begins if of == section and other > begin), default=1 << 32)
-            return [sections[section][at] - at + begin for at in range(begin, end, 4) if at in sections[section]]
+            return places_in(taken, instructions, sections)
+    takings = {taken for _, text, relocated in instructions if text.startswith("lea") and (taken := table_at(relocated))}
+    places = [place for taken in takings for place in places_in(taken, instructions, sections)]
+    if places and KEPT.match(instructions[here][1]):
+        return places
     sys.exit(f"a jump that is not followed, in {name}: {instructions[here][1]}")
 
 
@@ -101,7 +114,7 @@ def frame(name, instructions, sections):
         behind = [] if word in ("ret", "jmp", "ud2") else [here + 1]
         if word == "call":
             calls.add((depth[here], plain(relocated) or re.search(r"<(.*)>$", text)[1]))
-        elif re.match(r"jmp\s+r\w+$", text):
+        elif re.match(r"jmp\s+r\w+$", text) or KEPT.match(text):
             behind = [index[place] for place in places_of(here, instructions, sections, name)]
         elif word.startswith("j"):
             to = plain(relocated) or jump(text, name)
