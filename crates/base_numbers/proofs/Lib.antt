@@ -1,3 +1,4 @@
 pub mod Scan
 pub mod Front
 pub mod Finite
+pub mod Quarters

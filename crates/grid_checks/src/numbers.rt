@@ -100,7 +100,7 @@ pub fn build_refused(
     if grid_refused(axes, all, knots_refused, knots) {
         return true;
     }
-    base_numbers::any_not_finite(samples)
+    base_numbers::any_of_many_not_finite(samples)
 }
 
 // Whether an infinity or NaN is among the knots and the ends of a grid, is the new sample, or is in the tensor. It requires at most four
@@ -126,5 +126,5 @@ pub fn change_refused(
     if number_refused(sample) {
         return true;
     }
-    base_numbers::any_not_finite(tensor)
+    base_numbers::any_of_many_not_finite(tensor)
 }

@@ -31,7 +31,7 @@ fn build_in_scratch(
     tensor::working::store_samples(scratch, samples, masks);
     tensor_passes::solve_axes(scratch, axes, all, knots, [0; 4], true);
     let end = TENSOR + numbers;
-    if base_numbers::any_not_finite(&scratch[TENSOR..end]) {
+    if base_numbers::any_of_many_not_finite(&scratch[TENSOR..end]) {
         return 10;
     }
     0

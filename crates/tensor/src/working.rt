@@ -37,7 +37,7 @@ pub fn finish(tensor: &mut [f64], w: &mut [f64]) -> usize
     ensures { λ r. ⌜ Finished (now (tensor .entry)) (now (w .entry)) r (now (tensor .exit)) (now (w .exit)) ⌝ }
 {
     let end = TENSOR + tensor.len();
-    if base_numbers::any_not_finite(&w[TENSOR..end]) {
+    if base_numbers::any_of_many_not_finite(&w[TENSOR..end]) {
         base_numbers::clear(w);
         return 10;
     }

@@ -42,7 +42,7 @@ fn held_against(axes: usize, all: [Axis; 4], tensor: &[f64], fresh: &[f64]) -> V
     requires { ⌜ InRange axes (points-of all) × (length (now fresh) ≡ length (now tensor)) × (some-number-refused (now tensor) ≡ false) ⌝ }
     ensures { λ r. ⌜ r ≡ compared axes (points-of all) (now (tensor .entry)) (now (fresh .entry)) ⌝ }
 {
-    if base_numbers::any_not_finite(fresh) {
+    if base_numbers::any_of_many_not_finite(fresh) {
         return refused(10);
     }
     let differing = compared::count_differing(tensor, fresh);

@@ -55,8 +55,8 @@ add-end c =
     let checked = stored .before .before .before in
     omega (arith, numbers-few _ _ _ (start checked .args .scratch .now) (passed checked))
 
-part-any-not-finite-end : tie.Need-part-any-not-finite-end
-part-any-not-finite-end c =
+part-any-of-many-not-finite-end : tie.Need-part-any-of-many-not-finite-end
+part-any-of-many-not-finite-end c =
     let solved = c .before .before .before in
     let stored = solved .before .before .before .before in
     let checked = stored .before .before .before in
@@ -75,7 +75,7 @@ returns-2 c =
     let checked = masks .before in
     outcome-bad _ _ _ (start checked .args .scratch .now) (passed checked) _ _ _ _ _ _ (masks .masks .ensures .0)
     (stored .store-samples .ensures) (solved .solve-axes .ensures .0)
-    (add-sub-cancel-left _ _) (c .before .any-not-finite .ensures) (c .if2 .taken)
+    (add-sub-cancel-left _ _) (c .before .any-of-many-not-finite .ensures) (c .if2 .taken)
 
 returns-3 : tie.Need-returns-3
 returns-3 c =
@@ -85,7 +85,7 @@ returns-3 c =
     let checked = masks .before in
     outcome-good _ _ _ (start checked .args .scratch .now) (passed checked) _ _ _ _ _ _ (masks .masks .ensures .0)
     (stored .store-samples .ensures) (solved .solve-axes .ensures .0)
-    (add-sub-cancel-left _ _) (c .before .any-not-finite .ensures) (c .if2 .left)
+    (add-sub-cancel-left _ _) (c .before .any-of-many-not-finite .ensures) (c .if2 .left)
 
 pub build-in-scratch-spec : {M : Type 1} → statement M
 build-in-scratch-spec =
@@ -99,7 +99,7 @@ build-in-scratch-spec =
     add-end
     (λ c. search needs)
     (λ c. search needs)
-    part-any-not-finite-end
+    part-any-of-many-not-finite-end
     (λ c κs. search needs)
     (λ c. search needs)
     returns-2

@@ -10,18 +10,18 @@ use Rattle.tensor_verify.proofs.held_against.Tie as tie
 returns : tie.Need-returns
 returns c =
     let tested = c .before in
-    told-10 _ _ _ _ _ (sym (tested .before .any-not-finite .ensures) ∙ tested .if1 .taken) (c .refused .ensures)
+    told-10 _ _ _ _ _ (sym (tested .before .any-of-many-not-finite .ensures) ∙ tested .if1 .taken) (c .refused .ensures)
 
 count-differing-requires : tie.Need-count-differing-requires
 count-differing-requires c κs =
     let start = c .before .before .before .before in
-    comparable _ _ (start .pre .1) (start .pre .2) (sym (c .before .any-not-finite .ensures) ∙ c .if1 .left)
+    comparable _ _ (start .pre .1) (start .pre .2) (sym (c .before .any-of-many-not-finite .ensures) ∙ c .if1 .left)
 
 first-of-counted-requires : tie.Need-first-of-counted-requires
 first-of-counted-requires c κs =
     let tested = c .before in
     let start = tested .before .before .before .before in (
-      comparable _ _ (start .pre .1) (start .pre .2) (sym (tested .before .any-not-finite .ensures) ∙ tested .if1 .left),
+      comparable _ _ (start .pre .1) (start .pre .2) (sym (tested .before .any-of-many-not-finite .ensures) ∙ tested .if1 .left),
       c .count-differing .ensures,
     )
 
@@ -37,7 +37,7 @@ returns-2 c =
     let first = masks .before in
     let counted = first .before in
     let tested = counted .before in
-    told-found _ _ _ _ _ _ _ _ (sym (tested .before .any-not-finite .ensures) ∙ tested .if1 .left)
+    told-found _ _ _ _ _ _ _ _ (sym (tested .before .any-of-many-not-finite .ensures) ∙ tested .if1 .left)
     (counted .count-differing .ensures) (first .first-of-counted .ensures) (masks .masks .ensures .0) (c .place-of-number .ensures)
 
 pub held-against-spec : {M : Type 1} → statement M

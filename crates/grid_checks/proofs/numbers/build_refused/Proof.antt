@@ -8,7 +8,7 @@ returns : tie.Need-returns
 returns c = first _ (c .before .grid-refused .ensures) (c .if1 .taken)
 
 returns-2 : tie.Need-returns-2
-returns-2 c = second (c .before .before .grid-refused .ensures) (c .before .if1 .left) (c .any-not-finite .ensures)
+returns-2 c = second (c .before .before .grid-refused .ensures) (c .before .if1 .left) (c .any-of-many-not-finite .ensures)
 
 pub build-refused-spec : {M : Type 1} → statement M
 build-refused-spec =

@@ -20,7 +20,7 @@ returns-3 c =
     (second (c .before .before .before .before .grid-refused .ensures) (c .before .before .before .if1 .left)
     (c .before .before .number-refused .ensures))
     (c .before .if2 .left)
-    (c .any-not-finite .ensures)
+    (c .any-of-many-not-finite .ensures)
 
 pub change-refused-spec : {M : Type 1} → statement M
 change-refused-spec =

@@ -9,7 +9,7 @@ returns : tie.Need-returns
 returns c =
     let clear = c .before .before in
     let test = clear .before .before in
-    finished-10 _ _ _ _ _ (add-sub-cancel-left _ _) (test .before .any-not-finite .ensures) (clear .clear .ensures)
+    finished-10 _ _ _ _ _ (add-sub-cancel-left _ _) (test .before .any-of-many-not-finite .ensures) (clear .clear .ensures)
     (test .if1 .taken)
 
 returns-2 : tie.Need-returns-2
@@ -17,7 +17,7 @@ returns-2 c =
     let clear = c .before .before in
     let copy = clear .before .before .before .before in
     let test = copy .before .before .before .before in
-    finished-0 _ _ _ _ _ (add-sub-cancel-left _ _) (test .before .any-not-finite .ensures) (clear .clear2 .ensures) _
+    finished-0 _ _ _ _ _ (add-sub-cancel-left _ _) (test .before .any-of-many-not-finite .ensures) (clear .clear2 .ensures) _
     (test .if1 .left) (copy .copy .ensures)
 
 pub finish-spec : {M : Type 1} → statement M
