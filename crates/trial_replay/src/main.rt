@@ -3,69 +3,12 @@
 ghost use Prim.Native.Nat.{_+_, _≤_};
 use libc::STDIN_FILENO;
 use libc::STDOUT_FILENO;
-use trial_replay_curves::curve;
-use trial_replay_curves::moments;
-use trial_replay_curves::slopes;
-use trial_replay_device::cell_value;
-use trial_replay_device::cursor_next;
-use trial_replay_items::Replayed;
-use trial_replay_items::words::after;
 use trial_replay_items::words::held;
 use trial_replay_items::words::word;
-use trial_replay_points::direct_queries;
-use trial_replay_points::direct_query;
-use trial_replay_points::even_profile;
-use trial_replay_points::quick_queries;
-use trial_replay_sheets::read;
-use trial_replay_sheets::read_edition_1;
-use trial_replay_sheets::sheet_tensor;
-use trial_replay_sheets::surface;
-use trial_replay_sheets::write;
-use trial_replay_steps::exact_index;
-use trial_replay_steps::locate_axis;
-use trial_replay_steps::locate_step_index;
-use trial_replay_steps::stepped;
-use trial_replay_tensors::build;
-use trial_replay_tensors::change;
-use trial_replay_tensors::even_query;
-use trial_replay_tensors::query;
-use trial_replay_tensors::quick_query;
-use trial_replay_verify::verify;
 
-// The case at a place: the number of its call, and its arguments. A number that no call has is no case, and differs.
-fn case_at(list: &[u8], place: usize) -> Replayed {
-    let begin = after(place, 1);
-    match word(list, place) {
-        0 => moments(list, begin),
-        1 => curve(list, begin),
-        2 => slopes(list, begin),
-        3 => build(list, begin),
-        4 => change(list, begin),
-        5 => query(list, begin),
-        6 => read(list, begin),
-        7 => sheet_tensor(list, begin),
-        8 => quick_query(list, begin),
-        9 => even_query(list, begin),
-        10 => write(list, begin),
-        11 => exact_index(list, begin),
-        12 => locate_axis(list, begin),
-        13 => locate_step_index(list, begin),
-        14 => stepped(list, begin),
-        15 => cell_value(list, begin),
-        16 => cursor_next(list, begin),
-        17 => read_edition_1(list, begin),
-        18 => surface(list, begin),
-        19 => verify(list, begin),
-        20 => direct_query(list, begin),
-        21 => quick_queries(list, begin),
-        22 => direct_queries(list, begin),
-        23 => even_profile(list, begin),
-        _ => Replayed {
-            same: false,
-            next: begin,
-        },
-    }
-}
+mod cases; // cases.rt: a case, replayed
+
+use cases::case_at;
 
 fn print_case(number: usize, same: bool) {
     io::print_decimal(STDOUT_FILENO, number as u64);

@@ -19,19 +19,20 @@ of-p1 c =
     let a = c .before .before .before .before .before .args .cell in
     let f : SFits w64 (a .p1) = search needs in sym (rw (toZ-ofZ w64 (a .p1) f) at (c .in-range2 .ensures))
 
-of-d0 : (c : tie.After-in-range3)
-    → slope-in-range (c .before .before .before .before .before .before .before .before .args .cell .d0) ≡ c .in-range3 .result
+abbrev start-of-d0 : tie.After-in-range3 → tie.Start
+start-of-d0 c = c .before .before .before .before .before .before .before .before
+
+of-d0 : (c : tie.After-in-range3) → slope-in-range (start-of-d0 c .args .cell .d0) ≡ c .in-range3 .result
 of-d0 c =
-    let start = c .before .before .before .before .before .before .before .before in
-    let a = start .args .cell in
+    let a = start-of-d0 c .args .cell in
     let f : SFits w64 (a .d0) = search needs in sym (rw (toZ-ofZ w64 (a .d0) f) at (c .in-range3 .ensures))
 
-of-d1 : (c : tie.After-in-range4)
-    → slope-in-range (c .before .before .before .before .before .before .before .before .before .before .before .args .cell .d1)
-    ≡ c .in-range4 .result
+abbrev start-of-d1 : tie.After-in-range4 → tie.Start
+start-of-d1 c = c .before .before .before .before .before .before .before .before .before .before .before
+
+of-d1 : (c : tie.After-in-range4) → slope-in-range (start-of-d1 c .args .cell .d1) ≡ c .in-range4 .result
 of-d1 c =
-    let start = c .before .before .before .before .before .before .before .before .before .before .before in
-    let a = start .args .cell in
+    let a = start-of-d1 c .args .cell in
     let f : SFits w64 (a .d1) = search needs in sym (rw (toZ-ofZ w64 (a .d1) f) at (c .in-range4 .ensures))
 
 returns : tie.Need-returns

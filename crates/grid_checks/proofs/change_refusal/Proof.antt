@@ -44,28 +44,38 @@ knots-finite c =
 past-1 : (c : tie.Else1) → Past (rows (c .before .before .before .before)) 3
 past-1 c answer e = sizes-pass _ _ (c .before .sizes-refusal .ensures) _ (c .if1 .left) e
 
-past-2 : (c : tie.Else2) → Past (rows (c .before .before .before .before .before .before)) 4
+past-2 : (c : tie.Else2) → Past (rows (start c)) 4
 past-2 c answer e = past-1 (c .before .before) _ (pass _ (c .before .change-refused .ensures) (c .if2 .left) e)
 
-past-3 : (c : tie.Else3) → Past (rows (c .before .before .before .before .before .before .before .before)) 5
+-- where the call began, seen from past each further test
+abbrev start-3 : tie.Else3 → tie.Start
+start-3 c = start (c .before .before)
+
+past-3 : (c : tie.Else3) → Past (rows (start-3 c)) 5
 past-3 c answer e = past-2 (c .before .before) _ (pass _ (c .before .scratch-refused .ensures) (c .if3 .left) e)
 
-past-4 : (c : tie.Else4) → Past (rows (c .before .before .before .before .before .before .before .before .before .before)) 6
+abbrev start-4 : tie.Else4 → tie.Start
+start-4 c = start-3 (c .before .before)
+
+past-4 : (c : tie.Else4) → Past (rows (start-4 c)) 6
 past-4 c answer e = past-3 (c .before .before) _ (pass _ (c .before .place-refused .ensures) (c .if4 .left) e)
 
-past-5 : (c : tie.Else5)
-    → Past (rows (c .before .before .before .before .before .before .before .before .before .before .before .before .before)) 7
+abbrev start-5 : tie.Else5 → tie.Start
+start-5 c = start-4 (c .before .before .before)
+
+past-5 : (c : tie.Else5) → Past (rows (start-5 c)) 7
 past-5 c answer e = past-4 (c .before .before .before) _ (pass _ (c .before .change-refused2 .ensures) (c .if5 .left) e)
 
-past-6 : (c : tie.Else6)
-    → Past (rows (c .before .before .before .before .before .before .before .before .before .before .before .before .before .before)) 8
+abbrev start-6 : tie.Else6 → tie.Start
+start-6 c = start-5 (c .before)
+
+past-6 : (c : tie.Else6) → Past (rows (start-6 c)) 8
 past-6 c answer e = past-5 (c .before) _ (pass _ (c .before .before .before .some-knots-refused .ensures) (c .if6 .left) e)
 
-past-7 : (c : tie.Else7)
-    → Past
-    (rows
-    (c .before .before .before .before .before .before .before .before .before .before .before .before .before .before .before .before))
-    9
+abbrev start-7 : tie.Else7 → tie.Start
+start-7 c = start-6 (c .before .before)
+
+past-7 : (c : tie.Else7) → Past (rows (start-7 c)) 9
 past-7 c answer e = past-6 (c .before .before) _ (pass _ (c .before .some-fewness-refused .ensures) (c .if7 .left) e)
 
 returns : tie.Need-returns

@@ -18,16 +18,17 @@ returns c = lent-refused _ _ _ _ _ _ _ (c .before .lent-refusal .ensures) (c .if
 abbrev start : tie.After-tensor-of-sheet → tie.Start
 start b = b .before .before .before .before .before .before .before .before .before .before .before .before .before
 
-none : (b : tie.After-tensor-of-sheet) → _≡_ {A = ℕ} (b .before .before .before .before .before .before .lent-refusal .result) 0
+abbrev lent-looked-at : tie.After-tensor-of-sheet → tie.After-lent-refusal
+lent-looked-at b = b .before .before .before .before .before .before
+
+none : (b : tie.After-tensor-of-sheet) → _≡_ {A = ℕ} (lent-looked-at b .lent-refusal .result) 0
 none b = b .before .before .before .before .before .if1 .left
 
 passed : (b : tie.After-tensor-of-sheet)
     → text-refusal (start b .args .bytes .now) (start b .args .knots .now) (start b .args .samples .now) (start b .args .tensor .now)
     (start b .args .scratch .now) (start b .args .text .now)
     ≡ 0
-passed b =
-    let at-lent-refusal = b .before .before .before .before .before .before in
-    sym (at-lent-refusal .lent-refusal .ensures) ∙ none b
+passed b = sym (lent-looked-at b .lent-refusal .ensures) ∙ none b
 
 enough : (b : tie.After-tensor-of-sheet)
     → Lent (length (start b .args .knots .now)) (length (start b .args .samples .now)) (length (start b .args .tensor .now))

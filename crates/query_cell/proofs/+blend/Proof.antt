@@ -43,18 +43,22 @@ pub +blend-spec : {M : Type 1} → statement M
     (λ c. let s = c .before .before in omega (arith, c .before .if1 .left, s .pre .1 .2))
     (λ c κs. (let s = c .before .before in
     (omega (arith, c .before .if1 .left, s .pre .1 .2, s .pre .1 .0 .0 .few-axes), s .pre .1 .1)))
-    (λ c κs. (let s = c .before .before .before .before .before .before .before in
-    let some = c .before .before .before .before .before .before .if1 .left in
+    (λ c κs. (let test = c .before .before .before .before .before .before in
+    let s = test .before in
+    let some = test .if1 .left in
     (s .pre .1 .0, search needs, (omega (arith, some), s .pre .1 .2))))
-    (λ c. omega (arith, c .before .before .before .before .before .before .before .before .if1 .left))
-    (λ c κs. (let s = c .before .before .before .before .before .before .before .before .before in
-    let some = c .before .before .before .before .before .before .before .before .if1 .left in
+    (λ c. let test = c .before .before .before .before .before .before .before .before in omega (arith, test .if1 .left))
+    (λ c κs. (let test = c .before .before .before .before .before .before .before .before in
+    let s = test .before in
+    let some = test .if1 .left in
     (omega (arith, s .pre .0, some), (s .pre .1 .0, s .pre .1 .1, omega (arith, s .pre .1 .2)))))
     (λ c.
-    let s = c .before .before .before .before .before .before .before .before .before .before in
+    let weighed = c .before .before .before .before .before .before .before in
+    let test = weighed .before .before in
+    let s = test .before in
     one-fewer _ _ _ (s .args .weights .now .now) (s .args .tensor .now .now) (s .args .left) (s .args .cell .now) _
-    (c .before .before .before .before .before .before .before .before .before .if1 .left)
+    (test .if1 .left)
     (s .pre .1 .2)
-    (rw (c .before .before .before .before .before .before .before .weights-of .ensures) at (c .before .before .remove-lowest .ensures))
+    (rw (weighed .weights-of .ensures) at (c .before .before .remove-lowest .ensures))
     _
     (c .blend .ensures))

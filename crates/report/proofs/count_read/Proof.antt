@@ -25,7 +25,8 @@ start b = b .before .before .before .before .before .before .before .before .bef
 
 tensor-in-scratch-requires : tie.Need-tensor-in-scratch-requires
 tensor-in-scratch-requires c κs =
-    let pre = c .before .before .before .before .before .before .before .before .pre in
+    let begin = c .before .before .before .before .before .before .before .before in
+    let pre = begin .pre in
     room _ _ (pre .1) (pre .2) _ _ _ (pre .3)
 
 with-refused-requires : tie.Need-with-refused-requires

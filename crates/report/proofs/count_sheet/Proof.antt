@@ -11,7 +11,8 @@ with-refused-requires c κs =
 
 returns : tie.Need-returns
 returns c =
-    let pre = c .before .before .before .before .before .before .pre in
+    let begin = c .before .before .before .before .before .before in
+    let pre = begin .pre in
     fault-counted _ _ (pre .1) _ _ (c .before .if1 .taken) (c .with-refused .ensures)
 
 count-read-requires : tie.Need-count-read-requires

@@ -16,7 +16,8 @@ part-count-sheet-end c = c .before .look-at-front .ensures .inside
 count-sheet-requires : tie.Need-count-sheet-requires
 count-sheet-requires c κs =
     let found = c .before .before .before .before .before in
-    let pre = found .before .before .before .before .before .before .before .pre in
+    let begin = found .before .before .before .before .before .before .before in
+    let pre = begin .pre in
     let front = found .look-at-front .ensures in
     (pre .0, own-looked _ _ _ (front .size-is) (front .looked), pre .2)
 
@@ -26,7 +27,8 @@ returns-2 c =
     let counted = c .before .before .before .before .before .before .before .before in
     let found = counted .before .before .before .before .before .before in
     let test = found .before in
-    let pre = test .before .before .before .before .before .before .pre in
+    let begin = test .before .before .before .before .before .before in
+    let pre = begin .pre in
     let front = found .look-at-front .ensures in
     took _ _ _ _ _ _ (pre .1) (pre .0) (test .if1 .left) (front .size-is) (front .inside) (counted .count-sheet .ensures)
     (c .is-unread .ensures)

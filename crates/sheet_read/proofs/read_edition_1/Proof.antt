@@ -26,7 +26,10 @@ returns-3 c =
     edition-short _ _ _ (omega arith) (omega arith) _ (ltb-true _ _ (sym (test .is-short .ensures) ∙ c .before .before .if3 .taken))
     (c .without-edition3 .ensures ∙ ap edition-1-answer (c .before .refused3 .ensures))
 
-room : (c : tie.Else3) → 0 + 4 ≤ 8 * length (c .before .before .before .before .before .before .before .args .bytes .now)
+abbrev start : tie.Else3 → tie.Start
+start c = c .before .before .before .before .before .before .before
+
+room : (c : tie.Else3) → 0 + 4 ≤ 8 * length (start c .args .bytes .now)
 room c = ltb-false _ _ (sym (c .before .is-short .ensures) ∙ c .if3 .left)
 
 field-at-requires : tie.Need-field-at-requires

@@ -27,10 +27,14 @@ returns c =
     ∙ build-refused _ (start b .args .patterns) _ (b .tensor-in-scratch .ensures .refused) (c .before .if1 .taken)
 
 knots-length-requires : tie.Need-knots-length-requires
-knots-length-requires c κs = range _ _ _ _ _ _ (start (c .before .before .before .before .before .before .before) .pre .0)
+knots-length-requires c κs =
+    let b = c .before .before .before .before .before .before .before in
+    range _ _ _ _ _ _ (start b .pre .0)
 
 tensor-length-requires : tie.Need-tensor-length-requires
-tensor-length-requires c κs = range _ _ _ _ _ _ (start (c .before .before .before .before .before .before .before .before) .pre .0)
+tensor-length-requires c κs =
+    let b = c .before .before .before .before .before .before .before .before in
+    range _ _ _ _ _ _ (start b .pre .0)
 
 abbrev built : tie.After-tensor-length → tie.After-tensor-in-scratch
 built l = l .before .before .before .before .before .before .before .before .before
@@ -60,7 +64,8 @@ part-query-end-3 c =
     let long = four-long (begin .args .patterns) _ (at-coordinates-of .coordinates-of .ensures) in omega arith
 
 is-asked : (c : tie.After-query)
-    → let begin = start (built (c .before .before .before .before .before .before .before .before)) .args in
+    → let l = c .before .before .before .before .before .before .before .before in
+    let begin = start (built l) .args in
     c .query .result ≡ asked (begin .bytes .now) (begin .patterns)
 is-asked c =
     let at-coordinates-of = c .before .before .before .before .before .before .before in

@@ -43,8 +43,8 @@ part-bits-requires c κs =
     (at-if1 .if1 .left) .grid-given .in-range
 
 -- the edition is not refused
-told : (c : tie.Else2) → let args =
-    c .before .before .before .before .before .before .before .args in
+told : (c : tie.Else2) → let begin = c .before .before .before .before .before .before .before in
+    let args = begin .args in
     edition-refusal (args .edition) (grid (args .axes) (args .all) (args .knots .now)) ≡ 0
 told c =
     let at-edition-refusal = c .before in

@@ -35,11 +35,10 @@ knots-exact c =
 past-sizes : (c : tie.Else1) → Past (rows (c .before .before .before .before .before)) 3
 past-sizes c answer e = sizes-pass _ _ (c .before .sizes-refusal .ensures) _ (c .if1 .left) e
 
-past-lengths : (c : tie.Else2) → Past (rows (c .before .before .before .before .before .before .before)) 4
+past-lengths : (c : tie.Else2) → Past (rows (start c)) 4
 past-lengths c answer e = past-sizes (c .before .before) _ (pass _ (c .before .stepped-lengths-refused .ensures) (c .if2 .left) e)
 
-past-numbers : (c : tie.Else4)
-    → Past (rows (c .before .before .before .before .before .before .before .before .before .before .before .before)) 5
+past-numbers : (c : tie.Else4) → Past (rows (start (c .before .before .before .before .before))) 5
 past-numbers c answer e =
     past-lengths (c .before .before .before .before .before) _
     (pass _

@@ -49,11 +49,14 @@ numbers-told c =
     let at-if1 = c .before .before .before .before .before in
     rw (← at-if1 .before .before .axes-own-sizes .ensures .numbers (at-if1 .if1 .left)) (c .length-refused3 .ensures)
 
-past-tensor : (c : tie.Else4) → Past (rows (start (c .before .before .before .before .before .before))) 7
+-- the axes were passed where the tensor's length was
+abbrev axes-passed-by : tie.Else4 → tie.Else1
+axes-passed-by c = c .before .before .before .before .before .before
+
+past-tensor : (c : tie.Else4) → Past (rows (start (axes-passed-by c))) 7
 past-tensor c answer e = past-knots (c .before .before) _ (pass _ (numbers-told (c .before)) (c .if4 .left) e)
 
-past-points : (c : tie.Else5) → let at-if4 = c .before .before in
-    Past (rows (start (at-if4 .before .before .before .before .before .before))) 8
+past-points : (c : tie.Else5) → Past (rows (start (axes-passed-by (c .before .before)))) 8
 past-points c answer e = past-tensor (c .before .before) _ (pass _ (c .before .points-lengths-refused .ensures) (c .if5 .left) e)
 
 -- ---- the answers

@@ -27,7 +27,11 @@ past-axes c answer e = axes-pass _ _ (c .before .axes-own-refusal .ensures) _ (c
 range : (c : tie.Else1) → InRange (start c .args .axes) (points-of (axes-without-ends (start c .args .axes) (start c .args .points .now)))
 range c = points-in-range _ _ (c .before .axes-own-refusal .ensures) (c .if1 .left)
 
-past-lengths : (c : tie.Else4) → Past (rows (start (c .before .before .before .before .before .before .before))) 5
+-- the axes were passed where the lengths were
+abbrev axes-passed-by : tie.Else4 → tie.Else1
+axes-passed-by c = c .before .before .before .before .before .before .before
+
+past-lengths : (c : tie.Else4) → Past (rows (start (axes-passed-by c))) 5
 past-lengths c answer e =
     let at-parts-refused = c .before in
     let at-axes-without-ends = at-parts-refused .before in
@@ -104,7 +108,7 @@ returns-5 : tie.Need-returns-5
 unfolding write-own-refusal
 returns-5 c = past-lengths (c .before .before) _ (stop _ (c .before .some-kinds-refused .ensures) (c .if5 .taken))
 
-past-kinds : (c : tie.Else5) → Past (rows (start (c .before .before .before .before .before .before .before .before .before))) 6
+past-kinds : (c : tie.Else5) → Past (rows (start (axes-passed-by (c .before .before)))) 6
 past-kinds c answer e = past-lengths (c .before .before) _ (pass _ (c .before .some-kinds-refused .ensures) (c .if5 .left) e)
 
 some-modes-refused-requires : tie.Need-some-modes-refused-requires

@@ -15,7 +15,10 @@ rows s = step-own-rows (s .args .points) (s .args .knots .now) (s .args .directi
 past-points : (c : tie.Else1) → Past (rows (c .before .before .before .before)) 1
 past-points c answer e = pass _ (c .before .points-refused .ensures) (c .if1 .left) e
 
-past-lengths : (c : tie.Else3) → Past (rows (c .before .before .before .before .before .before .before .before)) 2
+abbrev start : tie.Else3 → tie.Start
+start c = c .before .before .before .before .before .before .before .before
+
+past-lengths : (c : tie.Else3) → Past (rows (start c)) 2
 past-lengths c answer e =
     past-points (c .before .before .before .before) _
     (pass _

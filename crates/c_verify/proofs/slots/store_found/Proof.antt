@@ -26,13 +26,19 @@ store-labels-requires : tie.Need-store-labels-requires
 store-labels-requires c κs = lengths (c .before .before) .0
 
 slice-write-found : tie.Need-slice-write-found
-slice-write-found c = omega (arith, lengths (c .before .before .before .before .before .before) .1)
+slice-write-found c =
+    let fitting = c .before .before .before .before .before .before in
+    omega (arith, lengths fitting .1)
 
 slice-write-found-2 : tie.Need-slice-write-found-2
-slice-write-found-2 c = simp length-set (omega (arith, lengths (c .before .before .before .before .before .before) .1))
+slice-write-found-2 c =
+    let fitting = c .before .before .before .before .before .before in
+    simp length-set (omega (arith, lengths fitting .1))
 
 slice-write-found-3 : tie.Need-slice-write-found-3
-slice-write-found-3 c = simp length-set (omega (arith, lengths (c .before .before .before .before .before .before) .1))
+slice-write-found-3 c =
+    let fitting = c .before .before .before .before .before .before in
+    simp length-set (omega (arith, lengths fitting .1))
 
 returns-2 : tie.Need-returns-2
 returns-2 c =

@@ -61,7 +61,7 @@ place-on-axis-requires c κs =
 
 mul-cell-on-axis : tie.Need-mul-cell-on-axis Inv-loop μ-loop
 mul-cell-on-axis c =
-    let turn = c .before .before .before .before .before .before .loop .inv in
+    let turn = (let at-loop = c .before .before .before .before .before .before in at-loop .loop .inv) in
     let inside = c .before .before .before .before .before .loop-test .taken in
     omega (arith, end-within _ _ _ _ _ _ _ _ _ _ _ turn inside)
 
@@ -97,8 +97,8 @@ slice-write-lower c =
 
 mul-store-weights : tie.Need-mul-store-weights Inv-loop μ-loop
 mul-store-weights c =
-    let turn = c .before .before .before .before .before .before .before .before .before .loop .inv in
-    let inside = c .before .before .before .before .before .before .before .before .loop-test .taken in
+    let turn = (let at-loop = c .before .before .before .before .before .before .before .before .before in at-loop .loop .inv) in
+    let inside = (let at-loop-test = c .before .before .before .before .before .before .before .before in at-loop-test .loop-test .taken) in
     omega (arith, end-within _ _ _ _ _ _ _ _ _ _ _ turn inside)
 
 sub-store-weights : tie.Need-sub-store-weights Inv-loop μ-loop
@@ -132,9 +132,9 @@ store-weights-requires c κs =
 mul-knots-refused : tie.Need-mul-knots-refused Inv-loop μ-loop
 mul-knots-refused c =
     let within =
-    end-within _ _ _ _ _ _ _ _ _ _ _
-    (c .before .before .before .before .before .before .before .before .before .before .before .before .before .before .loop .inv)
-    (c .before .before .before .before .before .before .before .before .before .before .before .before .before .loop-test .taken) in
+    (let at-loop-test = c .before .before .before .before .before .before .before .before .before .before .before .before .before in
+    let at-loop = at-loop-test .before in
+    end-within _ _ _ _ _ _ _ _ _ _ _ (at-loop .loop .inv) (at-loop-test .loop-test .taken)) in
     omega (arith, within)
 
 sub-knots-refused : tie.Need-sub-knots-refused Inv-loop μ-loop

@@ -25,10 +25,13 @@ edition-is : (c : tie.After-is-unknown-edition)
     → c .is-unknown-edition .result ≡ unknown-edition (edition (c .before .before .before .before .before .args .bytes .now))
 edition-is c = c .is-unknown-edition .ensures ∙ ap unknown-edition (c .before .field-at .ensures)
 
-edition-known : (c : tie.Else2) → unknown-edition (edition (c .before .before .before .before .before .before .args .bytes .now)) ≡ false
+abbrev start-of-edition : tie.Else2 → tie.Start
+start-of-edition c = c .before .before .before .before .before .before
+
+edition-known : (c : tie.Else2) → unknown-edition (edition (start-of-edition c .args .bytes .now)) ≡ false
 edition-known c = sym (edition-is (c .before)) ∙ c .if2 .left
 
-axes-room : (c : tie.Else3) → 4 + 3 ≤ 8 * length (c .before .before .before .before .before .before .before .before .args .bytes .now)
+axes-room : (c : tie.Else3) → 4 + 3 ≤ 8 * length (start-of-edition (c .before .before) .args .bytes .now)
 axes-room c = ltb-false _ _ (sym (c .before .is-short2 .ensures) ∙ c .if3 .left)
 
 returns : tie.Need-returns

@@ -4,8 +4,8 @@ use lib.Signed.{natAbs-le}
 use mir.Syntax.{w32}
 use mir.ValLaws.{toZ-ofZ}
 use borrow.Author.Needs.{needs}
-use Rattle.trial_replay_device.proofs.bits_of.Statement.{statement}
-use Rattle.trial_replay_device.proofs.bits_of.Tie as tie
+use Rattle.trial_replay_calls.proofs.device.bits_of.Statement.{statement}
+use Rattle.trial_replay_calls.proofs.device.bits_of.Tie as tie
 
 sub-result : tie.Need-sub-result
 sub-result c =

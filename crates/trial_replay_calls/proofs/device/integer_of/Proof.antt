@@ -3,8 +3,8 @@ use mir.Syntax.{w32}
 use mir.ValLaws.{toZ-ofZ}
 use Rattle.base_integers.proofs.Sizes.{one-less-fits}
 use borrow.Author.Needs.{needs}
-use Rattle.trial_replay_device.proofs.integer_of.Statement.{statement}
-use Rattle.trial_replay_device.proofs.integer_of.Tie as tie
+use Rattle.trial_replay_calls.proofs.device.integer_of.Statement.{statement}
+use Rattle.trial_replay_calls.proofs.device.integer_of.Tie as tie
 
 sub-result : tie.Need-sub-result
 sub-result c =
