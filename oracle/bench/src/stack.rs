@@ -126,8 +126,12 @@ fn even_query(shape: &Shape) -> usize {
 /// On even axes, and on those that are not.
 fn even_profile(shape: &Shape) -> usize {
     let even = shape.even();
-    let looked =
-        |shape: &Shape| bytes_of(|| hullashlar::even_profile(&shape.axes, &shape.knots).is_ok());
+    let looked = |shape: &Shape| {
+        bytes_of(|| {
+            black_box(hullashlar::even_profile(&shape.axes, &shape.knots).is_ok());
+            true
+        })
+    };
     looked(&even).max(looked(shape))
 }
 
