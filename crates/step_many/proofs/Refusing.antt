@@ -14,7 +14,7 @@ use Rattle.rules.proofs.Cases.{passed}
 use Rattle.rules.proofs.Refused.{or-else-passed}
 use Rattle.grid.specs.GridOfCall.{grid, points-of}
 use Rattle.grid_checks.proofs.Rows.{rows-then, none-applies, axes-few, length-fits, exact-3}
-use Rattle.many_points.specs.ManyPoints.{point-of, points-lengths-refused}
+use Rattle.many_points.specs.ManyPoints.{points-lengths-refused}
 use Rattle.many_points.specs.PointByPoint.{PointsFit}
 use Rattle.many_points.proofs.InTurn.{asked-in-turn, coordinates-of-point}
 use Rattle.step_checks.specs.StepChecks.{stepped-sizes-rows, stepped-sizes-check}

@@ -1,6 +1,5 @@
 // One point stepped after the other.
 ghost use mathlib.Core.Path.{_≡_};
-ghost use Prim.Native.Nat.{_*_};
 ghost use lib.ListN.{length};
 ghost use Rattle.rules.specs.Sizes.{place-of};
 ghost use Rattle.many_points.specs.PointByPoint.{PointsFit, FirstStand};

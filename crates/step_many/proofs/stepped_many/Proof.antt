@@ -1,6 +1,6 @@
 -- 1 to 4 by sizes and lengths, and then nothing is written (`none-written`); past them each point has the answer of the stepped surface of
 -- these axes, whose points were taken out of them.
-use mathlib.Core.Path.{_≡_, refl, sym, ap, _∙_}
+use mathlib.Core.Path.{refl, sym, ap, _∙_}
 use Prim.Native.Nat.{ℕ}
 use Rattle.many_points.proofs.Answered.{none-written, all-written}
 use Rattle.step_many.specs.StepByStep.{SteppedAmong}
