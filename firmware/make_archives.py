@@ -35,8 +35,12 @@ TARGETS = {
 # What is told of a target beside that where code is made for it: on the M7 no vmla.f64, which rounds twice but looks fused.
 MADE_WITH = {"cortex-m7": ["-Xclang", "-target-feature", "-Xclang", "+slowfpvmlx"]}
 
-# What an archive is made for: what clang is told, and the word that each function gets.
-PURPOSES = {"speed": ("-O3", ""), "size": ("-Os", " optsize")}
+# What an archive is made for: what clang is told, and the word that each function gets. A function that is called from two places is put
+# where it is called more readily than clang would by itself: calls cost more here than what they would repeat.
+PURPOSES = {
+    "speed": (["-O3", "-mllvm", "-inline-threshold=500"], ""),
+    "size": (["-Os", "-mllvm", "-inline-threshold=225"], " optsize"),
+}
 FOLDERS = {"speed": "", "size": "size"}
 
 # The doubles of processors that have none: the crate of our own, and for each of the compiler's helpers the call of ours that stands in
@@ -62,7 +66,7 @@ FUSED = re.compile(r"\t(fn?m(add|sub)|fml[as]|v?fn?m[as]|vn?ml[as])\b")
 def listing_of(text, target, purpose):
     """The target's code for the text of a module, as an assembler reads it."""
     level, attribute = PURPOSES[purpose]
-    words = [tool("clang"), *TARGETS[target], *MADE_WITH.get(target, []), *WORDS, level, "-ffp-contract=off", "-Wno-override-module"]
+    words = [tool("clang"), *TARGETS[target], *MADE_WITH.get(target, []), *WORDS, *level, "-ffp-contract=off", "-Wno-override-module"]
     text = ATTRIBUTES.sub(rf"\1{attribute}", text)
     return run([*words, "-S", "-x", "ir", "-", "-o", "-"], input=text, stdout=subprocess.PIPE, text=True).stdout
 
