@@ -13,7 +13,7 @@ pub struct Stack {
 }
 
 /// The stack of every exported call.
-pub fn stacks() -> [Stack; 24] {
+pub fn stacks() -> [Stack; 25] {
     let shapes = shapes();
     let all: Vec<&Shape> = shapes.iter().collect();
     let lines = lines(&shapes);
