@@ -1,7 +1,9 @@
-// The queries of a tensor, shown as lines: the example's name, the call, the refusal's number, the value and the labels.
+// The queries of a tensor and the stepped surface, shown as lines: the example's name, the call, the refusal's number, the value, and the
+// labels or the indices.
 use rules::Axis;
 use rules::Condition;
 use rules::Mode;
+use rules::StepDirection;
 use trial_lines::print;
 use trial_lines::print_count;
 use trial_lines::print_number;
@@ -110,4 +112,24 @@ pub fn print_full_and_even(
 ) {
     print_query(name, axes, all, knots, tensor, coordinates);
     print_even(name, axes, all, knots, tensor, coordinates);
+}
+
+// The stepped surface, called by the directions that it is given.
+pub fn print_stepped(
+    name: &[u8],
+    call: &[u8],
+    axes: usize,
+    all: [Axis; 4],
+    directions: [StepDirection; 4],
+    knots: &[f64],
+    samples: &[f64],
+    coordinates: &[f64],
+) {
+    let answer = step_surface::stepped(axes, all, directions, knots, samples, coordinates);
+    let indices = answer.indices;
+    print_refusal(name, call, answer.refusal);
+    print_number(answer.value);
+    print(b" indices");
+    print_counts(indices);
+    print(b"\n");
 }

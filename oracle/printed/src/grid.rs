@@ -144,6 +144,11 @@ impl Grid {
         self.ask(reading::direct_query, modes, tensor, coordinates)
     }
 
+    /// The refusal of the stepped surface, its value and its indices.
+    pub fn stepped(&self, directions: [u8; 4], samples: &[f64], coordinates: &[f64]) -> Answer {
+        self.ask(reading::stepped, directions, samples, coordinates)
+    }
+
     /// What a call leaves of three points, with a number, a mode's or a direction's, for each axis.
     pub fn ask_three(
         &self,

@@ -1,5 +1,5 @@
-//! The quick query, the query of even axes and their profile, and the direct query as lines, and many points by
-//! one call; the worked examples of them.
+//! The quick query, the query of even axes and their profile, the direct query and the stepped surface as lines,
+//! and many points by one call; the worked examples of them.
 
 use crate::grid::{Ends, Grid, Many};
 use crate::line::{counts, patterns};
@@ -200,6 +200,37 @@ fn direct() -> String {
     .concat()
 }
 
+/// The stepped surface at one point, downward and upward, and on two axes in a direction each.
+fn steps() -> String {
+    let (samples, nan) = ([5.0, 6.0, 8.0], f64::NAN);
+    let rising = [0.0, 1.0, 2.0];
+    let line = |name: &str, axes: &[&[f64]], way, samples: &[f64], point: &[f64]| {
+        let (said, directions): (&str, [u8; 4]) = way;
+        let grid = Surface::new(axes, EXTEND, Vec::new()).grid;
+        let (refusal, value, indices) = grid.stepped(directions, samples, point);
+        let (value, indices) = (patterns(&[value]), counts(&indices));
+        format!("{name}: stepped {said} {refusal}{value} indices{indices}\n")
+    };
+    let both = |name, knots: &[f64], samples: &[f64], point| {
+        [("down", [0; 4]), ("up", [1; 4])].map(|way| line(name, &[knots], way, samples, &[point]))
+    };
+    let one_axis = [
+        both("step at 0.5", &rising, &samples, 0.5),
+        both("step at 1", &rising, &samples, 1.0),
+        both("step at 9", &rising, &samples, 9.0),
+        both("step at -9", &rising, &samples, -9.0),
+        both("step at NaN", &rising, &samples, nan),
+        both("step on knots 0 2 1", &[0.0, 2.0, 1.0], &samples, 0.5),
+        both("step on two samples", &rising, &samples[..2], 0.5),
+    ];
+    let two: [&[f64]; 2] = [&[0.0, 1.0, 3.0], &[-2.0, 0.5, 1.0]];
+    let mixed = ("down and up", [0, 1, 0, 0]);
+    let on_two = |name, point: &[f64]| line(name, &two, mixed, &sawtooth(9), point);
+    one_axis.concat().concat()
+        + &on_two("step on two axes", &[2.25, 0.75])
+        + &on_two("step on two axes by one coordinate", &[2.25])
+}
+
 /// The line of a call at three points.
 fn three(
     name: &str,
@@ -251,7 +282,14 @@ fn many_steps() -> String {
         line("steps at 0.5 NaN 9", &[0.0, 1.0, 2.0], &[0.5, nan, 9.0]),
         line("steps on knots 0 2 1", &[0.0, 2.0, 1.0], &[0.5, nan, 9.0]),
         line("steps of two coordinates", &[0.0, 1.0, 2.0], &[0.5, nan]),
-        three("steps on two axes", call, &two, [0, 1, 0, 0], &sawtooth(9), &at),
+        three(
+            "steps on two axes",
+            call,
+            &two,
+            [0, 1, 0, 0],
+            &sawtooth(9),
+            &at,
+        ),
     ]
     .concat()
 }
@@ -268,6 +306,7 @@ pub fn examples() -> String {
         intervals(),
         out_of_reach(),
         direct(),
+        steps(),
         many_queries(),
         many_steps(),
     ]

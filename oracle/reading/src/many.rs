@@ -23,18 +23,8 @@ pub fn quick_queries(
     labels: &mut [usize],
     refusals: &mut [usize],
 ) -> Refusal {
-    let lengths = [
-        coordinates.len(),
-        values.len(),
-        labels.len(),
-        refusals.len(),
-    ];
-    if let Err(refusal) = checked(axes, points, modes, knots, tensor, lengths) {
-        return refusal;
-    }
     let given = (axes, points, modes, knots, tensor, coordinates);
-    each(quick_query, given, values, labels, refusals);
-    0
+    queries(quick_query, given, values, labels, refusals)
 }
 
 /// The direct query at as many points as refusals are lent.
@@ -50,18 +40,8 @@ pub fn direct_queries(
     labels: &mut [usize],
     refusals: &mut [usize],
 ) -> Refusal {
-    let lengths = [
-        coordinates.len(),
-        values.len(),
-        labels.len(),
-        refusals.len(),
-    ];
-    if let Err(refusal) = checked(axes, points, modes, knots, tensor, lengths) {
-        return refusal;
-    }
     let given = (axes, points, modes, knots, tensor, coordinates);
-    each(direct_query, given, values, labels, refusals);
-    0
+    queries(direct_query, given, values, labels, refusals)
 }
 
 /// The stepped surface at as many points as refusals are lent.
@@ -95,19 +75,31 @@ pub fn stepped_many(
     0
 }
 
-/// 1, 4 for points that are not four, 2, 3, 4 for every other slice, and 22. The lengths are those of
-/// the coordinates, the values, the labels and the refusals.
-fn checked(
-    axes: usize,
-    points: &[usize],
-    modes: &[u8],
-    knots: &[f64],
-    tensor: &[f64],
-    lengths: [usize; 4],
-) -> Result<(), Refusal> {
-    let shape = checked_shape(axes, points, modes, knots, lengths)?;
-    require(tensor.len() == shape.tensor_length(), 4)?;
-    modes_stand(&modes[..axes])
+/// A query at each point, where 1, 4 for points that are not four, 2, 3, 4 for every other slice, and 22 do
+/// not apply.
+fn queries(
+    single: Single,
+    given: Given,
+    values: &mut [f64],
+    labels: &mut [usize],
+    refusals: &mut [usize],
+) -> Refusal {
+    let (axes, points, modes, knots, tensor, coordinates) = given;
+    let lengths = [
+        coordinates.len(),
+        values.len(),
+        labels.len(),
+        refusals.len(),
+    ];
+    let stands = checked_shape(axes, points, modes, knots, lengths).and_then(|shape| {
+        require(tensor.len() == shape.tensor_length(), 4)?;
+        modes_stand(&modes[..axes])
+    });
+    if let Err(refusal) = stands {
+        return refusal;
+    }
+    each(single, given, values, labels, refusals);
+    0
 }
 
 /// The grid of the axes, with a number, a mode's or a direction's, for each of four: 1, 4 for points that
