@@ -8,7 +8,8 @@
   that says a chapter once more, over any arithmetic, names nothing that the page does not.
 - The table of calls has a row for every call of include/hullashlar.h, and one for those of include/hullashlar_doubles.h: the promise of the
   call, and the chapters that the promise stands on, followed from definition to definition, in the page's order.
-- The chapter Refusals has the name of each refusal as the header has it, and no line is longer than 400 characters.
+- The chapter Refusals has the name of each refusal as the header has it; what is refused by a number has the name beside it.
+- No line is longer than 400 characters.
 
 Prints each definition with its line on the page."""
 
@@ -137,6 +138,7 @@ CONTENTS_LINE = re.compile(r"\| \[(\w+)\] \| (?:\[(\w+)\]\((\S+)\))? *\| ")
 LINK = re.compile(r"\[([A-Z]\w+)\](?![(:])")
 LEADS = re.compile(r"\[(\w+)\]: #(\S+)")
 CALL_ROW = re.compile(r"\| `(hullashlar_\w+)`(.*?) \| (?:`(\w+)`)?.* \| (.*) \|")
+REFUSAL_ROW = re.compile(r"\| (\d+) \| (\w+) \| ")
 DOUBLES_ROW = "hullashlar_soft_add"
 
 # Of a file of definitions: the words of a definition, and what binds a name in it.
@@ -150,6 +152,7 @@ BINDS = re.compile(r"[({]([^(){}:]+) :|λ ([^.]+)\.|let (\S+) |pub (\S+) :|(\S+)
 GHOST_USE = re.compile(r"ghost use Rattle·(\w+?)(?:·specs)?\.specs\.(\w+)\.\{([^}]*)\}")
 EXPORT = re.compile(r'pub extern "C" fn (\w+)\(.*?ensures \{ λ r\.\s*⌜ (\w+)', re.S)
 DECLARED_CALL = re.compile(r"^uint\d+_t (hullashlar_\w+)\(", re.M)
+UNNAMED = re.compile(r"refused? by \d+\b(?! \(\w+\)|, | to )")
 REFUSAL_NAME = re.compile(r"HULLASHLAR_REFUSED_(\w+) = (\d+)")
 
 
@@ -185,31 +188,34 @@ class Page:
     def __init__(self):
         self.contents, self.calls, self.leads = {}, {}, {}
         self.parts, self.chapters, self.refusal_rows = [], {}, {}
-        self.long_lines, self.links = [], set()
-        part, words = None, {}
+        self.long_lines, self.unnamed, self.links = [], [], set()
+        part, chapter, words = None, None, {}
         for number, line in enumerate(PAGE.read_text().splitlines(), 1):
             if len(line) > LONGEST_LINE:
                 self.long_lines.append(number)
+            if UNNAMED.search(line):
+                self.unnamed.append(number)
             if line.startswith("## "):
-                part, words = line[3:], {}
+                part, chapter, words = line[3:], None, {}
                 self.parts += [part] if part in PARTS else []
             elif line.startswith("### ") and part in PARTS:
-                words = self.chapters.setdefault(line[4:], {"": part})
-            self.take(line, part, words, number)
+                chapter = line[4:]
+                words = self.chapters.setdefault(chapter, {})
+            self.take_rows(line, part, chapter)
+            self.leads.update(LEADS.findall(line))
+            self.links.update(LINK.findall(line))
+            for word in CODE.findall(line):
+                words.setdefault(word, number)
 
-    def take(self, line, part, words, number):
-        """What a line has: a row of the contents, of the calls or of the refusals; links; and code words."""
+    def take_rows(self, line, part, chapter):
+        """A row of the contents or of the calls, which stand before the parts, or of the refusals."""
         if part not in PARTS:
             if row := CONTENTS_LINE.match(line):
                 self.contents[row[1]] = (row[2], row[3])
             elif row := CALL_ROW.match(line):
                 self.calls[row[1]] = (row[3], LINK.findall(row[4]))
-        elif row := re.match(r"\| (\d+) \| (\w+) \| ", line):
-            self.refusal_rows.setdefault(int(row[1]), row[2])
-        self.leads.update(LEADS.findall(line))
-        self.links.update(LINK.findall(re.sub(r"`[^`]*`", "", line)) if part else [])
-        for word in CODE.findall(line):
-            words.setdefault(word, number)
+        elif chapter == "Refusals" and (row := REFUSAL_ROW.match(line)):
+            self.refusal_rows[int(row[1])] = row[2]
 
 
 def words_bound(text):
@@ -299,6 +305,7 @@ def faults_of_contents(page, lines):
         ordered = [chapter for chapter in lines if lines[chapter][0] == crate]
         if ordered != [chapter for chapter in page.chapters if chapter in ordered]:
             faults.append(f"{crate}: its chapters are not in the order of its files")
+    faults += [f"line {number}: a refusal without its name" for number in page.unnamed]
     faults += [f"[{name}]: no chapter" for name in sorted(page.links - set(page.leads))]
     return faults + [f"line {number}: longer than {LONGEST_LINE} characters" for number in page.long_lines]
 
@@ -324,7 +331,7 @@ def faults_of_calls(page):
         if told != wanted:
             faults.append(f"{call}: the chapters are {' '.join(f'[{chapter}]' for chapter in wanted)}")
     names = {int(number): name.lower() for name, number in REFUSAL_NAME.findall(header)}
-    if names != {number: name for number, name in page.refusal_rows.items() if number}:
+    if names != page.refusal_rows:
         faults.append("Refusals: the names are not those of include/hullashlar.h")
     return faults
 
@@ -359,7 +366,7 @@ def faults_of_words(page, defined, twice):
                 print(f"{chapter}: {name} -> line {words[name]}")
             else:
                 faults.append(f"{chapter}: no line says {name}")
-        faults += [f"{chapter}: {word} is no definition" for word in words if word and word not in known and not OF_CODE.match(word)]
+        faults += [f"{chapter}: {word} is no definition" for word in words if word not in known and not OF_CODE.match(word)]
     return faults
 
 
