@@ -152,7 +152,7 @@ BINDS = re.compile(r"[({]([^(){}:]+) :|λ ([^.]+)\.|let (\S+) |pub (\S+) :|(\S+)
 GHOST_USE = re.compile(r"ghost use Rattle·(\w+?)(?:·specs)?\.specs\.(\w+)\.\{([^}]*)\}")
 EXPORT = re.compile(r'pub extern "C" fn (\w+)\(.*?ensures \{ λ r\.\s*⌜ (\w+)', re.S)
 DECLARED_CALL = re.compile(r"^uint\d+_t (hullashlar_\w+)\(", re.M)
-UNNAMED = re.compile(r"refused? by \d+\b(?! \(\w+\)|, | to )")
+UNNAMED = re.compile(r"\brefus\w+(?: \w+)? by \d+\b(?! \(\w+\)|, | to )", re.I)
 REFUSAL_NAME = re.compile(r"HULLASHLAR_REFUSED_(\w+) = (\d+)")
 
 
