@@ -54,7 +54,8 @@ def faults_of_entry(lines, index, number, replaced, numbers):
 
 def faults_of_entries(topics):
     """What is wrong with the entries of these topics."""
-    found = [(topic, index, ENTRY.fullmatch(line)) for topic, lines in topics.items() for index, line in enumerate(lines) if line.startswith("**")]
+    placed = [(topic, index, line) for topic, lines in topics.items() for index, line in enumerate(lines)]
+    found = [(topic, index, ENTRY.fullmatch(line)) for topic, index, line in placed if line.startswith("**")]
     faults = [f"{topic}: no entry: {topics[topic][index]}" for topic, index, entry in found if not entry]
     entries = [(topic, index, entry) for topic, index, entry in found if entry]
     numbers = [entry[1] for _, _, entry in entries]

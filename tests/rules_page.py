@@ -125,6 +125,7 @@ MODULE = re.compile(r"pub mod (\w+)")
 DEFINITION = re.compile(r"\s*(?:(?:abbrev|unfoldable)(?: pub)?|pub record) (\S+)")
 USE = re.compile(r"use Rattle·(\w+)(?:·specs)?\.specs\.(\w+)")
 IMPORTED = re.compile(r"use Rattle·(\w+?)(?:·specs)?\.specs\.([\w.-]+?)\.\{([^}]*)\}")
+RENAMED = re.compile(r"use Rattle·[^\s{]+ as ")
 CODE = re.compile(r"`([^` ]+)`")
 
 # Where a crate's types stand, which its code declares.
@@ -183,7 +184,7 @@ def again(chapters):
 
 
 class Page:
-    """The page: its contents, its table of calls, where its links lead, and of each chapter its part and its code words with their lines."""
+    """The page: its contents, its table of calls, where its links lead, and of each chapter the code words with their lines."""
 
     def __init__(self):
         self.contents, self.calls, self.leads = {}, {}, {}
@@ -315,6 +316,7 @@ def faults_of_calls(page):
     faults, direct, order = [], stands_on_directly(), list(page.chapters)
     header = (ROOT / "include" / "hullashlar.h").read_text()
     doubles = (ROOT / "include" / "hullashlar_doubles.h").read_text()
+    renamed = {name for crate, name, text in named_files() if crate != AGAIN and RENAMED.search(text)}
     promises = exports("hullashlar")
     declared = DECLARED_CALL.findall(header)
     if set(page.calls) != {*declared, DOUBLES_ROW} or set(declared) != set(promises):
@@ -327,6 +329,7 @@ def faults_of_calls(page):
         if call != DOUBLES_ROW and promise != targets[0][2]:
             faults.append(f"{call}: its promise is {targets[0][2]}")
         below = set().union(*(chapters_below(target, direct) for target in targets))
+        faults += [f"{call}: {file} imports a whole file, which is not followed" for file in sorted(below & renamed)]
         wanted = [chapter for chapter in order if chapter in below]
         if told != wanted:
             faults.append(f"{call}: the chapters are {' '.join(f'[{chapter}]' for chapter in wanted)}")
@@ -383,7 +386,8 @@ def main():
         defined = {chapter: definitions(text) for chapter, (_, text) in lines.items()}
         twice = {chapter: definitions(text) for chapter, text in told_again.items()}
         faults = faults_of_files(page, lines, told_again) + faults_of_words(page, defined, twice) + faults_of_calls(page)
-        print(f"{sum(map(len, defined.values()))} definitions, {len(page.chapters)} chapters, {len(page.calls)} rows of calls, {len(faults)} faults")
+        count = sum(map(len, defined.values()))
+        print(f"{count} definitions, {len(page.chapters)} chapters, {len(page.calls)} rows of calls, {len(faults)} faults")
     sys.exit("\n".join(faults) or 0)
 
 
