@@ -3,9 +3,9 @@
  * DoublesExports. docs/GLOSSARY.md has our words beside the usual ones.
  *
  * Machine. The archive is libhullashlar_doubles.a. It needs nothing from its host, except on Cortex-M0+, which has no
- * instructions that divide or multiply so far: there it needs the compiler's functions for whole numbers (__aeabi_uidiv,
- * __aeabi_lmul, __aeabi_llsl, __aeabi_llsr, __clzsi2). No call uses memory but the stack, keeps anything, reads a
- * rounding mode or raises an exception.
+ * instructions that divide or multiply so far: there it needs the compiler's functions for whole numbers
+ * (__aeabi_uidiv, __aeabi_lmul, __aeabi_llsl, __aeabi_llsr, __clzsi2). No call uses memory but the stack, keeps
+ * anything, reads a rounding mode or raises an exception.
  *
  * Numbers. Each call takes the bit patterns of two doubles, whatever they are: zeros of both signs, subnormal numbers,
  * infinities, every NaN. It gives the answer of IEEE 754, rounded to nearest, a tie to the even number. A NaN comes out
