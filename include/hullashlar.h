@@ -23,8 +23,8 @@
  * of length 0 may be null. A slot is a slice that takes a part of the answer; Outputs, below, names the slots.
  *
  * State. No call allocates memory, keeps a pointer or has data of its own. A call writes its stack and the slices that
- * `Writes:` names, and nothing else. So calls may run at the same time, on threads or in interrupt handlers, as long as
- * no call writes a slice that another one uses.
+ * `Writes:` names, and nothing else. So calls may run at the same time, on threads or in handlers of interrupts and
+ * signals, as long as no call writes a slice that another one uses.
  *
  * Memory. The largest grid takes 98,304 bytes: tensor 32,768, scratch 49,152, the two buffers of a sheet 16,384.
  * hullashlar_surface is lent the sheet alone, and has its memory on the stack. Every other call needs at most 3,176
