@@ -163,7 +163,12 @@ ifeq ($(MACHINE),x86_64)
 	python3 tests/report_speed.py
 endif
 
+# The examples of the calls in C; that of double arithmetic stands apart, as its archive is for x86-64.
+CALLS = $(filter-out doubles,$(sort $(basename $(notdir $(wildcard examples/calls/*.c)))))
+EXAMPLE_IN_C = gcc -std=c11 -Wall -Wextra -Werror -O2 -Iinclude
+
 # The example hosts on one sheet, each held against the output that is kept beside it, and those that write the sheet back against the changed sheet.
+# Then a program for each call of the headers, and that each call has one.
 examples: archive-here
 	mkdir -p target/examples
 	python3 examples/gain_sheet.py | cmp - examples/gain.sheet
@@ -176,6 +181,17 @@ examples: archive-here
 	target/examples/firmware examples/gain.sheet | diff examples/firmware_expected.txt -
 	cmp examples/changed.sheet target/examples/c.sheet
 	cmp examples/changed.sheet target/examples/rust.sheet
+	mkdir -p target/examples/calls
+	test "$$(grep -oh 'examples/calls/[a-z0-9_]*\.c' include/*.h | sort -u)" = "$$(ls examples/calls/*.c | sort)"
+	for call in $(CALLS); do $(EXAMPLE_IN_C) examples/calls/$$call.c $(ARCHIVES)/libhullashlar.a -o target/examples/calls/$$call || exit 1; done
+	for call in $(CALLS); do echo "== $$call"; target/examples/calls/$$call || exit 1; done > target/examples/calls/answers.txt
+	diff examples/calls/expected.txt target/examples/calls/answers.txt
+ifeq ($(MACHINE),x86_64)
+	$(EXAMPLE_IN_C) examples/calls/doubles.c $(ARCHIVES)/libhullashlar_doubles.a -o target/examples/calls/doubles
+	target/examples/calls/doubles | diff examples/calls/doubles_expected.txt -
+
+examples: doubles
+endif
 
 # Draws the picture of README.md anew, from numbers that the library computes.
 picture: archive

@@ -1,12 +1,12 @@
-//! The calls of hullashlar.h as Rust declares them: a slice is a pointer and then its length.
+//! The calls of hullashlar.h as Rust declares them. A slice is a pointer, then its length in elements.
 
-/// What is counted, a length or an index: 64 bits on every processor, and `usize` where that has them.
+/// A length or an index: 64 bits on every processor, and `usize` where that has 64.
 #[cfg(target_pointer_width = "64")]
 pub type Count = usize;
 #[cfg(not(target_pointer_width = "64"))]
 pub type Count = u64;
 
-/// Whether floats are computed on this thread as the calls need it: to the nearest, and with subnormal numbers.
+/// Whether this thread rounds to nearest and keeps subnormal numbers, as the calls need it.
 #[allow(dead_code)]
 pub fn floats_ready() -> bool {
     let asked = core::hint::black_box::<f64>;

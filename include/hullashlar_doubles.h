@@ -1,13 +1,15 @@
-/* Double arithmetic in whole numbers, proved: what a compiler calls where a processor has no double of its own (Cortex-M0+,
- * M4F, M33, rv32imac). docs/RULES.md says what each call computes, in its chapters Doubles and DoublesExports.
+/* Double arithmetic in whole numbers, proved: the functions that a compiler calls where a processor has no double of
+ * its own (Cortex-M0+, M4F, M33, rv32imac). docs/RULES.md says what each call computes, in its chapters Doubles and
+ * DoublesExports. docs/GLOSSARY.md has our words beside the usual ones.
  *
- * The archive is libhullashlar_doubles.a. It uses no memory but the stack, keeps nothing between calls, reads no rounding
- * mode and raises no exception. Of its host it wants nothing, but on Cortex-M0+, which cannot divide or multiply so far by
- * itself, the compiler's functions for whole numbers (__aeabi_uidiv, __aeabi_lmul, __aeabi_llsl, __aeabi_llsr, __clzsi2).
+ * Machine. The archive is libhullashlar_doubles.a. It needs nothing from its host, except on Cortex-M0+, which has no
+ * instructions that divide or multiply so far: there it needs the compiler's functions for whole numbers
+ * (__aeabi_uidiv, __aeabi_lmul, __aeabi_llsl, __aeabi_llsr, __clzsi2). No call uses memory but the stack, keeps
+ * anything, reads a rounding mode or raises an exception.
  *
- * Each call takes the bit patterns of two doubles, whatever they are, and gives the answer of IEEE 754, rounded to the
- * nearest, a tie to the even one: zeros of both signs, subnormal numbers, infinities, every NaN in; a NaN out is
- * 7FF8000000000000. Nothing is refused.
+ * Numbers. Each call takes the bit patterns of two doubles, whatever they are: zeros of both signs, subnormal numbers,
+ * infinities, every NaN. It gives the answer of IEEE 754, rounded to nearest, a tie to the even number. A NaN comes out
+ * as 7FF8000000000000. No call takes a slice, so none has a length, writes anything or refuses.
  *
  * In place of a compiler's own functions, in one object or archive and nowhere else in the host:
  *
@@ -26,20 +28,32 @@
 extern "C" {
 #endif
 
-/* The patterns of a + b, a - b, a * b and a / b. */
+/* The patterns of a + b, a - b, a * b and a / b.
+ * Lengths: none
+ * Writes:  nothing
+ * Refuses: nothing
+ * Example: examples/calls/doubles.c */
 uint64_t hullashlar_soft_add(uint64_t a, uint64_t b);
 uint64_t hullashlar_soft_sub(uint64_t a, uint64_t b);
 uint64_t hullashlar_soft_mul(uint64_t a, uint64_t b);
 uint64_t hullashlar_soft_div(uint64_t a, uint64_t b);
 
-/* 1 where a < b, a <= b, a == b, a > b, a >= b, and else 0. With a NaN all are 0; -0 is equal to 0. */
+/* 1 where a < b, a <= b, a == b, a > b, a >= b, and else 0. With a NaN each is 0. -0 equals 0.
+ * Lengths: none
+ * Writes:  nothing
+ * Refuses: nothing
+ * Example: examples/calls/doubles.c */
 uint32_t hullashlar_soft_lt(uint64_t a, uint64_t b);
 uint32_t hullashlar_soft_le(uint64_t a, uint64_t b);
 uint32_t hullashlar_soft_eq(uint64_t a, uint64_t b);
 uint32_t hullashlar_soft_gt(uint64_t a, uint64_t b);
 uint32_t hullashlar_soft_ge(uint64_t a, uint64_t b);
 
-/* 1 where one of the two is a NaN, and else 0. */
+/* 1 where a or b is a NaN, and else 0.
+ * Lengths: none
+ * Writes:  nothing
+ * Refuses: nothing
+ * Example: examples/calls/doubles.c */
 uint32_t hullashlar_soft_un(uint64_t a, uint64_t b);
 
 #ifdef __cplusplus
