@@ -199,6 +199,11 @@ picture: archive
 	gcc -std=c11 -Wall -Wextra -Werror -O2 -Iinclude docs/picture/cut.c target/staticlib/libhullashlar.a -o target/picture/cut
 	target/picture/cut | python3 docs/picture/draw.py > docs/picture/stale-derivatives.svg
 
+# Draws the rooms of docs/ARCHITECTURE.md anew, from crates.txt.
+.PHONY: rooms
+rooms:
+	python3 docs/picture/rooms.py
+
 # What the programs are run on and what they must print: sheets by a script, the fixed list and all outputs by the oracle. It changes
 # nothing unless the script, the generator, an example or the reading has changed.
 expected:
