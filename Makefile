@@ -112,7 +112,7 @@ streams-fail:
 exact-error: archive-here
 	python3 tests/exact_error.py
 
-# Holds docs/RULES.md against the definitions: each definition is named in its chapter; and the table of forms in docs/DECISIONS.md against the code.
+# Holds docs/RULES.md against the definitions: its chapters, contents and table of calls; and docs/DECISIONS.md: numbers, statuses, and the forms against the code.
 rules-page:
 	python3 tests/rules_page.py
 	python3 tests/forms_page.py
@@ -168,7 +168,7 @@ CALLS = $(filter-out doubles,$(sort $(basename $(notdir $(wildcard examples/call
 EXAMPLE_IN_C = gcc -std=c11 -Wall -Wextra -Werror -O2 -Iinclude
 
 # The example hosts on one sheet, each held against the output that is kept beside it, and those that write the sheet back against the changed sheet.
-# Then a program for each call of the headers, and that each call has one.
+# Then a program for each call of the headers, and that each call has one; and the program of README.md, which says what it prints.
 examples: archive-here
 	mkdir -p target/examples
 	python3 examples/gain_sheet.py | cmp - examples/gain.sheet
@@ -186,6 +186,9 @@ examples: archive-here
 	for call in $(CALLS); do $(EXAMPLE_IN_C) examples/calls/$$call.c $(ARCHIVES)/libhullashlar.a -o target/examples/calls/$$call || exit 1; done
 	for call in $(CALLS); do echo "== $$call"; target/examples/calls/$$call || exit 1; done > target/examples/calls/answers.txt
 	diff examples/calls/expected.txt target/examples/calls/answers.txt
+	sed -n '/^```c$$/,/^```$$/{/^```/!p}' README.md > target/examples/readme.c
+	$(EXAMPLE_IN_C) target/examples/readme.c $(ARCHIVES)/libhullashlar.a -o target/examples/readme
+	grep -qF "/* $$(target/examples/readme): " target/examples/readme.c
 ifeq ($(MACHINE),x86_64)
 	$(EXAMPLE_IN_C) examples/calls/doubles.c $(ARCHIVES)/libhullashlar_doubles.a -o target/examples/calls/doubles
 	target/examples/calls/doubles | diff examples/calls/doubles_expected.txt -
