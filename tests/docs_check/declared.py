@@ -4,7 +4,7 @@ Rust; the Python package has each of them, and the header's names of refusals.""
 import re
 from typing import Iterator
 
-from repository import Fault, Repository
+from repository import Fault, Repository, line_of
 
 HEADER, RUST = "include/hullashlar.h", "include/hullashlar.rs"
 EXPORTS = {HEADER: "crates/hullashlar/src/lib.rt", "include/hullashlar_doubles.h": "crates/hullashlar_doubles/src/lib.rt"}
@@ -30,7 +30,7 @@ def compared(repository: Repository, header: str, file: str, there: dict[str, in
         if name not in there:
             yield Fault(header, here[name][0], f"{name} is not in {file}")
         elif name not in here:
-            line = repository.text(file).count("\n", 0, repository.text(file).index(name)) + 1
+            line = line_of(repository.text(file), repository.text(file).index(name))
             yield Fault(file, line, f"{name} is not in {header}")
         elif here[name][1] != there[name]:
             yield Fault(header, here[name][0], f"{name} has {here[name][1]} parameters here and {there[name]} in {file}")

@@ -2,9 +2,10 @@
 measured is held to its other places. History keeps the figures of its day."""
 
 import re
+from functools import cache
 from typing import Callable, Iterator
 
-from repository import Fault, Repository
+from repository import Fault, Repository, line_of
 
 HISTORY = {"docs/DECISIONS.md", "CHANGELOG.md"}
 SMALL = "one two three four five six seven eight nine ten eleven twelve thirteen fourteen fifteen sixteen seventeen eighteen nineteen".split()
@@ -15,6 +16,7 @@ FIGURE = rf"(\d+(?:,\d{{3}})*|(?:{'|'.join(TENS)})(?:-(?:{'|'.join(SMALL[:9])}))
 SPACE = r"[\s*/#]+"
 
 
+@cache
 def pattern(sentence: str) -> re.Pattern:
     return re.compile(sentence.replace("#", FIGURE).replace(" ", SPACE))
 
@@ -151,7 +153,7 @@ def said(repository: Repository, name: str, sentence: re.Pattern) -> Iterator[tu
     text = repository.text(name)
     for match in sentence.finditer(text):
         figure = next(index for index in range(1, len(match.groups()) + 1) if match[index])
-        yield text.count("\n", 0, match.start(figure)) + 1, match[figure]
+        yield line_of(text, match.start(figure)), match[figure]
 
 
 def faults(repository: Repository) -> Iterator[Fault]:

@@ -1,9 +1,10 @@
 """Lines: none of a document or a header is too long or ends in spaces, and no word stands anywhere that speaks of something else than the project."""
 
 import re
+from functools import cache
 from typing import Iterator
 
-from repository import Fault, Repository
+from repository import Fault, Repository, line_of
 
 LONGEST = 400
 
@@ -20,6 +21,11 @@ def faults(repository: Repository) -> Iterator[Fault]:
             if text != text.rstrip():
                 yield Fault(name, line, "ends in spaces")
     for name in repository.matching(TEXTS):
-        for line, text in repository.lines(name) if NO_WORDS.search(repository.text(name)) else ():
-            if match := NO_WORDS.search(text):
-                yield Fault(name, line, f"{match[0]} is no word of this project")
+        for line, word in other_words(repository.text(name)):
+            yield Fault(name, line, f"{word} is no word of this project")
+
+
+@cache
+def other_words(text: str) -> list[tuple[int, str]]:
+    """The lines of a text that have such a word."""
+    return [(line_of(text, match.start()), match[0]) for match in NO_WORDS.finditer(text)]

@@ -8,7 +8,7 @@ from functools import cache
 from pathlib import Path
 from typing import Callable, Iterator
 
-from repository import CODE_WORD, MADE, Fault, Repository
+from repository import CODE_WORD, MADE, Fault, Repository, line_of
 
 ALLOWED = Path(__file__).resolve().parent / "allowed.txt"
 
@@ -22,9 +22,9 @@ SUFFIX = re.compile(r".*\.(?:antt|rt|md|py|c|h|rs|txt|sheet|edit|sha256|svg|png|
 # Paths in running text, and the names of calls there.
 PLAIN_PATH = re.compile(r"(?<![\w/.<-])((?:docs|tests|crates|include|examples|python|oracle|firmware|man|rust|\.ci)/[\w./-]*\w)")
 PLAIN_CALL = re.compile(r"(?<![\w/.])(hullashlar_[a-z0-9_]*[a-z0-9])(?![\w.])")
-PLAIN_CONSTANT = re.compile(r"\bHULLASHLAR_[A-Z0-9_]*[A-Z0-9]\b")
+PLAIN_CONSTANT = re.compile(r"\b(HULLASHLAR_[A-Z0-9_]*[A-Z0-9])\b")
 MAKE = re.compile(r"\bmake ([a-z][a-z-]*)")
-CHAPTERS = re.compile(r"\bchapters? ((?:[A-Z]\w+(?:, | and )?)+)")
+CHAPTERS = re.compile(r"\bchapters? ((?:[A-Z]\w+(?:,[\s*/-]+|[\s*/-]+and[\s*/-]+)?)+)")
 
 # A table of what crates were called before has names that are no more.
 OLD_NAMES = re.compile(r"names of crates", re.I)
@@ -66,10 +66,7 @@ def item_exists(repository: Repository, word: str) -> bool:
 
 
 def call_exists(repository: Repository, word: str) -> bool:
-    calls = {call for header in repository.exported.values() for call in header}
-    files = [*repository.headers, *repository.matching(r"firmware/.*\.c")]
-    others = {match for name in files for match in re.findall(r"(?:enum|int) (hullashlar_\w+)", repository.text(name))}
-    return word in calls | others | set(repository.crates)
+    return word in repository.call_names
 
 
 def constant_exists(repository: Repository, word: str) -> bool:
@@ -132,10 +129,6 @@ CLASSES: list[tuple[str, Known, str]] = [
 ]
 
 
-def chapter_exists(repository: Repository, word: str) -> bool:
-    return any(word == heading for _, heading in repository.headings("docs/RULES.md"))
-
-
 # What is looked for in running text, and where it stands.
 PLAIN: list[tuple[re.Pattern, Known, str]] = [
     (PLAIN_PATH, path_or_edit, "no file"),
@@ -164,8 +157,7 @@ def faults(repository: Repository) -> Iterator[Fault]:
                 yield Fault(name, line, str(known[word]))
     written = r"(?:include|examples|man|firmware)/.*\.(?:h|rs|c|py|[13])|(?:python|rust)/.*\.(?:py|rs|c)|Makefile|\.ci/run"
     for name in [*repository.current, *repository.sources, *repository.matching(written)]:
-        for line, text in repository.lines(name):
-            yield from plain_faults(repository, name, line, text)
+        yield from plain_faults(repository, name)
     for name in repository.current:
         for line, text, code in repository.blocks(name):
             yield from target_faults(repository, name, line, text if code else " ".join(CODE_WORD.findall(text)))
@@ -185,16 +177,17 @@ def styled(repository: Repository) -> Iterator[tuple[str, int, str]]:
         yield from ((name, line, text) for line, text in repository.comments(name))
 
 
-def plain_faults(repository: Repository, name: str, line: int, text: str) -> Iterator[Fault]:
+def plain_faults(repository: Repository, name: str) -> Iterator[Fault]:
     """Names in running text: paths, calls, constants and chapters."""
+    text = repository.text(name)
     for pattern, exists, missing in PLAIN:
-        for word in pattern.findall(text):
-            if word not in allowed() and not exists(repository, word):
-                yield Fault(name, line, f"{word} is {missing}")
-    for chapters in CHAPTERS.findall(text):
-        for word in re.findall(r"\w+", chapters.replace(" and ", " ")):
-            if not chapter_exists(repository, word):
-                yield Fault(name, line, f"{word} is no chapter of docs/RULES.md")
+        for match in pattern.finditer(text):
+            if match[1] not in allowed() and not exists(repository, match[1]):
+                yield Fault(name, line_of(text, match.start(1)), f"{match[1]} is {missing}")
+    for match in CHAPTERS.finditer(text):
+        for word in re.findall(r"[A-Z]\w+", match[1]):
+            if word not in repository.chapters:
+                yield Fault(name, line_of(text, match.start()), f"{word} is no chapter of docs/RULES.md")
 
 
 def target_faults(repository: Repository, name: str, line: int, text: str) -> Iterator[Fault]:

@@ -6,7 +6,7 @@ import re
 from pathlib import Path
 from typing import Iterator, Union
 
-from repository import Fault, Repository
+from repository import Fault, Repository, line_of
 
 # The definition that says what each public call refuses: its file, and its name there.
 DEFINED = {
@@ -254,7 +254,7 @@ def export_faults(repository: Repository, definitions: Definitions) -> Iterator[
     file = "crates/hullashlar/src/lib.rt"
     comment = re.compile(r"((?:^// .*\n)+)#\[no_mangle\]\npub extern \"C\" fn (\w+)", re.M)
     for match in comment.finditer(repository.text(file)):
-        line = repository.text(file).count("\n", 0, match.start(2)) + 1
+        line = line_of(repository.text(file), match.start(2))
         words, export = refusing_words(re.sub(r"\n?// ", " ", match[1])), match[2]
         if export not in EXPORTED or " as the " in words[:16]:
             continue

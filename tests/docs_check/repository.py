@@ -3,7 +3,7 @@ its headers have."""
 
 import os
 import re
-from functools import cached_property
+from functools import cache, cached_property
 from pathlib import Path
 from typing import Iterator, NamedTuple
 
@@ -26,6 +26,10 @@ class Fault(NamedTuple):
 
     def __str__(self) -> str:
         return f"{self.file}:{self.line}: {self.what}"
+
+
+def line_of(text: str, position: int) -> int:
+    return text.count("\n", 0, position) + 1
 
 
 class Call(NamedTuple):
@@ -158,14 +162,8 @@ class Repository:
     @cached_property
     def definitions(self) -> set[str]:
         """The names that definitions and proofs declare, and the names of their files."""
-        declared = re.compile(
-            r"^\s*(?:pub |abbrev |unfoldable |instance |record |data |let )*([^\s:(){}=]+)(?= [^=\n]*:|(?: [^=\n]*)? =)|\blet (\S+) =", re.M
-        )
-        found: set[str] = set()
-        for name in self.matching(r"crates/\w+/(?:specs|proofs)/.*\.antt"):
-            found.add(Path(name).stem)
-            found |= {word for match in declared.findall(self.text(name)) for word in match if word}
-        return found
+        files = self.matching(r"crates/\w+/(?:specs|proofs)/.*\.antt")
+        return {Path(name).stem for name in files}.union(*(defined_in(self.text(name)) for name in files))
 
     @cached_property
     def gate_edits(self) -> dict[str, str]:
@@ -195,6 +193,13 @@ class Repository:
         return self.exported["include/hullashlar.h"]
 
     @cached_property
+    def call_names(self) -> set[str]:
+        """The calls of the headers, and what else has a name like theirs: enums, functions of a header or of the firmware's C, crates."""
+        files = [*self.headers, *self.matching(r"firmware/.*\.c")]
+        others = {name for file in files for name in re.findall(r"(?:enum|int) (hullashlar_\w+)", self.text(file))}
+        return others.union(self.crates, *self.exported.values())
+
+    @cached_property
     def refusals(self) -> dict[int, str]:
         """The refusals by number, with the header's name in small letters."""
         pairs = re.findall(r"HULLASHLAR_REFUSED_(\w+) = (\d+)", self.text("include/hullashlar.h"))
@@ -212,6 +217,10 @@ class Repository:
     # ---- the rest
 
     @cached_property
+    def chapters(self) -> set[str]:
+        return {heading for _, heading in self.headings("docs/RULES.md")}
+
+    @cached_property
     def targets(self) -> set[str]:
         return set(re.findall(r"^([a-z][a-z-]*):(?!=)", self.text("Makefile"), re.M))
 
@@ -219,7 +228,23 @@ class Repository:
     def words(self) -> set[str]:
         """Every word of the code that is no proof: of crates, headers, scripts, hosts, the oracle and the Makefile."""
         kinds = r"Makefile|(?!tests/docs_check/).*\.(?:rt|h|rs|py|c|toml)"
-        return {word for name in self.matching(kinds) for word in re.findall(r"\w+", self.text(name))}
+        return set().union(*(words_in(self.text(name)) for name in self.matching(kinds)))
+
+
+DEFINED = re.compile(
+    r"^\s*(?:pub |abbrev |unfoldable |instance |record |data |let )*([^\s:(){}=]+)(?= [^=\n]*:|(?: [^=\n]*)? =)|\blet (\S+) =", re.M
+)
+
+
+@cache
+def defined_in(text: str) -> frozenset[str]:
+    """The names that a file of definitions or proofs declares, with those that a `let` gives."""
+    return frozenset(word for match in DEFINED.findall(text) for word in match if word)
+
+
+@cache
+def words_in(text: str) -> frozenset[str]:
+    return frozenset(re.findall(r"\w+", text))
 
 
 def declared_in_c(text: str) -> dict[str, Call]:
@@ -230,7 +255,7 @@ def declared_in_c(text: str) -> dict[str, Call]:
         comment, _, between = text[begin : match.start()].partition("*/")
         own = "" if between.strip() else re.sub(r"\n \* ?", "\n", comment[2:])
         parameters = [re.search(r"(\w+)$", part.strip())[1] for part in match[2].split(",")]
-        found[match[1]] = Call(text.count("\n", 0, match.start()) + 1, parameters, own)
+        found[match[1]] = Call(line_of(text, match.start()), parameters, own)
     return found
 
 
