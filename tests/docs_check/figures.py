@@ -112,7 +112,7 @@ COUNTED: list[tuple[str, str, Callable[[Repository], set[int]]]] = [
     ("calls of double arithmetic", r"hullashlar_doubles\.h declares its # calls", of_doubles),
     ("calls of double arithmetic", r"\bthe # calls of (?:lib|double)", of_doubles),
     ("crates", r"\b(\d{2,}) crates\b", crates),
-    ("must-fail edits", r"\b# (?:must-fail )?edits\b", some_edits),
+    ("must-fail edits", r"\b(\d{2,}) (?:must-fail )?edits\b", some_edits),
     ("edits of the gate", r"\b# must-fail edits that the gate", gate_edits),
     ("further edits", r"\b# (?:further edits|that `make further-edits`)", further_edits),
     ("crates and edits of the gate", r"\b# passed, 0 failed", passed),

@@ -12,7 +12,7 @@ CRATE_TABLE = ["Crate", "What it has", "Over"]
 # What the first column of a table of calls is called.
 OF_CALLS = {"Call", "Export", "Exported call"}
 
-# What the toolchain brings; crates.txt has it, and the table leaves it out.
+# What the toolchain brings; crates.txt has it, and the table may leave it out.
 OF_THE_KIT = {"io", "libc"}
 
 
@@ -92,7 +92,7 @@ def crate_faults(repository: Repository) -> Iterator[Fault]:
     for name in repository.current:
         for line, head, cells in repository.rows(name):
             if head == CRATE_TABLE and (match := re.fullmatch(r"\[?`(\w+)`.*", cells[0])):
-                found[match[1]] = (name, line, re.findall(r"\w+", cells[2]))
+                found[match[1]] = (name, line, [over for over in re.findall(r"\w+", cells[2]) if over not in OF_THE_KIT])
     page = next(iter(found.values()), ("README.md", 1, []))[0]
     for crate, over in repository.crates.items():
         stands_on = [name for name in over if name not in OF_THE_KIT]

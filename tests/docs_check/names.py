@@ -5,18 +5,19 @@ from __future__ import annotations
 
 import re
 from functools import cache
+from itertools import zip_longest
 from pathlib import Path
 from typing import Callable, Iterator
 
-from repository import CODE_WORD, MADE, Fault, Repository, line_of
+from repository import CODE_WORD, MADE, Fault, Repository, cells_of, line_of
 
 ALLOWED = Path(__file__).resolve().parent / "allowed.txt"
 
 # Free text by its form: a piece of code, a command, an option, a number, a word with an operator in it.
-FREE = re.compile(r".*[\s\"'=<>(){}\[\]+*,;&|λ≡→…$%^!?@#].*|[-.]\S*|[0-9].*|/\S*|__\w+|\S*\.")
+FREE = re.compile(r".*[\s\"'=<>(){}\[\]+*,;&|λ≡→…$%^!?@#].*|[-.]\S*|[0-9].*|/\S*|__\w+|\S*[.:]")
 
-# What is said of a path in general: NAME, TARGET and the like stand for one part of it.
-PLACEHOLDER = re.compile(r"\b[A-Z]{3,}\b(?!\.md)")
+# What is said of a path or a crate in general: NAME, TARGET and the like stand for one part of it.
+PLACEHOLDER = re.compile(r"(?<![A-Za-z])[A-Z]{4,}(?![A-Za-z.])|CHAPTER(?=\.antt)")
 SUFFIX = re.compile(r".*\.(?:antt|rt|md|py|c|h|rs|txt|sheet|edit|sha256|svg|png|toml|ld)")
 
 # Paths in running text, and the names of calls there.
@@ -92,6 +93,8 @@ def classes(repository: Repository) -> set[str]:
 
 def word_exists(repository: Repository, word: str) -> bool:
     edits = {edit.split("/")[1] for edits in (repository.gate_edits, repository.further_edits) for edit in edits}
+    if PLACEHOLDER.search(word):
+        return any(re.fullmatch(PLACEHOLDER.sub(r"\\w+", word), crate) for crate in repository.crates)
     return word in repository.words or word in repository.definitions or word in repository.crates or word in edits
 
 
@@ -166,15 +169,21 @@ def faults(repository: Repository) -> Iterator[Fault]:
 def styled(repository: Repository) -> Iterator[tuple[str, int, str]]:
     """The lines that may have words in code style: of documents, of the headers and of comments."""
     for name in repository.current:
-        section = ""
+        section, head = "", []
         for line, text in repository.prose(name):
             section = text if text.startswith("#") else section
+            head = head or cells_of(text) if text.startswith("|") else []
             if not OLD_NAMES.search(section):
-                yield name, line, text
+                yield name, line, without_theirs(head, text) if head else text
     for name in repository.headers:
         yield from ((name, line, text) for line, text in repository.lines(name))
     for name in repository.sources:
         yield from ((name, line, text) for line, text in repository.comments(name))
+
+
+def without_theirs(head: list[str], row: str) -> str:
+    """A row of a table without the cells of a column that has the Rust's names, which are not ours."""
+    return " | ".join(cell for title, cell in zip_longest(head, cells_of(row), fillvalue="") if "Rust's name" not in title)
 
 
 def plain_faults(repository: Repository, name: str) -> Iterator[Fault]:
@@ -186,7 +195,7 @@ def plain_faults(repository: Repository, name: str) -> Iterator[Fault]:
                 yield Fault(name, line_of(text, match.start(1)), f"{match[1]} is {missing}")
     for match in CHAPTERS.finditer(text):
         for word in re.findall(r"[A-Z]\w+", match[1]):
-            if word not in repository.chapters:
+            if word not in repository.chapters and not word.isupper():
                 yield Fault(name, line_of(text, match.start()), f"{word} is no chapter of docs/RULES.md")
 
 

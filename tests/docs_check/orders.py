@@ -179,7 +179,7 @@ def once(numbers: list[int]) -> list[int]:
 NUMBER = re.compile(r"(?<![\w.,−-])(\d\d?)(?: to (\d\d?))?(?![\w:/]|,\d{3}|\.\d)")
 
 # Where a list of refusals begins or goes on: behind a mark or behind one of these words. Behind the number before, it goes on too.
-GOES_ON = re.compile(r"(?:^|[,;:(] |\) |\b(?:by|[Tt]hen|and|or|order|first of|sheet of|build|query|[Rr]efuses|\w+'s) )$")
+GOES_ON = re.compile(r"(?:^|[,;:(] |\) |\b(?:by|[Tt]hen|and|or|order|first of|sheet of|build|query|which is|[Rr]efuses|\w+'s) )$")
 
 # What stands behind these words belongs to each point of a call for many, or says more of a number that was there.
 ANOTHER_LIST = re.compile(r"; a point's own|; in refusals, for each point|\bin its slot\b")
@@ -288,11 +288,16 @@ def calls_in(cell: str) -> list[str]:
 
 
 def chapter_faults(repository: Repository, definitions: Definitions, name: str) -> Iterator[Fault]:
-    """The lines of a chapter that begin a list of refusals with the name of its definition."""
-    file = ""
-    for line, text in repository.prose(name):
+    """The items of a chapter that begin a list of refusals with the name of its definition; one that begins with Then goes on with it."""
+    file, begun = "", []
+    for line, text in [*repository.prose(name), (0, "")]:
+        if begun and text.startswith("- Then "):
+            begun[2] += " " + text.removeprefix("- ")
+            continue
+        if begun:
+            yield from compared(name, begun[0], begun[1], said_in(begun[2].strip()), once(definitions.named(file, begun[1])))
+            begun = []
         if heading := re.match(r"#+ (\w+)$", text):
             file = next(iter(repository.matching(rf"crates/\w+/specs/{heading[1]}\.antt")), "")
         if match := re.match(r"- Refuses? \(`([\w-]+-refusal)`[^)]*\)[^:]*:(.*)", text):
-            defined = once(definitions.named(file, match[1]))
-            yield from compared(name, line, match[1], said_in(match[2].strip()), defined)
+            begun = [line, match[1], match[2]]

@@ -32,6 +32,11 @@ def line_of(text: str, position: int) -> int:
     return text.count("\n", 0, position) + 1
 
 
+def cells_of(row: str) -> list[str]:
+    """The cells of a row of a table; a bar that is none of the table's is written with a backslash."""
+    return [cell.strip() for cell in re.split(r"(?<!\\)\|", row)[1:-1]]
+
+
 class Call(NamedTuple):
     """A call as a file declares it: its line, its parameters, and for a header the comment before it."""
 
@@ -124,7 +129,7 @@ class Repository:
             if not line.startswith("|"):
                 head = []
                 continue
-            cells = [cell.strip() for cell in re.split(r"(?<!\\)\|", line)[1:-1]]
+            cells = cells_of(line)
             if not head:
                 head = cells
             elif not re.fullmatch(r"[|: -]+", line):
@@ -151,7 +156,7 @@ class Repository:
     @cached_property
     def items(self) -> dict[str, set[str]]:
         """What the code of each crate declares: functions, types, their cases, constants and modules."""
-        declared = re.compile(r"\b(?:fn|struct|enum|const|mod|type|trait) (\w+)|^\s+([A-Z]\w+)(?:\(.*\))?,$", re.M)
+        declared = re.compile(r"\b(?:fn|struct|enum|const|mod|type|trait) (\w+)|^\s+([A-Z]\w+)(?:\(.*\),|,| \{.*)$", re.M)
         found: dict[str, set[str]] = {crate: set() for crate in self.crates}
         for name in self.matching(r"crates/\w+/src/.*\.rt"):
             crate = name.split("/")[1]
