@@ -2,6 +2,7 @@
 
 from pathlib import Path
 
+import cited
 import decisions
 import declared
 import figures
@@ -10,11 +11,12 @@ import links
 import named
 import names
 import orders
+import records
 import refusals
 import scripts
 from repository import Fault, Repository
 
-CHECKS = [links, names, declared, orders, refusals, figures, named, lines, decisions, scripts]
+CHECKS = [links, names, cited, declared, records, orders, refusals, figures, named, lines, decisions, scripts]
 
 
 def found_in(root: Path) -> tuple[list[Fault], int]:

@@ -1,12 +1,12 @@
 """Declarations: the exported calls are the same, with as many parameters, in the headers, in the code that exports them and in the declarations for
-Rust; the Python package has each of them, and the header's names of refusals."""
+Rust; the Python package has each of them, and the header's sizes and names of refusals."""
 
 import re
 from typing import Iterator
 
 from repository import Fault, Repository, line_of
 
-HEADER, RUST = "include/hullashlar.h", "include/hullashlar.rs"
+HEADER = "include/hullashlar.h"
 EXPORTS = {HEADER: "crates/hullashlar/src/lib.rt", "include/hullashlar_doubles.h": "crates/hullashlar_doubles/src/lib.rt"}
 
 
@@ -40,7 +40,10 @@ def faults(repository: Repository) -> Iterator[Fault]:
     for header, code in EXPORTS.items():
         if header in repository.exported:
             yield from compared(repository, header, code, exported_by(repository.text(code)))
-    yield from compared(repository, HEADER, RUST, declared_for_rust(repository.text(RUST)))
+    for name in repository.matching(r"(?:include|rust|oracle)/.*\.rs"):
+        there = declared_for_rust(repository.text(name))
+        if 2 * len(there) > len(repository.calls):
+            yield from compared(repository, HEADER, name, there)
     yield from python_faults(repository)
 
 
@@ -49,6 +52,10 @@ def python_faults(repository: Repository) -> Iterator[Fault]:
     for name in repository.calls:
         if not re.search(rf'"(?:hullashlar_)?{name.removeprefix("hullashlar_")}"', repository.text(calls)):
             yield Fault(calls, 1, f"{name} is not declared")
+    sizes = dict(re.findall(r"HULLASHLAR_(\w+) = (\d+)", repository.text(HEADER)))
+    for line, text in repository.lines(calls):
+        if (match := re.match(r"([A-Z_]+) = (\d+)$", text)) and sizes.get(match[1], match[2]) != match[2]:
+            yield Fault(calls, line, f"{match[1]} is {sizes[match[1]]} in {HEADER}")
     said = {int(number): name for number, name in re.findall(r'^    (\d+): \("(\w+)"', repository.text(refusals), re.M)}
     if said != repository.refusals:
         yield Fault(refusals, 1, f"the refusals are not those of {HEADER}")

@@ -1,6 +1,8 @@
 """Figures that stand twice: a figure that the repository has itself is counted, and every sentence that says it is held to the count; a figure that was
 measured is held to its other places. History keeps the figures of its day."""
 
+from __future__ import annotations
+
 import re
 from functools import cache
 from typing import Callable, Iterator
@@ -79,14 +81,45 @@ def replayed(repository: Repository) -> set[int]:
     return {int(last.split()[0])}
 
 
+def traced(repository: Repository) -> set[int]:
+    """The rows of docs/TRACE.md."""
+    return {len(re.findall(r"^\| T\d+", repository.text("docs/TRACE.md"), re.M))} if "docs/TRACE.md" in repository.files else set()
+
+
+def constant(repository: Repository, name: str) -> int | None:
+    """The number that a definition is, of numbers and of other such definitions by sums and products; None where it is another thing."""
+    for file in repository.matching(r"crates/\w+/specs/\w+\.antt"):
+        match = re.search(rf"^{re.escape(name)} = ([\w +*()-]+)$", repository.text(file), re.M)
+        if match:
+            said = re.sub(r"[a-z][\w-]*", lambda word: str(constant(repository, word[0])), match[1])
+            return eval(said) if re.fullmatch(r"[\d +*()]+", said) else None
+    return None
+
+
+def defined(name: str) -> Callable[[Repository], set[int]]:
+    """A figure that a definition is."""
+    return lambda repository: {constant(repository, name)} - {None}
+
+
 def variable(name: str) -> Callable[[Repository], set[int]]:
     """A figure that the Makefile sets."""
-    return lambda repository: {int(re.search(rf"^{name} = (\d+)$", repository.text("Makefile"), re.M)[1])}
+    return lambda repository: set(map(int, re.findall(rf"^{name} = (\d+)$", repository.text("Makefile"), re.M)))
+
+
+def option(target: str, name: str) -> Callable[[Repository], set[int]]:
+    """A figure that a target of the Makefile hands to a program."""
+    rule = rf"^{target}:.*\n(?:\t.*\n)*?\t.*--{name} (\d+)"
+    return lambda repository: set(map(int, re.findall(rule, repository.text("Makefile"), re.M)))
 
 
 def size(name: str) -> Callable[[Repository], set[int]]:
     """A size that the header has."""
-    return lambda repository: {int(re.search(rf"HULLASHLAR_{name} = (\d+)", repository.text("include/hullashlar.h"))[1])}
+    return lambda repository: set(map(int, re.findall(rf"HULLASHLAR_{name} = (\d+)", repository.text("include/hullashlar.h"))))
+
+
+def in_bytes(*sizes: str) -> Callable[[Repository], set[int]]:
+    """The bytes of so many doubles together."""
+    return lambda repository: {8 * sum(next(iter(size(name)(repository))) for name in sizes)}
 
 
 def stack_of(calls: str) -> Callable[[Repository], set[int]]:
@@ -126,11 +159,19 @@ COUNTED: list[tuple[str, str, Callable[[Repository], set[int]]]] = [
     ("calls on each processor", r"\bOn each target # calls", variable("FIRMWARE_CALLS")),
     ("seconds of a soak", r"`SOAK` seconds \(#\)", variable("SOAK")),
     ("seconds of the fuzzer", r"`FUZZ` seconds \(#\)", variable("FUZZ")),
-    ("bytes of the longest sheet", r"\b# bytes? (?:are enough for|hold) every sheet", size("SHEET")),
-    ("bytes of the longest sheet", r"\b# are enough for every sheet, and|\bbytes any, of which # are enough", size("SHEET")),
-    ("bytes of the longest sheet", r"\b[Nn]o (?:accepted )?sheet has more than # bytes", size("SHEET")),
-    ("bytes of stack of hullashlar_surface", r"\bStack: # bytes on x86-64", stack_of("hullashlar_surface")),
-    ("bytes of stack of hullashlar_surface", r"\b# bytes of stack on x86-64\. 24,576", stack_of("hullashlar_surface")),
+    ("bytes of the longest sheet", r"\b# bytes?,? (?:which )?(?:are enough for|hold) every sheet", size("SHEET")),
+    ("bytes of the longest sheet", r"\b[Nn]o (?:accepted )?sheet has more than #", size("SHEET")),
+    ("bytes of a tensor", r"\btensor #(?: bytes)?, scratch \d", in_bytes("TENSOR")),
+    ("bytes of scratch", r"\bscratch #, the two buffers", in_bytes("MOST_SCRATCH")),
+    ("bytes of two buffers", r"\btwo buffers of a sheet #", in_bytes("BUFFER", "BUFFER")),
+    ("bytes together", r"\blargest grid takes # bytes|\btogether # ?\.", in_bytes("TENSOR", "MOST_SCRATCH", "BUFFER", "BUFFER")),
+    ("bytes of the text of a sheet", r"\b# bytes (?:that `sheet_text` asks|are enough for the text of any sheet)", defined("text-length")),
+    ("bytes of the text of a curve", r"\b# bytes (?:that `device_text` asks|that it lends are enough for any curve)", defined("device-text-length")),
+    ("bytes of the text of a report", r"\b# bytes that `report_text` asks", defined("report-length")),
+    ("cases under memcheck", r"`make memcheck` makes # cases", option("memcheck", "cases")),
+    ("cases under each float setting", r"`make float-settings` makes # cases", option("float-settings", "settings")),
+    ("rows of docs/TRACE.md", r"\bThen # rows", traced),
+    ("bytes of stack of hullashlar_surface", r"\b(?:Stack:|takes) # bytes(?: of stack)? on x86-64", stack_of("hullashlar_surface")),
     ("bytes of stack of the other calls", r"\b(?:more than|at most) # bytes of stack", stack_of(r"hullashlar_(?!surface`)\w+")),
 ]
 
@@ -140,7 +181,12 @@ SAME: list[tuple[str, str]] = [
     ("calls that make differential makes", r"(\d+(?:,\d{3}){2,}) calls(?: \w+){1,4} beside the Rust"),
     ("calls of the device among them", r"(\d+(?:,\d{3}){2,}) of them of the device"),
     ("pairs of doubles", r"(\d+(?:,\d{3}){2,}) pairs\b"),
+    ("pairs of doubles on a target", r"(?<![\d,])(\d{3},\d{3}) (?:directed )?pairs\b"),
+    ("bytes of the buffers of hullashlar_surface", r"(\d\d,\d{3}) (?:of them|bytes) are (?:its )?buffers"),
 ]
+
+# A figure with the definition that it is in brackets behind it.
+BESIDE = re.compile(r"(?<![\d,.^−-])(?<! to )(\d+(?:,\d{3})*)(?: [a-z]+)? \(`([a-z][a-z-]+)`[;,)]")
 
 
 def places(repository: Repository) -> list[str]:
@@ -165,6 +211,12 @@ def faults(repository: Repository) -> Iterator[Fault]:
                     shown = " or ".join(f"{known:,}" for known in sorted(counted))
                     yield Fault(name, line, f"{figure} is said of {what}, of which there are {shown}")
     yield from same_faults(repository)
+    for name in repository.current:
+        for line, text in repository.prose(name):
+            for figure, definition in BESIDE.findall(text):
+                meant = constant(repository, definition)
+                if meant is not None and meant != number(figure):
+                    yield Fault(name, line, f"{figure} stands beside {definition}, which is {meant:,}")
 
 
 def same_faults(repository: Repository) -> Iterator[Fault]:

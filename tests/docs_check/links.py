@@ -1,4 +1,4 @@
-"""Links: every relative link of a document leads to a file, and its anchor to a heading there."""
+"""Links: every relative link of a document leads to a file, and its anchor to a heading there; a label in brackets has its link."""
 
 import posixpath
 import re
@@ -7,6 +7,8 @@ from typing import Iterator
 from repository import Fault, Repository
 
 LINK = re.compile(r"\[[^\]]*\]\(([^)\s]+)\)")
+LABEL = re.compile(r"\[([^\]\[]+)\](?![(:\[])|\[[^\]]*\]\[([^\]]+)\]")
+REFERENCE = re.compile(r"^\[([^\]]+)\]: (\S+)$")
 ELSEWHERE = re.compile(r"[a-z]+:")
 
 
@@ -21,24 +23,51 @@ def anchors(repository: Repository, name: str) -> set[str]:
     found: set[str] = set()
     for _, heading in repository.headings(name):
         anchor, count = slug(heading), 0
-        while (anchor if not count else f"{anchor}-{count}") in found:
+        while (f"{anchor}-{count}" if count else anchor) in found:
             count += 1
-        found.add(anchor if not count else f"{anchor}-{count}")
+        found.add(f"{anchor}-{count}" if count else anchor)
     return found
 
 
+def target(name: str, link: str) -> str:
+    """The file that a link of a document leads to."""
+    path = link.partition("#")[0]
+    return posixpath.normpath(posixpath.join(posixpath.dirname(name), path)) if path else name
+
+
+def references(repository: Repository, name: str) -> dict[str, str]:
+    """The links that a document gives to labels."""
+    matches = [REFERENCE.match(text) for _, text in repository.prose(name)]
+    return {match[1]: match[2] for match in matches if match}
+
+
 def faults(repository: Repository) -> Iterator[Fault]:
+    known: dict[str, set[str]] = {}
     for name in repository.documents:
+        labels = references(repository, name)
         for line, text in repository.prose(name):
-            for link in LINK.findall(re.sub(r"`[^`]*`", "", text)):
+            reference = REFERENCE.match(text)
+            for link in [reference[2]] if reference else LINK.findall(re.sub(r"`[^`]*`", "", text)):
                 if not ELSEWHERE.match(link):
-                    yield from faults_of(repository, name, line, link)
+                    yield from link_faults(repository, name, line, link, known)
+            if labels and not reference:
+                yield from label_faults(name, line, text, labels)
 
 
-def faults_of(repository: Repository, name: str, line: int, link: str) -> Iterator[Fault]:
-    path, _, anchor = link.partition("#")
-    target = posixpath.normpath(posixpath.join(posixpath.dirname(name), path)) if path else name
-    if target not in repository.paths:
+def link_faults(repository: Repository, name: str, line: int, link: str, known: dict[str, set[str]]) -> Iterator[Fault]:
+    file, anchor = target(name, link), link.partition("#")[2]
+    if file not in repository.paths:
         yield Fault(name, line, f"the link {link} leads to no file")
-    elif anchor and target.endswith(".md") and anchor not in anchors(repository, target):
-        yield Fault(name, line, f"the link {link} leads to no heading of {target}")
+    elif anchor and file.endswith(".md"):
+        if file not in known:
+            known[file] = anchors(repository, file)
+        if anchor not in known[file]:
+            yield Fault(name, line, f"the link {link} leads to no heading of {file}")
+
+
+def label_faults(name: str, line: int, text: str, labels: dict[str, str]) -> Iterator[Fault]:
+    """Labels that look like those of the document, a name with a capital letter or a code word, and have no link."""
+    for first, second in LABEL.findall(re.sub(r"`[^`]*\[[^`]*`", "", text)):
+        label = first or second
+        if label not in labels and (second or re.fullmatch(r"[A-Z][A-Za-z]+|`[^`]+`|\w+/\w+", label)):
+            yield Fault(name, line, f"the label [{label}] has no link")

@@ -27,6 +27,9 @@ PLAIN_CONSTANT = re.compile(r"\b(HULLASHLAR_[A-Z0-9_]*[A-Z0-9])\b")
 MAKE = re.compile(r"\bmake ([a-z][a-z-]*)")
 CHAPTERS = re.compile(r"\bchapters? ((?:[A-Z]\w+(?:,[\s*/-]+|[\s*/-]+and[\s*/-]+)?)+)")
 
+# What else has words about the project: headers, scripts, hosts, the oracle, man pages, the Makefile.
+WRITTEN = r"(?!tests/docs_check/)(?:include|examples|man|firmware|python|rust|oracle|tests)/.*\.(?:h|rs|c|py|toml|txt|[13])|Makefile|\.ci/run"
+
 # A table of what crates were called before has names that are no more.
 OLD_NAMES = re.compile(r"names of crates", re.I)
 
@@ -71,8 +74,10 @@ def call_exists(repository: Repository, word: str) -> bool:
 
 
 def constant_exists(repository: Repository, word: str) -> bool:
-    names = [*repository.headers, "Makefile", *repository.matching(r"crates/\w+/src/.*\.rt|oracle/.*\.rs|firmware/.*|tests/.*\.py")]
-    return any(re.search(rf"\b{word}\b", repository.text(name)) for name in names if not name.endswith(".png"))
+    """Whether a constant or a variable is set somewhere: in a header, the code, a script or the Makefile."""
+    is_set = re.compile(rf'#(?:define|ifndef) {word}\b|\b{word} ?[:?]?=(?!=)|\bconst {word}\b|"{word}"')
+    names = repository.matching(r"Makefile|(?:include|oracle|rust|firmware|tests|python|crates/\w+/src)/.*\.(?:h|rs|py|rt)")
+    return any(is_set.search(repository.text(name)) for name in names)
 
 
 def definition_exists(repository: Repository, word: str) -> bool:
@@ -158,8 +163,7 @@ def faults(repository: Repository) -> Iterator[Fault]:
                 known[word] = fault_of(repository, word)
             if known[word]:
                 yield Fault(name, line, str(known[word]))
-    written = r"(?:include|examples|man|firmware)/.*\.(?:h|rs|c|py|[13])|(?:python|rust)/.*\.(?:py|rs|c)|Makefile|\.ci/run"
-    for name in [*repository.current, *repository.sources, *repository.matching(written)]:
+    for name in [*repository.current, *repository.sources, *repository.matching(WRITTEN)]:
         yield from plain_faults(repository, name)
     for name in repository.current:
         for line, text, code in repository.blocks(name):

@@ -70,8 +70,10 @@ class Repository:
         return set(self.files) | folders
 
     def text(self, name: str) -> str:
+        """The text of a file, or none where there is no such file."""
         if name not in self.kept:
-            self.kept[name] = (self.root / name).read_text()
+            path = self.root / name
+            self.kept[name] = path.read_text() if path.is_file() else ""
         return self.kept[name]
 
     def lines(self, name: str) -> Iterator[tuple[int, str]]:
