@@ -87,19 +87,26 @@ def edit_faults(repository: Repository) -> Iterator[Fault]:
 
 
 def crate_faults(repository: Repository) -> Iterator[Fault]:
-    """The table of crates has all of them, each over those that crates.txt has."""
-    found: dict[str, tuple[str, int, list[str]]] = {}
-    for name in repository.current:
-        for line, head, cells in repository.rows(name):
-            if head == CRATE_TABLE and (match := re.fullmatch(r"\[?`(\w+)`.*", cells[0])):
-                found[match[1]] = (name, line, [over for over in re.findall(r"\w+", cells[2]) if over not in OF_THE_KIT])
-    page = next(iter(found.values()), ("README.md", 1, []))[0]
-    for crate, over in repository.crates.items():
-        stands_on = [name for name in over if name not in OF_THE_KIT]
-        if crate not in found:
-            yield Fault(page, 1, f"the table of crates lacks {crate}")
-        elif found[crate][2] != stands_on:
-            file, line, said = found[crate]
-            yield Fault(file, line, f"{crate} stands over {' '.join(stands_on) or 'nothing'}, and not {' '.join(said) or 'nothing'}")
-    for crate in found.keys() - repository.crates.keys():
-        yield Fault(*found[crate][:2], f"{crate} is no crate")
+    """A table of crates has all of them, each over those that crates.txt has; and there is one."""
+    tables = {name: crate_rows(repository, name) for name in repository.current}
+    if not any(tables.values()):
+        yield Fault("crates.txt", 1, "no document has a table of the crates")
+    for name, found in tables.items():
+        for crate, over in repository.crates.items() if found else ():
+            stands_on = [other for other in over if other not in OF_THE_KIT]
+            if crate not in found:
+                yield Fault(name, min(line for line, _ in found.values()), f"the table of crates lacks {crate}")
+            elif found[crate][1] != stands_on:
+                line, said = found[crate]
+                yield Fault(name, line, f"{crate} stands over {' '.join(stands_on) or 'nothing'}, and not {' '.join(said) or 'nothing'}")
+        for crate in found.keys() - repository.crates.keys():
+            yield Fault(name, found[crate][0], f"{crate} is no crate")
+
+
+def crate_rows(repository: Repository, name: str) -> dict[str, tuple[int, list[str]]]:
+    """The crates in the table of a document, each with its line and those that it is said to stand over."""
+    found = {}
+    for line, head, cells in repository.rows(name):
+        if head == CRATE_TABLE and (match := re.fullmatch(r"\[?`(\w+)`.*", cells[0])):
+            found[match[1]] = (line, [over for over in re.findall(r"\w+", cells[2]) if over not in OF_THE_KIT])
+    return found

@@ -28,7 +28,7 @@ MAKE = re.compile(r"\bmake ([a-z][a-z-]*)")
 CHAPTERS = re.compile(r"\bchapters? ((?:[A-Z]\w+(?:,[\s*/-]+|[\s*/-]+and[\s*/-]+)?)+)")
 
 # What else has words about the project: headers, scripts, hosts, the oracle, man pages, the Makefile.
-WRITTEN = r"(?!tests/docs_check/)(?:include|examples|man|firmware|python|rust|oracle|tests)/.*\.(?:h|rs|c|py|toml|txt|[13])|Makefile|\.ci/run"
+WRITTEN = r"(?!tests/docs_check/)(?:include|examples|man|firmware|python|rust|oracle|tests)/.*\.(?:h|rs|c|py|toml|[13])|Makefile|\.ci/run"
 
 # A table of what crates were called before has names that are no more.
 OLD_NAMES = re.compile(r"names of crates", re.I)
@@ -74,10 +74,7 @@ def call_exists(repository: Repository, word: str) -> bool:
 
 
 def constant_exists(repository: Repository, word: str) -> bool:
-    """Whether a constant or a variable is set somewhere: in a header, the code, a script or the Makefile."""
-    is_set = re.compile(rf'#(?:define|ifndef) {word}\b|\b{word} ?[:?]?=(?!=)|\bconst {word}\b|"{word}"')
-    names = repository.matching(r"Makefile|(?:include|oracle|rust|firmware|tests|python|crates/\w+/src)/.*\.(?:h|rs|py|rt)")
-    return any(is_set.search(repository.text(name)) for name in names)
+    return word in repository.constants
 
 
 def definition_exists(repository: Repository, word: str) -> bool:
@@ -115,6 +112,10 @@ def begins_a_crate(repository: Repository, word: str) -> bool:
     return any(crate.startswith(word) for crate in repository.crates)
 
 
+def begins_a_constant(repository: Repository, word: str) -> bool:
+    return any(re.search(rf"\b{word}[A-Z]", repository.text(name)) for name in repository.headers)
+
+
 def ends_a_call(repository: Repository, word: str) -> bool:
     return any(call.endswith(word) for calls in repository.exported.values() for call in calls)
 
@@ -123,6 +124,7 @@ def ends_a_call(repository: Repository, word: str) -> bool:
 Known = Callable[[Repository, str], bool]
 CLASSES: list[tuple[str, Known, str]] = [
     (r"hullashlar_\w+", call_exists, "no call of a header"),
+    (r"[A-Z][A-Z0-9_]+_", begins_a_constant, "no beginning of a constant of a header"),
     (r"[A-Z][A-Z0-9_]+", constant_exists, "no constant of a header, the code or the Makefile"),
     (r"lib\w+\.(?:a|so)", archive_exists, "no archive of a crate"),
     (r".*/.*", path_or_edit, "no file and no edit"),

@@ -232,6 +232,12 @@ class Repository:
         return set(re.findall(r"^([a-z][a-z-]*):(?!=)", self.text("Makefile"), re.M))
 
     @cached_property
+    def constants(self) -> set[str]:
+        """Constants and variables that are set in a header, the code, a script or the Makefile, or asked for there by their names."""
+        names = self.matching(r"Makefile|(?:include|oracle|rust|firmware|tests|python|crates/\w+/src)/.*\.(?:h|rs|py|rt)")
+        return set().union(*(constants_in(self.text(name)) for name in names))
+
+    @cached_property
     def words(self) -> set[str]:
         """Every word of the code that is no proof: of crates, headers, scripts, hosts, the oracle and the Makefile."""
         kinds = r"Makefile|(?!tests/docs_check/).*\.(?:rt|h|rs|py|c|toml)"
@@ -247,6 +253,14 @@ DEFINED = re.compile(
 def defined_in(text: str) -> frozenset[str]:
     """The names that a file of definitions or proofs declares, with those that a `let` gives."""
     return frozenset(word for match in DEFINED.findall(text) for word in match if word)
+
+
+SET = re.compile(r'#(?:define|ifndef) (\w+)|\b([A-Z][A-Z0-9_]+) ?[:?]?=(?!=)|\bconst ([A-Z]\w+)|"([A-Z][A-Z0-9_]+)"')
+
+
+@cache
+def constants_in(text: str) -> frozenset[str]:
+    return frozenset(word for match in SET.findall(text) for word in match if word)
 
 
 @cache
