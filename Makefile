@@ -1,5 +1,5 @@
 .PHONY: run test differential soak memcheck threads float-settings fuzz mutants report-largest deliberate-errors further-edits \
-    sheet-by-hand streams-fail exact-error rules-page docs-check oracle-test archive archive-here firmware firmware-test firmware-bench \
+    sheet-by-hand streams-fail exact-error rules-page docs-check docs-slips oracle-test archive archive-here firmware firmware-test firmware-bench \
     bench examples picture expected python python-test python-bench python-pictures doubles doubles-test
 
 # On another machine than x86-64, what links the archive takes one that is made for it, and our programs run on the kit's emulator.
@@ -117,11 +117,14 @@ rules-page:
 	python3 tests/rules_page.py
 	python3 tests/forms_page.py
 
-# Holds the documents against the code, the page of rules among them: every proof begins with a sentence, no line is too long, and no law is
-# said twice.
-docs-check: rules-page
-	python3 tests/proofs_speak.py
-	python3 tests/said_once.py
+# Holds the documents, the headers and the comments against the code: what is named exists, what stands twice is equal, and nothing is left out;
+# tests/docs_check has a file for each check. Each fault is one line, FILE:LINE: what is wrong.
+docs-check:
+	python3 -B tests/docs_check
+
+# Puts deliberate slips into a copy, one after the other; fails where a slip is not found, or where there is a fault without one.
+docs-slips:
+	python3 -B tests/docs_check/try_slips.py
 
 # The Rust side's own tests: the unchanged files, the worked examples, the generator, what is kept beside the programs.
 oracle-test:
