@@ -227,3 +227,5 @@ doubles:
 # and where a copy with a deliberate error is not found.
 doubles-test: doubles
 	python3 tests/doubles/run.py $(ROUNDS)
+
+include install/install.mk

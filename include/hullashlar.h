@@ -57,6 +57,10 @@
  */
 #ifndef HULLASHLAR_H
 #define HULLASHLAR_H
+#define HULLASHLAR_VERSION_MAJOR 1
+#define HULLASHLAR_VERSION_MINOR 1
+#define HULLASHLAR_VERSION_PATCH 0
+#define HULLASHLAR_VERSION "1.1.0"
 
 #include <float.h>
 #include <stdint.h>
