@@ -1,4 +1,4 @@
-//! The calls of hullashlar.h as Rust declares them: a slice is a pointer and then its length.
+//! The calls of include/hullashlar.h as Rust declares them: a slice is a pointer and then its length.
 
 /// What is counted, a length or an index: 64 bits on every processor, and `usize` where that has them.
 #[cfg(target_pointer_width = "64")]
@@ -7,6 +7,10 @@ pub type Count = usize;
 pub type Count = u64;
 
 /// Whether floats are computed on this thread as the calls need it: to the nearest, and with subnormal numbers.
+///
+/// ```
+/// assert!(hullashlar::floats_ready());
+/// ```
 #[allow(dead_code)]
 pub fn floats_ready() -> bool {
     let asked = core::hint::black_box::<f64>;
