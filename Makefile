@@ -1,6 +1,6 @@
 .PHONY: run test differential soak memcheck threads float-settings fuzz mutants report-largest deliberate-errors further-edits \
     sheet-by-hand streams-fail exact-error rules-page docs-check docs-slips oracle-test archive archive-here firmware firmware-test firmware-bench \
-    bench examples picture expected python python-test python-bench python-pictures doubles doubles-test
+    bench examples rust-test picture expected python python-test python-bench python-pictures doubles doubles-test
 
 # On another machine than x86-64, what links the archive takes one that is made for it, and our programs run on the kit's emulator.
 MACHINE := $(shell uname -m)
@@ -178,9 +178,9 @@ examples: archive-here
 	python3 examples/gain_sheet.py changed | cmp - examples/changed.sheet
 	gcc -std=c11 -Wall -Wextra -Werror -O2 -Iinclude examples/host.c $(ARCHIVES)/libhullashlar.a -o target/examples/host_in_c
 	gcc -std=c11 -Wall -Wextra -Werror -O2 -Iinclude examples/firmware.c $(ARCHIVES)/libhullashlar.a -o target/examples/firmware
-	rustc --edition 2021 -O examples/host.rs -L native=$(ARCHIVES) -l static=hullashlar -o target/examples/host_in_rust
+	cd rust/hullashlar && cargo build --offline --release --target-dir ../../target/rust --example host
 	target/examples/host_in_c examples/gain.sheet target/examples/c.sheet | diff examples/expected.txt -
-	target/examples/host_in_rust examples/gain.sheet target/examples/rust.sheet | diff examples/expected.txt -
+	target/rust/release/examples/host examples/gain.sheet target/examples/rust.sheet | diff examples/expected.txt -
 	target/examples/firmware examples/gain.sheet | diff examples/firmware_expected.txt -
 	cmp examples/changed.sheet target/examples/c.sheet
 	cmp examples/changed.sheet target/examples/rust.sheet
@@ -198,6 +198,10 @@ ifeq ($(MACHINE),x86_64)
 
 examples: doubles
 endif
+
+# The Rust crate's own tests, its documented examples among them.
+rust-test: archive-here
+	cd rust/hullashlar && cargo test --offline --target-dir ../../target/rust
 
 # Draws the picture of README.md anew, from numbers that the library computes.
 picture: archive
@@ -254,3 +258,5 @@ doubles:
 # and where a copy with a deliberate error is not found.
 doubles-test: doubles
 	python3 tests/doubles/run.py $(ROUNDS)
+
+include install/install.mk

@@ -1,6 +1,6 @@
 //! The archive as something that answers calls.
 
-#[path = "../../../include/hullashlar.rs"]
+#[path = "../../../rust/hullashlar/src/declared.rs"]
 mod declared;
 
 use crate::guarded::{self, lent, lent_mut, lent_narrowed};

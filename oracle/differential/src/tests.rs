@@ -2,7 +2,7 @@
 
 const OURS: &str = include_str!("../../../crates/hullashlar/src/lib.rt");
 const FOR_C: &str = include_str!("../../../include/hullashlar.h");
-const FOR_RUST: &str = include_str!("../../../include/hullashlar.rs");
+const FOR_RUST: &str = include_str!("../../../rust/hullashlar/src/declared.rs");
 
 /// A call's name, and its arguments with their types in Rust's words, where a whole number of
 /// 64 bits is a u64, whether it counts or is a pattern.

@@ -1,4 +1,4 @@
-//! The calls of hullashlar.h as Rust declares them. A slice is a pointer, then its length in elements.
+//! The calls of include/hullashlar.h as Rust declares them. A slice is a pointer, then its length in elements.
 
 /// A length or an index: 64 bits on every processor, and `usize` where that has 64.
 #[cfg(target_pointer_width = "64")]
@@ -7,6 +7,10 @@ pub type Count = usize;
 pub type Count = u64;
 
 /// Whether this thread rounds to nearest and keeps subnormal numbers, as the calls need it.
+///
+/// ```
+/// assert!(hullashlar::floats_ready());
+/// ```
 #[allow(dead_code)]
 pub fn floats_ready() -> bool {
     let asked = core::hint::black_box::<f64>;
