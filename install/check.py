@@ -6,6 +6,7 @@ in C are compiled by pkg-config and by CMake, the programs run, and man shows it
 """
 
 import os
+import platform
 import re
 import shutil
 import subprocess
@@ -16,7 +17,7 @@ ROOT = Path(__file__).resolve().parent.parent
 PLACE = ROOT / "target" / "installed"
 HOSTS = ROOT / "target" / "installed_hosts"
 EXAMPLES = ROOT / "examples"
-PROGRAMS = ("sheet_tensor", "sheet_report", "device_curve")
+PROGRAMS = ("sheet_tensor", "sheet_report", "device_curve") if platform.machine() == "x86_64" else ()
 HEADER = (ROOT / "include" / "hullashlar.h").read_text()
 CALLS = set(re.findall(r"^uint64_t (hullashlar_\w+)\(", HEADER, re.MULTILINE))
 REFUSALS = re.findall(r"HULLASHLAR_REFUSED_(\w+) = (\d+)", HEADER)
