@@ -194,19 +194,21 @@ def places(repository: Repository) -> list[str]:
     return [name for name in [*repository.current, *repository.matching(scripts)] if name not in HISTORY]
 
 
-def said(repository: Repository, name: str, sentence: re.Pattern) -> Iterator[tuple[int, str]]:
-    """The lines on which a file says a sentence, and the figure there."""
-    text = repository.text(name)
+@cache
+def said_in(text: str, sentence: re.Pattern) -> list[tuple[int, str]]:
+    """The lines on which a text says a sentence, and the figure there."""
+    found = []
     for match in sentence.finditer(text):
-        figure = next(index for index in range(1, len(match.groups()) + 1) if match[index])
-        yield line_of(text, match.start(figure)), match[figure]
+        group = next(index for index in range(1, len(match.groups()) + 1) if match[index])
+        found.append((line_of(text, match.start(group)), match[group]))
+    return found
 
 
 def faults(repository: Repository) -> Iterator[Fault]:
     for what, sentence, count in COUNTED:
         counted = count(repository)
         for name in places(repository):
-            for line, figure in said(repository, name, pattern(sentence)):
+            for line, figure in said_in(repository.text(name), pattern(sentence)):
                 if counted and number(figure) not in counted:
                     shown = " or ".join(f"{known:,}" for known in sorted(counted))
                     yield Fault(name, line, f"{figure} is said of {what}, of which there are {shown}")
@@ -223,7 +225,7 @@ def same_faults(repository: Repository) -> Iterator[Fault]:
     first: dict[str, tuple[str, str, int]] = {}
     for what, sentence in SAME:
         for name in places(repository):
-            for line, figure in said(repository, name, re.compile(sentence.replace(" ", SPACE))):
+            for line, figure in said_in(repository.text(name), pattern(sentence)):
                 before = first.setdefault(what, (figure, name, line))
                 if before[0] != figure:
                     yield Fault(name, line, f"{figure} is said of {what}, and {before[0]} in {before[1]}:{before[2]}")

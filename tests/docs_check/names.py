@@ -44,7 +44,7 @@ def allowed() -> set[str]:
 def path_exists(repository: Repository, path: str) -> bool:
     """Whether a path leads to a file or a folder, from the root or as the end of a longer path."""
     path = path.rstrip("/")
-    if MADE & set(path.split("/")):
+    if any(MADE.fullmatch(folder.as_posix()) for folder in [Path(path), *Path(path).parents]):
         return True
     if path in repository.paths:
         return True
