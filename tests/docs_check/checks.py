@@ -14,9 +14,10 @@ import orders
 import records
 import refusals
 import scripts
+import versions
 from repository import Fault, Repository
 
-CHECKS = [links, names, cited, declared, records, orders, refusals, figures, named, lines, decisions, scripts]
+CHECKS = [links, names, cited, declared, records, orders, refusals, figures, named, lines, decisions, versions, scripts]
 
 
 def found_in(root: Path) -> tuple[list[Fault], int]:

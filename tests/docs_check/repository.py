@@ -230,7 +230,8 @@ class Repository:
 
     @cached_property
     def targets(self) -> set[str]:
-        return set(re.findall(r"^([a-z][a-z-]*):(?!=)", self.text("Makefile"), re.M))
+        rules = [self.text(name) for name in self.matching(r"Makefile|(?:.*/)?\w+\.mk")]
+        return {target for text in rules for target in re.findall(r"^([a-z][a-z-]*):(?!=)", text, re.M)}
 
     @cached_property
     def constants(self) -> set[str]:
