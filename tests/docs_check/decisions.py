@@ -3,7 +3,7 @@
 import re
 from typing import Iterator
 
-from repository import NOTES, Fault, Repository
+from repository import Fault, Repository
 
 PAGE = "docs/DECISIONS.md"
 

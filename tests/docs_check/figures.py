@@ -1,5 +1,5 @@
-"""Figures that stand twice: a figure that the repository has itself is counted, and every sentence that says it is held to the count; a figure that was
-measured is held to its other places. History keeps the figures of its day."""
+"""Figures that stand twice: a figure that the repository has itself is counted, and every sentence that says it is held to the count; a figure that
+was measured is held to its other places. History keeps the figures of its day."""
 
 from __future__ import annotations
 

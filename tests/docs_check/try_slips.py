@@ -1,6 +1,6 @@
 #!/usr/bin/env python3
-"""Makes each slip of slips.txt in a copy of the repository and runs the checks on it: a fault must be found in that file, with the words that the slip
-says. Without a slip there must be none. With names of slips it tries these alone."""
+"""Makes each slip of slips.txt in a copy of the repository and runs the checks on it: a fault must be found in that file, with the words that the
+slip says. Without a slip there must be none. With names of slips it tries these alone."""
 
 from __future__ import annotations
 
