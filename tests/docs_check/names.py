@@ -159,10 +159,17 @@ PLAIN: list[tuple[re.Pattern, Known, str]] = [
 ]
 
 
+def formula_fault(repository: Repository, text: str) -> str | None:
+    """What is wrong with a formula of definitions: a name in it, of several parts, that none of them has."""
+    names = re.findall(r"(?<![\w-])(?:[a-z]+(?:-[a-z]+)+|(?:[A-Z][a-z]+){2,})(?![\w-])", text) if re.search("[≡→]", text) else []
+    unknown = [name for name in names if not definition_exists(repository, name)]
+    return f"`{unknown[0]}` is no definition" if unknown else None
+
+
 def fault_of(repository: Repository, word: str) -> str | None:
     """What is wrong with a word in code style, or None."""
     if FREE.fullmatch(word):
-        return None
+        return formula_fault(repository, word)
     for form, exists, missing in CLASSES:
         if re.fullmatch(form, word):
             return None if exists(repository, word) else f"`{word}` is {missing}"

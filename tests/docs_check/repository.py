@@ -90,7 +90,7 @@ class Repository:
 
     @cached_property
     def documents(self) -> list[str]:
-        return self.matching(r"[A-Z]+\.md|docs/.*\.md|(?:python|rust)/(?:.*/)?README\.md")
+        return self.matching(r"[A-Z]+\.md|docs/.*\.md|.*/README\.md")
 
     @cached_property
     def current(self) -> list[str]:
