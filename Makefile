@@ -1,5 +1,5 @@
 .PHONY: run test differential soak memcheck threads float-settings fuzz mutants report-largest deliberate-errors further-edits \
-    sheet-by-hand streams-fail exact-error rules-page docs-check oracle-test archive archive-here firmware firmware-test firmware-bench \
+    sheet-by-hand streams-fail exact-error rules-page docs-check docs-slips oracle-test archive archive-here firmware firmware-test firmware-bench \
     bench examples picture expected python python-test python-bench python-pictures doubles doubles-test
 
 # On another machine than x86-64, what links the archive takes one that is made for it, and our programs run on the kit's emulator.
@@ -123,7 +123,6 @@ docs-check:
 	python3 -B tests/docs_check
 
 # Puts deliberate slips into a copy, one after the other; fails where a slip is not found, or where there is a fault without one.
-.PHONY: docs-slips
 docs-slips:
 	python3 -B tests/docs_check/try_slips.py
 

@@ -106,6 +106,10 @@ def variable(name: str) -> Callable[[Repository], set[int]]:
     return lambda repository: set(map(int, re.findall(rf"^{name} = (\d+)$", repository.text("Makefile"), re.M)))
 
 
+def half_of(name: str) -> Callable[[Repository], set[int]]:
+    return lambda repository: {figure // 2 for figure in variable(name)(repository)}
+
+
 def option(target: str, name: str) -> Callable[[Repository], set[int]]:
     """A figure that a target of the Makefile hands to a program."""
     rule = rf"^{target}:.*\n(?:\t.*\n)*?\t.*--{name} (\d+)"
@@ -157,6 +161,7 @@ COUNTED: list[tuple[str, str, Callable[[Repository], set[int]]]] = [
     ("cases that are replayed", r"`trial_replay` \| # calls", replayed),
     ("cases that are replayed", r"\breplay program runs on each, all # cases", replayed),
     ("calls on each processor", r"\bOn each target # calls", variable("FIRMWARE_CALLS")),
+    ("pairs of doubles on each processor", r"those of x86-64 on # pairs", half_of("FIRMWARE_CALLS")),
     ("seconds of a soak", r"`SOAK` seconds \(#\)", variable("SOAK")),
     ("seconds of the fuzzer", r"`FUZZ` seconds \(#\)", variable("FUZZ")),
     ("bytes of the longest sheet", r"\b# bytes?,? (?:which )?(?:are enough for|hold) every sheet", size("SHEET")),
@@ -181,7 +186,7 @@ SAME: list[tuple[str, str]] = [
     ("calls that make differential makes", r"(\d+(?:,\d{3}){2,}) calls(?: \w+){1,4} beside the Rust"),
     ("calls of the device among them", r"(\d+(?:,\d{3}){2,}) of them of the device"),
     ("pairs of doubles", r"(\d+(?:,\d{3}){2,}) pairs\b"),
-    ("pairs of doubles on a target", r"(?<![\d,])(\d{3},\d{3}) (?:directed )?pairs\b"),
+    ("pairs of doubles that were seen on a target", r"(?<![\d,])(\d{3},\d{3}) (?:directed pairs|pairs a target)\b"),
     ("bytes of the buffers of hullashlar_surface", r"(\d\d,\d{3}) (?:of them|bytes) are (?:its )?buffers"),
 ]
 
