@@ -3,7 +3,7 @@
 import re
 from typing import Iterator
 
-from repository import NOTES, Fault, Repository
+from repository import Fault, Repository
 
 PAGE = "docs/DECISIONS.md"
 
@@ -12,6 +12,8 @@ ENTRY = re.compile(r"^\| (\d+) \||^(?:[-*] |\| |#+ )?\*\*(\d+)[.:]?\*\*")
 
 # References from elsewhere; in the page itself a number alone in brackets or in a cell, or what replaced an entry.
 FROM_ELSEWHERE = re.compile(r"DECISIONS(?:\.md)?(?:\)|`|,|:)? (\d+(?:(?:, | and )\d+)*)\b(?! \w+s\b)|DECISIONS(?:\.md)?[^.|]{0,40}?\((\d+)\)")
+IN_BRACKETS = re.compile(r"DECISIONS.* number in brackets")
+ALONE = re.compile(r"\((\d+(?:, \d+)*)\)")
 IN_THE_PAGE = re.compile(r"\((\d+(?:(?:, | and )\d+)*)\)|replaced by (\d+(?:(?:, | and )\d+)*)|\| (\d+) \|$")
 
 
@@ -40,7 +42,15 @@ def faults(repository: Repository) -> Iterator[Fault]:
             if number not in known:
                 yield Fault(PAGE, line, f"there is no decision {number}")
     for name in [*repository.documents, *repository.headers, *repository.sources, "Makefile"]:
-        for line, text in repository.lines(name) if name != PAGE and "DECISIONS" in repository.text(name) else ():
-            for number in numbers(FROM_ELSEWHERE.findall(text)):
-                if number not in known:
-                    yield Fault(name, line, f"there is no decision {number}")
+        for line, number in referred(repository, name) if name != PAGE and "DECISIONS" in repository.text(name) else ():
+            if number not in known:
+                yield Fault(name, line, f"there is no decision {number}")
+
+
+def referred(repository: Repository, name: str) -> Iterator[tuple[int, int]]:
+    """The decisions that a file refers to, with their lines; a section may say that each number in brackets is one."""
+    each = False
+    for line, text in repository.lines(name):
+        each = bool(IN_BRACKETS.search(text)) or each and not text.startswith("#")
+        for number in numbers(FROM_ELSEWHERE.findall(text) + (ALONE.findall(text) if each else [])):
+            yield line, number

@@ -1,5 +1,5 @@
-"""Figures that stand twice: a figure that the repository has itself is counted, and every sentence that says it is held to the count; a figure that was
-measured is held to its other places. History keeps the figures of its day."""
+"""Figures that stand twice: a figure that the repository has itself is counted, and every sentence that says it is held to the count; a figure that
+was measured is held to its other places. History keeps the figures of its day."""
 
 from __future__ import annotations
 
@@ -106,6 +106,10 @@ def variable(name: str) -> Callable[[Repository], set[int]]:
     return lambda repository: set(map(int, re.findall(rf"^{name} = (\d+)$", repository.text("Makefile"), re.M)))
 
 
+def half_of(name: str) -> Callable[[Repository], set[int]]:
+    return lambda repository: {figure // 2 for figure in variable(name)(repository)}
+
+
 def option(target: str, name: str) -> Callable[[Repository], set[int]]:
     """A figure that a target of the Makefile hands to a program."""
     rule = rf"^{target}:.*\n(?:\t.*\n)*?\t.*--{name} (\d+)"
@@ -157,6 +161,7 @@ COUNTED: list[tuple[str, str, Callable[[Repository], set[int]]]] = [
     ("cases that are replayed", r"`trial_replay` \| # calls", replayed),
     ("cases that are replayed", r"\breplay program runs on each, all # cases", replayed),
     ("calls on each processor", r"\bOn each target # calls", variable("FIRMWARE_CALLS")),
+    ("pairs of doubles on each processor", r"those of x86-64 on # pairs", half_of("FIRMWARE_CALLS")),
     ("seconds of a soak", r"`SOAK` seconds \(#\)", variable("SOAK")),
     ("seconds of the fuzzer", r"`FUZZ` seconds \(#\)", variable("FUZZ")),
     ("bytes of the longest sheet", r"\b# bytes?,? (?:which )?(?:are enough for|hold) every sheet", size("SHEET")),
@@ -181,7 +186,7 @@ SAME: list[tuple[str, str]] = [
     ("calls that make differential makes", r"(\d+(?:,\d{3}){2,}) calls(?: \w+){1,4} beside the Rust"),
     ("calls of the device among them", r"(\d+(?:,\d{3}){2,}) of them of the device"),
     ("pairs of doubles", r"(\d+(?:,\d{3}){2,}) pairs\b"),
-    ("pairs of doubles on a target", r"(?<![\d,])(\d{3},\d{3}) (?:directed )?pairs\b"),
+    ("pairs of doubles that were seen on a target", r"(?<![\d,])(\d{3},\d{3}) (?:directed pairs|pairs a target)\b"),
     ("bytes of the buffers of hullashlar_surface", r"(\d\d,\d{3}) (?:of them|bytes) are (?:its )?buffers"),
 ]
 
@@ -194,19 +199,21 @@ def places(repository: Repository) -> list[str]:
     return [name for name in [*repository.current, *repository.matching(scripts)] if name not in HISTORY]
 
 
-def said(repository: Repository, name: str, sentence: re.Pattern) -> Iterator[tuple[int, str]]:
-    """The lines on which a file says a sentence, and the figure there."""
-    text = repository.text(name)
+@cache
+def said_in(text: str, sentence: re.Pattern) -> list[tuple[int, str]]:
+    """The lines on which a text says a sentence, and the figure there."""
+    found = []
     for match in sentence.finditer(text):
-        figure = next(index for index in range(1, len(match.groups()) + 1) if match[index])
-        yield line_of(text, match.start(figure)), match[figure]
+        group = next(index for index in range(1, len(match.groups()) + 1) if match[index])
+        found.append((line_of(text, match.start(group)), match[group]))
+    return found
 
 
 def faults(repository: Repository) -> Iterator[Fault]:
     for what, sentence, count in COUNTED:
         counted = count(repository)
         for name in places(repository):
-            for line, figure in said(repository, name, pattern(sentence)):
+            for line, figure in said_in(repository.text(name), pattern(sentence)):
                 if counted and number(figure) not in counted:
                     shown = " or ".join(f"{known:,}" for known in sorted(counted))
                     yield Fault(name, line, f"{figure} is said of {what}, of which there are {shown}")
@@ -223,7 +230,7 @@ def same_faults(repository: Repository) -> Iterator[Fault]:
     first: dict[str, tuple[str, str, int]] = {}
     for what, sentence in SAME:
         for name in places(repository):
-            for line, figure in said(repository, name, re.compile(sentence.replace(" ", SPACE))):
+            for line, figure in said_in(repository.text(name), pattern(sentence)):
                 before = first.setdefault(what, (figure, name, line))
                 if before[0] != figure:
                     yield Fault(name, line, f"{figure} is said of {what}, and {before[0]} in {before[1]}:{before[2]}")

@@ -1,4 +1,5 @@
-"""Lines: none of a document or a header is too long or ends in spaces, and no word stands anywhere that speaks of something else than the project."""
+"""Lines: none of a document or a header is too long or ends in spaces; nowhere does a word speak of something else than the project, and nothing is
+left of a merge."""
 
 import re
 from functools import cache
@@ -9,7 +10,7 @@ from repository import Fault, Repository, line_of
 LONGEST = 400
 
 # A letter of each stands in brackets, so that this line is not such a one.
-NO_WORDS = re.compile(r"\bs[e]ssions?\b|\bp[r]ompts?\b|\bsub-?[a]gents?\b|\bh[e]lper agents?\b|/[w]ork/", re.I)
+NO_WORDS = re.compile(r"\bs[e]ssions?\b|\bp[r]ompts?\b|\bsub-?[a]gents?\b|\bh[e]lper agents?\b|/[w]ork/|^(?:<{7}|>{7}) ", re.I | re.M)
 TEXTS = r"Makefile|NOTICE|crates\.txt|\.ci/run|.*\.(?:md|h|rs|c|py|rt|antt|txt|toml|edit|slip|S|ld|[137])"
 
 
@@ -22,7 +23,7 @@ def faults(repository: Repository) -> Iterator[Fault]:
                 yield Fault(name, line, "ends in spaces")
     for name in repository.matching(TEXTS):
         for line, word in other_words(repository.text(name)):
-            yield Fault(name, line, f"{word} is no word of this project")
+            yield Fault(name, line, f"{word.strip()} is no word of this project")
 
 
 @cache

@@ -71,12 +71,16 @@ def table_faults(repository: Repository, calls: set[str], what: str) -> Iterator
 
 
 def chapter_faults(repository: Repository) -> Iterator[Fault]:
-    """Every exported call is named in docs/RULES.md."""
+    """Every exported call is named in docs/RULES.md, and those of the library in its man page."""
     words = {word for _, word in repository.code_words(RULES)}
     for header, calls in repository.exported.items():
         for name, call in calls.items():
             if name not in words:
                 yield Fault(header, call.line, f"{name} is not named in {RULES}")
+    for page in repository.matching(r"man/hullashlar\.3"):
+        for name in repository.calls:
+            if not re.search(rf"\b{name}\b", repository.text(page)):
+                yield Fault(page, 1, f"{name} is not named")
 
 
 def edit_faults(repository: Repository) -> Iterator[Fault]:

@@ -18,7 +18,10 @@ FREE = re.compile(r".*[\s\"'=<>(){}\[\]+*,;&|λ≡→…$%^!?@#].*|[-.]\S*|[0-9]
 
 # What is said of a path or a crate in general: NAME, TARGET and the like stand for one part of it.
 PLACEHOLDER = re.compile(r"(?<![A-Za-z])[A-Z]{4,}(?![A-Za-z.])|CHAPTER(?=\.antt)")
-SUFFIX = re.compile(r".*\.(?:antt|rt|md|py|c|h|rs|txt|sheet|edit|sha256|svg|png|toml|ld)")
+SUFFIX = re.compile(r".*\.(?:antt|rt|md|py|c|h|rs|txt|sheet|edit|sha256|svg|png|toml|ld|mk|map|cmake|pc)")
+
+# What an installation has.
+INSTALLED = re.compile(r"(?:bin|lib|share)/")
 
 # Paths in running text, and the names of calls there.
 PLAIN_PATH = re.compile(r"(?<![\w/.<-])((?:docs|tests|crates|include|examples|python|oracle|firmware|man|rust|\.ci)/[\w./-]*\w)")
@@ -44,13 +47,22 @@ def allowed() -> set[str]:
 def path_exists(repository: Repository, path: str) -> bool:
     """Whether a path leads to a file or a folder, from the root or as the end of a longer path."""
     path = path.rstrip("/")
-    if MADE & set(path.split("/")):
+    if any(MADE.fullmatch(folder.as_posix()) for folder in [Path(path), *Path(path).parents]):
         return True
     if path in repository.paths:
         return True
-    parts = re.escape(path)
-    general = PLACEHOLDER.sub(r"[^/]+", parts)
-    return any(re.search(rf"(?:^|/){general}(?:$|/)", name) for name in repository.files)
+    if INSTALLED.match(path):
+        return is_installed(repository, path)
+    general = PLACEHOLDER.sub(r"[^/]+", re.escape(path))
+    return any(re.search(rf"(?:^|/){general}(?:\.in)?(?:$|/)", name) for name in repository.files)
+
+
+def is_installed(repository: Repository, path: str) -> bool:
+    """Whether a path under the folder of an installation is of a program, a library of a crate, or has a last part that the scripts there know."""
+    name = path.split("/")[-1]
+    scripts = "\n".join(repository.text(file) for file in repository.matching(r"install/.*\.(?:mk|py)"))
+    library = re.fullmatch(r"lib(\w+)\.(?:a|so)(?:\.[\d.]+)?", name)
+    return name in repository.crates or bool(library and library[1] in repository.crates) or name in scripts or path_exists(repository, name)
 
 
 def edit_exists(repository: Repository, word: str) -> bool:
@@ -147,10 +159,17 @@ PLAIN: list[tuple[re.Pattern, Known, str]] = [
 ]
 
 
+def formula_fault(repository: Repository, text: str) -> str | None:
+    """What is wrong with a formula of definitions: a name in it, of several parts, that none of them has."""
+    names = re.findall(r"(?<![\w-])(?:[a-z]+(?:-[a-z]+)+|(?:[A-Z][a-z]+){2,})(?![\w-])", text) if re.search("[≡→]", text) else []
+    unknown = [name for name in names if not definition_exists(repository, name)]
+    return f"`{unknown[0]}` is no definition" if unknown else None
+
+
 def fault_of(repository: Repository, word: str) -> str | None:
     """What is wrong with a word in code style, or None."""
     if FREE.fullmatch(word):
-        return None
+        return formula_fault(repository, word)
     for form, exists, missing in CLASSES:
         if re.fullmatch(form, word):
             return None if exists(repository, word) else f"`{word}` is {missing}"

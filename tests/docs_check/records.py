@@ -3,7 +3,7 @@
 import re
 from typing import Iterator
 
-from orders import EXPORTED
+from definitions import EXPORTED
 from repository import Fault, Repository
 
 RECORD = re.compile(r"`(\w+(?:Promise|Export))`")

@@ -26,6 +26,8 @@ def faults(repository: Repository) -> Iterator[Fault]:
             yield from named_faults(repository, file, line, WITH_NAME.findall(text))
     for file in repository.headers:
         yield from order_faults(repository, file)
+        for line, text in repository.lines(file):
+            yield from nameless_faults(repository, file, line, text)
     for file in repository.current:
         yield from table_faults(repository, file)
         for line, text in repository.prose(file):

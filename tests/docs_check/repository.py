@@ -7,8 +7,8 @@ from functools import cache, cached_property
 from pathlib import Path
 from typing import Iterator, NamedTuple
 
-# Folders that hold what is made, and nothing that is written.
-MADE = {"target", "proved", "build", "__pycache__", ".git", ".pytest_cache", ".hypothesis"}
+# Folders that hold what is made, and nothing that is written; of those that begin with a point one alone is ours.
+MADE = re.compile(r"(?:.*/)?(?:target|__pycache__|venv|[\w.]+\.egg-info|\.(?!ci$)[\w-]+)|python/build|python/hullashlar/proved")
 
 # The notes of what landed keep the names and the figures of their day.
 NOTES = "docs/landings/"
@@ -59,8 +59,9 @@ class Repository:
     def files(self) -> list[str]:
         found = []
         for folder, folders, names in os.walk(self.root):
-            folders[:] = sorted(set(folders) - MADE)
-            found += [Path(folder, name).relative_to(self.root).as_posix() for name in sorted(names)]
+            here = Path(folder).relative_to(self.root)
+            folders[:] = sorted(name for name in folders if not MADE.fullmatch((here / name).as_posix()))
+            found += [(here / name).as_posix() for name in sorted(names)]
         return found
 
     @cached_property
@@ -89,7 +90,7 @@ class Repository:
 
     @cached_property
     def documents(self) -> list[str]:
-        return self.matching(r"[A-Z]+\.md|docs/.*\.md|(?:python|rust)/(?:.*/)?README\.md")
+        return self.matching(r"[A-Z]+\.md|docs/.*\.md|.*/README\.md")
 
     @cached_property
     def current(self) -> list[str]:
@@ -229,7 +230,8 @@ class Repository:
 
     @cached_property
     def targets(self) -> set[str]:
-        return set(re.findall(r"^([a-z][a-z-]*):(?!=)", self.text("Makefile"), re.M))
+        rules = [self.text(name) for name in self.matching(r"Makefile|(?:.*/)?\w+\.mk")]
+        return {target for text in rules for target in re.findall(r"^([a-z][a-z-]*):(?!=)", text, re.M)}
 
     @cached_property
     def constants(self) -> set[str]:

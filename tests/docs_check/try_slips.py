@@ -1,6 +1,6 @@
 #!/usr/bin/env python3
-"""Makes each slip of slips.txt in a copy of the repository and runs the checks on it: a fault must be found in that file, with the words that the slip
-says. Without a slip there must be none. With names of slips it tries these alone."""
+"""Makes each slip of slips.txt in a copy of the repository and runs the checks on it: a fault must be found in that file, with the words that the
+slip says. Without a slip there must be none. With names of slips it tries these alone."""
 
 from __future__ import annotations
 
@@ -12,7 +12,7 @@ from pathlib import Path
 from typing import NamedTuple
 
 from checks import found_in
-from repository import MADE, Fault
+from repository import Fault, Repository
 
 HERE = Path(__file__).resolve().parent
 ROOT = HERE.parent.parent
@@ -38,6 +38,14 @@ def slips() -> list[Slip]:
             place = re.compile(fields["place"][1:], re.M)
             found.append(Slip(fields["slip"].strip(), fields["files"].split(), place, comes, fields["says"].strip()))
     return found
+
+
+def copied(folder: Path) -> Path:
+    """A copy of all that is written."""
+    for file in Repository(ROOT).files:
+        (folder / file).parent.mkdir(parents=True, exist_ok=True)
+        shutil.copy(ROOT / file, folder / file)
+    return folder
 
 
 def made(copy: Path, slip: Slip) -> str | None:
@@ -66,8 +74,7 @@ def tried(copy: Path, slip: Slip, before: set[Fault]) -> bool:
 def main() -> None:
     chosen = [slip for slip in slips() if not sys.argv[1:] or slip.name in sys.argv[1:]]
     with tempfile.TemporaryDirectory() as folder:
-        copy = Path(folder) / "copy"
-        shutil.copytree(ROOT, copy, ignore=shutil.ignore_patterns(*MADE))
+        copy = copied(Path(folder))
         before = set(found_in(copy)[0])
         found = sum([tried(copy, slip, before) for slip in chosen])
     print(f"{len(chosen)} slips, {found} found; without a slip {len(before)} faults")
