@@ -4,16 +4,16 @@ FILE:LINE: what is wrong; the exit status is 1 where there is one."""
 import sys
 from pathlib import Path
 
-from checks import found_in
+from checks import CHECKS, found_in
 
 ROOT = Path(__file__).resolve().parent.parent.parent
 
 
 def main() -> None:
-    faults, checks = found_in(Path(sys.argv[1]) if len(sys.argv) > 1 else ROOT)
+    faults = found_in(Path(sys.argv[1]) if len(sys.argv) > 1 else ROOT)
     for fault in faults:
         print(fault)
-    print(f"{checks} checks of the documents, {len(faults)} faults")
+    print(f"{len(CHECKS)} checks of the documents, {len(faults)} faults")
     sys.exit(bool(faults))
 
 

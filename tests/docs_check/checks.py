@@ -30,7 +30,7 @@ from repository import Fault, Repository
 CHECKS = [links, names, cited, declared, records, orders, refusals, figures, named, lines, decisions, versions, scripts]
 
 
-def found_in(root: Path) -> tuple[list[Fault], int]:
-    """The faults in the order of their files and lines, each once, and how many checks looked for them."""
+def found_in(root: Path, checks: list = CHECKS) -> list[Fault]:
+    """The faults in the order of their files and lines, each once."""
     repository = Repository(root)
-    return sorted({fault for check in CHECKS for fault in check.faults(repository)}), len(CHECKS)
+    return sorted({fault for check in checks for fault in check.faults(repository)})

@@ -127,14 +127,11 @@ def in_bytes(*sizes: str) -> Callable[[Repository], set[int]]:
 
 
 def stack_of(calls: str) -> Callable[[Repository], set[int]]:
-    """The deepest stack on x86-64 among calls, by the table of docs/BENCH.md."""
-    row = re.compile(rf"^\| `({calls})` \| ([\d,]+) \|", re.M)
-    table = re.compile(r"^\| Exported call \| Stack bytes on x86-64.*?\n\n", re.M | re.S)
+    """The deepest stack among calls, by the table of docs/BENCH.md whose second column has the bytes of stack at most."""
 
     def deepest(repository: Repository) -> set[int]:
-        found = table.search(repository.text("docs/BENCH.md"))
-        depths = [number(depth) for _, depth in row.findall(found[0])] if found else []
-        return {max(depths)} if depths else set()
+        rows = [(cells[0].strip("`"), cells[1]) for _, head, cells in repository.rows("docs/BENCH.md") if head[1:] and head[1].startswith("Stack bytes")]
+        return {max(number(depth) for call, depth in rows if re.fullmatch(calls, call))} if rows else set()
 
     return deepest
 
@@ -177,7 +174,7 @@ COUNTED: list[tuple[str, str, Callable[[Repository], set[int]]]] = [
     ("cases under each float setting", r"`make float-settings` makes # cases", option("float-settings", "settings")),
     ("rows of docs/TRACE.md", r"\bThen # rows", traced),
     ("bytes of stack of hullashlar_surface", r"\b(?:Stack:|takes) # bytes(?: of stack)? on x86-64", stack_of("hullashlar_surface")),
-    ("bytes of stack of the other calls", r"\b(?:more than|at most) # bytes of stack", stack_of(r"hullashlar_(?!surface`)\w+")),
+    ("bytes of stack of the other calls", r"\b(?:more than|at most) # bytes of stack", stack_of(r"hullashlar_(?!surface)\w+")),
 ]
 
 # What was measured and stands in several places.
@@ -214,8 +211,8 @@ def faults(repository: Repository) -> Iterator[Fault]:
         counted = count(repository)
         for name in places(repository):
             for line, figure in said_in(repository.text(name), pattern(sentence)):
-                if counted and number(figure) not in counted:
-                    shown = " or ".join(f"{known:,}" for known in sorted(counted))
+                if number(figure) not in counted:
+                    shown = " or ".join(f"{known:,}" for known in sorted(counted)) or "none that tests/docs_check/figures.py can count"
                     yield Fault(name, line, f"{figure} is said of {what}, of which there are {shown}")
     yield from same_faults(repository)
     for name in repository.current:
