@@ -79,9 +79,11 @@ def table(title, columns):
         print(f"| `{name}` | {' | '.join(cells)} |")
 
 
-def of_both(measure, targets):
-    """What is measured of each call, by the archive for size and by that for speed."""
-    archives = {target: [ARCHIVES / target / folder / "libhullashlar.a" for folder in ["size", ""]] for target in targets}
+def of_both(measure, targets, doubles=""):
+    """What is measured of each call, by the archive for size and by that for speed; where a processor has no doubles, by those archives
+    whose doubles are in a folder of this name."""
+    archives = {target: [ARCHIVES / target / (doubles if target in HELPERS else "") / folder / "libhullashlar.a" for folder in ["size", ""]]
+                for target in targets}
     return {target: list(zip(*[measure(target, archive) for archive in archives[target]])) for target in targets}
 
 
@@ -97,6 +99,8 @@ def main():
     table("Bytes of code, for size / for speed:", of_both(all_code_bytes, targets))
     table("Bytes of stack, for size / for speed:", of_both(deepest, targets))
     table("Instructions, for size / for speed:", of_both(counted, targets))
+    cortex_m = [target for target in targets if target in TICKS]
+    table("Instructions with the compiler's doubles, for size / for speed:", of_both(counted, cortex_m, "plain"))
     doubles_table([target for target in targets if target in HELPERS])
 
 

@@ -242,6 +242,18 @@ impl Inputs {
         }
     }
 
+    /// Surfaces of one to four axes.
+    #[cfg(limit)]
+    pub fn surfaces(&self) -> [&Surface; 5] {
+        [
+            &self.line_of_16,
+            &self.line_of_256,
+            &self.two_axes,
+            &self.three_axes,
+            &self.four_axes,
+        ]
+    }
+
     /// Surfaces of one to four axes whose knots are even.
     pub fn even_surfaces(&self) -> [&Surface; 5] {
         [

@@ -2,7 +2,7 @@
 //! itself under it; there only what happens within `counted_call` is counted,
 //! and the count is written out each time it returns.
 
-use crate::lines::{Line, Work};
+use crate::lines::Work;
 use std::hint::black_box;
 use std::path::Path;
 use std::process::{self, Command, Stdio};
@@ -21,15 +21,13 @@ pub fn counted_call(work: &mut Work) -> f64 {
     work()
 }
 
-/// One counted call of each side of each line, in their order.
-pub fn make_counted_calls(lines: &mut [Line]) {
-    for line in lines {
-        for work in [&mut line.ours, &mut line.other] {
-            for _ in 0..CALLS_BEFORE {
-                black_box(work());
-            }
-            black_box(counted_call(work));
+/// One counted call of each piece of work, in their order.
+pub fn make_counted_calls<'a>(works: impl IntoIterator<Item = Work<'a>>) {
+    for mut work in works {
+        for _ in 0..CALLS_BEFORE {
+            black_box(work());
         }
+        black_box(counted_call(&mut work));
     }
 }
 

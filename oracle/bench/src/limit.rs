@@ -1,27 +1,25 @@
-//! The lines of the limit: build, change, verification, query and the calls of sheets in hand-written C that ends in the same bits.
-//! It is no part of the repository; `build.rs` says where it is looked for.
+//! The lines of the limit: build, change, verification and the calls of sheets in hand-written C that ends in the same bits; and beside
+//! these the calls that are asked at points. It is no part of the repository; `build.rs` says where it is looked for.
 
 mod calls;
-mod many;
-pub mod points;
+mod point_calls;
+mod points;
 mod sheet_calls;
 mod sheets;
 
+pub use points::asked;
 pub use sheets::Sheets;
 
 use crate::inputs::Inputs;
-use crate::lines::{our_build, our_change, our_query, our_quick_query, our_verify, Line, Work};
+use crate::lines::{our_build, our_change, our_verify, Line, Work};
 
-/// Every call that the limit has, on the grids that a goal is set for.
+/// Every call that the limit has and that is asked at no point, on the grids that a goal is set for, and the firmware's.
 pub fn lines(inputs: &Inputs) -> Vec<Line<'_>> {
     let mut lines = Vec::new();
     lines.extend(builds(inputs));
     lines.extend(changes(inputs));
     lines.extend(verifications(inputs));
-    lines.extend(queries(inputs));
-    lines.extend(quick_queries(inputs));
-    lines.extend(many::lines(inputs));
-    lines.extend(sheets::lines(&inputs.sheets));
+    lines.extend(sheets::lines(inputs));
     lines
 }
 
@@ -63,25 +61,5 @@ fn verifications(inputs: &Inputs) -> [Line<'_>; 5] {
         verify("verify, 16×16 natural", &inputs.two_axes),
         verify("verify, 16×16 periodic", &inputs.two_axes_periodic),
         verify("verify, one axis of 256 natural", &inputs.line_of_256),
-    ]
-}
-
-fn queries(inputs: &Inputs) -> [Line<'_>; 4] {
-    let query = |name, surface| line(name, our_query(surface), calls::query(surface));
-    [
-        query("query, 4×4×4×4", &inputs.four_axes),
-        query("query, 6×6×6", &inputs.three_axes),
-        query("query, 16×16", &inputs.two_axes),
-        query("query, one axis of 256", &inputs.line_of_256),
-    ]
-}
-
-fn quick_queries(inputs: &Inputs) -> [Line<'_>; 4] {
-    let query = |name, surface| line(name, our_quick_query(surface), calls::quick_query(surface));
-    [
-        query("quick query, 4×4×4×4", &inputs.four_axes),
-        query("quick query, 6×6×6", &inputs.three_axes),
-        query("quick query, 16×16", &inputs.two_axes),
-        query("quick query, one axis of 256", &inputs.line_of_256),
     ]
 }

@@ -620,7 +620,14 @@ fn stepped_many<'a>(name: &'static str, surface: &'a Surface) -> Line<'a> {
             let (values, indices) = (&mut values, &mut indices);
             let refusals = &mut refusals;
             let answer = hullashlar::stepped_many(
-                axes, [0; 4], knots, samples, &coordinates, values, indices, refusals,
+                axes,
+                [0; 4],
+                knots,
+                samples,
+                &coordinates,
+                values,
+                indices,
+                refusals,
             );
             answer.expect(ACCEPTED);
             values.iter().sum()
@@ -642,7 +649,7 @@ fn stepped_many<'a>(name: &'static str, surface: &'a Surface) -> Line<'a> {
 const STEPPED_AT: usize = 64;
 
 /// A cell of the device, and a position in it.
-const CELL: [i32; 4] = [-3_000, 12_345, 90_000, -70_000];
+pub const CELL: [i32; 4] = [-3_000, 12_345, 90_000, -70_000];
 const POSITION: i32 = 100;
 
 /// One value of a cell in doubles, which are exact here, rounded as the device rounds.

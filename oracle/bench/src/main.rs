@@ -10,6 +10,8 @@ mod instructions;
 mod limit;
 mod lines;
 mod nanoseconds;
+#[cfg_attr(not(limit), allow(dead_code))]
+mod points;
 mod shapes;
 mod sheet;
 mod stack;
@@ -19,8 +21,9 @@ mod tests;
 
 use inputs::Inputs;
 #[cfg(limit)]
-use limit::lines as limit_lines;
+use limit::{asked, lines as limit_lines};
 use lines::{lines, Line};
+use points::Asked;
 use std::env;
 
 fn main() {
@@ -29,16 +32,20 @@ fn main() {
     let first_of_the_limit = lines.len();
     lines.extend(limit_lines(&inputs));
     lines.iter_mut().for_each(check_same_outcome);
+    let asked = asked(&inputs);
     if env::args().nth(1).as_deref() == Some(instructions::COUNTED_CALLS) {
-        instructions::make_counted_calls(&mut lines);
+        let of_lines = lines.into_iter().map(|line| [line.ours, line.other]);
+        let of_points = asked.into_iter().map(Asked::works);
+        instructions::make_counted_calls(of_lines.chain(of_points).flatten());
         return;
     }
-    let instructions = instructions::count(lines.len());
+    let instructions = instructions::count(lines.len() + asked.len());
     let nanoseconds: Vec<_> = lines.iter_mut().map(nanoseconds::medians).collect();
     let rows = table::rows(&lines, &instructions, &nanoseconds);
     table::print_lines(&rows[..first_of_the_limit]);
     table::print_limit(&rows[first_of_the_limit..]);
-    print_points(&inputs);
+    let asked: Vec<_> = asked.into_iter().map(Asked::timed).collect();
+    table::print_points(&asked, &instructions[lines.len()..]);
     table::print_stacks(&stack::stacks());
 }
 
@@ -48,14 +55,10 @@ fn limit_lines(_: &Inputs) -> [Line<'_>; 0] {
     []
 }
 
-/// The calls that are asked at a point, beside the limit.
-#[cfg(limit)]
-fn print_points(inputs: &Inputs) {
-    table::print_points(&limit::points::timed(inputs));
-}
-
 #[cfg(not(limit))]
-fn print_points(_: &Inputs) {}
+fn asked(_: &Inputs) -> [Asked<'_>; 0] {
+    []
+}
 
 /// What is compared must do the same work: both sides end in the same bits.
 fn check_same_outcome(line: &mut Line) {

@@ -1,8 +1,7 @@
 //! The tables, as the documents of the repository have them.
 
-#[cfg(limit)]
-use crate::limit::points::Timed;
 use crate::lines::Line;
+use crate::points::Timed;
 use crate::stack::Stack;
 
 /// What was measured of a line, ours first.
@@ -59,16 +58,20 @@ pub fn print_limit(rows: &[Row]) {
     }
 }
 
-/// One row for each call that is asked at a point; a ratio says how many times the limit ours needs.
-#[cfg(limit)]
-pub fn print_points(calls: &[Timed]) {
+/// One row for each call that is asked at points, of one point; a ratio says how many times the limit ours needs.
+pub fn print_points(calls: &[Timed], instructions: &[Option<[u64; 2]>]) {
+    if calls.is_empty() {
+        return;
+    }
     println!();
-    println!("| Call | Nanoseconds, points without a pattern, ours | the limit | ratio | Few points, ours | the limit | ratio |");
-    println!("|---|--:|--:|--:|--:|--:|--:|");
-    for call in calls {
-        let [without_pattern, few] =
-            [call.without_pattern, call.few].map(|both| columns(both, |ours, limit| ours / limit));
-        println!("| {} | {without_pattern} | {few} |", call.name);
+    println!("| Call | Points without a pattern, nanoseconds, ours | the limit | ratio | Few points, ours | the limit | ratio | Instructions, ours | the limit | ratio |");
+    println!("|---|--:|--:|--:|--:|--:|--:|--:|--:|--:|");
+    let ratio = |ours, limit| ours / limit;
+    for (call, counts) in calls.iter().zip(instructions) {
+        let times = [call.without_pattern, call.few].map(|both| columns(both, ratio));
+        let of_a_point = counts.map(|both| both.map(|count| count as f64 / call.counted as f64));
+        let count = counted(of_a_point, ratio);
+        println!("| {} | {} | {count} |", call.name, times.join(" | "));
     }
 }
 

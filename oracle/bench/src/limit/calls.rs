@@ -1,4 +1,4 @@
-//! The calls of the limit, each with buffers of its own.
+//! The limit's builds, changes and verifications, each with buffers of its own.
 
 use crate::inputs::{Surface, CHANGED};
 use crate::lines::{Work, ACCEPTED};
@@ -12,29 +12,6 @@ struct Ends {
     lower: f64,
     upper: f64,
 }
-
-/// What a query is given.
-#[repr(C)]
-struct Sheet {
-    axes: c_int,
-    points: [c_int; 4],
-    knots_length: usize,
-    tensor_length: usize,
-    knots: *const f64,
-    tensor: *const f64,
-}
-
-/// What a query answers.
-#[repr(C)]
-#[derive(Default)]
-struct Answer {
-    value: f64,
-    refusal: c_int,
-    cells: [c_int; 4],
-    labels: [c_int; 4],
-}
-
-type Query = unsafe extern "C" fn(*const Sheet, *const f64, usize, *mut Answer);
 
 extern "C" {
     fn lim_build(
@@ -80,8 +57,6 @@ extern "C" {
         found: *mut usize,
         found_length: usize,
     ) -> usize;
-    fn lim_query_full(sheet: *const Sheet, point: *const f64, length: usize, answer: *mut Answer);
-    fn lim_query_quick(sheet: *const Sheet, point: *const f64, length: usize, answer: *mut Answer);
 }
 
 fn small(number: usize) -> c_int {
@@ -189,34 +164,5 @@ pub fn verify(surface: &Surface) -> Work<'_> {
         };
         assert_eq!((refusal, found), (0, [0; 2]), "{ACCEPTED}");
         tensor[tensor.len() - 1]
-    })
-}
-
-pub fn query(surface: &Surface) -> Work<'_> {
-    asked(surface, lim_query_full)
-}
-
-pub fn quick_query(surface: &Surface) -> Work<'_> {
-    asked(surface, lim_query_quick)
-}
-
-fn asked(surface: &Surface, query: Query) -> Work<'_> {
-    let tensor: Vec<f64> = surface.tensor().iter().copied().collect();
-    let point = surface.middle_point();
-    let points = surface.axes.points.map(small);
-    Box::new(move || {
-        let sheet = Sheet {
-            axes: small(surface.axes.count),
-            points,
-            knots_length: surface.knots.len(),
-            tensor_length: tensor.len(),
-            knots: surface.knots.as_ptr(),
-            tensor: tensor.as_ptr(),
-        };
-        let mut answer = Answer::default();
-        // SAFETY: the slices are there for the whole call, with their own lengths.
-        unsafe { query(&sheet, point.as_ptr(), point.len(), &mut answer) };
-        assert_eq!(answer.refusal, 0, "{ACCEPTED}");
-        answer.value
     })
 }

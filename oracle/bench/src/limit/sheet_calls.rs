@@ -17,6 +17,15 @@ extern "C" {
         modes: *mut u8, modes_length: usize,
         edition: *mut usize, edition_length: usize,
     ) -> usize;
+    fn limit_read_edition_1(
+        bytes: *const u8, bytes_length: usize,
+        knots: *mut f64, knots_length: usize,
+        samples: *mut f64, samples_length: usize,
+        axes: *mut usize, axes_length: usize,
+        points: *mut usize, points_length: usize,
+        kinds: *mut u8, kinds_length: usize,
+        values: *mut f64, values_length: usize,
+    ) -> usize;
     fn limit_write(
         axes: usize,
         points: *const usize, points_length: usize,
@@ -69,6 +78,31 @@ pub fn read(surface: &Surface) -> Work<'_> {
                 axes.values.as_mut_ptr(), axes.values.len(),
                 axes.modes.as_mut_ptr(), axes.modes.len(),
                 edition.as_mut_ptr(), edition.len(),
+            )
+        };
+        assert_eq!(refusal, 0, "{ACCEPTED}");
+        samples[last]
+    })
+}
+
+#[rustfmt::skip]
+pub fn read_edition_1(surface: &Surface) -> Work<'_> {
+    let sheet = surface.sheet();
+    let last = surface.samples.len() - 1;
+    let (mut knots, mut samples) = ([0.0; BUFFER], [0.0; BUFFER]);
+    Box::new(move || {
+        let mut axes = Axes::default();
+        let mut count = [0];
+        // SAFETY: as above.
+        let refusal = unsafe {
+            limit_read_edition_1(
+                sheet.as_ptr(), sheet.len(),
+                knots.as_mut_ptr(), knots.len(),
+                samples.as_mut_ptr(), samples.len(),
+                count.as_mut_ptr(), count.len(),
+                axes.points.as_mut_ptr(), axes.points.len(),
+                axes.kinds.as_mut_ptr(), axes.kinds.len(),
+                axes.values.as_mut_ptr(), axes.values.len(),
             )
         };
         assert_eq!(refusal, 0, "{ACCEPTED}");

@@ -1,8 +1,8 @@
-//! The lines of the calls of sheets, on sheets of edition 2.
+//! The lines of the calls of sheets, on sheets of edition 2, and of the reader of edition 1.
 
 use super::{line, sheet_calls};
 use crate::hullashlar::{self, BUFFER, LONGEST_TENSOR};
-use crate::inputs::{Ends, Surface};
+use crate::inputs::{Ends, Inputs, Surface};
 use crate::lines::{our_read, our_surface, our_write, Line, Work, ACCEPTED};
 
 /// Extend and hold in turn, which edition 2 has a place for.
@@ -42,10 +42,12 @@ fn surface(points: &[usize]) -> Surface {
     surface
 }
 
-/// Every call of sheets but the reader of edition 1.
-pub fn lines(sheets: &Sheets) -> Vec<Line<'_>> {
+/// Every call of sheets.
+pub fn lines(inputs: &Inputs) -> Vec<Line<'_>> {
+    let sheets = &inputs.sheets;
     let mut lines = Vec::new();
     lines.extend(reads(sheets));
+    lines.extend(reads_of_edition_1(inputs));
     lines.extend(writes(sheets));
     lines.extend(tensors(sheets));
     lines.extend(surfaces(sheets));
@@ -64,6 +66,27 @@ fn reads(sheets: &Sheets) -> [Line<'_>; 8] {
         read("reading the sheet of 4×4×4×4", &sheets.four_axes),
         read("reading the sheet of 256", &sheets.line_of_256),
     ]
+}
+
+fn reads_of_edition_1(inputs: &Inputs) -> [Line<'_>; 2] {
+    let read = |name, surface| {
+        let limit = sheet_calls::read_edition_1(surface);
+        line(name, our_read_edition_1(surface), limit)
+    };
+    [
+        read("reading edition 1, sheet of 16×16", &inputs.two_axes),
+        read("reading edition 1, sheet of 256", &inputs.line_of_256),
+    ]
+}
+
+fn our_read_edition_1(surface: &Surface) -> Work<'_> {
+    let sheet = surface.sheet();
+    let last = surface.samples.len() - 1;
+    let (mut knots, mut samples) = ([0.0; BUFFER], [0.0; BUFFER]);
+    Box::new(move || {
+        hullashlar::read_edition_1(&sheet, &mut knots, &mut samples).expect(ACCEPTED);
+        samples[last]
+    })
 }
 
 fn writes(sheets: &Sheets) -> [Line<'_>; 8] {
