@@ -1,15 +1,17 @@
 #!/usr/bin/env python3
-"""Draws the rooms of crates.txt as docs/picture/rooms.svg: a box for each room with its crates, every room above all that it stands on, and an
-arrow from a room to each that it stands on, but where other arrows lead there already. Programs and trials have a strip on top, and the
+"""Draws the rooms of crates.txt as docs/picture/rooms.svg: a box for each room with its crates, every room above all that it stands on, and
+an arrow from a room to each that it stands on, but where other arrows lead there already. Programs and trials have a strip on top, and the
 rooms that no call of the library stands on a strip on the right.
 
 Without a word it writes the picture; with --check it writes nothing, and exits with 1 where the picture that is there is another."""
+
+from __future__ import annotations
 
 import itertools
 import sys
 from html import escape
 from pathlib import Path
-from typing import NamedTuple
+from typing import NamedTuple, Union
 
 ROOT = Path(__file__).resolve().parents[2]
 CRATES = ROOT / "crates.txt"
@@ -144,7 +146,7 @@ def levels_of(rooms: list[Room], arrows: list[tuple[int, int]]) -> list[int]:
 
 
 # An item of a row is the number of a room, or an arrow that passes the row between two rooms.
-Item = int | tuple[int, int]
+Item = Union[int, "tuple[int, int]"]
 
 
 def rows_of(rooms: list[Room], levels: list[int], arrows: list[tuple[int, int]]) -> list[list[Item]]:
@@ -318,10 +320,9 @@ def drawn_room(room: Room, box: Box) -> list[str]:
 
 def strips(rooms: list[Room], levels: list[int], boxes: list[dict[Item, Box]]) -> list[str]:
     """The grounds of the two strips."""
-    placed = lambda side: [boxes[levels[room]][room] for room in range(len(rooms)) if strip(rooms[room]) == side]
     drawn = []
     for side, left, width in (("top", MARGIN, WIDTH - 2 * MARGIN), ("right", WIDTH - MARGIN - RIGHT_STRIP, RIGHT_STRIP)):
-        inside = placed(side)
+        inside = [boxes[levels[room]][room] for room in range(len(rooms)) if strip(rooms[room]) == side]
         if inside:
             top = min(box.top for box in inside) - 14
             bottom = max(box.top + box.height for box in inside) + 14
@@ -335,12 +336,14 @@ def picture(rooms: list[Room]) -> str:
     levels = levels_of(rooms, arrows)
     boxes, height = boxes_of(rooms, rows_of(rooms, levels, arrows))
     crates = sum(len(room.crates) for room in rooms)
+    label = "The rooms of crates.txt, and on which each stands"
+    legend = "An arrow leads down to a room that the upper one stands on; an arrow that follows from others is left out."
     lines = [
-        f'<svg xmlns="http://www.w3.org/2000/svg" viewBox="0 0 {WIDTH} {height:.0f}" role="img" aria-label="The rooms of crates.txt, and on which each stands">',
+        f'<svg xmlns="http://www.w3.org/2000/svg" viewBox="0 0 {WIDTH} {height:.0f}" role="img" aria-label="{label}">',
         f"<style>{STYLE}</style>",
         f'<rect class="page" x="0.5" y="0.5" width="{WIDTH - 1}" height="{height - 1:.0f}" rx="8"/>',
         f'<text class="title" x="{MARGIN}" y="28">{crates} crates in {len(rooms)} rooms</text>',
-        f'<text class="quiet" x="{MARGIN}" y="48">An arrow leads down to a room that the upper one stands on; an arrow that follows from others is left out.</text>',
+        f'<text class="quiet" x="{MARGIN}" y="48">{legend}</text>',
         *strips(rooms, levels, boxes),
     ]
     met: dict[int, list[float]] = {}
