@@ -28,7 +28,15 @@ use Rattle.query_blend.specs.Blend.{WeightsOn}
 use Rattle.query_cell.specs.Points.{CellAt, blended}
 use Rattle.query_answer.specs.PointsAndModes.{AxesOf, QueryFits}
 use Rattle.query_answer.specs.CellsFound.{cells-by, FoundOn, FoundAmong}
-use Rattle.query_answer.specs.AnswerByWay.{refused-with, answer-in, knots-refusal, value-by, refusal-by, AnswerAmong}
+use Rattle.query_answer.specs.AnswerByWay.{
+  refused-with,
+  answer-in,
+  knots-refusal,
+  refusal-found,
+  value-by,
+  refusal-by,
+  AnswerAmong,
+}
 use Rattle.query_answer.specs.declared.ways.Way.{Way}
 use Rattle.query_answer.specs.declared.ways.Way.the-variants.{Walked, Searched, Direct, Divided}
 use Rattle.query_answer.specs.declared.searched.Refusals.{Refusals}
@@ -68,6 +76,22 @@ some-refusal Walked x z = seven-or-eight (some-number-refused x) z
 some-refusal Searched x z = omega arith
 some-refusal Direct x z = omega arith
 some-refusal Divided x z = omega arith
+
+-- what was found refuses, whatever the value would be
+found-some : (seven eight eighteen : Bool) (by-knots by-value number : ℕ) → number ≡ cond seven 7 (cond eight by-knots (cond eighteen 18 0))
+    → number ≢ 0 → cond seven 7 (cond eight by-knots (cond eighteen 18 by-value)) ≡ number
+found-some true eight eighteen by-knots by-value number is some = sym is
+found-some false true eighteen by-knots by-value number is some = sym is
+found-some false false true by-knots by-value number is some = sym is
+found-some false false false by-knots by-value number is some = absurd (some is)
+
+-- or nothing does, and the value decides
+found-none : (seven eight eighteen : Bool) (by-knots by-value number : ℕ) → number ≡ cond seven 7 (cond eight by-knots (cond eighteen 18 0))
+    → number ≡ 0 → by-knots ≢ 0 → cond seven 7 (cond eight by-knots (cond eighteen 18 by-value)) ≡ by-value
+found-none true eight eighteen by-knots by-value number is none some = absurd (omega (arith, is, none))
+found-none false true eighteen by-knots by-value number is none some = absurd (some (sym is ∙ none))
+found-none false false true by-knots by-value number is none some = absurd (omega (arith, is, none))
+found-none false false false by-knots by-value number is none some = refl
 
 -- ---- one number for a place on axes of the same points
 
@@ -127,45 +151,33 @@ module _ (way : Way) (axes : ℕ) (points-in modes-in : List ℕ) (x tensor coor
         → a ≡ answer-of (refusal-by way g tensor coordinates) (value-by way g tensor coordinates) (labels-of g (cells-by way g coordinates))
     refused-by number e some a is = is ∙ refused-is _ number _ _ e some
 
-  -- a coordinate is refused
-  pub coordinates-refuse : r .coordinates ≡ true → (a : QueryAnswer) → a ≡ refused-with 7
-      → AnswerAmong way axes points-in modes-in x tensor coordinates a
-  coordinates-refuse e a is all are = record {
-    answer = refused-by all are 7 (refusal-is all are ∙ rw e refl) (λ z. omega arith) a is;
-    rising = on all are .rising;
-  }
-
-  module _ (fine : r .coordinates ≡ false) where
-    -- the knots of an axis are
-    pub knots-refuse : r .knots ≡ true → (number : ℕ) → number ≡ knots-refusal way x → (a : QueryAnswer) → a ≡ refused-with number
+  module _ (number : ℕ) (which : number ≡ refusal-found way x r) where
+    -- what was found refuses the point
+    pub found-refuses : number ≢ 0 → (a : QueryAnswer) → a ≡ refused-with number
         → AnswerAmong way axes points-in modes-in x tensor coordinates a
-    knots-refuse e number which a is all are = record {
-      answer = refused-by all are number (refusal-is all are ∙ rw (fine, e, which) refl) (λ z. some-refusal way x (sym which ∙ z)) a is;
+    found-refuses some a is all are = record {
+      answer = refused-by all are number
+          (refusal-is all are ∙ found-some (r .coordinates) (r .knots) (r .outside) (knots-refusal way x) _ number which some) some a is;
       rising = on all are .rising;
     }
 
-    module _ (rise : r .knots ≡ false) where
-      -- a mode refuses
-      pub mode-refuses : r .outside ≡ true → (a : QueryAnswer) → a ≡ refused-with 18
-          → AnswerAmong way axes points-in modes-in x tensor coordinates a
-      mode-refuses e a is all are = record {
-        answer = refused-by all are 18 (refusal-is all are ∙ rw (fine, rise, e) refl) (λ z. omega arith) a is;
-        rising = on all are .rising;
-      }
-
-      -- none does: the cell is evaluated
-      pub cell-answers :
-          r .outside ≡ false → (v : Float)
-          → ((widths ts : ℕ → Float) → WeightsOn axes 0 widths ts weights
-          → v ≡ blended axes (place-of points-in) (place-of lower) widths ts tensor)
-          → (a : QueryAnswer) → a ≡ answer-in v lower → AnswerAmong way axes points-in modes-in x tensor coordinates a
-      cell-answers e v worked a is all are =
-          let value : v ≡ value-by way (grid axes all x) tensor coordinates =
-          worked (width all are) (fraction-there all are) (weights-on all are) ∙ value-same all are in
-          record {
-            answer = is ∙ rw (refusal-is all are, fine, rise, e, value, ← labels-are all are) refl;
-            rising = on all are .rising;
-          }
+    -- nothing does: the cell is evaluated
+    pub cell-answers :
+        number ≡ 0 → (v : Float)
+        → ((widths ts : ℕ → Float) → WeightsOn axes 0 widths ts weights
+        → v ≡ blended axes (place-of points-in) (place-of lower) widths ts tensor)
+        → (a : QueryAnswer) → a ≡ answer-in v lower → AnswerAmong way axes points-in modes-in x tensor coordinates a
+    cell-answers none v worked a is all are =
+        let value : v ≡ value-by way (grid axes all x) tensor coordinates =
+        worked (width all are) (fraction-there all are) (weights-on all are) ∙ value-same all are in
+        let decided : refusal-by way (grid axes all x) tensor coordinates
+        ≡ cond (answer-refused (value-by way (grid axes all x) tensor coordinates)) 10 0 =
+        refusal-is all are
+        ∙ found-none (r .coordinates) (r .knots) (r .outside) (knots-refusal way x) _ number which none (some-refusal way x) in
+        record {
+          answer = is ∙ rw (decided, value, ← labels-are all are) refl;
+          rising = on all are .rising;
+        }
 
   -- the cell can be evaluated
   pub cell-fits : CellAt axes (place-of points-in) (place-of lower)

@@ -189,41 +189,64 @@ module _ (way : Way) (axes : ℕ) (points-in modes-in : List ℕ) (x coordinates
           on = λ all are. subst (λ (k : ℕ). FoundOn way (grid axes all x) coordinates k lower weights r) all-axes (turn .found all are);
         }
 
--- ---- the one axis there is: the turn of it alone
+-- ---- the first axis there is: the turn of it alone
 
-module _ (way : Way) (points-in modes-in : List ℕ) (x coordinates : List Float) (lower : List ℕ) (weights : List Float)
-    (given : SearchFits 1 points-in modes-in x coordinates × Unfound lower weights) where
-  first : Turn way 1 points-in modes-in x coordinates lower weights (record { coordinates = false; knots = false; outside = false }) 0 0
-  first = turn-first way 1 points-in modes-in x coordinates lower weights given
+module _ (way : Way) (axes : ℕ) (points-in modes-in : List ℕ) (x coordinates : List Float) (lower : List ℕ) (weights : List Float)
+    (given : SearchFits axes points-in modes-in x coordinates × Unfound lower weights) (some : 0 < axes) where
+  first : Turn way axes points-in modes-in x coordinates lower weights (record { coordinates = false; knots = false; outside = false }) 0 0
+  first = turn-first way axes points-in modes-in x coordinates lower weights given
 
   pub four-cells : length lower ≡ 4
   four-cells = first .placed .four
 
-  -- its knots are all of them
-  abbrev whole : List Float
-  whole = take (place-of points-in 0 - 0) (drop 0 x)
+  -- its knots are the first of them
+  abbrev front : List Float
+  front = take (place-of points-in 0 - 0) (drop 0 x)
 
-  is-part : whole ≡ part way 1 points-in modes-in x coordinates lower weights _ 0 0 first
+  is-part : front ≡ part way axes points-in modes-in x coordinates lower weights _ 0 0 first
   is-part = rw (zero-add (place-of points-in 0)) refl
 
-  pub all-within : place-of points-in 0 ≤ length x
-  all-within =
+  pub front-within : place-of points-in 0 ≤ length x
+  front-within =
       rw (zero-add (place-of points-in 0)) at
-      (end-within way 1 points-in modes-in x coordinates lower weights _ 0 0 first (omega arith))
+      (end-within way axes points-in modes-in x coordinates lower weights _ 0 0 first some)
 
-  pub whole-size : (2 ≤ length whole) × (length whole ≤ 256)
-  whole-size = rw is-part (size-given way 1 points-in modes-in x coordinates lower weights _ 0 0 first (omega arith))
+  pub front-size : (2 ≤ length front) × (length front ≤ 256)
+  front-size = rw is-part (size-given way axes points-in modes-in x coordinates lower weights _ 0 0 first some)
 
-  module _ (placed : PlacedPoint) (stands : Placed (mode-of-number (place-of modes-in 0)) whole (at coordinates 0) placed) (cell : ℕ)
-      (on : CellOn way whole (at coordinates 0) (placed .coordinate) cell)
-      (later : List Float) (stored : WeightsStored weights 0 whole cell (placed .coordinate) later)
+  module _ (placed : PlacedPoint) (stands : Placed (mode-of-number (place-of modes-in 0)) front (at coordinates 0) placed) (cell : ℕ)
+      (on : CellOn way front (at coordinates 0) (placed .coordinate) cell)
+      (later : List Float) (stored : WeightsStored weights 0 front cell (placed .coordinate) later)
       (number knots-refused : Bool) (is-number : number ≡ finite (at coordinates 0))
-      (judged : knots-refused ≡ knots-refused-by way whole cell) where
-    pub found-on-one :
-        FoundAmong way 1 points-in modes-in x coordinates (set lower 0 cell) later
-        (record { coordinates = not number; knots = knots-refused; outside = placed .refused })
-    found-on-one =
-        turn-last way 1 points-in modes-in x coordinates _ _ _ _ _
-        (turn-next way 1 points-in modes-in x coordinates lower weights _ 0 0 first (omega arith) placed (rw is-part at stands) cell
+      (judged : knots-refused ≡ knots-refused-by way front cell) where
+    pub first-found :
+        Turn way axes points-in modes-in x coordinates (set lower 0 cell) later
+        (record { coordinates = not number; knots = knots-refused; outside = placed .refused }) (place-of points-in 0) 1
+    first-found =
+        rw (zero-add (place-of points-in 0)) at
+        (turn-next way axes points-in modes-in x coordinates lower weights _ 0 0 first some placed (rw is-part at stands) cell
         (rw is-part at on) later (rw is-part at stored) number knots-refused is-number (rw is-part at judged))
-        (omega arith)
+
+-- ---- the second of two: its knots are the others
+
+module _ (points-in modes-in : List ℕ) (x coordinates : List Float) (fits : SearchFits 2 points-in modes-in x coordinates) where
+  begun-there : place-of points-in 0 ≡ sum-below (place-of points-in) 1
+  unfolding sum-below
+  begun-there = sym (zero-add (place-of points-in 0))
+
+  pub back-within : place-of points-in 0 + place-of points-in 1 ≤ length x
+  back-within = omega (arith, begun-there, fits .knots-exact, sum-within (place-of points-in) 1 2 (omega arith))
+
+  abbrev back : List Float
+  back = take (place-of points-in 0 + place-of points-in 1 - place-of points-in 0) (drop (place-of points-in 0) x)
+
+  back-exact : length back ≡ place-of points-in 1
+  back-exact =
+      rw add-sub-cancel-left
+      (length-take-le (place-of points-in 1) (drop (place-of points-in 0) x) (rw length-drop (omega (arith, back-within))))
+
+  pub back-size : (2 ≤ length back) × (length back ≤ 256)
+  back-size = (
+    omega (arith, back-exact, fits .in-range .some-points 1 (omega arith)),
+    omega (arith, back-exact, fits .in-range .few-points 1 (omega arith)),
+  )

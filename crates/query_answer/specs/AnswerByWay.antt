@@ -18,6 +18,7 @@ use Rattle.query_answer.specs.PointsAndModes.{OfAnyAxes}
 use Rattle.query_answer.specs.Ways.{by-search}
 use Rattle.query_answer.specs.CellsFound.{cells-by, knots-refuse}
 use Rattle.query_answer.specs.declared.Outcome.{Outcome}
+use Rattle.query_answer.specs.declared.searched.Refusals.{Refusals}
 use Rattle.query_answer.specs.declared.ways.Way.{Way}
 use Rattle.query_answer.specs.declared.ways.Way.the-variants.{Walked, Searched, Direct, Divided}
 
@@ -39,6 +40,10 @@ knots-refusal Walked x = cond (some-number-refused x) 7 8
 knots-refusal Searched x = 8
 knots-refusal Direct x = 8
 knots-refusal Divided x = 8
+
+-- the refusal by what was found on the axes: the first of 7, 8 and 18, or 0
+abbrev pub refusal-found : Way → List Float → Refusals → ℕ
+refusal-found way x r = cond (r .coordinates) 7 (cond (r .knots) (knots-refusal way x) (cond (r .outside) 18 0))
 
 module _ (way : Way) (g : Grid) (tensor coordinates : List Float) where
   -- 8: so for an axis in use

@@ -5,8 +5,7 @@ ghost use lib.ListN.{length, replicate};
 ghost use Rattle.rules.specs.Sizes.{most-axes};
 ghost use Rattle.rules.specs.Outside.{mode-number};
 ghost use Rattle.query_answer.specs.PointsAndModes.{ModesOf, QueryFits};
-ghost use Rattle.query_answer.specs.CellsFound.{FoundAmong};
-ghost use Rattle.query_answer.specs.AnswerByWay.{refused-with, answer-in, with-labels, knots-refusal, AnswerAmong};
+ghost use Rattle.query_answer.specs.AnswerByWay.{refused-with, answer-in, with-labels, knots-refusal, refusal-found, AnswerAmong};
 use rules::Axis;
 use rules::QueryAnswer;
 use searched::Refusals;
@@ -104,36 +103,20 @@ fn outcome_of(labels: &mut [usize], value: f64) -> Outcome
     refuse(labels, 10)
 }
 
-// The answer by what was found on the axes.
-fn answer_found(
-    way: Way,
-    axes: usize,
-    points: &[usize],
-    modes: &[u8],
-    knots: &[f64],
-    tensor: &[f64],
-    coordinates: &[f64],
-    refusals: Refusals,
-    labels: &mut [usize],
-    weights: &[f64],
-) -> Outcome
-    requires { ⌜ QueryFits axes (now points) (now modes) (now knots) (now tensor) (now coordinates)
-        × FoundAmong way axes (now points) (now modes) (now knots) (now coordinates) (now labels) (now weights) refusals ⌝ }
-    ensures { λ r.
-        ⌜ AnswerAmong way axes (now (points .entry)) (now (modes .entry)) (now (knots .entry)) (now (tensor .entry))
-        (now (coordinates .entry)) (with-labels r (now (labels .exit))) ⌝ }
+// What the axes refuse, by what was found on them: 7, 8, 18, or 0.
+fn refusal_found(way: Way, knots: &[f64], refusals: Refusals) -> usize
+    ensures { λ r. ⌜ r ≡ refusal-found way (now (knots .entry)) refusals ⌝ }
 {
     if refusals.coordinates {
-        return refuse(labels, 7);
+        return 7;
     }
     if refusals.knots {
-        return refuse(labels, knots_refusal(way, knots));
+        return knots_refusal(way, knots);
     }
     if refusals.outside {
-        return refuse(labels, 18);
+        return 18;
     }
-    let value = query_cell::value(axes, points, labels, weights, tensor);
-    outcome_of(labels, value)
+    0
 }
 
 // The answer on one axis, whose cell and weights stay in registers.
@@ -162,18 +145,46 @@ fn answer_on_one(
         labels,
         &mut weights,
     );
-    answer_found(
+    let refusal = refusal_found(way, knots, refusals);
+    if refusal != 0 {
+        return refuse(labels, refusal);
+    }
+    let value = query_cell::value(1, points, labels, &weights, tensor);
+    outcome_of(labels, value)
+}
+
+// The same on two axes.
+fn answer_on_two(
+    way: Way,
+    points: &[usize],
+    modes: &[u8],
+    knots: &[f64],
+    tensor: &[f64],
+    coordinates: &[f64],
+    labels: &mut [usize],
+) -> Outcome
+    requires { ⌜ QueryFits 2 (now points) (now modes) (now knots) (now tensor) (now coordinates) × (length (now labels) ≡ 4) ⌝ }
+    ensures { λ r.
+        ⌜ AnswerAmong way 2 (now (points .entry)) (now (modes .entry)) (now (knots .entry)) (now (tensor .entry))
+        (now (coordinates .entry)) (with-labels r (now (labels .exit))) ⌝ }
+{
+    clear_labels(labels);
+    let mut weights = [0.0; 16];
+    let refusals = searched::search_on_two(
         way,
-        1,
         points,
         modes,
         knots,
-        tensor,
         coordinates,
-        refusals,
         labels,
-        &weights,
-    )
+        &mut weights,
+    );
+    let refusal = refusal_found(way, knots, refusals);
+    if refusal != 0 {
+        return refuse(labels, refusal);
+    }
+    let value = query_cell::value_on_two(points, labels, &weights, tensor);
+    outcome_of(labels, value)
 }
 
 // The answer at a point on axes of these points, with a mode's number for each: of their ends nothing is read. The labels are those of
@@ -196,6 +207,9 @@ pub fn answer_to(
     if axes == 1 {
         return answer_on_one(way, points, modes, knots, tensor, coordinates, labels);
     }
+    if axes == 2 {
+        return answer_on_two(way, points, modes, knots, tensor, coordinates, labels);
+    }
     clear_labels(labels);
     let mut weights = [0.0; 16];
     let refusals = searched::search_on_axes(
@@ -208,18 +222,12 @@ pub fn answer_to(
         labels,
         &mut weights,
     );
-    answer_found(
-        way,
-        axes,
-        points,
-        modes,
-        knots,
-        tensor,
-        coordinates,
-        refusals,
-        labels,
-        &weights,
-    )
+    let refusal = refusal_found(way, knots, refusals);
+    if refusal != 0 {
+        return refuse(labels, refusal);
+    }
+    let value = query_cell::value(axes, points, labels, &weights, tensor);
+    outcome_of(labels, value)
 }
 
 // The same, with its labels.

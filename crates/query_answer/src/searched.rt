@@ -59,6 +59,56 @@ pub fn search_on_one(
     }
 }
 
+// The two axes there are, in the same way: the knots of the second begin where those of the first end.
+pub fn search_on_two(
+    way: Way,
+    points: &[usize],
+    modes: &[u8],
+    knots: &[f64],
+    coordinates: &[f64],
+    lower: &mut [usize],
+    weights: &mut [f64],
+) -> Refusals
+    requires { ⌜ SearchFits 2 (now points) (now modes) (now knots) (now coordinates) × Unfound (now lower) (now weights) ⌝ }
+    ensures { λ r.
+        ⌜ FoundAmong way 2 (now (points .entry)) (now (modes .entry)) (now (knots .entry)) (now (coordinates .entry)) (now (lower .exit))
+        (now (weights .exit)) r ⌝ }
+{
+    let begin = points[0];
+    let first = coordinates[0];
+    let first_placed = outside::place_on_axis(modes[0], &knots[0..begin], first);
+    let first_cell = ways::cell_on_axis(way, &knots[0..begin], first, first_placed.coordinate);
+    lower[0] = first_cell;
+    store_weights(
+        weights,
+        0,
+        &knots[0..begin],
+        first_cell,
+        first_placed.coordinate,
+    );
+    let first_finite = base_numbers::is_finite(first);
+    let first_refused = ways::knots_refused(way, &knots[0..begin], first_cell);
+    let end = begin + points[1];
+    let second = coordinates[1];
+    let second_placed = outside::place_on_axis(modes[1], &knots[begin..end], second);
+    let second_cell = ways::cell_on_axis(way, &knots[begin..end], second, second_placed.coordinate);
+    lower[1] = second_cell;
+    store_weights(
+        weights,
+        1,
+        &knots[begin..end],
+        second_cell,
+        second_placed.coordinate,
+    );
+    let second_finite = base_numbers::is_finite(second);
+    let second_refused = ways::knots_refused(way, &knots[begin..end], second_cell);
+    Refusals {
+        coordinates: !first_finite | !second_finite,
+        knots: first_refused | second_refused,
+        outside: first_placed.refused | second_placed.refused,
+    }
+}
+
 // The cells go to `lower`, which is 0 past the axes in use, and the weights to `weights`. Of the knots it reads, besides those that are
 // looked at for 8, the first and the last of an axis, those that the halvings look at, and the two of the cell.
 pub fn search_on_axes(

@@ -436,3 +436,17 @@ module _ (axes left : ℕ) (points lower : List ℕ) (tensor : List Float) (w : 
   removed-further half other is removed =
       let size : half * half ≡ 4 ^ (left - 1) = rw is (sym (four-power (left - 1))) in
       record { first = λ all. absurd (other all); further = λ fewer. rw size at (removed .smaller) }
+
+-- ---- the last of two
+
+last-smaller :
+    (w : Weights) (cell : List Float) (r : Float) → r ≡ weighted-at w (at cell) 0 2 → 0 < length cell → Smaller w 1 (at cell) (set cell 0 r)
+last-smaller w cell r is room e h = let none : e ≡ 0 = omega arith in rw none (getD-set-same cell 0 r nan room ∙ is)
+
+-- of two axes the second is removed in the cell, and one number is left
+pub removed-last :
+    (left : ℕ) (points lower : List ℕ) (tensor : List Float) (w : Weights) (cell : List Float) (r : Float) → left ≢ 2 → 1 ≤ left → left ≤ 2
+    → r ≡ weighted-at w (at cell) 0 2 → 0 < length cell → Removed 2 left points lower tensor w cell (set cell 0 r)
+removed-last left points lower tensor w cell r other some few is room =
+    let one : left ≡ 1 = omega arith in
+    record { first = λ all. absurd (other all); further = λ fewer. rw one (last-smaller w cell r is room) }

@@ -3,6 +3,7 @@
 // the cell. `points` and `lower` are the points of each axis and the cell's lower index on it, `weights` the weights of the axes one after
 // the other, four to an axis.
 ghost use mathlib.Core.Path.{_≡_};
+ghost use mathlib.Core.Logic.{_≢_};
 ghost use Prim.Native.Nat.{ℕ, _+_, _-_, _*_, _^_, _≤_};
 ghost use lib.ListN.{length, set};
 ghost use lib.Ieee.{Float};
@@ -124,7 +125,7 @@ fn first_of_four(
     );
 }
 
-// The first of all axes removed, where the numbers stand in the tensor.
+// The first of all axes removed, where the numbers stand in the tensor. Two axes have a blend of their own.
 fn remove_first(
     cell: &mut [f64],
     axes: usize,
@@ -133,12 +134,11 @@ fn remove_first(
     weights: Weights,
     tensor: &[f64],
 )
-    requires { ⌜ CellGiven axes (now points) (now lower) (now tensor) × (length (now cell) ≡ 64) ⌝ }
+    requires { ⌜ CellGiven axes (now points) (now lower) (now tensor) × (length (now cell) ≡ 64) × (axes ≢ 2) ⌝ }
     ensures { λ _. ⌜ FirstRemoved axes (now (points .entry)) (now (lower .entry)) (now (tensor .entry)) weights (now (cell .exit)) ⌝ }
 {
     match axes {
         1 => first_of_one(cell, 2 * lower[0], weights, tensor),
-        2 => first_of_two(cell, points, lower, weights, tensor),
         3 => first_of_three(cell, points, lower, weights, tensor),
         _ => first_of_four(cell, points, lower, weights, tensor),
     }
@@ -155,7 +155,8 @@ fn remove_lowest(
     weights: Weights,
     tensor: &[f64],
 )
-    requires { ⌜ CellGiven axes (now points) (now lower) (now tensor) × (length (now cell) ≡ 64) × ((1 ≤ left) × (left ≤ axes)) ⌝ }
+    requires { ⌜ CellGiven axes (now points) (now lower) (now tensor) × (length (now cell) ≡ 64) × ((1 ≤ left) × (left ≤ axes))
+        × (axes ≢ 2) ⌝ }
     ensures { λ _. ⌜ Removed axes left (now (points .entry)) (now (lower .entry)) (now (tensor .entry)) weights
         (now (cell .entry)) (now (cell .exit)) ⌝ }
 {
@@ -184,7 +185,7 @@ fn blend(
     tensor: &&[f64],
 ) -> f64
     requires { ⌜ CellGiven axes (now (now points)) (now (now lower)) (now (now tensor))
-        × (length (now (now weights)) ≡ 16) × (left ≤ axes) ⌝ }
+        × (length (now (now weights)) ≡ 16) × (left ≤ axes) × (axes ≢ 2) ⌝ }
     ensures { λ r. ⌜ BlendedOn axes left (now (now (points .entry))) (now (now (lower .entry)))
         (now (now (weights .entry))) (now (now (tensor .entry))) (now (cell .entry)) r ⌝ }
 {
@@ -198,10 +199,10 @@ fn blend(
 
 // The surface's value in a cell, with room for what is left of the largest without its first axis. What stands there at first is never
 // read: ones the compiler stores itself, and for zeros it calls the host's memset. On one axis it follows the two calls of the blend while
-// it compiles, and keeps of all that room one number in a register. Not a public call: that there is such a cell is required, and the
-// lengths of all slices.
+// it compiles, and keeps of all that room one number in a register. Not a public call: that there is such a cell is required, on other
+// axes than two, and the lengths of all slices.
 pub fn value(axes: usize, points: &[usize], lower: &[usize], weights: &[f64], tensor: &[f64]) -> f64
-    requires { ⌜ CellAt axes (place-of (now points)) (place-of (now lower))
+    requires { ⌜ CellAt axes (place-of (now points)) (place-of (now lower)) × (axes ≢ 2)
         × ((length (now points) ≡ 4) × (length (now lower) ≡ 4) × (length (now weights) ≡ 16))
         × (length (now tensor) ≡ product-below (place-of (now points)) axes * 2 ^ axes) ⌝ }
     ensures { λ r.
@@ -216,4 +217,61 @@ pub fn value(axes: usize, points: &[usize], lower: &[usize], weights: &[f64], te
     }
     let mut cell = [1.0; 64];
     blend(&mut cell, axes, axes, &points, &lower, &weights, &tensor)
+}
+
+// The lowest of the axes that are left of two removed: the first from the tensor, the other in the cell.
+fn remove_of_two(
+    cell: &mut [f64],
+    left: usize,
+    points: &[usize],
+    lower: &[usize],
+    weights: Weights,
+    tensor: &[f64],
+)
+    requires { ⌜ CellGiven 2 (now points) (now lower) (now tensor) × (length (now cell) ≡ 64) × ((1 ≤ left) × (left ≤ 2)) ⌝ }
+    ensures { λ _. ⌜ Removed 2 left (now (points .entry)) (now (lower .entry)) (now (tensor .entry)) weights
+        (now (cell .entry)) (now (cell .exit)) ⌝ }
+{
+    if left == 2 {
+        first_of_two(cell, points, lower, weights, tensor);
+        return;
+    }
+    cell[0] = query_blend::one_blended(cell, 0, 2, weights);
+}
+
+// The blend of a cell on two axes, in the same calls: what each of them does is called from here alone, so that the compiler follows them
+// too and keeps the cell's four numbers in registers.
+fn blend_on_two(
+    cell: &mut [f64; 64],
+    left: usize,
+    points: &&[usize],
+    lower: &&[usize],
+    weights: &&[f64],
+    tensor: &&[f64],
+) -> f64
+    requires { ⌜ CellGiven 2 (now (now points)) (now (now lower)) (now (now tensor)) × (length (now (now weights)) ≡ 16) × (left ≤ 2) ⌝ }
+    ensures { λ r. ⌜ BlendedOn 2 left (now (now (points .entry))) (now (now (lower .entry)))
+        (now (now (weights .entry))) (now (now (tensor .entry))) (now (cell .entry)) r ⌝ }
+{
+    if left > 0 {
+        let weights_there = query_blend::weights_of(*weights, 2 - left);
+        remove_of_two(cell, left, *points, *lower, weights_there, *tensor);
+        return blend_on_two(cell, left - 1, points, lower, weights, tensor);
+    }
+    cell[0]
+}
+
+// The surface's value in a cell on two axes. Not a public call: what `value` requires is required here too.
+pub fn value_on_two(points: &[usize], lower: &[usize], weights: &[f64], tensor: &[f64]) -> f64
+    requires { ⌜ CellAt 2 (place-of (now points)) (place-of (now lower))
+        × ((length (now points) ≡ 4) × (length (now lower) ≡ 4) × (length (now weights) ≡ 16))
+        × (length (now tensor) ≡ product-below (place-of (now points)) 2 * 2 ^ 2) ⌝ }
+    ensures { λ r.
+        ⌜
+        ((widths ts : ℕ → Float) → WeightsOn 2 0 widths ts (now (weights .entry))
+        → r ≡ blended 2 (place-of (now (points .entry))) (place-of (now (lower .entry))) widths ts (now (tensor .entry)))
+        ⌝ }
+{
+    let mut cell = [1.0; 64];
+    blend_on_two(&mut cell, 2, &points, &lower, &weights, &tensor)
 }

@@ -46,12 +46,12 @@ pub +blend-spec : {M : Type 1} → statement M
     (λ c κs. (let test = c .before .before .before .before .before .before in
     let s = test .before in
     let some = test .if1 .left in
-    (s .pre .1 .0, search needs, (omega (arith, some), s .pre .1 .2))))
+    (s .pre .1 .0, search needs, (omega (arith, some), s .pre .1 .2), s .pre .1 .3)))
     (λ c. let test = c .before .before .before .before .before .before .before .before in omega (arith, test .if1 .left))
     (λ c κs. (let test = c .before .before .before .before .before .before .before .before in
     let s = test .before in
     let some = test .if1 .left in
-    (omega (arith, s .pre .0, some), (s .pre .1 .0, s .pre .1 .1, omega (arith, s .pre .1 .2)))))
+    (omega (arith, s .pre .0, some), (s .pre .1 .0, s .pre .1 .1, omega (arith, s .pre .1 .2), s .pre .1 .3))))
     (λ c.
     let weighed = c .before .before .before .before .before .before .before in
     let test = weighed .before .before in

@@ -9,7 +9,7 @@ remove-first-requires : tie.Need-remove-first-requires
 remove-first-requires c κs =
     let at-if1 = c .before in
     let s = at-if1 .before .before .before .before .before in
-    (rw (at-if1 .if1 .taken) at (s .pre .0), s .pre .1)
+    (rw (at-if1 .if1 .taken) at (s .pre .0), s .pre .1, λ two. omega arith)
 
 returns : tie.Need-returns
 returns c =

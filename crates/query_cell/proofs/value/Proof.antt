@@ -10,7 +10,7 @@ blend-requires c κs =
     let at-if1 = c .before .before .before .before .before in
     let pre = at-if1 .before .before .before .before .before .pre in
     let one = at-if1 .if1 .taken in
-    ((rw one at (pre .0), (pre .1 .0, pre .1 .1), rw one at (pre .2)), pre .1 .2, omega arith)
+    ((rw one at (pre .0), (pre .2 .0, pre .2 .1), rw one at (pre .3)), pre .2 .2, omega arith, λ two. omega arith)
 
 returns : tie.Need-returns
 returns c =
