@@ -534,10 +534,10 @@ uint64_t hullashlar_locate_axis(uint64_t points,
                                 uint64_t *location, uint64_t location_length,
                                 double *fraction, uint64_t fraction_length);
 
-/* The index of the knot that a point steps to. HULLASHLAR_LOWER: the last knot at or below the point, or the first knot
- * where there is none. HULLASHLAR_UPPER: the first knot at or above it, or the last knot where there is none. Two
- * corners are those of the Rust: above all knots HULLASHLAR_LOWER gives the last index but one, and below all knots
- * HULLASHLAR_UPPER gives index 1.
+/* The index of the knot that a point steps to. HULLASHLAR_LOWER: the last knot that is not above the point; the first
+ * knot where all are above. HULLASHLAR_UPPER: the first knot that is not below the point; the last knot where all are
+ * below. Two corners are those of the Rust: where all knots are below the point HULLASHLAR_LOWER gives the last index
+ * but one, and where all are above it HULLASHLAR_UPPER gives index 1.
  * Lengths: knots_length == points, index_length == 1
  * Writes:  index
  * Refuses: 2 points, 4 length, 22 mode (no direction), 7 number, 8 knots
