@@ -2,8 +2,6 @@
 //! instructions of one call, its nanoseconds, and the stack bytes that each
 //! exported call reaches.
 
-#[path = "../../../examples/hullashlar.rs"]
-mod hullashlar;
 mod inputs;
 mod instructions;
 #[cfg(limit)]
@@ -19,6 +17,7 @@ mod table;
 #[cfg(test)]
 mod tests;
 
+use ::hullashlar;
 use inputs::Inputs;
 #[cfg(limit)]
 use limit::{asked, lines as limit_lines};
