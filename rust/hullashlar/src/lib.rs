@@ -34,6 +34,7 @@ compile_error!(
     "this crate is for processors of 64 bits; firmware of 32 bits takes the header for C"
 );
 
+mod asked;
 mod axes;
 mod curve;
 mod declared;

@@ -1,10 +1,11 @@
 //! Many points by one call.
 
+use crate::asked::{at_many, Given};
 use crate::axes::Axes;
 use crate::declared::{
     hullashlar_direct_queries, hullashlar_quick_queries, hullashlar_stepped_many,
 };
-use crate::refusal::{outcome, Refusal};
+use crate::refusal::Refusal;
 
 /// The quick query at many points, one after the other: a value, four labels and a refusal for
 /// each, as many as refusals are lent.
@@ -25,7 +26,6 @@ use crate::refusal::{outcome, Refusal};
 /// # Ok::<(), hullashlar::Refusal>(())
 /// ```
 #[inline]
-#[rustfmt::skip]
 pub fn quick_queries(
     axes: &Axes,
     knots: &[f64],
@@ -35,21 +35,14 @@ pub fn quick_queries(
     labels: &mut [usize],
     refusals: &mut [usize],
 ) -> Result<(), Refusal> {
-    // SAFETY: each pointer goes with the length of a live slice, and no two slices overlap.
-    let refusal = unsafe {
-        hullashlar_quick_queries(
-            axes.count,
-            axes.points.as_ptr(), axes.points.len(),
-            axes.modes.as_ptr(), axes.modes.len(),
-            knots.as_ptr(), knots.len(),
-            tensor.as_ptr(), tensor.len(),
-            coordinates.as_ptr(), coordinates.len(),
-            values.as_mut_ptr(), values.len(),
-            labels.as_mut_ptr(), labels.len(),
-            refusals.as_mut_ptr(), refusals.len(),
-        )
+    let given = Given {
+        axes,
+        numbers: &axes.modes,
+        knots,
+        surface: tensor,
+        coordinates,
     };
-    outcome(refusal, ())
+    at_many(hullashlar_quick_queries, given, values, labels, refusals)
 }
 
 /// The direct query at many points, likewise.
@@ -65,7 +58,6 @@ pub fn quick_queries(
 /// # Ok::<(), hullashlar::Refusal>(())
 /// ```
 #[inline]
-#[rustfmt::skip]
 pub fn direct_queries(
     axes: &Axes,
     knots: &[f64],
@@ -75,21 +67,14 @@ pub fn direct_queries(
     labels: &mut [usize],
     refusals: &mut [usize],
 ) -> Result<(), Refusal> {
-    // SAFETY: each pointer goes with the length of a live slice, and no two slices overlap.
-    let refusal = unsafe {
-        hullashlar_direct_queries(
-            axes.count,
-            axes.points.as_ptr(), axes.points.len(),
-            axes.modes.as_ptr(), axes.modes.len(),
-            knots.as_ptr(), knots.len(),
-            tensor.as_ptr(), tensor.len(),
-            coordinates.as_ptr(), coordinates.len(),
-            values.as_mut_ptr(), values.len(),
-            labels.as_mut_ptr(), labels.len(),
-            refusals.as_mut_ptr(), refusals.len(),
-        )
+    let given = Given {
+        axes,
+        numbers: &axes.modes,
+        knots,
+        surface: tensor,
+        coordinates,
     };
-    outcome(refusal, ())
+    at_many(hullashlar_direct_queries, given, values, labels, refusals)
 }
 
 /// The stepped surface at many points, one after the other: a value, four indices and a refusal for
@@ -112,7 +97,6 @@ pub fn direct_queries(
 /// ```
 #[allow(clippy::too_many_arguments)]
 #[inline]
-#[rustfmt::skip]
 pub fn stepped_many(
     axes: &Axes,
     directions: [u8; 4],
@@ -123,19 +107,12 @@ pub fn stepped_many(
     indices: &mut [usize],
     refusals: &mut [usize],
 ) -> Result<(), Refusal> {
-    // SAFETY: each pointer goes with the length of a live slice, and no two slices overlap.
-    let refusal = unsafe {
-        hullashlar_stepped_many(
-            axes.count,
-            axes.points.as_ptr(), axes.points.len(),
-            directions.as_ptr(), directions.len(),
-            knots.as_ptr(), knots.len(),
-            samples.as_ptr(), samples.len(),
-            coordinates.as_ptr(), coordinates.len(),
-            values.as_mut_ptr(), values.len(),
-            indices.as_mut_ptr(), indices.len(),
-            refusals.as_mut_ptr(), refusals.len(),
-        )
+    let given = Given {
+        axes,
+        numbers: &directions,
+        knots,
+        surface: samples,
+        coordinates,
     };
-    outcome(refusal, ())
+    at_many(hullashlar_stepped_many, given, values, indices, refusals)
 }

@@ -1,5 +1,6 @@
 //! The value of a surface at a point.
 
+use crate::asked::at_one;
 use crate::axes::Axes;
 use crate::declared::{
     hullashlar_direct_query, hullashlar_even_profile, hullashlar_even_query, hullashlar_query,
@@ -22,29 +23,20 @@ use crate::refusal::{outcome, Refusal};
 /// assert_eq!(query(&axes, &knots, &tensor, &[0.25]), Ok((1.0, [0; 4])));
 /// ```
 #[inline]
-#[rustfmt::skip]
 pub fn query(
     axes: &Axes,
     knots: &[f64],
     tensor: &[f64],
     coordinates: &[f64],
 ) -> Result<(f64, [usize; 4]), Refusal> {
-    let mut value = [0.0];
-    let mut labels = [0; 4];
-    // SAFETY: each pointer goes with the length of a live slice, and no two slices overlap.
-    let refusal = unsafe {
-        hullashlar_query(
-            axes.count,
-            axes.points.as_ptr(), axes.points.len(),
-            axes.modes.as_ptr(), axes.modes.len(),
-            knots.as_ptr(), knots.len(),
-            tensor.as_ptr(), tensor.len(),
-            coordinates.as_ptr(), coordinates.len(),
-            value.as_mut_ptr(), value.len(),
-            labels.as_mut_ptr(), labels.len(),
-        )
-    };
-    outcome(refusal, (value[0], labels))
+    at_one(
+        hullashlar_query,
+        axes,
+        &axes.modes,
+        knots,
+        tensor,
+        coordinates,
+    )
 }
 
 /// The same with no look at knots but those that the search visits and those of the cell.
@@ -61,29 +53,20 @@ pub fn query(
 /// assert_eq!(quick_query(&axes, &knots, &tensor, &[0.25]), Ok((1.0, [0; 4])));
 /// ```
 #[inline]
-#[rustfmt::skip]
 pub fn quick_query(
     axes: &Axes,
     knots: &[f64],
     tensor: &[f64],
     coordinates: &[f64],
 ) -> Result<(f64, [usize; 4]), Refusal> {
-    let mut value = [0.0];
-    let mut labels = [0; 4];
-    // SAFETY: each pointer goes with the length of a live slice, and no two slices overlap.
-    let refusal = unsafe {
-        hullashlar_quick_query(
-            axes.count,
-            axes.points.as_ptr(), axes.points.len(),
-            axes.modes.as_ptr(), axes.modes.len(),
-            knots.as_ptr(), knots.len(),
-            tensor.as_ptr(), tensor.len(),
-            coordinates.as_ptr(), coordinates.len(),
-            value.as_mut_ptr(), value.len(),
-            labels.as_mut_ptr(), labels.len(),
-        )
-    };
-    outcome(refusal, (value[0], labels))
+    at_one(
+        hullashlar_quick_query,
+        axes,
+        &axes.modes,
+        knots,
+        tensor,
+        coordinates,
+    )
 }
 
 /// The same in the cells that a division finds, on any knots; on knots that [`even_profile`]
@@ -100,29 +83,20 @@ pub fn quick_query(
 /// assert_eq!(direct_query(&axes, &knots, &tensor, &[0.25]), Ok((1.0, [0; 4])));
 /// ```
 #[inline]
-#[rustfmt::skip]
 pub fn direct_query(
     axes: &Axes,
     knots: &[f64],
     tensor: &[f64],
     coordinates: &[f64],
 ) -> Result<(f64, [usize; 4]), Refusal> {
-    let mut value = [0.0];
-    let mut labels = [0; 4];
-    // SAFETY: each pointer goes with the length of a live slice, and no two slices overlap.
-    let refusal = unsafe {
-        hullashlar_direct_query(
-            axes.count,
-            axes.points.as_ptr(), axes.points.len(),
-            axes.modes.as_ptr(), axes.modes.len(),
-            knots.as_ptr(), knots.len(),
-            tensor.as_ptr(), tensor.len(),
-            coordinates.as_ptr(), coordinates.len(),
-            value.as_mut_ptr(), value.len(),
-            labels.as_mut_ptr(), labels.len(),
-        )
-    };
-    outcome(refusal, (value[0], labels))
+    at_one(
+        hullashlar_direct_query,
+        axes,
+        &axes.modes,
+        knots,
+        tensor,
+        coordinates,
+    )
 }
 
 /// The same where every axis is even, the cells found by division. A refusal comes with the axis

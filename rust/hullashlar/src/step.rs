@@ -1,5 +1,6 @@
 //! Steps: the knot and the sample that a point steps to.
 
+use crate::asked::at_one;
 use crate::axes::Axes;
 use crate::declared::{
     hullashlar_exact_index, hullashlar_locate_axis, hullashlar_locate_step_index,
@@ -129,7 +130,6 @@ pub fn locate_step_index(knots: &[f64], direction: u8, point: f64) -> Result<usi
 /// assert_eq!(answer, Ok((6.0, [1, 0, 0, 0])));
 /// ```
 #[inline]
-#[rustfmt::skip]
 pub fn stepped(
     axes: &Axes,
     directions: [u8; 4],
@@ -137,20 +137,12 @@ pub fn stepped(
     samples: &[f64],
     coordinates: &[f64],
 ) -> Result<(f64, [usize; 4]), Refusal> {
-    let mut value = [0.0];
-    let mut indices = [0; 4];
-    // SAFETY: each pointer goes with the length of a live slice, and no two slices overlap.
-    let refusal = unsafe {
-        hullashlar_stepped(
-            axes.count,
-            axes.points.as_ptr(), axes.points.len(),
-            directions.as_ptr(), directions.len(),
-            knots.as_ptr(), knots.len(),
-            samples.as_ptr(), samples.len(),
-            coordinates.as_ptr(), coordinates.len(),
-            value.as_mut_ptr(), value.len(),
-            indices.as_mut_ptr(), indices.len(),
-        )
-    };
-    outcome(refusal, (value[0], indices))
+    at_one(
+        hullashlar_stepped,
+        axes,
+        &directions,
+        knots,
+        samples,
+        coordinates,
+    )
 }
