@@ -1,6 +1,6 @@
 // The public calls on one axis: the moments of a curve, its value at a point, and its slopes at the knots.
 ghost use Rattle.std.specs.Prelude.{◌≡◌, ◌≤◌, length};
-ghost use Rattle.rules.specs.Ends.{fewest-points};
+ghost use Rattle.rules.specs.Ends.{fewest_points};
 ghost use Rattle.rules.specs.Calls.{MomentsPromise, CurvePromise, SlopesPromise};
 ghost use Rattle.axis_rows.specs.Rows.{RowsFit};
 ghost use Rattle.axis_curve.specs.Work.{SlopesWorked, MomentsWorked};
@@ -96,7 +96,7 @@ fn work_moments(
     moments: &mut [f64],
     scratch: &mut [f64],
 ) -> usize
-    requires rows_fit { RowsFit scratch.old knots.now × (fewest-points condition ≤ length knots.now) }
+    requires rows_fit { RowsFit scratch.old knots.now × (fewest_points condition ≤ length knots.now) }
     requires samples_len { (length samples.now ≡ length knots.now) × (length moments.old ≡ length knots.now) }
     ensures { MomentsWorked knots.now samples.now condition moments.old scratch.old result
         moments.new scratch.new }

@@ -5,8 +5,8 @@ use lib.Ieee.{Float, nan, inf, fin, up, down, lt}
 use lib.Ieee.Fits.{down_pos}
 use lib.Ieee.Exact.{HasValue}
 use Rattle.base_floats.specs.Zeros.{Zero}
-use Rattle.rules.specs.Numbers.{◌⊖◌, ◌⊘◌, plus-zero}
-use Rattle.rules.specs.Even.{first-too-large, whole_part, as-index, direct-cell}
+use Rattle.rules.specs.Numbers.{◌⊖◌, ◌⊘◌, plus_zero}
+use Rattle.rules.specs.Even.{first_too_large, whole_part, as_index, direct_cell}
 use Rattle.axis_even.proofs.Direct.{direct_is}
 
 -- knot k is an end of a cell: the cell is k or k - 1
@@ -22,13 +22,13 @@ held c k n l s O = record { from = omega (arith, O.from); to = omega (arith, O.t
 below_next : (M d Q L k : ℕ) → 0 < d → M * L ≡ Q * d → Q < (k + 1) * L → M < (k + 1) * d
 below_next M d Q L k D e h = lt_of_mul-lt-mul_right L (rw (e, mul_right_comm (k + 1) d L) (mul-lt-mul_of_pos_right h D))
 
-from-previous : (M d Q L k : ℕ) → 0 < L → M * L ≡ Q * d → k * L ≤ Q + L → k * d ≤ M + d
-from-previous M d Q L k l e h =
+from_previous : (M d Q L k : ℕ) → 0 < L → M * L ≡ Q * d → k * L ≤ Q + L → k * d ≤ M + d
+from_previous M d Q L k l e h =
     le_of_mul-le-mul_right (rw (add-mul M d L, e, mul_right_comm k d L, mul_comm d L, ← add-mul Q L d) (mul-le-mul_right d h)) l
 
-whole-part-ends : (M d k : ℕ) → 0 < d → M < (k + 1) * d → k * d ≤ M + d → HasEnd (M / d) k
-whole-part-ends M d zero D a b = let l = (div-lt_iff_lt-mul D).1 a in record { from = omega arith; to = omega arith }
-whole-part-ends M d (suc k) D a b =
+whole_part_ends : (M d k : ℕ) → 0 < d → M < (k + 1) * d → k * d ≤ M + d → HasEnd (M / d) k
+whole_part_ends M d zero D a b = let l = (div-lt_iff_lt-mul D).1 a in record { from = omega arith; to = omega arith }
+whole_part_ends M d (suc k) D a b =
     let l : M / d < suc k + 1 = (div-lt_iff_lt-mul D).1 a in
     let g : k * d ≤ M = omega (arith, (let e : suc k * d ≡ k * d + d = omega arith in e)) in
     let m : k ≤ M / d = (le-div_iff_mul-le D).1 g in
@@ -36,37 +36,37 @@ whole-part-ends M d (suc k) D a b =
 
 -- ---- of a float that holds it
 
-not_negative : (t : Float) (Q L : ℕ) → HasValue t false Q L → lt t plus-zero ≡ false
+not_negative : (t : Float) (Q L : ℕ) → HasValue t false Q L → lt t plus_zero ≡ false
 unfolding Ieee.of_bits lt
 not_negative nan Q L v = absurd v
 not_negative (inf s) Q L v = absurd v
 not_negative (fin true m e) Q L v = absurd (true≢false v.0)
 not_negative (fin false m e) Q L v = le-ltb (m * up e * 1) (0 * down e) (omega arith)
 
-index-ends : (t : Float) (Q L k : ℕ) → HasValue t false Q L → 0 < L → Q < (k + 1) * L → k * L ≤ Q + L → k < 256 → HasEnd (as-index t) k
-unfolding Ieee.of_bits lt as-index whole_part
-index-ends nan Q L k v l above below few = absurd v
-index-ends (inf s) Q L k v l above below few = absurd v
-index-ends (fin true m e) Q L k v l above below few = absurd (true≢false v.0)
-index-ends (fin false m e) Q L k v l above below few =
+index_ends : (t : Float) (Q L k : ℕ) → HasValue t false Q L → 0 < L → Q < (k + 1) * L → k * L ≤ Q + L → k < 256 → HasEnd (as_index t) k
+unfolding Ieee.of_bits lt as_index whole_part
+index_ends nan Q L k v l above below few = absurd v
+index_ends (inf s) Q L k v l above below few = absurd v
+index_ends (fin true m e) Q L k v l above below few = absurd (true≢false v.0)
+index_ends (fin false m e) Q L k v l above below few =
     let a : m * up e < (k + 1) * down e = below_next (m * up e) (down e) Q L k (down_pos e) v.1 above in
-    let b : k * down e ≤ m * up e + down e = from-previous (m * up e) (down e) Q L k l v.1 below in
+    let b : k * down e ≤ m * up e + down e = from_previous (m * up e) (down e) Q L k l v.1 below in
     let c : (k + 1) * down e ≤ 256 * down e = mul-le-mul_right (down e) (omega arith) in
-    rw (lt-ltb (m * up e * 1) (18446744073709551616 * down e) (omega arith)) (whole-part-ends (m * up e) (down e) k (down_pos e) a b)
+    rw (lt-ltb (m * up e * 1) (18446744073709551616 * down e) (omega arith)) (whole_part_ends (m * up e) (down e) k (down_pos e) a b)
 
 module _ (first step p : Float) (n : ℕ) where
-  pub cell-of-quotient :
+  pub cell_of_quotient :
       (Q L k : ℕ) → HasValue ((p ⊖ first) ⊘ step) false Q L → 0 < L → Q < (k + 1) * L → k * L ≤ Q + L → k < n → n ≤ 256 → 2 ≤ n
-      → HasEnd (direct-cell first step n p) k
-  cell-of-quotient Q L k v l above below inside few some =
+      → HasEnd (direct_cell first step n p) k
+  cell_of_quotient Q L k v l above below inside few some =
       rw (direct_is first step n p (not_negative ((p ⊖ first) ⊘ step) Q L v))
-      (held (as-index ((p ⊖ first) ⊘ step)) k n (omega arith) some
-      (index-ends ((p ⊖ first) ⊘ step) Q L k v l above below (omega arith)))
+      (held (as_index ((p ⊖ first) ⊘ step)) k n (omega arith) some
+      (index_ends ((p ⊖ first) ⊘ step) Q L k v l above below (omega arith)))
 
-  pub cell-of-zero : Zero ((p ⊖ first) ⊘ step) → HasEnd (direct-cell first step n p) 0
-  unfolding direct-cell as-index whole_part Ieee.of_bits lt
-  cell-of-zero z = rw z.is (go z.sign)
+  pub cell_of_zero : Zero ((p ⊖ first) ⊘ step) → HasEnd (direct_cell first step n p) 0
+  unfolding direct_cell as_index whole_part Ieee.of_bits lt
+  cell_of_zero z = rw z.is (go z.sign)
     where
-      go : (s : Bool) → HasEnd (cond (lt (fin s 0 (pos 0)) plus-zero) 0 (min (as-index (fin s 0 (pos 0))) (n - 2))) 0
+      go : (s : Bool) → HasEnd (cond (lt (fin s 0 (pos 0)) plus_zero) 0 (min (as_index (fin s 0 (pos 0))) (n - 2))) 0
       go true = record { from = omega arith; to = omega arith }
       go false = record { from = omega arith; to = omega arith }

@@ -10,23 +10,23 @@ evenness = 262144
 -- ---- a step of d units, rounded to s, and the first, H: their difference is rounded to a, which is at most the tolerance t
 
 module _ (d s H a t : ℕ) (S : Close rounding s d) (h : a ≤ t) (T : t * 4398046511104 ≤ 2 * H) where
-  pub step-above : H ≤ s → Close rounding a (s - H) → Close evenness d H
-  step-above l A =
+  pub step_above : H ≤ s → Close rounding a (s - H) → Close evenness d H
+  step_above l A =
       let p = S.over in
       let q = S.under in
       let r = A.under in
       record { over = omega arith; under = omega arith }
 
-  pub step-below : s ≤ H → Close rounding a (H - s) → Close evenness d H
-  step-below l A =
+  pub step_below : s ≤ H → Close rounding a (H - s) → Close evenness d H
+  step_below l A =
       let p = S.over in
       let q = S.under in
       let r = A.under in
       record { over = omega arith; under = omega arith }
 
 -- the first step itself
-pub step-first : (d H : ℕ) → Close rounding H d → Close evenness d H
-step-first d H S =
+pub step_first : (d H : ℕ) → Close rounding H d → Close evenness d H
+step_first d H S =
     let p = S.over in
     let q = S.under in
     record { over = omega arith; under = omega arith }
@@ -51,48 +51,48 @@ span P H (suc k) rise B =
 
 -- ---- the quotient: K stands for k H, and two letters for a product with L or H
 
-upper-sum : (G E K H : ℕ) → Close rounding G E → Close evenness E K → K ≤ 255 * H → G * 512 ≤ K * 512 + H
-upper-sum G E K H C B h = let p = C.over in let q = B.over in omega arith
+upper_sum : (G E K H : ℕ) → Close rounding G E → Close evenness E K → K ≤ 255 * H → G * 512 ≤ K * 512 + H
+upper_sum G E K H C B h = let p = C.over in let q = B.over in omega arith
 
-lower-sum : (G E K H : ℕ) → Close rounding G E → Close evenness E K → K ≤ 255 * H → K * 512 ≤ G * 512 + H
-lower-sum G E K H C B h = let p = C.under in let q = B.under in omega arith
+lower_sum : (G E K H : ℕ) → Close rounding G E → Close evenness E K → K ≤ 255 * H → K * 512 ≤ G * 512 + H
+lower_sum G E K H C B h = let p = C.under in let q = B.under in omega arith
 
-upper-all :
+upper_all :
     (QH GL KL HL H : ℕ) → GL * 512 ≤ KL * 512 + HL → QH * 1048576 ≤ GL * 1048577 + H * 1048576 → KL ≤ 255 * HL → 4 * H ≤ HL → 0 < H
     → QH < KL + HL
-upper-all QH GL KL HL H a b c d h = omega arith
+upper_all QH GL KL HL H a b c d h = omega arith
 
-lower-all :
+lower_all :
     (QH GL KL HL H : ℕ) → KL * 512 ≤ GL * 512 + HL → GL * 1048575 ≤ QH * 1048576 + H * 1048576 → KL ≤ 255 * HL → 4 * H ≤ HL → 0 < H
     → KL ≤ QH + HL
-lower-all QH GL KL HL H a b c d h = omega arith
+lower_all QH GL KL HL H a b c d h = omega arith
 
 -- a sum of k steps of H units, rounded to G, over H: Q units of a format that has L to one
 module _
-    (Q G E H L k : ℕ) (few : k ≤ 255) (H-pos : 0 < H) (L-big : 4 ≤ L)
+    (Q G E H L k : ℕ) (few : k ≤ 255) (H_pos : 0 < H) (L_big : 4 ≤ L)
     (C : Close rounding G E) (B : Close evenness E (k * H)) (W : Within Q (G * L) H)
   where
-    steps-few : k * H ≤ 255 * H
-    steps-few = mul-le-mul_right H few
+    steps_few : k * H ≤ 255 * H
+    steps_few = mul-le-mul_right H few
 
-    all-few : k * H * L ≤ 255 * (H * L)
-    all-few = rw (← mul_assoc 255 H L) (mul-le-mul_right L steps-few)
+    all_few : k * H * L ≤ 255 * (H * L)
+    all_few = rw (← mul_assoc 255 H L) (mul-le-mul_right L steps_few)
 
-    unit-small : 4 * H ≤ H * L
-    unit-small = rw (mul_comm H L) (mul-le-mul_right H L-big)
+    unit_small : 4 * H ≤ H * L
+    unit_small = rw (mul_comm H L) (mul-le-mul_right H L_big)
 
-    pub quotient-below : Q < (k + 1) * L
-    quotient-below =
+    pub quotient_below : Q < (k + 1) * L
+    quotient_below =
         let s : G * L * 512 ≤ k * H * L * 512 + H * L =
         rw (mul_right_comm G 512 L, add-mul (k * H * 512) H L, mul_right_comm (k * H) 512 L) at
-        (mul-le-mul_right L (upper-sum G E (k * H) H C B steps-few)) in
-        let r : Q * H < k * H * L + H * L = upper-all (Q * H) (G * L) (k * H * L) (H * L) H s W.over all-few unit-small H-pos in
+        (mul-le-mul_right L (upper_sum G E (k * H) H C B steps_few)) in
+        let r : Q * H < k * H * L + H * L = upper_all (Q * H) (G * L) (k * H * L) (H * L) H s W.over all_few unit_small H_pos in
         lt_of_mul-lt-mul_right H (rw (add-mul k 1 L, add-mul (k * L) (1 * L) H, one-mul L, mul_right_comm k L H, mul_comm L H) r)
 
-    pub quotient-above : k * L ≤ Q + L
-    quotient-above =
+    pub quotient_above : k * L ≤ Q + L
+    quotient_above =
         let s : k * H * L * 512 ≤ G * L * 512 + H * L =
         rw (mul_right_comm (k * H) 512 L, add-mul (G * 512) H L, mul_right_comm G 512 L) at
-        (mul-le-mul_right L (lower-sum G E (k * H) H C B steps-few)) in
-        let r : k * H * L ≤ Q * H + H * L = lower-all (Q * H) (G * L) (k * H * L) (H * L) H s W.under all-few unit-small H-pos in
-        le_of_mul-le-mul_right (rw (mul_right_comm k L H, add-mul Q L H, mul_comm L H) r) H-pos
+        (mul-le-mul_right L (lower_sum G E (k * H) H C B steps_few)) in
+        let r : k * H * L ≤ Q * H + H * L = lower_all (Q * H) (G * L) (k * H * L) (H * L) H s W.under all_few unit_small H_pos in
+        le_of_mul-le-mul_right (rw (mul_right_comm k L H, add-mul Q L H, mul_comm L H) r) H_pos

@@ -6,7 +6,7 @@ use lib.Ieee.Scale.{finite}
 use Rattle.base_floats.specs.Place.{Real}
 use Rattle.rules.specs.Numbers.{at}
 use Rattle.rules.specs.Steps.{h}
-use Rattle.rules.specs.Even.{absolute, doubled, tolerance, first-that, first-failing, direct-cell}
+use Rattle.rules.specs.Even.{absolute, doubled, tolerance, first_that, first_failing, direct_cell}
 use Rattle.axis_even.proofs.DirectCells.{EvenAxis}
 
 abbrev tenths : List Float
@@ -17,8 +17,8 @@ tenths =
     ∷ Ieee.of_bits binary64 0x3FD9_9999_9999_999A
     ∷ []
 
-abbrev cell-of-knot : ℕ → ℕ
-cell-of-knot k = direct-cell (at tenths 0) (h tenths 0) 4 (at tenths k)
+abbrev cell_of_knot : ℕ → ℕ
+cell_of_knot k = direct_cell (at tenths 0) (h tenths 0) 4 (at tenths k)
 
 real : (k : ℕ) → k < 4 → Real (at tenths k)
 unfolding Ieee.of_bits fits
@@ -42,9 +42,9 @@ steps (suc zero) l = refl
 steps (suc (suc zero)) l = refl
 steps (suc (suc (suc k))) l = absurd (let z : ⊥ = omega arith in z)
 
-pub tenths-even : EvenAxis tenths 4
-unfolding h absolute doubled tolerance first-failing first-that Ieee.add Ieee.sub Ieee.mul Ieee.neg Ieee.lt Ieee.of_bits
-tenths-even = record {
+pub tenths_even : EvenAxis tenths 4
+unfolding h absolute doubled tolerance first_failing first_that Ieee.add Ieee.sub Ieee.mul Ieee.neg Ieee.lt Ieee.of_bits
+tenths_even = record {
   some = omega arith;
   few = omega arith;
   real = real;
@@ -54,6 +54,6 @@ tenths-even = record {
   wide = refl;
 }
 
-pub both-cells : (cell-of-knot 1 ≡ 1) × (cell-of-knot 2 ≡ 1)
-unfolding h direct-cell Ieee.add Ieee.sub Ieee.div Ieee.neg Ieee.lt Ieee.of_bits
-both-cells = (refl, refl)
+pub both_cells : (cell_of_knot 1 ≡ 1) × (cell_of_knot 2 ≡ 1)
+unfolding h direct_cell Ieee.add Ieee.sub Ieee.div Ieee.neg Ieee.lt Ieee.of_bits
+both_cells = (refl, refl)

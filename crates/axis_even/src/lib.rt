@@ -3,7 +3,7 @@
 ghost use Rattle.std.specs.Prelude.{◌≡◌, ◌≤◌, false, ◌||◌, length};
 ghost use Rattle.std.specs.Float.Ieee.{lt};
 ghost use Rattle.rules.specs.Numbers.{◌⊖◌};
-ghost use Rattle.rules.specs.Even.{absolute, tolerance, apart, first-failing, direct-cell};
+ghost use Rattle.rules.specs.Even.{absolute, tolerance, apart, first_failing, direct_cell};
 
 // A number without its sign.
 fn absolute(v: f64) -> f64
@@ -48,7 +48,7 @@ pub fn may_fail(spacing: f64, step: f64, tolerance: f64) -> bool
 // time.
 fn some_interval_may_fail(knots: &[f64]) -> bool
     requires { 2 ≤ length knots.now }
-    ensures { result ≡ false → first-failing knots.now (length knots.now) ≡ 0 }
+    ensures { result ≡ false → first_failing knots.now (length knots.now) ≡ 0 }
 {
     let step = knots[1] - knots[0];
     let tolerance = tolerance(step);
@@ -65,7 +65,7 @@ fn some_interval_may_fail(knots: &[f64]) -> bool
 // The first interval whose step is too far from the first one's, looked for one by one, and 0 where there is none.
 fn first_failing_interval(knots: &[f64]) -> usize
     requires { 2 ≤ length knots.now }
-    ensures { result ≡ first-failing knots.now (length knots.now) }
+    ensures { result ≡ first_failing knots.now (length knots.now) }
 {
     let step = knots[1] - knots[0];
     let tolerance = tolerance(step);
@@ -82,7 +82,7 @@ fn first_failing_interval(knots: &[f64]) -> usize
 // The first interval whose step is too far from the first one's, and 0 where the axis is even: it is looked for only where one may be.
 pub fn validate_uniform_grid_epsilon(knots: &[f64]) -> usize
     requires { 2 ≤ length knots.now }
-    ensures { result ≡ first-failing knots.now (length knots.now) }
+    ensures { result ≡ first_failing knots.now (length knots.now) }
 {
     if some_interval_may_fail(knots) {
         return first_failing_interval(knots);
@@ -94,7 +94,7 @@ pub fn validate_uniform_grid_epsilon(knots: &[f64]) -> usize
 // It is 0 where the quotient is 2^64 or more, infinite or NaN.
 pub fn locate_lower_index_uniform(first: f64, step: f64, points: usize, point: f64) -> usize
     requires { 2 ≤ points }
-    ensures { result ≡ direct-cell first step points point }
+    ensures { result ≡ direct_cell first step points point }
 {
     let t = (point - first) / step;
     if t < 0.0 {

@@ -10,8 +10,8 @@ use lib.Pow.{pow_mono}
 use lib.Ieee.{Float, le, size}
 use lib.Ieee.Digits.{size-lt, size-le}
 use Rattle.rules.specs.Numbers.{at}
-use Rattle.rules.specs.Search.{middle, halving, most-halvings}
-use Rattle.rules.proofs.Halving.{half, halving-ends, halving-down, halving-up, enough}
+use Rattle.rules.specs.Search.{middle, halving, most_halvings}
+use Rattle.rules.proofs.Halving.{half, halving_ends, halving_down, halving_up, enough}
 
 -- the binary digits of the width between low and high: each halving takes at least one
 pub fewer_digits : (width next : ℕ) → 0 < width → next ≤ width / 2 → size next < size width
@@ -25,8 +25,8 @@ fewer_digits width next h g = go (size width) (size-lt width)
 pub counted : (width halvings : ℕ) → 0 < width → size width + halvings ≤ 8 → size (width / 2) + (halvings + 1) ≤ 8
 counted width halvings h few = let f = fewer_digits width (width / 2) h (omega arith) in omega arith
 
-pub counted-first : (last : ℕ) → last < 256 → size last + 0 ≤ 8
-counted-first last few = let n = size-le last 8 (let e : 2 ^ 8 ≡ 256 = refl in omega arith) in omega arith
+pub counted_first : (last : ℕ) → last < 256 → size last + 0 ≤ 8
+counted_first last few = let n = size-le last 8 (let e : 2 ^ 8 ≡ 256 = refl in omega arith) in omega arith
 
 -- after 8 halvings no width is left
 pub none_left : (width halvings : ℕ) → size width + halvings ≤ 8 → halvings ≡ 8 → width ≡ 0
@@ -41,14 +41,14 @@ module _ (knots : List Float) (point : Float) where
   pub record Turn (last low high : ℕ) : Type 0 where
     pub order : low ≤ high
     pub most : high ≤ last
-    pub left : size (high - low) ≤ most-halvings
-    pub same : halving knots point most-halvings 0 last ≡ halving knots point most-halvings low high
+    pub left : size (high - low) ≤ most_halvings
+    pub same : halving knots point most_halvings 0 last ≡ halving knots point most_halvings low high
 
-  turn-first : (last : ℕ) → last < 256 → Turn last 0 last
-  turn-first last few = record {
+  turn_first : (last : ℕ) → last < 256 → Turn last 0 last
+  turn_first last few = record {
     order = omega arith;
     most = omega arith;
-    left = size-le (last - 0) most-halvings (let e : 2 ^ 8 ≡ 256 = refl in omega arith);
+    left = size-le (last - 0) most_halvings (let e : 2 ^ 8 ≡ 256 = refl in omega arith);
     same = refl;
   }
 
@@ -58,27 +58,27 @@ module _ (knots : List Float) (point : Float) where
     wide_enough = lt_of_lt_of_le (size-lt (high - low)) (pow_mono t.left)
 
     again : (low' high' : ℕ) → high' - low' ≤ (high - low) / 2
-        → halving knots point 7 low' high' ≡ halving knots point most-halvings low' high'
+        → halving knots point 7 low' high' ≡ halving knots point most_halvings low' high'
     again low' high' h =
-        let w = wide_enough in let n = half 7 (high - low) w in enough knots point 7 most-halvings low' high' (omega arith) (omega arith)
+        let w = wide_enough in let n = half 7 (high - low) w in enough knots point 7 most_halvings low' high' (omega arith) (omega arith)
 
-    fewer-left : (next : ℕ) → next ≤ (high - low) / 2 → size next ≤ most-halvings
-    fewer-left next h = let d = fewer_digits (high - low) next (omega arith) h in let f = t.left in omega arith
+    fewer_left : (next : ℕ) → next ≤ (high - low) / 2 → size next ≤ most_halvings
+    fewer_left next h = let d = fewer_digits (high - low) next (omega arith) h in let f = t.left in omega arith
 
     down : le point (at knots (middle low high)) ≡ true → Turn last low (middle low high)
     down e = record {
       order = omega arith;
       most = (let m = t.most in omega arith);
-      left = fewer-left (middle low high - low) (omega arith);
-      same = t.same ∙ halving-down knots point 7 low high l e ∙ again low (middle low high) (omega arith);
+      left = fewer_left (middle low high - low) (omega arith);
+      same = t.same ∙ halving_down knots point 7 low high l e ∙ again low (middle low high) (omega arith);
     }
 
     up : le point (at knots (middle low high)) ≡ false → Turn last (middle low high + 1) high
     up e = record {
       order = omega arith;
       most = t.most;
-      left = fewer-left (high - (middle low high + 1)) (omega arith);
-      same = t.same ∙ halving-up knots point 7 low high l e ∙ again (middle low high + 1) high (omega arith);
+      left = fewer_left (high - (middle low high + 1)) (omega arith);
+      same = t.same ∙ halving_up knots point 7 low high l e ∙ again (middle low high + 1) high (omega arith);
     }
 
   moved : (last : ℕ) → {low high low' high' : ℕ} → low ≡ low' → high ≡ high' → Turn last low high → Turn last low' high'
@@ -92,26 +92,26 @@ module _ (knots : List Float) (point : Float) where
     pub within : high - low ≤ width
     pub count : size width + halvings ≤ 8
 
-  pub kept-first : (last : ℕ) → last < 256 → Kept last 0 last last 0
-  kept-first last few = record {
-    turn = moved last (omega arith) refl (turn-first last few);
+  pub kept_first : (last : ℕ) → last < 256 → Kept last 0 last last 0
+  kept_first last few = record {
+    turn = moved last (omega arith) refl (turn_first last few);
     past = omega arith;
     within = omega arith;
-    count = counted-first last few;
+    count = counted_first last few;
   }
 
   -- once no width is left, low and high have met
-  pub kept-last : (last low high width halvings : ℕ) → Kept last low high width halvings → width ≡ 0
-      → high ≡ halving knots point most-halvings 0 last
-  kept-last last low high width halvings k z =
+  pub kept_last : (last low high width halvings : ℕ) → Kept last low high width halvings → width ≡ 0
+      → high ≡ halving knots point most_halvings 0 last
+  kept_last last low high width halvings k z =
       let w = k.within in
       let t : Turn last high high = moved last (omega arith) refl k.turn in
-      sym (t.same ∙ halving-ends knots point most-halvings high high (omega arith))
+      sym (t.same ∙ halving_ends knots point most_halvings high high (omega arith))
 
   module _ (last low high width halvings : ℕ) (k : Kept last low high width halvings) (left : 0 < width) (mid : ℕ)
       (is : mid ≡ (low + high) / 2) where
-    turn-down : le point (at knots mid) ≡ true → Turn last (min low mid) mid
-    turn-down e = elim (dec_le high low) [
+    turn_down : le point (at knots mid) ≡ true → Turn last (min low mid) mid
+    turn_down e = elim (dec_le high low) [
       | yes g ↦ let p = k.past in moved last (omega arith) (omega arith) k.turn
       | no f ↦
           let l : low < high = lt_of_not-le f in
@@ -128,16 +128,16 @@ module _ (knots : List Float) (point : Float) where
           moved last (omega arith) refl (up last low high (moved last (omega arith) refl k.turn) l (rw m at e))
     ]
 
-    pub kept-down : le point (at knots mid) ≡ true → Kept last low mid (width / 2) (halvings + 1)
-    kept-down e = record {
-      turn = turn-down e;
+    pub kept_down : le point (at knots mid) ≡ true → Kept last low mid (width / 2) (halvings + 1)
+    kept_down e = record {
+      turn = turn_down e;
       past = (let p = k.past in omega arith);
       within = (let w = k.within in omega arith);
       count = counted width halvings left k.count;
     }
 
-    pub kept-up : le point (at knots mid) ≡ false → Kept last (mid + 1) high (width / 2) (halvings + 1)
-    kept-up e = record {
+    pub kept_up : le point (at knots mid) ≡ false → Kept last (mid + 1) high (width / 2) (halvings + 1)
+    kept_up e = record {
       turn = turn_up e;
       past = (let p = k.past in omega arith);
       within = (let w = k.within in omega arith);

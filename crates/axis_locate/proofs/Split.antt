@@ -11,8 +11,8 @@ use borrow.Author.Tests.{ltb-true, ltb-false, leb-true, leb-false, lt-ltb, le-lt
 pub record Split (f : ℕ → ℕ) (v n : ℕ) : Type 0 where
   pub above : ℕ
   pub below : ℕ
-  pub at-or-above : (k : ℕ) → k < n → leb v (f k) ≡ leb above k
-  pub at-or-below : (k : ℕ) → k < n → leb (f k) v ≡ ltb k below
+  pub at_or_above : (k : ℕ) → k < n → leb v (f k) ≡ leb above k
+  pub at_or_below : (k : ℕ) → k < n → leb (f k) v ≡ ltb k below
   pub order : above ≤ below
   pub close : below ≤ above + 1
   pub most : below ≤ n
@@ -22,11 +22,11 @@ module _ (f : ℕ → ℕ) (v n above below : ℕ) (upper : (k : ℕ) → k < n 
   -- the same with one number more
   further : (a b : ℕ) → ((k : ℕ) → k < n → leb above k ≡ leb a k) → ((k : ℕ) → k < n → ltb k below ≡ ltb k b)
       → leb v (f n) ≡ leb a n → leb (f n) v ≡ ltb n b → a ≤ b → b ≤ a + 1 → b ≤ suc n → Split f v (suc n)
-  further a b same_above same-below here-above here-below order close most = record {
+  further a b same_above same_below here_above here_below order close most = record {
     above = a;
     below = b;
-    at-or-above = λ k h. below_more (λ k. leb v (f k) ≡ leb a k) n (λ k h. upper k h ∙ same_above k h) here-above k (omega arith);
-    at-or-below = λ k h. below_more (λ k. leb (f k) v ≡ ltb k b) n (λ k h. lower k h ∙ same-below k h) here-below k (omega arith);
+    at_or_above = λ k h. below_more (λ k. leb v (f k) ≡ leb a k) n (λ k h. upper k h ∙ same_above k h) here_above k (omega arith);
+    at_or_below = λ k h. below_more (λ k. leb (f k) v ≡ ltb k b) n (λ k h. lower k h ∙ same_below k h) here_below k (omega arith);
     order = order;
     close = close;
     most = most;
@@ -37,8 +37,8 @@ split f v zero rise =
     record {
       above = 0;
       below = 0;
-      at-or-above = λ k h. absurd (omega arith);
-      at-or-below = λ k h. absurd (omega arith);
+      at_or_above = λ k h. absurd (omega arith);
+      at_or_below = λ k h. absurd (omega arith);
       order = omega arith;
       close = omega arith;
       most = omega arith;
@@ -49,7 +49,7 @@ split f v (suc n) rise = go (split f v n (λ k h. rise k (omega arith))) (leb (f
     all_under : (s : Split f v n) → f n ≤ v → (t : Bool) → ltb s.above n ≡ t → s.above ≡ n
     all_under s h true e =
         let l : s.above < n = ltb-true s.above n e in
-        let g : v ≤ f (n - 1) = leb-true v (f (n - 1)) (s.at-or-above (n - 1) (omega arith) ∙ le-leb s.above (n - 1) (omega arith)) in
+        let g : v ≤ f (n - 1) = leb-true v (f (n - 1)) (s.at_or_above (n - 1) (omega arith) ∙ le-leb s.above (n - 1) (omega arith)) in
         let r : f (n - 1) < f n =
         subst (λ (j : ℕ). f (n - 1) < f j) (let z : n - 1 + 1 ≡ n = omega arith in z) (rise (n - 1) (omega arith)) in
         absurd (let z : ⊥ = omega arith in z)
@@ -59,19 +59,19 @@ split f v (suc n) rise = go (split f v n (λ k h. rise k (omega arith))) (leb (f
     go s false p u q =
         let h : v < f n = leb-false (f n) v p in
         let o = s.order in let m = s.most in
-        further f v n s.above s.below s.at-or-above s.at-or-below s.above s.below (λ k g. refl) (λ k g. refl)
+        further f v n s.above s.below s.at_or_above s.at_or_below s.above s.below (λ k g. refl) (λ k g. refl)
         (le-leb v (f n) (omega arith) ∙ sym (le-leb s.above n (omega arith))) (p ∙ sym (le-ltb n s.below m)) o s.close
         (omega arith)
     go s true p true q =
         let a : s.above ≡ n = all_under s (leb-true (f n) v p) (ltb s.above n) refl in
         let o = s.order in let m = s.most in
-        further f v n s.above s.below s.at-or-above s.at-or-below n (suc n)
+        further f v n s.above s.below s.at_or_above s.at_or_below n (suc n)
         (λ k g. ap (λ (j : ℕ). leb j k) a) (λ k g. lt-ltb k s.below (omega arith) ∙ sym (lt-ltb k (suc n) (omega arith)))
         (q ∙ sym (le-leb n n (omega arith))) (p ∙ sym (lt-ltb n (suc n) (omega arith))) (omega arith) (omega arith) (omega arith)
     go s true p false q =
         let a : s.above ≡ n = all_under s (leb-true (f n) v p) (ltb s.above n) refl in
         let o = s.order in let m = s.most in
-        further f v n s.above s.below s.at-or-above s.at-or-below (suc n) (suc n)
+        further f v n s.above s.below s.at_or_above s.at_or_below (suc n) (suc n)
         (λ k g. lt-leb s.above k (omega arith) ∙ sym (lt-leb (suc n) k (omega arith)))
         (λ k g. lt-ltb k s.below (omega arith) ∙ sym (lt-ltb k (suc n) (omega arith)))
         (q ∙ sym (lt-leb (suc n) n (omega arith))) (p ∙ sym (lt-ltb n (suc n) (omega arith))) (omega arith) (omega arith) (omega arith)

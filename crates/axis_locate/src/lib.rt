@@ -1,7 +1,7 @@
 // Where a point lies among the knots of an axis, as the Rust's `locate_lower_index` finds it. None of these is a public call:
 // `locate_lower_index` requires 2 to 256 knots.
 ghost use Rattle.std.specs.Prelude.{◌≡◌, ◌+◌, ◌≤◌, ◌<◌, length};
-ghost use Rattle.rules.specs.Search.{one-back, held};
+ghost use Rattle.rules.specs.Search.{one_back, held};
 ghost use Rattle.axis_locate.specs.CellFound.{Located};
 
 pub mod outside; // outside.rt: the side of a point, and what a mode makes of it
@@ -21,7 +21,7 @@ fn held(index: usize, points: usize) -> usize
 // One back from where the search ended, where that knot is at or above the point.
 fn one_back(knots: &[f64], point: f64, low: usize) -> usize
     requires { low < length knots.now }
-    ensures { result ≡ one-back knots.now point low }
+    ensures { result ≡ one_back knots.now point low }
 {
     if low > 0 {
         if knots[low] >= point {

@@ -2,7 +2,7 @@
 // all but `is_outside` require a knot.
 ghost use Rattle.std.specs.Prelude.{◌≡◌, ◌≤◌, length};
 ghost use Rattle.rules.specs.Outside.{side, nearest, outside};
-ghost use Rattle.grid_codes.specs.Modes.{mode-of-number};
+ghost use Rattle.grid_codes.specs.Modes.{mode_of_number};
 ghost use Rattle.axis_locate.specs.CellFound.{Placed};
 
 use grid_codes::modes::{is_hold, is_refuse};
@@ -55,7 +55,7 @@ fn is_outside(side: Side) -> bool
 // What the mode of a number makes of a point: extend looks at no knot.
 pub fn place_on_axis(mode: u8, knots: &[f64], point: f64) -> PlacedPoint
     requires { 1 ≤ length knots.now }
-    ensures { Placed (mode-of-number mode) knots.now point result }
+    ensures { Placed (mode_of_number mode) knots.now point result }
 {
     if is_hold(mode) {
         return PlacedPoint {

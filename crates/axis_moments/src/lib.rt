@@ -1,11 +1,11 @@
 // The moments of a lane whose samples stand in front of the scratch: its rows solved, and the dropped moments. They go to the row of
 // moments. The steps of `compute_m` require a scratch of 2,048 numbers, 2 to 256 knots, and the fewest points of the ends.
 ghost use Rattle.std.specs.Prelude.{◌+◌, ◌-◌, ◌≤◌, length};
-ghost use Rattle.rules.specs.Ends.{dropped, fewest-points};
-ghost use Rattle.rules.specs.Sizes.{scratch-of-rows};
-ghost use Rattle.grid_scratch.specs.Layout.{row-length, moments-row};
+ghost use Rattle.rules.specs.Ends.{dropped, fewest_points};
+ghost use Rattle.rules.specs.Sizes.{scratch_of_rows};
+ghost use Rattle.grid_scratch.specs.Layout.{row_length, moments_row};
 ghost use Rattle.axis_rows.specs.Rows.{RowsFit};
-ghost use Rattle.axis_moments.specs.SolvedMoments.{lower-moment, upper-moment, OneStored, InnerSolved, MomentsSolved};
+ghost use Rattle.axis_moments.specs.SolvedMoments.{lower_moment, upper_moment, OneStored, InnerSolved, MomentsSolved};
 
 use grid_scratch::MOMENTS;
 use rules::{Condition, End};
@@ -14,8 +14,8 @@ pub mod curve; // curve.rt: the knot slope and the value in a cell, from the mom
 
 // The first moment, where the lower end dropped it, from the two after it.
 fn drop_lower(w: &mut [f64], x: &[f64], lower: End)
-    requires { (scratch-of-rows ≤ length w.old) × (2 + dropped lower ≤ length x.now) }
-    ensures { OneStored w.old w.new moments-row (lower-moment w.old x.now lower) }
+    requires { (scratch_of_rows ≤ length w.old) × (2 + dropped lower ≤ length x.now) }
+    ensures { OneStored w.old w.new moments_row (lower_moment w.old x.now lower) }
 {
     match lower {
         End::NotAKnot => {
@@ -30,9 +30,9 @@ fn drop_lower(w: &mut [f64], x: &[f64], lower: End)
 
 // The last moment, where the upper end dropped it, from the two before it.
 fn drop_upper(w: &mut [f64], x: &[f64], upper: End)
-    requires { (scratch-of-rows ≤ length w.old) × (2 + dropped upper ≤ length x.now) × (length x.now ≤ row-length) }
-    ensures { OneStored w.old w.new (moments-row + (length x.now - 1))
-        (upper-moment w.old x.now (length x.now - 1) upper) }
+    requires { (scratch_of_rows ≤ length w.old) × (2 + dropped upper ≤ length x.now) × (length x.now ≤ row_length) }
+    ensures { OneStored w.old w.new (moments_row + (length x.now - 1))
+        (upper_moment w.old x.now (length x.now - 1) upper) }
 {
     match upper {
         End::NotAKnot => {
@@ -106,7 +106,7 @@ fn periodic_moments(w: &mut [f64], x: &[f64])
 // The moments of the lane whose samples stand in front of the scratch, under a condition. They go to the row of moments. Not a public call:
 // it requires a scratch of 2,048 numbers, 2 to 256 knots, and the fewest points of the condition.
 pub fn compute_m(w: &mut [f64], x: &[f64], condition: Condition)
-    requires { RowsFit w.old x.now × (fewest-points condition ≤ length x.now) }
+    requires { RowsFit w.old x.now × (fewest_points condition ≤ length x.now) }
     ensures { MomentsSolved w.old w.new x.now condition }
 {
     match condition {

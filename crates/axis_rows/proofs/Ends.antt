@@ -7,14 +7,14 @@ use lib.ListN.{length}
 use lib.Ieee.{Float}
 use Rattle.rules.specs.Numbers.{◌⊕◌, ◌⊖◌, ◌⊗◌, two, six}
 use Rattle.rules.specs.Steps.{h, s, u}
-use Rattle.rules.specs.Moments.{upper-row}
+use Rattle.rules.specs.Moments.{upper_row}
 use Rattle.rules.specs.declared.End.TheVariants.{NotAKnot}
-use Rattle.axis_rows.specs.Rows.{upper-end-row}
+use Rattle.axis_rows.specs.Rows.{upper_end_row}
 use Rattle.axis_rows.specs.declared.EndRow.{EndRow}
 
-u-of-the-last-two : (x y : List Float) (n : ℕ) → 2 ≤ n → six ⊗ (s x y (n - 1) ⊖ s x y (n - 2)) ≡ u x y (n - 2)
+u_of_the_last_two : (x y : List Float) (n : ℕ) → 2 ≤ n → six ⊗ (s x y (n - 1) ⊖ s x y (n - 2)) ≡ u x y (n - 2)
 unfolding u
-u-of-the-last-two x y n more =
+u_of_the_last_two x y n more =
     ap (λ (k : ℕ). six ⊗ (s x y k ⊖ s x y (n - 2))) (let e : n - 1 ≡ n - 2 + 1 = omega arith in e)
 
 module _ (x y : List Float) (more : 3 ≤ length x) where
@@ -22,8 +22,8 @@ module _ (x y : List Float) (more : 3 ≤ length x) where
   n = length x - 1
 
   -- the row as a function of its right side
-  abbrev with-right : Float → EndRow
-  with-right r = record {
+  abbrev with_right : Float → EndRow
+  with_right r = record {
     dropped = 1;
     row = record {
       diagonal = (h x (n - 2) ⊕ h x (n - 1)) ⊗ (two ⊗ h x (n - 2) ⊕ h x (n - 1));
@@ -32,6 +32,6 @@ module _ (x y : List Float) (more : 3 ≤ length x) where
     };
   }
 
-  pub upper-not-a-knot : with-right (h x (n - 2) ⊗ (six ⊗ (s x y (n - 1) ⊖ s x y (n - 2)))) ≡ upper-end-row x y NotAKnot
-  unfolding upper-row
-  upper-not-a-knot = ap (λ (v : Float). with-right (h x (n - 2) ⊗ v)) (u-of-the-last-two x y n (omega arith))
+  pub upper_not_a_knot : with_right (h x (n - 2) ⊗ (six ⊗ (s x y (n - 1) ⊖ s x y (n - 2)))) ≡ upper_end_row x y NotAKnot
+  unfolding upper_row
+  upper_not_a_knot = ap (λ (v : Float). with_right (h x (n - 2) ⊗ v)) (u_of_the_last_two x y n (omega arith))

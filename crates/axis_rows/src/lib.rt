@@ -2,13 +2,13 @@
 // public call: what reads knots and samples requires that they are there, what writes rows that they lie in a scratch of 2,048 numbers.
 ghost use Rattle.std.specs.Prelude.{◌≡◌, ◌+◌, ◌<◌, ◌≤◌, length};
 ghost use Rattle.rules.specs.Ends.{dropped};
-ghost use Rattle.rules.specs.Sizes.{scratch-of-rows};
-ghost use Rattle.grid_scratch.specs.Layout.{row-length};
+ghost use Rattle.rules.specs.Sizes.{scratch_of_rows};
+ghost use Rattle.grid_scratch.specs.Layout.{row_length};
 ghost use Rattle.axis_rows.specs.Rows.{
-  lower-end-row,
-  upper-end-row,
-  periodic-row,
-  samples-in,
+  lower_end_row,
+  upper_end_row,
+  periodic_row,
+  samples_in,
   RowsFit,
   InteriorRows,
   FirstRow,
@@ -28,7 +28,7 @@ pub struct EndRow {
 // The rows 1 to stop - 1, row j at knot start + j: what the steps before and after that knot give.
 pub fn interior_rows(w: &mut [f64], x: &[f64], start: usize, stop: usize)
     requires { RowsFit w.old x.now × (start + stop < length x.now) × (0 < stop) }
-    ensures { InteriorRows w.old w.new x.now (samples-in w.old x.now) start stop }
+    ensures { InteriorRows w.old w.new x.now (samples_in w.old x.now) start stop }
 {
     let mut h = x[start + 1] - x[start];
     let mut s = (w[start + 1] - w[start]) / h;
@@ -50,7 +50,7 @@ pub fn interior_rows(w: &mut [f64], x: &[f64], start: usize, stop: usize)
 // The row of the lower end, from knots and samples.
 pub fn lower_row(x: &[f64], y: &[f64], end: End) -> EndRow
     requires { (2 + dropped end ≤ length x.now) × (length x.now ≤ length y.now) }
-    ensures { result ≡ lower-end-row x.now y.now end }
+    ensures { result ≡ lower_end_row x.now y.now end }
 {
     let h0 = x[1] - x[0];
     let s0 = (y[1] - y[0]) / h0;
@@ -89,7 +89,7 @@ pub fn lower_row(x: &[f64], y: &[f64], end: End) -> EndRow
 // The row of the upper end: the mirror of the lower's.
 pub fn upper_row(x: &[f64], y: &[f64], end: End) -> EndRow
     requires { (2 + dropped end ≤ length x.now) × (length x.now ≤ length y.now) }
-    ensures { result ≡ upper-end-row x.now y.now end }
+    ensures { result ≡ upper_end_row x.now y.now end }
 {
     let n = x.len() - 1;
     let last = n - 1;
@@ -131,7 +131,7 @@ pub fn upper_row(x: &[f64], y: &[f64], end: End) -> EndRow
 // The first row of a periodic axis.
 pub fn periodic_row(x: &[f64], y: &[f64]) -> Row
     requires { (2 ≤ length x.now) × (length x.now ≤ length y.now) }
-    ensures { result ≡ periodic-row x.now y.now }
+    ensures { result ≡ periodic_row x.now y.now }
 {
     let last = x.len() - 1 - 1;
     let h0 = x[1] - x[0];
@@ -147,7 +147,7 @@ pub fn periodic_row(x: &[f64], y: &[f64]) -> Row
 
 // The first row of a solve is the lower end's.
 pub fn first_row(w: &mut [f64], lower: Row)
-    requires { scratch-of-rows ≤ length w.old }
+    requires { scratch_of_rows ≤ length w.old }
     ensures { FirstRow w.old w.new lower }
 {
     w[DIAG] = lower.diagonal;
@@ -157,7 +157,7 @@ pub fn first_row(w: &mut [f64], lower: Row)
 
 // The last row of a solve, row l, is the upper end's.
 pub fn last_row(w: &mut [f64], l: usize, upper: Row)
-    requires { (scratch-of-rows ≤ length w.old) × (l < row-length) }
+    requires { (scratch_of_rows ≤ length w.old) × (l < row_length) }
     ensures { LastRow w.old w.new l upper }
 {
     w[SUB_BEFORE + l] = upper.neighbour;

@@ -8,7 +8,7 @@ use lib.ListN.{length, set, length-set}
 use lib.Seq.{get_or-set_same, get_or-set_other}
 use lib.Ieee.{Float, nan}
 use borrow.Author.Count.{below_more}
-use Rattle.rules.specs.Numbers.{at, ◌⊖◌, ◌⊗◌, ◌⊘◌, plus-zero}
+use Rattle.rules.specs.Numbers.{at, ◌⊖◌, ◌⊗◌, ◌⊘◌, plus_zero}
 use Rattle.axis_solve.specs.RowsSolved.{RowsGiven}
 use Rattle.grid_scratch.specs.Layout.{row, Outside}
 use Rattle.axis_solve.specs.Cyclic.{DiagMod, UVec}
@@ -34,8 +34,8 @@ module _ (w : List Float) (l : ℕ) (gamma corner : Float) (g : RowsGiven w l) (
   abbrev b : Float
   b = at (set w 512 a) (512 + l) ⊖ corner ⊗ corner ⊘ gamma
 
-  pub without-corners : DiagMod w (set (set w 512 a) (512 + l) b) l gamma corner
-  without-corners = record {
+  pub without_corners : DiagMod w (set (set w 512 a) (512 + l) b) l gamma corner
+  without_corners = record {
     same_length = simp length-set;
     first = at_first w 512 l a b more (omega arith);
     last = at_last w 512 l a b more (omega arith) ∙ rw (get_or-set_other w 512 (512 + l) a nan (omega arith));
@@ -48,11 +48,11 @@ pub record Turn (w₀ w : List Float) (l k : ℕ) : Type 0 where
   pub least : 0 < k
   pub most : k ≤ l
   pub same_length : length w ≡ length w₀
-  pub between : (j : ℕ) → j < k → 0 < j → row w 1024 j ≡ plus-zero
+  pub between : (j : ℕ) → j < k → 0 < j → row w 1024 j ≡ plus_zero
   pub kept : (j : ℕ) → Outside 1024 (suc l) j → at w j ≡ at w₀ j
 
-pub turn-first : (w : List Float) (l : ℕ) → RowsGiven w l → 0 < l → Turn w w l 1
-turn-first w l g more = record {
+pub turn_first : (w : List Float) (l : ℕ) → RowsGiven w l → 0 < l → Turn w w l 1
+turn_first w l g more = record {
   given = g;
   least = omega arith;
   most = omega arith;
@@ -61,10 +61,10 @@ turn-first w l g more = record {
   kept = λ j o. refl;
 }
 
-pub turn-next : (w₀ w : List Float) (l k : ℕ) → Turn w₀ w l k → k < l → Turn w₀ (set w (1024 + k) plus-zero) l (k + 1)
-turn-next w₀ w l k t lt =
-    let other : (j : ℕ) → j ≢ 1024 + k → at (set w (1024 + k) plus-zero) j ≡ at w j =
-    λ j n. get_or-set_other w (1024 + k) j plus-zero nan n in
+pub turn_next : (w₀ w : List Float) (l k : ℕ) → Turn w₀ w l k → k < l → Turn w₀ (set w (1024 + k) plus_zero) l (k + 1)
+turn_next w₀ w l k t lt =
+    let other : (j : ℕ) → j ≢ 1024 + k → at (set w (1024 + k) plus_zero) j ≡ at w j =
+    λ j n. get_or-set_other w (1024 + k) j plus_zero nan n in
     record {
       given = t.given;
       least = omega arith;
@@ -73,7 +73,7 @@ turn-next w₀ w l k t lt =
       between =
           below_more _ k
           (λ j b a. other (1024 + j) (omega arith) ∙ t.between j b a)
-          (λ a. get_or-set_same w (1024 + k) plus-zero nan (omega arith));
+          (λ a. get_or-set_same w (1024 + k) plus_zero nan (omega arith));
       kept = λ j o. other j (o k (omega arith)) ∙ t.kept j o;
     }
 

@@ -10,17 +10,17 @@ use lib.Dec.{eqb}
 use lib.Ieee.{Float, neg}
 use borrow.Author.Tests.{eq-eqb, ne_eqb}
 use Rattle.rules.specs.Numbers.{at}
-use Rattle.rules.specs.Solve.{diag-mod, u-vec, y, z, factor, cyclic-thomas}
-use Rattle.axis_solve.specs.RowsSolved.{of-rows, RowsGiven, Solved}
+use Rattle.rules.specs.Solve.{diag_mod, u_vec, y, z, factor, cyclic_thomas}
+use Rattle.axis_solve.specs.RowsSolved.{of_rows, RowsGiven, Solved}
 use Rattle.grid_scratch.specs.Layout.{row}
-use Rattle.axis_solve.specs.Cyclic.{DiagMod, UVec, factor-of, Subtracted, CyclicSolved}
-use Rattle.axis_solve.proofs.Agreement.{same-thomas}
+use Rattle.axis_solve.specs.Cyclic.{DiagMod, UVec, factor_of, Subtracted, CyclicSolved}
+use Rattle.axis_solve.proofs.Agreement.{same_thomas}
 
 -- a row by its first number, its last and those between
-by-ends : (f a b c : ℕ → Float) (l : ℕ) → f 0 ≡ a 0 → f l ≡ b l → ((k : ℕ) → 0 < k → k < l → f k ≡ c k)
+by_ends : (f a b c : ℕ → Float) (l : ℕ) → f 0 ≡ a 0 → f l ≡ b l → ((k : ℕ) → 0 < k → k < l → f k ≡ c k)
     → (k : ℕ) → k ≤ l → f k ≡ cond (eqb k 0) (a k) (cond (eqb k l) (b k) (c k))
-by-ends f a b c l first last between zero h = first
-by-ends f a b c l first last between (suc k) h =
+by_ends f a b c l first last between zero h = first
+by_ends f a b c l first last between (suc k) h =
     rw (ne_eqb (suc k) 0 (omega arith))
     (⊎_elim
     (λ e. rw (eq-eqb (suc k) l e) (cc))
@@ -33,61 +33,61 @@ module _
     (first : Solved w₁ w₂ l 1792)
     (right : UVec w₂ w₃ l (neg (at w₀ 512)) corner)
     (second : Solved w₃ w₄ l 1536)
-    (f-is : f ≡ factor-of w₄ l (neg (at w₀ 512)) corner)
+    (f_is : f ≡ factor_of w₄ l (neg (at w₀ 512)) corner)
     (subtracted : Subtracted w₄ w₅ (l + 1) f)
   where
-    same-diag : (k : ℕ) → k ≤ l → row w₁ 512 k ≡ of-rows diag-mod w₀ corner l k
-    unfolding diag-mod
-    same-diag =
-        by-ends (row w₁ 512) _ _ _ l modified.first modified.last
+    same_diag : (k : ℕ) → k ≤ l → row w₁ 512 k ≡ of_rows diag_mod w₀ corner l k
+    unfolding diag_mod
+    same_diag =
+        by_ends (row w₁ 512) _ _ _ l modified.first modified.last
         (λ k a b. modified.kept (512 + k) (omega arith) (omega arith))
 
-    same_rhs : (k : ℕ) → k ≤ l → row w₃ 1024 k ≡ of-rows u-vec w₀ corner l k
-    unfolding u-vec
-    same_rhs = by-ends (row w₃ 1024) _ _ _ l right.first right.last right.between
+    same_rhs : (k : ℕ) → k ≤ l → row w₃ 1024 k ≡ of_rows u_vec w₀ corner l k
+    unfolding u_vec
+    same_rhs = by_ends (row w₃ 1024) _ _ _ l right.first right.last right.between
 
-    before-right : (j : ℕ) → j < 1024 → at w₃ j ≡ at w₁ j
-    before-right j h = right.kept j (omega arith) ∙ first.kept j (omega arith) (omega arith)
+    before_right : (j : ℕ) → j < 1024 → at w₃ j ≡ at w₁ j
+    before_right j h = right.kept j (omega arith) ∙ first.kept j (omega arith) (omega arith)
 
-    y-is : (k : ℕ) → k ≤ l → row w₄ 1792 k ≡ of-rows y w₀ corner l k
+    y_is : (k : ℕ) → k ≤ l → row w₄ 1792 k ≡ of_rows y w₀ corner l k
     unfolding y
-    y-is k h =
+    y_is k h =
         second.kept (1792 + k) (omega arith) (omega arith)
         ∙ right.kept (1792 + k) (omega arith)
         ∙ first.result k h
-        ∙ same-thomas _ _ _ _ _ _ _ _ l
+        ∙ same_thomas _ _ _ _ _ _ _ _ l
         (λ i a. modified.kept (256 + i) (omega arith) (omega arith))
-        same-diag
+        same_diag
         (λ i a. modified.kept (768 + i) (omega arith) (omega arith))
         (λ i a. modified.kept (1024 + i) (omega arith) (omega arith))
         k
 
-    z-is : (k : ℕ) → k ≤ l → row w₄ 1536 k ≡ of-rows z w₀ corner l k
+    z_is : (k : ℕ) → k ≤ l → row w₄ 1536 k ≡ of_rows z w₀ corner l k
     unfolding z
-    z-is k h =
+    z_is k h =
         second.result k h
-        ∙ same-thomas _ _ _ _ _ _ _ _ l
-        (λ i a. before-right (256 + i) (omega arith) ∙ modified.kept (256 + i) (omega arith) (omega arith))
-        (λ i a. before-right (512 + i) (omega arith) ∙ same-diag i a)
-        (λ i a. before-right (768 + i) (omega arith) ∙ modified.kept (768 + i) (omega arith) (omega arith))
+        ∙ same_thomas _ _ _ _ _ _ _ _ l
+        (λ i a. before_right (256 + i) (omega arith) ∙ modified.kept (256 + i) (omega arith) (omega arith))
+        (λ i a. before_right (512 + i) (omega arith) ∙ same_diag i a)
+        (λ i a. before_right (768 + i) (omega arith) ∙ modified.kept (768 + i) (omega arith) (omega arith))
         same_rhs
         k
 
-    factor-is : f ≡ of-rows factor w₀ corner l
+    factor_is : f ≡ of_rows factor w₀ corner l
     unfolding factor
-    factor-is = cc (f-is, y-is 0 (omega arith), y-is l (omega arith), z-is 0 (omega arith), z-is l (omega arith))
+    factor_is = cc (f_is, y_is 0 (omega arith), y_is l (omega arith), z_is 0 (omega arith), z_is l (omega arith))
 
-    pub cyclic-solved : CyclicSolved w₀ w₅ l corner
-    unfolding cyclic-thomas
-    cyclic-solved = record {
+    pub cyclic_solved : CyclicSolved w₀ w₅ l corner
+    unfolding cyclic_thomas
+    cyclic_solved = record {
       same_length =
           subtracted.same_length ∙ second.same_length ∙ right.same_length ∙ first.same_length ∙ modified.same_length;
       result = λ k h.
           cc (
             subtracted.result k (omega arith),
-            y-is k h,
-            z-is k h,
-            factor-is,
+            y_is k h,
+            z_is k h,
+            factor_is,
           );
       kept = λ j o p.
           subtracted.kept j (λ k h. omega (arith, p (768 + k) (omega arith)))

@@ -19,8 +19,8 @@ pub record Turn (w₀ w : List Float) (l : ℕ) (factor : Float) (k : ℕ) : Typ
   pub most : k ≤ l + 1
   pub done : Subtracted w₀ w k factor
 
-pub turn-first : (w : List Float) (l : ℕ) (factor : Float) → RowsGiven w l → Turn w w l factor 0
-turn-first w l factor g = record {
+pub turn_first : (w : List Float) (l : ℕ) (factor : Float) → RowsGiven w l → Turn w w l factor 0
+turn_first w l factor g = record {
   given = g;
   most = omega arith;
   done = record { same_length = refl; result = λ k h. absurd (omega arith); kept = λ j o. refl };
@@ -36,21 +36,21 @@ module _ (w₀ w : List Float) (l : ℕ) (factor : Float) (k : ℕ) (t : Turn w�
   other : (j : ℕ) → j ≢ 1792 + k → at w₁ j ≡ at w j
   other j n = get_or-set_other w (1792 + k) j here nan n
 
-  here-is : row w₁ 1792 k ≡ row w₀ 1792 k ⊖ factor ⊗ row w₀ 1536 k
-  here-is =
+  here_is : row w₁ 1792 k ≡ row w₀ 1792 k ⊖ factor ⊗ row w₀ 1536 k
+  here_is =
       cc (
         get_or-set_same w (1792 + k) here nan (omega arith),
         t.done.kept (1792 + k) (omega arith),
         t.done.kept (1536 + k) (omega arith),
       )
 
-  pub turn-next : Turn w₀ w₁ l factor (k + 1)
-  turn-next = record {
+  pub turn_next : Turn w₀ w₁ l factor (k + 1)
+  turn_next = record {
     given = t.given;
     most = omega arith;
     done = record {
       same_length = simp length-set t.done.same_length;
-      result = below_more _ k (λ j h. other (1792 + j) (omega arith) ∙ t.done.result j h) here-is;
+      result = below_more _ k (λ j h. other (1792 + j) (omega arith) ∙ t.done.result j h) here_is;
       kept = λ j o. other j (o k (omega arith)) ∙ t.done.kept j (λ i h. o i (omega arith));
     };
   }

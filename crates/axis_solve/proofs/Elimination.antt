@@ -12,7 +12,7 @@ use borrow.Author.Count.{below_more}
 use Rattle.rules.specs.Numbers.{at, ◌⊖◌, ◌⊗◌, ◌⊘◌}
 use Rattle.rules.specs.Solve as Solve
 use Rattle.rules.specs.Solve.{cp, dp}
-use Rattle.axis_solve.specs.RowsSolved.{of-rows, RowsGiven, ResultPlace, Eliminated}
+use Rattle.axis_solve.specs.RowsSolved.{of_rows, RowsGiven, ResultPlace, Eliminated}
 use Rattle.grid_scratch.specs.Layout.{row, Outside}
 
 -- the rows below k are done; row k's divisor and second number are known
@@ -21,21 +21,21 @@ pub record Turn (w₀ w : List Float) (l to : ℕ) (divisor d : Float) (k : ℕ)
   pub place : ResultPlace l to
   pub most : k ≤ l
   pub same_length : length w ≡ length w₀
-  pub divisor-is : divisor ≡ of-rows Solve.w w₀ k
-  pub d-is : d ≡ of-rows dp w₀ k
-  pub first : (j : ℕ) → j < k → row w 1280 j ≡ of-rows cp w₀ j
-  pub second : (j : ℕ) → j < k → row w to j ≡ of-rows dp w₀ j
+  pub divisor_is : divisor ≡ of_rows Solve.w w₀ k
+  pub d_is : d ≡ of_rows dp w₀ k
+  pub first : (j : ℕ) → j < k → row w 1280 j ≡ of_rows cp w₀ j
+  pub second : (j : ℕ) → j < k → row w to j ≡ of_rows dp w₀ j
   pub kept : (j : ℕ) → Outside 1280 256 j → Outside to (suc l) j → at w j ≡ at w₀ j
 
-pub turn-first : (w : List Float) (l to : ℕ) → RowsGiven w l → ResultPlace l to → Turn w w l to (at w 512) (at w 1024 ⊘ at w 512) 0
+pub turn_first : (w : List Float) (l to : ℕ) → RowsGiven w l → ResultPlace l to → Turn w w l to (at w 512) (at w 1024 ⊘ at w 512) 0
 unfolding Solve.w dp
-turn-first w l to g p = record {
+turn_first w l to g p = record {
   given = g;
   place = p;
   most = omega arith;
   same_length = refl;
-  divisor-is = refl;
-  d-is = refl;
+  divisor_is = refl;
+  d_is = refl;
   first = λ j h. absurd (omega arith);
   second = λ j h. absurd (omega arith);
   kept = λ j h p. refl;
@@ -64,42 +64,42 @@ module _ (w₀ w : List Float) (l to : ℕ) (divisor d : Float) (k : ℕ) (t : T
   at_second : at w₂ (to + k) ≡ d
   at_second = get_or-set_same w₁ (to + k) d nan (simp length-set (omega arith))
 
-  c-is : c ≡ of-rows cp w₀ k
+  c_is : c ≡ of_rows cp w₀ k
   unfolding cp
-  c-is = cc (t.kept (768 + k) (omega arith) (omega arith), t.divisor-is)
+  c_is = cc (t.kept (768 + k) (omega arith) (omega arith), t.divisor_is)
 
-  abbrev next-divisor : Float
-  next-divisor = at w₂ (512 + (k + 1)) ⊖ at w (256 + k) ⊗ c
+  abbrev next_divisor : Float
+  next_divisor = at w₂ (512 + (k + 1)) ⊖ at w (256 + k) ⊗ c
 
-  abbrev next-d : Float
-  next-d = (at w₂ (1024 + (k + 1)) ⊖ at w (256 + k) ⊗ d) ⊘ next-divisor
+  abbrev next_d : Float
+  next_d = (at w₂ (1024 + (k + 1)) ⊖ at w (256 + k) ⊗ d) ⊘ next_divisor
 
-  next-divisor-is : next-divisor ≡ of-rows Solve.w w₀ (k + 1)
+  next_divisor_is : next_divisor ≡ of_rows Solve.w w₀ (k + 1)
   unfolding Solve.w cp
-  next-divisor-is =
-      rw add-one (cc (outside (512 + suc k) (omega arith) (omega arith), t.kept (256 + k) (omega arith) (omega arith), c-is))
+  next_divisor_is =
+      rw add-one (cc (outside (512 + suc k) (omega arith) (omega arith), t.kept (256 + k) (omega arith) (omega arith), c_is))
 
-  next-d-is : next-d ≡ of-rows dp w₀ (k + 1)
+  next_d_is : next_d ≡ of_rows dp w₀ (k + 1)
   unfolding dp
-  next-d-is =
+  next_d_is =
       rw add-one
       (cc (
         outside (1024 + suc k) (omega arith) (omega arith),
         t.kept (256 + k) (omega arith) (omega arith),
-        t.d-is,
-        rw add-one at next-divisor-is,
+        t.d_is,
+        rw add-one at next_divisor_is,
       ))
 
-  pub turn-next : Turn w₀ w₂ l to next-divisor next-d (k + 1)
-  turn-next = record {
+  pub turn_next : Turn w₀ w₂ l to next_divisor next_d (k + 1)
+  turn_next = record {
     given = t.given;
     place = t.place;
     most = omega arith;
     same_length = simp length-set t.same_length;
-    divisor-is = next-divisor-is;
-    d-is = next-d-is;
-    first = below_more _ k (λ j h. other (1280 + j) (omega arith) (omega arith) ∙ t.first j h) (at_first ∙ c-is);
-    second = below_more _ k (λ j h. other (to + j) (omega arith) (omega arith) ∙ t.second j h) (at_second ∙ t.d-is);
+    divisor_is = next_divisor_is;
+    d_is = next_d_is;
+    first = below_more _ k (λ j h. other (1280 + j) (omega arith) (omega arith) ∙ t.first j h) (at_first ∙ c_is);
+    second = below_more _ k (λ j h. other (to + j) (omega arith) (omega arith) ∙ t.second j h) (at_second ∙ t.d_is);
     kept = outside;
   }
 
@@ -111,6 +111,6 @@ turn_last w₀ w l to divisor d k t ge =
       same_length = t.same_length;
       first = λ j h. t.first j (omega arith);
       second = λ j h. t.second j (omega arith);
-      last-is = rw e at t.d-is;
+      last_is = rw e at t.d_is;
       kept = t.kept;
     }

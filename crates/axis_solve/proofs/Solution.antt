@@ -6,15 +6,15 @@ use Prim.Native.Nat.{ℕ, zero, suc, ◌-◌, ◌≤◌}
 use lib.Ieee.{Float}
 use Rattle.rules.specs.Numbers.{at}
 use Rattle.rules.specs.Solve.{before_last, thomas}
-use Rattle.axis_solve.specs.RowsSolved.{of-rows, Eliminated, Substituted, Solved}
+use Rattle.axis_solve.specs.RowsSolved.{of_rows, Eliminated, Substituted, Solved}
 use Rattle.grid_scratch.specs.Layout.{row}
 
 module _ (w₀ w₁ w₂ : List Float) (l to : ℕ) (last : Float) (forth : Eliminated w₀ w₁ l to last) (back : Substituted w₁ w₂ l to last 0) where
-  before : (j : ℕ) → j ≤ l → row w₂ to (l - j) ≡ of-rows before_last w₀ l j
+  before : (j : ℕ) → j ≤ l → row w₂ to (l - j) ≡ of_rows before_last w₀ l j
   unfolding before_last
   before zero h =
       let e : l - 0 ≡ l = omega arith in
-      rw e (back.at_last ∙ forth.last-is)
+      rw e (back.at_last ∙ forth.last_is)
   before (suc j) h =
       let e : suc (l - suc j) ≡ l - j = omega arith in
       cc (

@@ -21,8 +21,8 @@ pub record Turn (w₀ w : List Float) (l to : ℕ) (last x : Float) (k : ℕ) : 
   pub same_length : length w ≡ length w₀
   pub done : Substituted w₀ (set w (to + k) x) l to last k
 
-pub turn-first : (w : List Float) (l to : ℕ) (last : Float) → RowsGiven w l → ResultPlace l to → Turn w w l to last last l
-turn-first w l to last g p = record {
+pub turn_first : (w : List Float) (l to : ℕ) (last : Float) → RowsGiven w l → ResultPlace l to → Turn w w l to last last l
+turn_first w l to last g p = record {
   given = g;
   place = p;
   most = omega arith;
@@ -39,20 +39,20 @@ module _ (w₀ w : List Float) (l to : ℕ) (last x : Float) (k : ℕ) (t : Turn
   abbrev w₁ : List Float
   w₁ = set w (to + k) x
 
-  abbrev next-x : Float
-  next-x = at w₁ (to + (k - 1)) ⊖ at w₁ (1280 + (k - 1)) ⊗ x
+  abbrev next_x : Float
+  next_x = at w₁ (to + (k - 1)) ⊖ at w₁ (1280 + (k - 1)) ⊗ x
 
   abbrev w₂ : List Float
-  w₂ = set w₁ (to + (k - 1)) next-x
+  w₂ = set w₁ (to + (k - 1)) next_x
 
   at_x : at w₁ (to + k) ≡ x
   at_x = get_or-set_same w (to + k) x nan (omega arith)
 
-  at_next : at w₂ (to + (k - 1)) ≡ next-x
-  at_next = get_or-set_same w₁ (to + (k - 1)) next-x nan (simp length-set (omega arith))
+  at_next : at w₂ (to + (k - 1)) ≡ next_x
+  at_next = get_or-set_same w₁ (to + (k - 1)) next_x nan (simp length-set (omega arith))
 
   other : (j : ℕ) → j ≢ to + (k - 1) → at w₂ j ≡ at w₁ j
-  other j n = get_or-set_other w₁ (to + (k - 1)) j next-x nan n
+  other j n = get_or-set_other w₁ (to + (k - 1)) j next_x nan n
 
   -- before row k both helper rows still have what stood in them
   still : (j : ℕ) → j < to + k → at w₁ j ≡ at w₀ j
@@ -70,8 +70,8 @@ module _ (w₀ w : List Float) (l to : ℕ) (last x : Float) (k : ℕ) (t : Turn
         other (to + k) (omega arith),
       ))
 
-  pub turn-next : Turn w₀ w₁ l to last next-x (k - 1)
-  turn-next = record {
+  pub turn_next : Turn w₀ w₁ l to last next_x (k - 1)
+  turn_next = record {
     given = t.given;
     place = t.place;
     most = omega arith;

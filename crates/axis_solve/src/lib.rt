@@ -3,7 +3,7 @@
 // `thomas` require a place for the result, from row Z on and before the tensor; `diag_mod`, `u_vec` and `cyclic_thomas` require 0 < l.
 ghost use Rattle.std.specs.Prelude.{◌≡◌, ◌+◌, ◌<◌};
 ghost use Rattle.axis_solve.specs.RowsSolved.{RowsGiven, ResultPlace, Eliminated, Substituted, Solved};
-ghost use Rattle.axis_solve.specs.Cyclic.{DiagMod, UVec, factor-of, Subtracted, CyclicSolved};
+ghost use Rattle.axis_solve.specs.Cyclic.{DiagMod, UVec, factor_of, Subtracted, CyclicSolved};
 
 use grid_scratch::{CP, DIAG, MOMENTS, RHS, SUB, SUP, Z};
 
@@ -79,7 +79,7 @@ fn u_vec(w: &mut [f64], l: usize, gamma: f64, corner: f64)
 // How many times z is taken from y.
 fn factor(w: &[f64], l: usize, gamma: f64, corner: f64) -> f64
     requires { RowsGiven w.now l }
-    ensures { result ≡ factor-of w.now l gamma corner }
+    ensures { result ≡ factor_of w.now l gamma corner }
 {
     let c_over_g = corner / gamma;
     let vt_y = w[MOMENTS] + c_over_g * w[MOMENTS + l];

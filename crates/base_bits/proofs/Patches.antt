@@ -24,22 +24,22 @@ use lib.Pow.{pow-add, pow_pos, high, low, split, shr-shr, shr_lt, mod-mod-pow, f
 use Rattle.base_bits.specs.Written.{patch}
 
 -- the bits below the run stay, and those from it on are the rest and the run
-patch-low : (x m t w : ℕ) → patch x m t w % 2 ^ m ≡ x % 2 ^ m
+patch_low : (x m t w : ℕ) → patch x m t w % 2 ^ m ≡ x % 2 ^ m
 unfolding patch
-patch-low x m t w = low (x / 2 ^ (m + t) * 2 ^ t + w) m (mod-lt x (pow_pos m))
+patch_low x m t w = low (x / 2 ^ (m + t) * 2 ^ t + w) m (mod-lt x (pow_pos m))
 
-patch-high : (x m t w : ℕ) → patch x m t w / 2 ^ m ≡ x / 2 ^ (m + t) * 2 ^ t + w
+patch_high : (x m t w : ℕ) → patch x m t w / 2 ^ m ≡ x / 2 ^ (m + t) * 2 ^ t + w
 unfolding patch
-patch-high x m t w = high (x / 2 ^ (m + t) * 2 ^ t + w) m (mod-lt x (pow_pos m))
+patch_high x m t w = high (x / 2 ^ (m + t) * 2 ^ t + w) m (mod-lt x (pow_pos m))
 
-pub patch-is : (x m t w : ℕ) → patch x m t w ≡ (x / 2 ^ (m + t) * 2 ^ t + w) * 2 ^ m + x % 2 ^ m
+pub patch_is : (x m t w : ℕ) → patch x m t w ≡ (x / 2 ^ (m + t) * 2 ^ t + w) * 2 ^ m + x % 2 ^ m
 unfolding patch
-patch-is x m t w = refl
+patch_is x m t w = refl
 
 -- a byte stays a byte
-pub patch-below : (x m t w : ℕ) → x < 256 → m + t ≤ 8 → w < 2 ^ t → patch x m t w < 256
+pub patch_below : (x m t w : ℕ) → x < 256 → m + t ≤ 8 → w < 2 ^ t → patch x m t w < 256
 unfolding patch
-patch-below x m t w hx h hw =
+patch_below x m t w hx h hw =
     let e : (8 - (m + t)) + (m + t) ≡ 8 = omega arith in
     let f : (8 - (m + t)) + t + m ≡ 8 = omega arith in
     let a : x / 2 ^ (m + t) < 2 ^ (8 - (m + t)) = shr_lt (8 - (m + t)) (m + t) (rw e hx) in
@@ -48,48 +48,48 @@ patch-below x m t w hx h hw =
     rw (← pow-add 2 ((8 - (m + t)) + t) m, f) at c
 
 -- no bits replaced
-pub patch-none : (x m w : ℕ) → patch x m 0 (w % 2 ^ 0) ≡ x
+pub patch_none : (x m w : ℕ) → patch x m 0 (w % 2 ^ 0) ≡ x
 unfolding patch
-patch-none x m w = rw (add-zero, mod-one w, mul-one (x / 2 ^ m), add-zero) (split x m)
+patch_none x m w = rw (add-zero, mod-one w, mul-one (x / 2 ^ m), add-zero) (split x m)
 
 -- a bit replaced by itself
-pub patch-own : (x m : ℕ) → patch x m 1 (x / 2 ^ m % 2) ≡ x
+pub patch_own : (x m : ℕ) → patch x m 1 (x / 2 ^ m % 2) ≡ x
 unfolding patch
-patch-own x m =
+patch_own x m =
     let e : x / 2 ^ (m + 1) ≡ x / 2 ^ m / 2 = sym (shr-shr x m 1) in
     rw e (let f : x / 2 ^ m / 2 * 2 + x / 2 ^ m % 2 ≡ x / 2 ^ m = omega arith in rw f (split x m))
 
 -- one bit more, below the run
-patch-rest : (x m t w : ℕ) → patch x (m + 1) t w % 2 ^ m ≡ x % 2 ^ m
-patch-rest x m t w =
+patch_rest : (x m t w : ℕ) → patch x (m + 1) t w % 2 ^ m ≡ x % 2 ^ m
+patch_rest x m t w =
     sym (mod-mod-pow (patch x (m + 1) t w) 1 m) ∙ ap (λ (n : ℕ). patch x (m + 1) t w % 2 ^ n % 2 ^ m) (add_comm 1 m)
-    ∙ ap (λ (n : ℕ). n % 2 ^ m) (patch-low x (m + 1) t w) ∙ ap (λ (n : ℕ). x % 2 ^ n % 2 ^ m) (add_comm m 1) ∙ mod-mod-pow x 1 m
+    ∙ ap (λ (n : ℕ). n % 2 ^ m) (patch_low x (m + 1) t w) ∙ ap (λ (n : ℕ). x % 2 ^ n % 2 ^ m) (add_comm m 1) ∙ mod-mod-pow x 1 m
 
-pub patch-more : (x m t w b : ℕ) → patch (patch x (m + 1) t w) m 1 b ≡ patch x m (suc t) (w * 2 + b)
-patch-more x m t w b =
+pub patch_more : (x m t w b : ℕ) → patch (patch x (m + 1) t w) m 1 b ≡ patch x m (suc t) (w * 2 + b)
+patch_more x m t w b =
     let e : m + 1 + t ≡ m + suc t = omega arith in
     let f : (x / 2 ^ (m + suc t) * 2 ^ t + w) * 2 + b ≡ x / 2 ^ (m + suc t) * 2 ^ suc t + (w * 2 + b) =
     rw (pow-suc 2 t, ← mul_assoc (x / 2 ^ (m + suc t)) (2 ^ t) 2) (omega arith) in
-    patch-is (patch x (m + 1) t w) m 1 b ∙ rw (patch-high x (m + 1) t w, patch-rest x m t w, e, f) (sym (patch-is x m (suc t) (w * 2 + b)))
+    patch_is (patch x (m + 1) t w) m 1 b ∙ rw (patch_high x (m + 1) t w, patch_rest x m t w, e, f) (sym (patch_is x m (suc t) (w * 2 + b)))
 
 -- ---- one bit
 
-pub bit-here : (x m b : ℕ) → b < 2 → patch x m 1 b / 2 ^ m % 2 ≡ b
-bit-here x m b h = rw (patch-high x m 1 b) (omega arith)
+pub bit_here : (x m b : ℕ) → b < 2 → patch x m 1 b / 2 ^ m % 2 ≡ b
+bit_here x m b h = rw (patch_high x m 1 b) (omega arith)
 
 -- a bit depends on the bits up to it
-bit-low : (x m d : ℕ) → x % 2 ^ (suc d + m) / 2 ^ m % 2 ≡ x / 2 ^ m % 2
-bit-low x m d = rw (field x (suc d) m, ← add-one d) (mod-mod-pow (x / 2 ^ m) d 1)
+bit_low : (x m d : ℕ) → x % 2 ^ (suc d + m) / 2 ^ m % 2 ≡ x / 2 ^ m % 2
+bit_low x m d = rw (field x (suc d) m, ← add-one d) (mod-mod-pow (x / 2 ^ m) d 1)
 
 bit_below : (x m d b : ℕ) → patch x (suc d + m) 1 b / 2 ^ m % 2 ≡ x / 2 ^ m % 2
 bit_below x m d b =
-    sym (bit-low (patch x (suc d + m) 1 b) m d) ∙ ap (λ (n : ℕ). n / 2 ^ m % 2) (patch-low x (suc d + m) 1 b) ∙ bit-low x m d
+    sym (bit_low (patch x (suc d + m) 1 b) m d) ∙ ap (λ (n : ℕ). n / 2 ^ m % 2) (patch_low x (suc d + m) 1 b) ∙ bit_low x m d
 
-bit-above : (x m d b : ℕ) → b < 2 → patch x m 1 b / 2 ^ (m + suc d) % 2 ≡ x / 2 ^ (m + suc d) % 2
-bit-above x m d b h =
+bit_above : (x m d b : ℕ) → b < 2 → patch x m 1 b / 2 ^ (m + suc d) % 2 ≡ x / 2 ^ (m + suc d) % 2
+bit_above x m d b h =
     let e : m + suc d ≡ m + 1 + d = omega arith in
     let f : (x / 2 ^ (m + 1) * 2 + b) / 2 ≡ x / 2 ^ (m + 1) = omega arith in
-    rw (e, ← shr-shr x (m + 1) d, ← shr-shr (patch x m 1 b) (m + 1) d, ← shr-shr (patch x m 1 b) m 1, patch-high x m 1 b, f)
+    rw (e, ← shr-shr x (m + 1) d, ← shr-shr (patch x m 1 b) (m + 1) d, ← shr-shr (patch x m 1 b) m 1, patch_high x m 1 b, f)
 
 apart : (n m : ℕ) → (n ≡ m → ⊥) → (n < m) ⊎ (m < n)
 apart n m ne =
@@ -98,11 +98,11 @@ apart n m ne =
       | no f ↦ ⊎_elim (λ e. absurd (ne (sym e))) (λ l. inr l) (eq-or-lt_of_le (le_of_suc-le-suc (lt_of_not-le f)))
     ]
 
-pub bit-other : (x m n b : ℕ) → b < 2 → (n ≡ m → ⊥) → patch x m 1 b / 2 ^ n % 2 ≡ x / 2 ^ n % 2
-bit-other x m n b h ne =
+pub bit_other : (x m n b : ℕ) → b < 2 → (n ≡ m → ⊥) → patch x m 1 b / 2 ^ n % 2 ≡ x / 2 ^ n % 2
+bit_other x m n b h ne =
     ⊎_elim
     (λ (l : n < m). let e : m ≡ suc (m - suc n) + n = omega arith in rw e (bit_below x n (m - suc n) b))
-    (λ (l : m < n). let e : n ≡ m + suc (n - suc m) = omega arith in rw e (bit-above x m (n - suc m) b h))
+    (λ (l : m < n). let e : n ≡ m + suc (n - suc m) = omega arith in rw e (bit_above x m (n - suc m) b h))
     (apart n m ne)
 
 -- ---- by shifts: none of them loses a bit
@@ -114,7 +114,7 @@ pub record Small (h t w m : ℕ) : Type 0 where
 
 pub small : (x m t w : ℕ) → x < 256 → m + t ≤ 8 → w < 2 ^ t → Small (x / 2 ^ (m + t)) t w m
 small x m t w hx h hw =
-    let b : (x / 2 ^ (m + t) * 2 ^ t + w) * 2 ^ m + x % 2 ^ m < 256 = rw (patch-is x m t w) at (patch-below x m t w hx h hw) in
+    let b : (x / 2 ^ (m + t) * 2 ^ t + w) * 2 ^ m + x % 2 ^ m < 256 = rw (patch_is x m t w) at (patch_below x m t w hx h hw) in
     let c : x / 2 ^ (m + t) * 2 ^ t + w ≤ (x / 2 ^ (m + t) * 2 ^ t + w) * 2 ^ m =
     le-mul_of_pos_right (x / 2 ^ (m + t) * 2 ^ t + w) (pow_pos m) in
     record { first = mod-eq_of_lt (omega arith); second = mod-eq_of_lt (omega arith); room = omega arith }

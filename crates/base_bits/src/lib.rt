@@ -2,7 +2,7 @@
 // whole words. None of these is a public call: what is read has to be there, at places that are small numbers. `chunk`, `first_bits` and
 // `raised` require that their bits fit, `least` that neither number is 0.
 ghost use Rattle.std.specs.Prelude.{◌≡◌, ◌+◌, ◌-◌, ◌*◌, ◌/◌, ◌%◌, ◌^◌, ◌<◌, ◌≤◌, length};
-ghost use Rattle.base_bits.specs.Bits.{field, short, number, numbers, numbers-short};
+ghost use Rattle.base_bits.specs.Bits.{field, short, number, numbers, numbers_short};
 ghost use Rattle.base_bits.specs.BitsThere.{Within};
 
 use words::{across_to_byte, across_words, word_at};
@@ -116,7 +116,7 @@ pub fn is_short(bytes: &[u8], at: usize, width: usize) -> bool
 // small number, are required.
 pub fn are_short(bytes: &[u8], at: usize, count: usize) -> bool
     requires { (0 < count) × (at + 64 * count ≤ 1048576) }
-    ensures { result ≡ numbers-short bytes.now at count }
+    ensures { result ≡ numbers_short bytes.now at count }
 {
     is_short(bytes, at, 64 * count)
 }

@@ -5,8 +5,8 @@ ghost use Rattle.std.specs.Prelude.{◌≡◌, true, false, ◌+◌, ◌*◌, �
 ghost use Rattle.std.specs.Float.{binary64};
 ghost use Rattle.std.specs.Float.Ieee.{to_bits};
 ghost use Rattle.std.specs.Float.Ieee.Scale.{finite};
-ghost use Rattle.rules.specs.Refusals.{some-number-refused};
-ghost use Rattle.base_bits.specs.Written.{patch, with-field, number-fields, with-fields};
+ghost use Rattle.rules.specs.Refusals.{some_number_refused};
+ghost use Rattle.base_bits.specs.Written.{patch, with_field, number_fields, with_fields};
 ghost use Rattle.base_bits.specs.BitsThere.{Within};
 
 use crate::words::across_words;
@@ -32,7 +32,7 @@ fn patched(byte: u8, low: usize, count: usize, new: u8) -> u8
 // Writes the `count` lowest bits of a number into byte `place`, from its bit `from` on.
 fn put_in_byte(bytes: &mut [u8], place: usize, from: usize, count: usize, n: u64)
     requires { (place < length bytes.old) × (from + count ≤ 8) }
-    ensures { bytes.new ≡ with-field bytes.old (8 * place + from) count n }
+    ensures { bytes.new ≡ with_field bytes.old (8 * place + from) count n }
 {
     bytes[place] = patched(bytes[place], 8 - from - count, count, lowest(n, count));
 }
@@ -40,7 +40,7 @@ fn put_in_byte(bytes: &mut [u8], place: usize, from: usize, count: usize, n: u64
 // Writes a field of one bit up to eight: into one byte, or the first bits into its end and the rest into the next.
 fn put_narrow_field(bytes: &mut [u8], at: usize, width: usize, n: u64)
     requires { Within bytes.old at width × (0 < width) × (width ≤ 8) }
-    ensures { bytes.new ≡ with-field bytes.old at width n }
+    ensures { bytes.new ≡ with_field bytes.old at width n }
 {
     let place = at / 8;
     let first = 8 - at % 8;
@@ -56,7 +56,7 @@ fn put_narrow_field(bytes: &mut [u8], at: usize, width: usize, n: u64)
 // Writes a field of any width up to 64: up to eight bits more at each turn.
 fn put_field_by_eights(bytes: &mut [u8], at: usize, width: usize, n: u64)
     requires { Within bytes.old at width × (width ≤ 64) }
-    ensures { bytes.new ≡ with-field bytes.old at width n }
+    ensures { bytes.new ≡ with_field bytes.old at width n }
 {
     let mut written = 0;
     while written < width {
@@ -69,7 +69,7 @@ fn put_field_by_eights(bytes: &mut [u8], at: usize, width: usize, n: u64)
 // Writes the four lowest bytes of a number from byte `place` on.
 fn put_half_word(bytes: &mut [u8], place: usize, n: u64)
     requires { place + 4 ≤ length bytes.old }
-    ensures { bytes.new ≡ with-field bytes.old (8 * place) 32 n }
+    ensures { bytes.new ≡ with_field bytes.old (8 * place) 32 n }
 {
     put_in_byte(bytes, place, 0, 8, n >> 24);
     put_in_byte(bytes, place + 1, 0, 8, n >> 16);
@@ -80,7 +80,7 @@ fn put_half_word(bytes: &mut [u8], place: usize, n: u64)
 // Writes a word from byte `place` on. Its bytes are stored with nothing between them, so the compiler makes one store of the eight.
 fn put_word(bytes: &mut [u8], place: usize, n: u64)
     requires { place + 8 ≤ length bytes.old }
-    ensures { bytes.new ≡ with-field bytes.old (8 * place) 64 n }
+    ensures { bytes.new ≡ with_field bytes.old (8 * place) 64 n }
 {
     put_half_word(bytes, place, n >> 32);
     put_half_word(bytes, place + 4, n)
@@ -90,7 +90,7 @@ fn put_word(bytes: &mut [u8], place: usize, n: u64)
 // byte behind it.
 fn put_pattern(bytes: &mut [u8], at: usize, n: u64)
     requires { Within bytes.old at 64 }
-    ensures { bytes.new ≡ with-field bytes.old at 64 n }
+    ensures { bytes.new ≡ with_field bytes.old at 64 n }
 {
     let place = at / 8;
     let shift = at % 8;
@@ -108,7 +108,7 @@ fn put_pattern(bytes: &mut [u8], at: usize, n: u64)
 // places that are small numbers.
 pub fn put_field(bytes: &mut [u8], at: usize, width: usize, n: u64)
     requires { Within bytes.old at width × (width ≤ 64) }
-    ensures { bytes.new ≡ with-field bytes.old at width n }
+    ensures { bytes.new ≡ with_field bytes.old at width n }
 {
     if width == 0 {
         return;
@@ -128,15 +128,15 @@ pub fn put_field(bytes: &mut [u8], at: usize, width: usize, n: u64)
 // small numbers.
 pub fn put_number(bytes: &mut [u8], at: usize, number: f64)
     requires { Within bytes.old at 64 × (finite number ≡ true) }
-    ensures { bytes.new ≡ with-field bytes.old at 64 (to_bits binary64 number) }
+    ensures { bytes.new ≡ with_field bytes.old at 64 (to_bits binary64 number) }
 {
     put_pattern(bytes, at, base_numbers::pattern_of(number))
 }
 
 // Writes the patterns of numbers as the words from byte `place` on.
 fn put_words(bytes: &mut [u8], place: usize, from: &[f64])
-    requires { Within bytes.old (8 * place) (64 * length from.now) × (some-number-refused from.now ≡ false) }
-    ensures { bytes.new ≡ with-fields bytes.old (8 * place) (number-fields from.now) }
+    requires { Within bytes.old (8 * place) (64 * length from.now) × (some_number_refused from.now ≡ false) }
+    ensures { bytes.new ≡ with_fields bytes.old (8 * place) (number_fields from.now) }
 {
     let mut k = 0;
     while k < from.len() {
@@ -148,9 +148,9 @@ fn put_words(bytes: &mut [u8], place: usize, from: &[f64])
 // Writes the patterns of numbers from `shift` bits behind byte `place` on. A turn writes one word: the last bits of the pattern before, at
 // first those that stood there, and the first of its own. So each pattern's last bits come a turn late, and those of the last at the end.
 fn put_words_across(bytes: &mut [u8], place: usize, shift: usize, from: &[f64])
-    requires { Within bytes.old (8 * place + shift) (64 * length from.now) × (some-number-refused from.now ≡ false)
+    requires { Within bytes.old (8 * place + shift) (64 * length from.now) × (some_number_refused from.now ≡ false)
         × (0 < shift) × (shift < 8) }
-    ensures { bytes.new ≡ with-fields bytes.old (8 * place + shift) (number-fields from.now) }
+    ensures { bytes.new ≡ with_fields bytes.old (8 * place + shift) (number_fields from.now) }
 {
     let mut before = first_bits(bytes[place], shift);
     let mut k = 0;
@@ -167,8 +167,8 @@ fn put_words_across(bytes: &mut [u8], place: usize, shift: usize, from: &[f64])
 // Writes the patterns of numbers from bit `at` on. Not a public call: finite numbers are required, and their bits there, at places that are
 // small numbers.
 pub fn put_numbers(bytes: &mut [u8], at: usize, from: &[f64])
-    requires { Within bytes.old at (64 * length from.now) × (some-number-refused from.now ≡ false) }
-    ensures { bytes.new ≡ with-fields bytes.old at (number-fields from.now) }
+    requires { Within bytes.old at (64 * length from.now) × (some_number_refused from.now ≡ false) }
+    ensures { bytes.new ≡ with_fields bytes.old at (number_fields from.now) }
 {
     if at % 8 == 0 {
         put_words(bytes, at / 8, from)

@@ -28,19 +28,19 @@ by_order q r n u Ordering.lt e is l =
     record { over = omega arith; under = omega arith }
 by_order q r n u Ordering.eq e is l =
     let h : r * 2 ≡ u = eqb-true (r * 2) u (ap compare_is_eq e) in
-    to-even (q % 2) (omega arith) h
+    to_even (q % 2) (omega arith) h
   where
-    to-even : (t : ℕ) → t < 2 → r * 2 ≡ u → Half ((q + t) * u) n u
-    to-even zero k h = rw (add-mul q 0 u) (record { over = omega arith; under = omega arith })
-    to-even (suc zero) k h = rw (add-mul q 1 u) (record { over = omega arith; under = omega arith })
-    to-even (suc (suc t)) k h = absurd (omega arith)
+    to_even : (t : ℕ) → t < 2 → r * 2 ≡ u → Half ((q + t) * u) n u
+    to_even zero k h = rw (add-mul q 0 u) (record { over = omega arith; under = omega arith })
+    to_even (suc zero) k h = rw (add-mul q 1 u) (record { over = omega arith; under = omega arith })
+    to_even (suc (suc t)) k h = absurd (omega arith)
 by_order q r n u Ordering.gt e is l =
     let h : u < r * 2 = leb-false (r * 2) u (ap is_le e) in
     let next : suc q * u ≡ q * u + u = omega arith in
     rw next (record { over = omega arith; under = omega arith })
 
-pub closest-near : (n u : ℕ) → 0 < u → Half (closest n u * u) n u
-closest-near n u h = by_order (n / u) (n % u) n u (compare (n % u * 2) u) refl (div-add-mod' n u) (mod-lt n h)
+pub closest_near : (n u : ℕ) → 0 < u → Half (closest n u * u) n u
+closest_near n u h = by_order (n / u) (n % u) n u (compare (n % u * 2) u) refl (div-add-mod' n u) (mod-lt n h)
 
 -- ---- rounded to a format
 
@@ -59,28 +59,28 @@ digits : (f : Format) → rounding ≤ 2 ^ (prec f - 1)
 digits binary32 = omega arith
 digits binary64 = omega arith
 
-some-digits : (f : Format) → 0 < prec f
-some-digits binary32 = omega arith
-some-digits binary64 = omega arith
+some_digits : (f : Format) → 0 < prec f
+some_digits binary32 = omega arith
+some_digits binary64 = omega arith
 
-all-kept : (z p k : ℕ) → 0 < p → z - p ≡ suc k → p - 1 + suc k < z
-all-kept z p k P e = omega arith
+all_kept : (z p k : ℕ) → 0 < p → z - p ≡ suc k → p - 1 + suc k < z
+all_kept z p k P e = omega arith
 
 dropped : (f : Format) (n c k : ℕ) → 0 < c → drop (prec f) n c ≡ suc k → c * 2 ^ suc k * rounding ≤ n
 dropped f n c k C e =
     let reach : 2 ^ (prec f - 1 + suc k) ≤ n / c =
-    size_reaches (n / c) (prec f - 1 + suc k) (all-kept (size (n / c)) (prec f) k (some-digits f) e) in
+    size_reaches (n / c) (prec f - 1 + suc k) (all_kept (size (n / c)) (prec f) k (some_digits f) e) in
     let whole : 2 ^ (prec f - 1) * 2 ^ suc k * c ≤ n = rw (pow-add 2 (prec f - 1) (suc k)) at ((le-div_iff_mul-le C).0 reach) in
     let big : rounding * (2 ^ suc k * c) ≤ 2 ^ (prec f - 1) * (2 ^ suc k * c) = mul-le-mul_right (2 ^ suc k * c) (digits f) in
     le_trans (le_of_eq (mul_comm (c * 2 ^ suc k) rounding ∙ ap (λ (z : ℕ). rounding * z) (mul_comm c (2 ^ suc k))))
     (le_trans big (le_trans (le_of_eq (sym (mul_assoc (2 ^ (prec f - 1)) (2 ^ suc k) c))) whole))
 
-pub grid-near : (f : Format) (a c : ℕ) → 0 < c → Near (grid f a c) (a * 2 ^ low f) c
-grid-near f a c C =
+pub grid_near : (f : Format) (a c : ℕ) → 0 < c → Near (grid f a c) (a * 2 ^ low f) c
+grid_near f a c C =
     let n = a * 2 ^ low f in
     let k = drop (prec f) n c in
     let u = c * 2 ^ k in
-    let half = closest-near n u (mul-pos C (pow_pos k)) in
+    let half = closest_near n u (mul-pos C (pow_pos k)) in
     let is : closest n u * 2 ^ k * c ≡ closest n u * u =
     mul_assoc (closest n u) (2 ^ k) c ∙ ap (λ (z : ℕ). closest n u * z) (mul_comm (2 ^ k) c) in
     record {
@@ -112,8 +112,8 @@ not_more : (v d l : ℕ) → 0 < l → 2 * (v * l) ≤ 2 * (d * l) + l → v ≤
 not_more v d l L h =
     halved v d (cancel (2 * v) (2 * d + 1) l L (rw (mul_assoc 2 v l, add-mul (2 * d) 1 l, mul_assoc 2 d l) (omega arith)))
 
-whole-near : (v d l : ℕ) → 0 < l → Near v (d * l) l → Close rounding v d
-whole-near v d l L N = go N.fine
+whole_near : (v d l : ℕ) → 0 < l → Near v (d * l) l → Close rounding v d
+whole_near v d l L N = go N.fine
   where
     go : (N.u ≡ l) ⊎ (N.u * rounding ≤ d * l) → Close rounding v d
     go (inl e) =
@@ -128,8 +128,8 @@ whole-near v d l L N = go N.fine
           under = cancel (d * 1048575) (v * 1048576) l L (rw (mul_right_comm v 1048576 l, mul_right_comm d 1048575 l) (omega arith));
         }
 
-pub grid-close : (f : Format) (d : ℕ) → Close rounding (grid f d (2 ^ low f)) d
-grid-close f d = whole-near (grid f d (2 ^ low f)) d (2 ^ low f) (pow_pos (low f)) (grid-near f d (2 ^ low f) (pow_pos (low f)))
+pub grid_close : (f : Format) (d : ℕ) → Close rounding (grid f d (2 ^ low f)) d
+grid_close f d = whole_near (grid f d (2 ^ low f)) d (2 ^ low f) (pow_pos (low f)) (grid_near f d (2 ^ low f) (pow_pos (low f)))
 
 -- ---- any fraction
 
@@ -142,8 +142,8 @@ twice (suc v) n c N = go N.fine
     go (inl e) = let o = N.over in let next : suc v * c ≡ v * c + c = omega arith in omega arith
     go (inr h) = let o = N.over in omega arith
 
-pub grid-twice : (f : Format) (a c : ℕ) → 0 < c → grid f a c * c ≤ 2 * (a * 2 ^ low f)
-grid-twice f a c C = twice (grid f a c) (a * 2 ^ low f) c (grid-near f a c C)
+pub grid_twice : (f : Format) (a c : ℕ) → 0 < c → grid f a c * c ≤ 2 * (a * 2 ^ low f)
+grid_twice f a c C = twice (grid f a c) (a * 2 ^ low f) c (grid_near f a c C)
 
 -- v lies within one and such a part of n / c
 pub record Within (v n c : ℕ) : Type 0 where
@@ -157,5 +157,5 @@ within v n c N = go N.fine
     go (inl e) = let o = N.over in let w = N.under in record { over = omega arith; under = omega arith }
     go (inr h) = let o = N.over in let w = N.under in record { over = omega arith; under = omega arith }
 
-pub grid-within : (f : Format) (a c : ℕ) → 0 < c → Within (grid f a c) (a * 2 ^ low f) c
-grid-within f a c C = within (grid f a c) (a * 2 ^ low f) c (grid-near f a c C)
+pub grid_within : (f : Format) (a c : ℕ) → 0 < c → Within (grid f a c) (a * 2 ^ low f) c
+grid_within f a c C = within (grid f a c) (a * 2 ^ low f) c (grid_near f a c C)

@@ -13,31 +13,31 @@ use lib.Ieee.Fits.{up_pos, down_pos}
 use lib.Ieee.Scale.{finite, round_same}
 use lib.Ieee.Positive.{positive}
 use Rattle.base_floats.specs.Zeros.{Zero, Equal, one}
-use Rattle.base_floats.proofs.Rounding.{round-zero, round-back}
-use Rattle.base_floats.proofs.Equals.{never, fitting-zero}
+use Rattle.base_floats.proofs.Rounding.{round_zero, round_back}
+use Rattle.base_floats.proofs.Equals.{never, fitting_zero}
 
 -- ---- a sum with zero
 
-sum-left-zero : (f : Format) (s t : Bool) (b c : ℕ) → 0 < b → sum f s 0 t b c ≡ round f t b c
+sum_left_zero : (f : Format) (s t : Bool) (b c : ℕ) → 0 < b → sum f s 0 t b c ≡ round f t b c
 unfolding sum
-sum-left-zero f true true b c h = rw (zero-add b) refl
-sum-left-zero f false false b c h = rw (zero-add b) refl
-sum-left-zero f true false b c h = rw (lt-ltb 0 b h, sub-zero b) refl
-sum-left-zero f false true b c h = rw (lt-ltb 0 b h, sub-zero b) refl
+sum_left_zero f true true b c h = rw (zero-add b) refl
+sum_left_zero f false false b c h = rw (zero-add b) refl
+sum_left_zero f true false b c h = rw (lt-ltb 0 b h, sub-zero b) refl
+sum_left_zero f false true b c h = rw (lt-ltb 0 b h, sub-zero b) refl
 
-sum-right-zero : (f : Format) (s t : Bool) (a c : ℕ) → 0 < a → sum f s a t 0 c ≡ round f s a c
+sum_right_zero : (f : Format) (s t : Bool) (a c : ℕ) → 0 < a → sum f s a t 0 c ≡ round f s a c
 unfolding sum
-sum-right-zero f true true a c h = rw (add-zero a) refl
-sum-right-zero f false false a c h = rw (add-zero a) refl
-sum-right-zero f true false a c h = rw (le-ltb a 0 zero-le, lt-ltb 0 a h, sub-zero a) refl
-sum-right-zero f false true a c h = rw (le-ltb a 0 zero-le, sub-zero a) refl
+sum_right_zero f true true a c h = rw (add-zero a) refl
+sum_right_zero f false false a c h = rw (add-zero a) refl
+sum_right_zero f true false a c h = rw (le-ltb a 0 zero-le, lt-ltb 0 a h, sub-zero a) refl
+sum_right_zero f false true a c h = rw (le-ltb a 0 zero-le, sub-zero a) refl
 
 sum_zeros : (f : Format) (s t : Bool) (c : ℕ) → 0 < c → Zero (sum f s 0 t 0 c)
 unfolding sum
-sum_zeros f true true c h = record { sign = true; is = round-zero f true c h }
-sum_zeros f false false c h = record { sign = false; is = round-zero f false c h }
-sum_zeros f true false c h = record { sign = false; is = round-zero f false c h }
-sum_zeros f false true c h = record { sign = false; is = round-zero f false c h }
+sum_zeros f true true c h = record { sign = true; is = round_zero f true c h }
+sum_zeros f false false c h = record { sign = false; is = round_zero f false c h }
+sum_zeros f true false c h = record { sign = false; is = round_zero f false c h }
+sum_zeros f false true c h = record { sign = false; is = round_zero f false c h }
 
 above_zero : (m : ℕ) (e : ℤ) → 0 < suc m * up e
 above_zero m e = mul-pos (zero-lt-suc m) (up_pos e)
@@ -51,54 +51,54 @@ unfolding add
 add_left f s m e t = rw (mul-one (m * up e), zero-mul (down e), one-mul (down e)) refl
 
 -- x + 0
-pub add-zero-right : (f : Format) (x z : Float) → T (fits f x) → finite x ≡ true → Zero z → Equal (add f x z) x
-add-zero-right f nan z t h k = never h
-add-zero-right f (inf s) z t h k = never h
-add-zero-right f (fin s zero e) z t h k =
-    rw (k.is, add_right f s 0 e k.sign, zero-mul (up e)) (inr (sum_zeros f s k.sign (down e) (down_pos e), fitting-zero f s e t))
-add-zero-right f (fin s (suc m) e) z t h k =
+pub add_zero_right : (f : Format) (x z : Float) → T (fits f x) → finite x ≡ true → Zero z → Equal (add f x z) x
+add_zero_right f nan z t h k = never h
+add_zero_right f (inf s) z t h k = never h
+add_zero_right f (fin s zero e) z t h k =
+    rw (k.is, add_right f s 0 e k.sign, zero-mul (up e)) (inr (sum_zeros f s k.sign (down e) (down_pos e), fitting_zero f s e t))
+add_zero_right f (fin s (suc m) e) z t h k =
     rw (k.is, add_right f s (suc m) e k.sign)
-    (inl (sum-right-zero f s k.sign (suc m * up e) (down e) (above_zero m e) ∙ round-back f s (suc m) e t))
+    (inl (sum_right_zero f s k.sign (suc m * up e) (down e) (above_zero m e) ∙ round_back f s (suc m) e t))
 
 -- 0 + x
-pub add-zero-left : (f : Format) (z x : Float) → T (fits f x) → finite x ≡ true → Zero z → Equal (add f z x) x
-add-zero-left f z nan t h k = never h
-add-zero-left f z (inf s) t h k = never h
-add-zero-left f z (fin s zero e) t h k =
-    rw (k.is, add_left f s 0 e k.sign, zero-mul (up e)) (inr (sum_zeros f k.sign s (down e) (down_pos e), fitting-zero f s e t))
-add-zero-left f z (fin s (suc m) e) t h k =
+pub add_zero_left : (f : Format) (z x : Float) → T (fits f x) → finite x ≡ true → Zero z → Equal (add f z x) x
+add_zero_left f z nan t h k = never h
+add_zero_left f z (inf s) t h k = never h
+add_zero_left f z (fin s zero e) t h k =
+    rw (k.is, add_left f s 0 e k.sign, zero-mul (up e)) (inr (sum_zeros f k.sign s (down e) (down_pos e), fitting_zero f s e t))
+add_zero_left f z (fin s (suc m) e) t h k =
     rw (k.is, add_left f s (suc m) e k.sign)
-    (inl (sum-left-zero f k.sign s (suc m * up e) (down e) (above_zero m e) ∙ round-back f s (suc m) e t))
+    (inl (sum_left_zero f k.sign s (suc m * up e) (down e) (above_zero m e) ∙ round_back f s (suc m) e t))
 
 -- ---- a product with zero and with one
 
-zero-times : (f : Format) (s t : Bool) (m : ℕ) (e : ℤ) → mul f (fin s 0 (pos 0)) (fin t m e) ≡ fin (unlike s t) 0 (pos 0)
+zero_times : (f : Format) (s t : Bool) (m : ℕ) (e : ℤ) → mul f (fin s 0 (pos 0)) (fin t m e) ≡ fin (unlike s t) 0 (pos 0)
 unfolding mul
-zero-times f s t m e = rw (zero-mul (m * up e), one-mul (down e)) (round-zero f (unlike s t) (down e) (down_pos e))
+zero_times f s t m e = rw (zero-mul (m * up e), one-mul (down e)) (round_zero f (unlike s t) (down e) (down_pos e))
 
 -- 0 · x
-pub mul-zero-left : (f : Format) (z x : Float) → Zero z → finite x ≡ true → Zero (mul f z x)
-mul-zero-left f z nan k h = never h
-mul-zero-left f z (inf s) k h = never h
-mul-zero-left f z (fin s m e) k h = record { sign = unlike k.sign s; is = rw k.is (zero-times f k.sign s m e) }
+pub mul_zero_left : (f : Format) (z x : Float) → Zero z → finite x ≡ true → Zero (mul f z x)
+mul_zero_left f z nan k h = never h
+mul_zero_left f z (inf s) k h = never h
+mul_zero_left f z (fin s m e) k h = record { sign = unlike k.sign s; is = rw k.is (zero_times f k.sign s m e) }
 
-unlike-false : (s : Bool) → unlike false s ≡ s
-unlike-false true = refl
-unlike-false false = refl
+unlike_false : (s : Bool) → unlike false s ≡ s
+unlike_false true = refl
+unlike_false false = refl
 
 -- 1 · x
-pub mul-one-left : (f : Format) (x : Float) → T (fits f x) → finite x ≡ true → mul f one x ≡ x
+pub mul_one_left : (f : Format) (x : Float) → T (fits f x) → finite x ≡ true → mul f one x ≡ x
 unfolding mul
-mul-one-left f nan t h = refl
-mul-one-left f (inf s) t h = never h
-mul-one-left f (fin s m e) t h = rw (unlike-false s, one-mul (m * up e), one-mul (down e)) (round-back f s m e t)
+mul_one_left f nan t h = refl
+mul_one_left f (inf s) t h = never h
+mul_one_left f (fin s m e) t h = rw (unlike_false s, one-mul (m * up e), one-mul (down e)) (round_back f s m e t)
 
 -- ---- the difference of equal numbers
 
-pub difference-of-same : (f : Format) (s : Bool) (a c : ℕ) → sum f s a (not s) a c ≡ round f false 0 c
+pub difference_of_same : (f : Format) (s : Bool) (a c : ℕ) → sum f s a (not s) a c ≡ round f false 0 c
 unfolding sum
-difference-of-same f true a c = rw (le-ltb a a (le_refl a), sub_self a) refl
-difference-of-same f false a c = rw (le-ltb a a (le_refl a), sub_self a) refl
+difference_of_same f true a c = rw (le-ltb a a (le_refl a), sub_self a) refl
+difference_of_same f false a c = rw (le-ltb a a (le_refl a), sub_self a) refl
 
 -- a difference of finite numbers, before it is rounded
 pub sub_is : (f : Format) (s : Bool) (m : ℕ) (e : ℤ) (t : Bool) (n : ℕ) (d : ℤ)
@@ -107,18 +107,18 @@ unfolding sub
 sub_is f s m e t n d = refl
 
 -- x − y
-pub sub-equal : (f : Format) (x y : Float) → finite x ≡ true → Equal x y → Zero (sub f x y)
-sub-equal f nan y h k = never h
-sub-equal f (inf s) y h k = never h
-sub-equal f (fin s m e) y h (inl same) =
+pub sub_equal : (f : Format) (x y : Float) → finite x ≡ true → Equal x y → Zero (sub f x y)
+sub_equal f nan y h k = never h
+sub_equal f (inf s) y h k = never h
+sub_equal f (fin s m e) y h (inl same) =
     rw (← same)
     (record {
       sign = false;
       is =
-          sub_is f s m e s m e ∙ difference-of-same f s (m * up e * down e) (down e * down e)
-          ∙ round-zero f false (down e * down e) (mul-pos (down_pos e) (down_pos e));
+          sub_is f s m e s m e ∙ difference_of_same f s (m * up e * down e) (down e * down e)
+          ∙ round_zero f false (down e * down e) (mul-pos (down_pos e) (down_pos e));
     })
-sub-equal f (fin s m e) y h (inr zeros) =
+sub_equal f (fin s m e) y h (inr zeros) =
     rw (zeros.0.is, zeros.1.is, sub_is f zeros.0.sign 0 (pos 0) zeros.1.sign 0 (pos 0))
     (sum_zeros f zeros.0.sign (not zeros.1.sign) 1 (zero-lt-suc 0))
 
@@ -131,19 +131,19 @@ unfolding div
 div_is f s m e n d = rw (ne_eqb (suc n) 0 (λ z. omega arith)) refl
 
 -- 0 / x
-pub div-zero : (f : Format) (z x : Float) → Zero z → T (positive x) → Zero (div f z x)
-div-zero f z nan k p = absurd p
-div-zero f z (inf s) k p = absurd p
-div-zero f z (fin true m e) k p = absurd p
-div-zero f z (fin false zero e) k p = absurd p
-div-zero f z (fin false (suc m) e) k p =
+pub div_zero : (f : Format) (z x : Float) → Zero z → T (positive x) → Zero (div f z x)
+div_zero f z nan k p = absurd p
+div_zero f z (inf s) k p = absurd p
+div_zero f z (fin true m e) k p = absurd p
+div_zero f z (fin false zero e) k p = absurd p
+div_zero f z (fin false (suc m) e) k p =
     rw (k.is, div_is f k.sign 0 (pos 0) m e, zero-mul (down e), mul-one (suc m * up e))
-    (record { sign = unlike k.sign false; is = round-zero f (unlike k.sign false) (suc m * up e) (above_zero m e) })
+    (record { sign = unlike k.sign false; is = round_zero f (unlike k.sign false) (suc m * up e) (above_zero m e) })
 
-one-over-one : (f : Format) → round f false 1 1 ≡ one
+one_over_one : (f : Format) → round f false 1 1 ≡ one
 unfolding round
-one-over-one binary32 = refl
-one-over-one binary64 = refl
+one_over_one binary32 = refl
+one_over_one binary64 = refl
 
 -- x / x
 pub div_self : (f : Format) (x : Float) → T (positive x) → div f x x ≡ one
@@ -155,4 +155,4 @@ div_self f (fin false (suc m) e) p =
     let w : ℕ = suc m * up e * down e in
     div_is f false (suc m) e m e
     ∙ round_same f false w w 1 1 (mul-pos (above_zero m e) (down_pos e)) (zero-lt-suc 0) (mul-one w ∙ sym (one-mul w))
-    ∙ one-over-one f
+    ∙ one_over_one f

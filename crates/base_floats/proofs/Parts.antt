@@ -11,9 +11,9 @@ use lib.Ieee.{Float, nan, binary64, fits}
 use borrow.Author.Tests.{ltb-true, ltb-false}
 use Rattle.base_floats.specs.Place.{AllFit}
 
-pub part-fits : (xs : List Float) (begin size : ℕ) → AllFit xs → AllFit (take size (drop begin xs))
+pub part_fits : (xs : List Float) (begin size : ℕ) → AllFit xs → AllFit (take size (drop begin xs))
 unfolding fits
-part-fits xs begin size all k = go (ltb k size) refl
+part_fits xs begin size all k = go (ltb k size) refl
   where
     go : (b : Bool) → ltb k size ≡ b → T (fits binary64 (get_or (take size (drop begin xs)) k nan))
     go true e =

@@ -65,8 +65,8 @@ pub scaled : (f : Format) (m : ℕ) (e : ℤ) → down e ≤ 2 ^ low f → m * u
 scaled f m e h =
     mul_assoc m (up e) (2 ^ low f) ∙ ap (λ (x : ℕ). m * x) (sym (weight_is f e h)) ∙ sym (mul_assoc m (weight f e) (down e))
 
-pub under-overflow : (f : Format) (m : ℕ) (e : ℤ) → Fitting f m e → magnitude f m e < overflow f
-under-overflow f m e w =
+pub under_overflow : (f : Format) (m : ℕ) (e : ℤ) → Fitting f m e → magnitude f m e < overflow f
+under_overflow f m e w =
     lt_of_mul-lt-mul_right (down e)
     (subst (λ (x : ℕ). x < overflow f * down e) (scaled f m e w.fine)
     (subst (λ (x : ℕ). m * up e * 2 ^ low f < x)
@@ -77,19 +77,19 @@ under-overflow f m e w =
 -- ---- the magnitude of a value that fits
 
 module _ (f : Format) (s : Bool) where
-  pub magnitude-under : (m : ℕ) (e : ℤ) → T (fits f (fin s m e)) → magnitude f m e < overflow f
-  magnitude-under zero e t = subst (λ (x : ℕ). x < overflow f) (sym (zero-mul (weight f e))) (pow_pos (low f + suc (emax f)))
-  magnitude-under (suc m) e t = under-overflow f (suc m) e (fitting f s m e t)
+  pub magnitude_under : (m : ℕ) (e : ℤ) → T (fits f (fin s m e)) → magnitude f m e < overflow f
+  magnitude_under zero e t = subst (λ (x : ℕ). x < overflow f) (sym (zero-mul (weight f e))) (pow_pos (low f + suc (emax f)))
+  magnitude_under (suc m) e t = under_overflow f (suc m) e (fitting f s m e t)
 
-  pub magnitude-is : (m : ℕ) (e : ℤ) → T (fits f (fin s m e)) → m * up e * 2 ^ low f ≡ magnitude f m e * down e
-  magnitude-is zero e t =
+  pub magnitude_is : (m : ℕ) (e : ℤ) → T (fits f (fin s m e)) → m * up e * 2 ^ low f ≡ magnitude f m e * down e
+  magnitude_is zero e t =
       ap (λ (x : ℕ). x * 2 ^ low f) (zero-mul (up e)) ∙ zero-mul (2 ^ low f)
       ∙ sym (ap (λ (x : ℕ). x * down e) (zero-mul (weight f e)) ∙ zero-mul (down e))
-  magnitude-is (suc m) e t = scaled f (suc m) e (fitting f s m e t).fine
+  magnitude_is (suc m) e t = scaled f (suc m) e (fitting f s m e t).fine
 
   -- the same over a common denominator, as comparisons have it
-  pub magnitude-across : (m : ℕ) (e d : ℤ) → T (fits f (fin s m e)) → m * up e * down d * 2 ^ low f ≡ magnitude f m e * (down e * down d)
-  magnitude-across m e d t =
+  pub magnitude_across : (m : ℕ) (e d : ℤ) → T (fits f (fin s m e)) → m * up e * down d * 2 ^ low f ≡ magnitude f m e * (down e * down d)
+  magnitude_across m e d t =
       mul_right_comm (m * up e) (down d) (2 ^ low f)
-      ∙ ap (λ (x : ℕ). x * down d) (magnitude-is m e t)
+      ∙ ap (λ (x : ℕ). x * down d) (magnitude_is m e t)
       ∙ mul_assoc (magnitude f m e) (down e) (down d)

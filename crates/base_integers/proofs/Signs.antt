@@ -7,13 +7,13 @@ use lib.IntN.{ℤ, pos, negsuc, neg_ℤ, nat_abs, ◌-ℤ◌, ◌*ℤ◌, *ℤ-z
 use lib.Signed.{lt_z}
 use borrow.Author.Tests.{ltb-true, le-ltb}
 
-pub times-neg : (m z : ℤ) → m *ℤ neg_ℤ z ≡ neg_ℤ (m *ℤ z)
-times-neg m (pos zero) = rw (*ℤ-zero m)
-times-neg m (pos (suc n)) = *ℤ-negsuc m n
-times-neg m (negsuc n) = rw (*ℤ-negsuc m n, neg_ℤ-neg_ℤ (m *ℤ pos (suc n)))
+pub times_neg : (m z : ℤ) → m *ℤ neg_ℤ z ≡ neg_ℤ (m *ℤ z)
+times_neg m (pos zero) = rw (*ℤ-zero m)
+times_neg m (pos (suc n)) = *ℤ-negsuc m n
+times_neg m (negsuc n) = rw (*ℤ-negsuc m n, neg_ℤ-neg_ℤ (m *ℤ pos (suc n)))
 
-pub neg-times : (m z : ℤ) → neg_ℤ m *ℤ z ≡ neg_ℤ (m *ℤ z)
-neg-times m z = rw (*ℤ_comm (neg_ℤ m) z, times-neg z m, *ℤ_comm z m)
+pub neg_times : (m z : ℤ) → neg_ℤ m *ℤ z ≡ neg_ℤ (m *ℤ z)
+neg_times m z = rw (*ℤ_comm (neg_ℤ m) z, times_neg z m, *ℤ_comm z m)
 
 pub abs_neg : (z : ℤ) → nat_abs (neg_ℤ z) ≡ nat_abs z
 abs_neg (pos zero) = refl
@@ -38,5 +38,5 @@ above (pos n) t = record { n = n; is = refl }
 above (negsuc n) t = let z : ◌≡◌ {A = ℕ} 0 1 = cc in (let y : ⊥ = omega arith in absurd y)
 
 -- minus one less a number below zero
-pub back : (n : ℕ) → negsuc 0 -ℤ negsuc n ≡ pos n
+pub back : (n : ℕ) → negsuc 0 _ℤ negsuc n ≡ pos n
 back n = let e : suc n - 1 ≡ n = omega arith in rw (le-ltb (suc n) 1 (omega arith), e)

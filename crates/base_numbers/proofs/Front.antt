@@ -14,28 +14,28 @@ module _ {A : Type 0} where
   front new i old = take i new ++ drop i old
 
   -- nothing is stored yet
-  pub front-none : (new old : List A) → old ≡ front new 0 old
+  pub front_none : (new old : List A) → old ≡ front new 0 old
   unfolding front
-  front-none new old = refl
+  front_none new old = refl
 
-  front-suc : (new old : List A) (i : ℕ) (d : A) → i < length new → i < length old
+  front_suc : (new old : List A) (i : ℕ) (d : A) → i < length new → i < length old
       → set (front new i old) i (get_or new i d) ≡ front new (suc i) old
   unfolding front
-  front-suc [] old i d h k = absurd (not-suc-le-zero h)
-  front-suc (x ∷ new) [] i d h k = absurd (not-suc-le-zero k)
-  front-suc (x ∷ new) (y ∷ old) zero d h k = refl
-  front-suc (x ∷ new) (y ∷ old) (suc i) d h k =
-      ap (λ (l : List A). x ∷ l) (front-suc new old i d (le_of_suc-le-suc h) (le_of_suc-le-suc k))
+  front_suc [] old i d h k = absurd (not-suc-le-zero h)
+  front_suc (x ∷ new) [] i d h k = absurd (not-suc-le-zero k)
+  front_suc (x ∷ new) (y ∷ old) zero d h k = refl
+  front_suc (x ∷ new) (y ∷ old) (suc i) d h k =
+      ap (λ (l : List A). x ∷ l) (front_suc new old i d (le_of_suc-le-suc h) (le_of_suc-le-suc k))
 
   -- one store: what was stored so far, and the next
-  pub front-more : (new old l : List A) (i : ℕ) (v d : A) → l ≡ front new i old → v ≡ get_or new i d → i < length new → i < length old
+  pub front_more : (new old l : List A) (i : ℕ) (v d : A) → l ≡ front new i old → v ≡ get_or new i d → i < length new → i < length old
       → set l i v ≡ front new (i + 1) old
-  front-more new old l i v d e f h k = rw (e, f, add-one) (front-suc new old i d h k)
+  front_more new old l i v d e f h k = rw (e, f, add-one) (front_suc new old i d h k)
 
   -- all is stored
-  pub front-all : (new old : List A) (i : ℕ) → length new ≡ i → length old ≡ i → front new i old ≡ new
+  pub front_all : (new old : List A) (i : ℕ) → length new ≡ i → length old ≡ i → front new i old ≡ new
   unfolding front
-  front-all new old i h k = rw (take_all i new (omega arith), drop_of_length-le old {i = i} (omega arith), append-nil)
+  front_all new old i h k = rw (take_all i new (omega arith), drop_of_length-le old {i = i} (omega arith), append-nil)
 
   -- past what was stored, the old elements stand
   pub front_rest : (new old : List A) (i k : ℕ) (d : A) → i ≤ length new → i ≤ k → k < length old

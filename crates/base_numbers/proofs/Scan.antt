@@ -7,7 +7,7 @@ use native.Mathlib.Nat.{not-suc-le-zero, le_of_suc-le-suc, eq-or-lt_of_le}
 use native.Mathlib.Numerals.{add-one}
 use Rattle.rules.specs.Numbers.{any}
 -- the test fails at each index: nothing is found
-pub use Rattle.rules.proofs.Cases.{any-never}
+pub use Rattle.rules.proofs.Cases.{any_never}
 
 -- ---- one test or the other
 
@@ -19,13 +19,13 @@ none_of_two : (a b : Bool) → a ≡ false → b ≡ false → (a || b) ≡ fals
 none_of_two true b e f = e
 none_of_two false b e f = f
 
-first-of-two : (a b : Bool) → a ≡ true → (a || b) ≡ true
-first-of-two true b e = refl
-first-of-two false b e = cc
+first_of_two : (a b : Bool) → a ≡ true → (a || b) ≡ true
+first_of_two true b e = refl
+first_of_two false b e = cc
 
-second-of-two : (a b : Bool) → b ≡ true → (a || b) ≡ true
-second-of-two true b e = refl
-second-of-two false b e = e
+second_of_two : (a b : Bool) → b ≡ true → (a || b) ≡ true
+second_of_two true b e = refl
+second_of_two false b e = e
 
 module _ (test : ℕ → Bool) where
   -- nothing has been looked at yet
@@ -34,9 +34,9 @@ module _ (test : ℕ → Bool) where
   any_none = refl
 
   -- one turn further, nothing found
-  pub any-more : (i : ℕ) → any test i ≡ false → test i ≡ false → any test (i + 1) ≡ false
+  pub any_more : (i : ℕ) → any test i ≡ false → test i ≡ false → any test (i + 1) ≡ false
   unfolding any
-  any-more i before here = rw add-one (none_of_two (any test i) (test i) before here)
+  any_more i before here = rw add-one (none_of_two (any test i) (test i) before here)
 
   -- one turn further, what was found kept
   pub any_next : (i : ℕ) → any test (i + 1) ≡ (any test i || test i)
@@ -48,13 +48,13 @@ module _ (test : ℕ → Bool) where
   unfolding any
   any_found i zero l here = absurd (not-suc-le-zero l)
   any_found i (suc n) l here =
-      ⊎_elim (λ e. second-of-two (any test n) (test n) (subst (λ (k : ℕ). test k ≡ true) e here))
-      (λ lt. first-of-two (any test n) (test n) (any_found i n lt here))
+      ⊎_elim (λ e. second_of_two (any test n) (test n) (subst (λ (k : ℕ). test k ≡ true) e here))
+      (λ lt. first_of_two (any test n) (test n) (any_found i n lt here))
       (eq-or-lt_of_le (le_of_suc-le-suc l))
 
   -- the loop ends with nothing found
-  pub any-end : (i n : ℕ) → any test i ≡ false → i ≡ n → any test n ≡ false
-  any-end i n none e = subst (λ (k : ℕ). any test k ≡ false) e none
+  pub any_end : (i n : ℕ) → any test i ≡ false → i ≡ n → any test n ≡ false
+  any_end i n none e = subst (λ (k : ℕ). any test k ≡ false) e none
 
   -- nothing found: the test fails at each index
   pub any_at : (n : ℕ) → any test n ≡ false → (i : ℕ) → i < n → test i ≡ false

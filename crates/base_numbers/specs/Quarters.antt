@@ -3,5 +3,5 @@ use Rattle.std.specs.Prelude.{List, ℕ, ◌+◌, ◌*◌, Float}
 use Rattle.rules.specs.Numbers.{◌⊖◌, at}
 
 -- the difference of two differences: finite only where all four numbers are
-abbrev pub difference-of-four : List Float → ℕ → ℕ → Float
-difference-of-four s quarter k = at s k ⊖ at s (quarter + k) ⊖ (at s (2 * quarter + k) ⊖ at s (3 * quarter + k))
+abbrev pub difference_of_four : List Float → ℕ → ℕ → Float
+difference_of_four s quarter k = at s k ⊖ at s (quarter + k) ⊖ (at s (2 * quarter + k) ⊖ at s (3 * quarter + k))

@@ -4,8 +4,8 @@ ghost use Rattle.std.specs.Float.{binary64};
 ghost use Rattle.std.specs.Float.Ieee.{of_bits, to_bits};
 ghost use Rattle.std.specs.Float.Ieee.Scale.{finite};
 ghost use Rattle.rules.specs.Numbers.{at, zeros, any};
-ghost use Rattle.rules.specs.Refusals.{number-refused, some-number-refused};
-ghost use Rattle.base_numbers.specs.Quarters.{difference-of-four};
+ghost use Rattle.rules.specs.Refusals.{number_refused, some_number_refused};
+ghost use Rattle.base_numbers.specs.Quarters.{difference_of_four};
 
 // Whether a number is neither an infinity nor NaN.
 pub fn is_finite(x: f64) -> bool
@@ -19,7 +19,7 @@ pub fn is_finite(x: f64) -> bool
 // the last of them, so the compiler looks at several at a time. Not a public call: that the quarters lie in the slice is required.
 fn any_difference_not_finite(s: &[f64], quarter: usize) -> bool
     requires { 4 * quarter ≤ length s.now }
-    ensures { result ≡ any (λ k. number-refused (difference-of-four s.now quarter k)) quarter }
+    ensures { result ≡ any (λ k. number_refused (difference_of_four s.now quarter k)) quarter }
 {
     let mut found = false;
     let mut i = 0;
@@ -34,7 +34,7 @@ fn any_difference_not_finite(s: &[f64], quarter: usize) -> bool
 
 // How many numbers in front are known to be finite by their differences: all but the last three at most, or none.
 fn finite_in_front(s: &[f64]) -> usize
-    ensures { (result ≤ length s.now) × (any (λ k. number-refused (at s.now k)) result ≡ false) }
+    ensures { (result ≤ length s.now) × (any (λ k. number_refused (at s.now k)) result ≡ false) }
 {
     let quarter = s.len() / 4;
     if any_difference_not_finite(s, quarter) {
@@ -45,8 +45,8 @@ fn finite_in_front(s: &[f64]) -> usize
 
 // Whether an infinity or NaN is among the numbers. Not a public call: that none is among the first of them is required.
 fn any_not_finite_from(s: &[f64], first: usize) -> bool
-    requires { (first ≤ length s.now) × (any (λ k. number-refused (at s.now k)) first ≡ false) }
-    ensures { result ≡ some-number-refused s.now }
+    requires { (first ≤ length s.now) × (any (λ k. number_refused (at s.now k)) first ≡ false) }
+    ensures { result ≡ some_number_refused s.now }
 {
     let mut i = first;
     while i < s.len() {
@@ -60,7 +60,7 @@ fn any_not_finite_from(s: &[f64], first: usize) -> bool
 
 // Whether an infinity or NaN is among the numbers. The flag is kept to the last of them, so that the compiler looks at several at a time.
 pub fn any_not_finite(s: &[f64]) -> bool
-    ensures { result ≡ some-number-refused s.now }
+    ensures { result ≡ some_number_refused s.now }
 {
     let mut found = false;
     let mut i = 0;
@@ -74,7 +74,7 @@ pub fn any_not_finite(s: &[f64]) -> bool
 // The same by a difference for each four of the numbers, which takes less time where the processor has doubles. Where it has none each
 // difference is a call, so only calls that compute far more than they look at take it.
 pub fn any_of_many_not_finite(s: &[f64]) -> bool
-    ensures { result ≡ some-number-refused s.now }
+    ensures { result ≡ some_number_refused s.now }
 {
     any_not_finite_from(s, finite_in_front(s))
 }

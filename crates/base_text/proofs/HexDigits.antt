@@ -4,25 +4,25 @@ use mathlib.Core.List.{List, [], ◌∷◌}
 use Prim.Native.Nat.{ℕ, zero, suc, ◌-◌, ◌/◌, ◌%◌}
 use native.Mathlib.Omega.{arith}
 use lib.ListN.{length, length-append}
-use Rattle.base_text.specs.Lines.{hex-digit, hex-digits}
+use Rattle.base_text.specs.Lines.{hex_digit, hex_digits}
 use Rattle.base_text.specs.PutBytes.{Put}
-use Rattle.base_text.proofs.Puts.{put-none, put-more}
+use Rattle.base_text.proofs.Puts.{put_none, put_more}
 
-pub length-hex-digits : (k n : ℕ) → length (hex-digits k n) ≡ k
-unfolding hex-digits
-length-hex-digits zero n = refl
-length-hex-digits (suc k) n = simp (length-append, length-hex-digits k (n / 16)) (omega arith)
+pub length_hex_digits : (k n : ℕ) → length (hex_digits k n) ≡ k
+unfolding hex_digits
+length_hex_digits zero n = refl
+length_hex_digits (suc k) n = simp (length-append, length_hex_digits k (n / 16)) (omega arith)
 
-pub no-digits : (k n : ℕ) (text : List ℕ) (at : ℕ) → k ≡ 0 → Put (hex-digits k n) text at text at
-unfolding hex-digits
-no-digits k n text at e = rw e (put-none text at)
+pub no_digits : (k n : ℕ) (text : List ℕ) (at : ℕ) → k ≡ 0 → Put (hex_digits k n) text at text at
+unfolding hex_digits
+no_digits k n text at e = rw e (put_none text at)
 
 one_less : (n : ℕ) → suc n - 1 ≡ n
 one_less n = omega arith
 
-pub one_digit_more : (k n byte : ℕ) {before between after : List ℕ} {at middle end : ℕ} → (k ≡ 0 → ⊥) → byte ≡ hex-digit (n % 16)
-    → Put (hex-digits (k - 1) (n / 16)) before at between middle → Put (byte ∷ []) between middle after end
-    → Put (hex-digits k n) before at after end
-unfolding hex-digits
+pub one_digit_more : (k n byte : ℕ) {before between after : List ℕ} {at middle end : ℕ} → (k ≡ 0 → ⊥) → byte ≡ hex_digit (n % 16)
+    → Put (hex_digits (k - 1) (n / 16)) before at between middle → Put (byte ∷ []) between middle after end
+    → Put (hex_digits k n) before at after end
+unfolding hex_digits
 one_digit_more zero n byte some e p q = absurd (some refl)
-one_digit_more (suc k) n byte some e p q = put-more (rw (one_less k) at p) (rw e at q)
+one_digit_more (suc k) n byte some e p q = put_more (rw (one_less k) at p) (rw e at q)

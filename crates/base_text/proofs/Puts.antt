@@ -17,18 +17,18 @@ sets_more (x ∷ xs) ys l i =
     ap (λ (k : ℕ). sets (sets (set l i x) (suc i) xs) k ys) e ∙ sets_more xs ys (set l i x) (suc i)
 
 -- nothing
-pub put-none : (text : List ℕ) (at : ℕ) → Put [] text at text at
-put-none text at = record { stands = refl; end = sym (add-zero at) }
+pub put_none : (text : List ℕ) (at : ℕ) → Put [] text at text at
+put_none text at = record { stands = refl; end = sym (add-zero at) }
 
 module _ {first more before between after : List ℕ} {at middle end : ℕ} where
-  pub put-more : Put first before at between middle → Put more between middle after end → Put (first ++ more) before at after end
-  put-more p q = record {
+  pub put_more : Put first before at between middle → Put more between middle after end → Put (first ++ more) before at after end
+  put_more p q = record {
     stands = q.stands ∙ rw (p.stands, p.end) (sets_more first more before at);
     end = q.end ∙ rw (p.end, length-append first more) (omega arith);
   }
 
-pub put-length : {bytes before after : List ℕ} {at end : ℕ} → Put bytes before at after end → length after ≡ length before
-put-length {bytes} {before} {after} {at} {end} p = ap (λ (l : List ℕ). length l) p.stands ∙ length-sets before at bytes
+pub put_length : {bytes before after : List ℕ} {at end : ℕ} → Put bytes before at after end → length after ≡ length before
+put_length {bytes} {before} {after} {at} {end} p = ap (λ (l : List ℕ). length l) p.stands ∙ length-sets before at bytes
 
 -- at the front
 pub put_written : {text before after : List ℕ} {end : ℕ} → Put text before 0 after end → length text ≤ length before
@@ -43,18 +43,18 @@ pub record Turn (word before : List ℕ) (at i : ℕ) (text : List ℕ) (behind 
   pub put : Put (take i word) before at text behind
 
 -- the next byte goes right behind those that stand
-pub turn-place : {word before text : List ℕ} {at i behind : ℕ} → Turn word before at i text behind
+pub turn_place : {word before text : List ℕ} {at i behind : ℕ} → Turn word before at i text behind
     → (behind ≡ at + i) × (length text ≡ length before)
-turn-place {word} {before} {text} {at} {i} {behind} t = (t.put.end ∙ rw (length-take-le i word t.most), put-length t.put)
+turn_place {word} {before} {text} {at} {i} {behind} t = (t.put.end ∙ rw (length-take-le i word t.most), put_length t.put)
 
-pub turn-first : (word text : List ℕ) (at : ℕ) → Turn word text at 0 text at
-turn-first word text at = record { most = omega arith; put = put-none text at }
+pub turn_first : (word text : List ℕ) (at : ℕ) → Turn word text at 0 text at
+turn_first word text at = record { most = omega arith; put = put_none text at }
 
-pub turn-next : {word before text after : List ℕ} {at i behind end : ℕ} → Turn word before at i text behind → i < length word
+pub turn_next : {word before text after : List ℕ} {at i behind end : ℕ} → Turn word before at i text behind → i < length word
     → Put (get_or word i 0 ∷ []) text behind after end → Turn word before at (i + 1) after end
-turn-next {word} {before} {text} {after} {at} {i} {behind} {end} t more q = record {
+turn_next {word} {before} {text} {after} {at} {i} {behind} {end} t more q = record {
   most = omega arith;
-  put = rw (add-one i, take-suc word i 0 more) (put-more t.put q);
+  put = rw (add-one i, take-suc word i 0 more) (put_more t.put q);
 }
 
 pub turn_last : {word before text : List ℕ} {at i behind : ℕ} → Turn word before at i text behind → length word ≤ i

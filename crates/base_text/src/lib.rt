@@ -3,7 +3,7 @@
 ghost use Rattle.std.specs.Prelude.{◌≡◌, [], ◌∷◌, ◌+◌, ◌<◌, ◌≤◌, length};
 ghost use Rattle.std.specs.Float.{binary64};
 ghost use Rattle.std.specs.Float.Ieee.{to_bits};
-ghost use Rattle.base_text.specs.Lines.{hex-digit, hex-digits, decimal, word_line, refused-line};
+ghost use Rattle.base_text.specs.Lines.{hex_digit, hex_digits, decimal, word_line, refused_line};
 ghost use Rattle.base_text.specs.PutBytes.{Put};
 
 // One byte.
@@ -44,7 +44,7 @@ pub fn put_decimal(number: u64, text: &mut [u8], at: usize) -> usize
 // The byte of a capital hex digit: it requires a digit below 16.
 fn hex_digit(digit: u64) -> u8
     requires { digit < 16 }
-    ensures { result ≡ hex-digit digit }
+    ensures { result ≡ hex_digit digit }
 {
     if digit < 10 {
         48 + digit as u8
@@ -56,7 +56,7 @@ fn hex_digit(digit: u64) -> u8
 // The last so many hex digits of a number, capitals, the most significant first.
 pub fn put_hex_digits(count: usize, number: u64, text: &mut [u8], at: usize) -> usize
     requires { at + count ≤ length text.old }
-    ensures { Put (hex-digits count number) text.old at text.new result }
+    ensures { Put (hex_digits count number) text.old at text.new result }
 {
     if count == 0 {
         return at;
@@ -88,8 +88,8 @@ pub fn put_word_line(word: &[u8], number: u64, text: &mut [u8], at: usize) -> us
 
 // The line `refused K`.
 pub fn put_refused_line(number: u64, text: &mut [u8], at: usize) -> usize
-    requires { at + length (refused-line number) ≤ length text.old }
-    ensures { Put (refused-line number) text.old at text.new result }
+    requires { at + length (refused_line number) ≤ length text.old }
+    ensures { Put (refused_line number) text.old at text.new result }
 {
     put_word_line(b"refused ", number, text, at)
 }

@@ -1,18 +1,18 @@
 // From numbers and plain slices to conditions and the four axes, and back. None of these is a public call: each requires that its slices
 // have their lengths, and what asks about the axes in use that they are at most four. The host's own refusals see to both.
 ghost use Rattle.std.specs.Prelude.{◌≡◌, ◌+◌, ◌*◌, ◌<◌, ◌≤◌, length, set};
-ghost use Rattle.rules.specs.Outside.{mode-number};
+ghost use Rattle.rules.specs.Outside.{mode_number};
 ghost use Rattle.c_axes.specs.Axes.{
-  condition-given,
-  some-kinds-refused,
-  axis-given,
-  axes-given,
-  axis-without-ends,
-  axes-without-ends,
-  some-modes-refused,
-  axis-in-mode,
-  axes-in-modes,
-  modes-found,
+  condition_given,
+  some_kinds_refused,
+  axis_given,
+  axes_given,
+  axis_without_ends,
+  axes_without_ends,
+  some_modes_refused,
+  axis_in_mode,
+  axes_in_modes,
+  modes_found,
   AxisStored,
   AxesStored,
 };
@@ -27,7 +27,7 @@ use rules::{Axis, Condition, Mode};
 // The condition of axis i.
 pub fn condition_given(kinds: &[u8], values: &[f64], i: usize) -> Condition
     requires { (2 * i + 1 < length kinds.now) × (2 * i + 1 < length values.now) }
-    ensures { result ≡ condition-given kinds.now values.now i }
+    ensures { result ≡ condition_given kinds.now values.now i }
 {
     let lower = wide(kinds[2 * i]);
     let upper = wide(kinds[2 * i + 1]);
@@ -41,7 +41,7 @@ pub fn condition_given(kinds: &[u8], values: &[f64], i: usize) -> Condition
 // Entry i of the four: the axis in extend, where it is in use.
 fn axis_given(axes: usize, points: &[usize], kinds: &[u8], values: &[f64], i: usize) -> Axis
     requires { (i < length points.now) × (2 * i + 1 < length kinds.now) × (2 * i + 1 < length values.now) }
-    ensures { result ≡ axis-given axes points.now kinds.now values.now i }
+    ensures { result ≡ axis_given axes points.now kinds.now values.now i }
 {
     if i < axes {
         Axis {
@@ -57,7 +57,7 @@ fn axis_given(axes: usize, points: &[usize], kinds: &[u8], values: &[f64], i: us
 // The four axes.
 pub fn axes_given(axes: usize, points: &[usize], kinds: &[u8], values: &[f64]) -> [Axis; 4]
     requires { (length points.now ≡ 4) × (length kinds.now ≡ 8) × (length values.now ≡ 8) }
-    ensures { result ≡ axes-given axes points.now kinds.now values.now }
+    ensures { result ≡ axes_given axes points.now kinds.now values.now }
 {
     [
         axis_given(axes, points, kinds, values, 0),
@@ -70,7 +70,7 @@ pub fn axes_given(axes: usize, points: &[usize], kinds: &[u8], values: &[f64]) -
 // Entry i of the four of a call that takes no ends.
 fn axis_without_ends(axes: usize, points: &[usize], i: usize) -> Axis
     requires { i < length points.now }
-    ensures { result ≡ axis-without-ends axes points.now i }
+    ensures { result ≡ axis_without_ends axes points.now i }
 {
     if i < axes {
         Axis {
@@ -86,7 +86,7 @@ fn axis_without_ends(axes: usize, points: &[usize], i: usize) -> Axis
 // The four axes of such a call.
 pub fn axes_without_ends(axes: usize, points: &[usize]) -> [Axis; 4]
     requires { length points.now ≡ 4 }
-    ensures { result ≡ axes-without-ends axes points.now }
+    ensures { result ≡ axes_without_ends axes points.now }
 {
     [
         axis_without_ends(axes, points, 0),
@@ -99,7 +99,7 @@ pub fn axes_without_ends(axes: usize, points: &[usize]) -> [Axis; 4]
 // Whether the kinds of an axis in use are refused by 13.
 pub fn some_kinds_refused(axes: usize, kinds: &[u8]) -> bool
     requires { (axes ≤ 4) × (length kinds.now ≡ 8) }
-    ensures { result ≡ some-kinds-refused axes kinds.now }
+    ensures { result ≡ some_kinds_refused axes kinds.now }
 {
     let mut i = 0;
     while i < axes {
@@ -114,7 +114,7 @@ pub fn some_kinds_refused(axes: usize, kinds: &[u8]) -> bool
 // Whether the mode of an axis in use is refused by 22.
 pub fn some_modes_refused(axes: usize, modes: &[u8]) -> bool
     requires { (axes ≤ 4) × (length modes.now ≡ 4) }
-    ensures { result ≡ some-modes-refused axes modes.now }
+    ensures { result ≡ some_modes_refused axes modes.now }
 {
     let mut i = 0;
     while i < axes {
@@ -129,7 +129,7 @@ pub fn some_modes_refused(axes: usize, modes: &[u8]) -> bool
 // Entry i of the four with its mode, where the axis is in use.
 fn axis_in_mode(axes: usize, all: [Axis; 4], modes: &[u8], i: usize) -> Axis
     requires { (i < 4) × (i < length modes.now) }
-    ensures { result ≡ axis-in-mode axes all modes.now i }
+    ensures { result ≡ axis_in_mode axes all modes.now i }
 {
     let axis = all[i];
     if i < axes {
@@ -147,7 +147,7 @@ fn axis_in_mode(axes: usize, all: [Axis; 4], modes: &[u8], i: usize) -> Axis
 // The four axes with their modes.
 pub fn axes_in_modes(axes: usize, all: [Axis; 4], modes: &[u8]) -> [Axis; 4]
     requires { length modes.now ≡ 4 }
-    ensures { result ≡ axes-in-modes axes all modes.now }
+    ensures { result ≡ axes_in_modes axes all modes.now }
 {
     [
         axis_in_mode(axes, all, modes, 0),
@@ -193,7 +193,7 @@ pub fn store_axes(found: [Axis; 4], points: &mut [usize], kinds: &mut [u8], valu
 // The mode of one axis goes to its place.
 fn store_mode(axis: Axis, i: usize, modes: &mut [u8])
     requires { (i < 4) × (length modes.old ≡ 4) }
-    ensures { modes.new ≡ set modes.old i (mode-number axis.mode) }
+    ensures { modes.new ≡ set modes.old i (mode_number axis.mode) }
 {
     let mode = axis.mode;
     modes[i] = mode_number(mode);
@@ -202,7 +202,7 @@ fn store_mode(axis: Axis, i: usize, modes: &mut [u8])
 // The modes of the four axes go to their slice.
 pub fn store_modes(found: [Axis; 4], modes: &mut [u8])
     requires { length modes.old ≡ 4 }
-    ensures { modes.new ≡ modes-found found }
+    ensures { modes.new ≡ modes_found found }
 {
     store_mode(found[0], 0, modes);
     store_mode(found[1], 1, modes);

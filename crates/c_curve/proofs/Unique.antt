@@ -7,19 +7,19 @@ use lib.Ieee.{Float}
 use Rattle.rules.proofs.Unique.{same}
 use Rattle.c_curve.specs.CurveExports.{MomentsExport, CurveExport}
 
-pub moments-unique :
-    (n : ℕ) (knots samples : List Float) (kinds : List ℕ) (values moments-lent scratch-lent : List Float)
+pub moments_unique :
+    (n : ℕ) (knots samples : List Float) (kinds : List ℕ) (values moments_lent scratch_lent : List Float)
     (r r' : ℕ) (m m' s s' : List Float)
-    → MomentsExport n knots samples kinds values moments-lent scratch-lent r m s
-    → MomentsExport n knots samples kinds values moments-lent scratch-lent r' m' s'
+    → MomentsExport n knots samples kinds values moments_lent scratch_lent r m s
+    → MomentsExport n knots samples kinds values moments_lent scratch_lent r' m' s'
     → (r ≡ r') × (m ≡ m') × (s ≡ s')
-moments-unique n knots samples kinds values moments-lent scratch-lent r r' m m' s s' p q =
+moments_unique n knots samples kinds values moments_lent scratch_lent r r' m m' s s' p q =
     (same p.answer q.answer, same p.output q.output, same p.scratch q.scratch)
 
-pub curve-unique :
-    (n : ℕ) (knots samples moments-in : List Float) (point : Float) (value_lent : List Float) (r r' : ℕ) (v v' : List Float)
-    → CurveExport n knots samples moments-in point value_lent r v
-    → CurveExport n knots samples moments-in point value_lent r' v'
+pub curve_unique :
+    (n : ℕ) (knots samples moments_in : List Float) (point : Float) (value_lent : List Float) (r r' : ℕ) (v v' : List Float)
+    → CurveExport n knots samples moments_in point value_lent r v
+    → CurveExport n knots samples moments_in point value_lent r' v'
     → (r ≡ r') × (v ≡ v')
-curve-unique n knots samples moments-in point value_lent r r' v v' p q =
+curve_unique n knots samples moments_in point value_lent r r' v v' p q =
     (same p.answer q.answer, same p.slot q.slot)

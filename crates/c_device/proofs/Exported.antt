@@ -20,37 +20,37 @@ module _ {A : Type 0} where
   filled (first ∷ second ∷ rest) a e = let z : ⊥ = omega arith in absurd z
 
 module _ (p0 p1 d0 d1 k : ℤ) (value_lent : List ℤ) where
-  pub cell-refused : (length value_lent ≡ 1 → ⊥) → CellExport p0 p1 d0 d1 k value_lent 4 value_lent
-  cell-refused other = let e = ne_eqb (length value_lent) 1 other in record { answer = rw e; value = rw e }
+  pub cell_refused : (length value_lent ≡ 1 → ⊥) → CellExport p0 p1 d0 d1 k value_lent 4 value_lent
+  cell_refused other = let e = ne_eqb (length value_lent) 1 other in record { answer = rw e; value = rw e }
 
-  pub cell-called : length value_lent ≡ 1 → (a : CellAnswer) → CellPromise p0 p1 d0 d1 k a
+  pub cell_called : length value_lent ≡ 1 → (a : CellAnswer) → CellPromise p0 p1 d0 d1 k a
       → CellExport p0 p1 d0 d1 k value_lent a.refusal (set value_lent 0 a.value)
-  cell-called one a p =
+  cell_called one a p =
       let e = eq-eqb (length value_lent) 1 one in
       record {
         answer = rw e (ap (λ (b : CellAnswer). b.refusal) p.answer);
         value = rw e (filled value_lent a.value one ∙ ap (λ (b : CellAnswer). b.value ∷ []) p.answer);
       }
 
-module _ (curve cursor-lent : List ℕ) (value_lent : List ℤ) where
-  pub cursor-refused : (length cursor-lent ≡ 1 → ⊥) → NextExport curve cursor-lent value_lent 4 cursor-lent value_lent
-  cursor-refused other = let e = ne_eqb (length cursor-lent) 1 other in record { answer = rw e; cursor = rw e; value = rw e }
+module _ (curve cursor_lent : List ℕ) (value_lent : List ℤ) where
+  pub cursor_refused : (length cursor_lent ≡ 1 → ⊥) → NextExport curve cursor_lent value_lent 4 cursor_lent value_lent
+  cursor_refused other = let e = ne_eqb (length cursor_lent) 1 other in record { answer = rw e; cursor = rw e; value = rw e }
 
-  pub value-refused : length cursor-lent ≡ 1 → (length value_lent ≡ 1 → ⊥)
-      → NextExport curve cursor-lent value_lent 4 cursor-lent value_lent
-  value-refused one other =
-      let e = eq-eqb (length cursor-lent) 1 one in
+  pub value_refused : length cursor_lent ≡ 1 → (length value_lent ≡ 1 → ⊥)
+      → NextExport curve cursor_lent value_lent 4 cursor_lent value_lent
+  value_refused one other =
+      let e = eq-eqb (length cursor_lent) 1 one in
       let f = ne_eqb (length value_lent) 1 other in
       record { answer = rw (e, f); cursor = rw (e, f); value = rw (e, f) }
 
-  pub next-called : length cursor-lent ≡ 1 → length value_lent ≡ 1 → (a : NextAnswer)
-      → NextPromise curve (record { n = get_or cursor-lent 0 0 }) a
-      → NextExport curve cursor-lent value_lent a.refusal (set cursor-lent 0 a.cursor.n) (set value_lent 0 a.value)
-  next-called one one-too a p =
-      let e = eq-eqb (length cursor-lent) 1 one in
-      let f = eq-eqb (length value_lent) 1 one-too in
+  pub next_called : length cursor_lent ≡ 1 → length value_lent ≡ 1 → (a : NextAnswer)
+      → NextPromise curve (record { n = get_or cursor_lent 0 0 }) a
+      → NextExport curve cursor_lent value_lent a.refusal (set cursor_lent 0 a.cursor.n) (set value_lent 0 a.value)
+  next_called one one_too a p =
+      let e = eq-eqb (length cursor_lent) 1 one in
+      let f = eq-eqb (length value_lent) 1 one_too in
       record {
         answer = rw (e, f) (ap (λ (b : NextAnswer). b.refusal) p.answer);
-        cursor = rw (e, f) (filled cursor-lent a.cursor.n one ∙ ap (λ (b : NextAnswer). b.cursor.n ∷ []) p.answer);
-        value = rw (e, f) (filled value_lent a.value one-too ∙ ap (λ (b : NextAnswer). b.value ∷ []) p.answer);
+        cursor = rw (e, f) (filled cursor_lent a.cursor.n one ∙ ap (λ (b : NextAnswer). b.cursor.n ∷ []) p.answer);
+        value = rw (e, f) (filled value_lent a.value one_too ∙ ap (λ (b : NextAnswer). b.value ∷ []) p.answer);
       }

@@ -6,10 +6,10 @@ use lib.Ieee.{Float}
 use Rattle.c_query.proofs.Unique.{same_answer}
 use Rattle.c_direct.specs.DirectExports.{DirectQueryExport}
 
-pub direct-query-unique :
-    (axes : ℕ) (points modes : List ℕ) (knots tensor-lent coordinates value_lent : List Float) (labels-lent : List ℕ)
+pub direct_query_unique :
+    (axes : ℕ) (points modes : List ℕ) (knots tensor_lent coordinates value_lent : List Float) (labels_lent : List ℕ)
     (r r' : ℕ) (v v' : List Float) (l l' : List ℕ)
-    → DirectQueryExport axes points modes knots tensor-lent coordinates value_lent labels-lent r v l
-    → DirectQueryExport axes points modes knots tensor-lent coordinates value_lent labels-lent r' v' l'
+    → DirectQueryExport axes points modes knots tensor_lent coordinates value_lent labels_lent r v l
+    → DirectQueryExport axes points modes knots tensor_lent coordinates value_lent labels_lent r' v' l'
     → (r ≡ r') × (v ≡ v') × (l ≡ l')
-direct-query-unique axes points modes knots tensor-lent coordinates value_lent labels-lent = same_answer _ _ value_lent labels-lent
+direct_query_unique axes points modes knots tensor_lent coordinates value_lent labels_lent = same_answer _ _ value_lent labels_lent

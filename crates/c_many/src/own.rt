@@ -1,6 +1,6 @@
 // The host's own refusal of many points.
 ghost use Rattle.std.specs.Prelude.{◌≡◌};
-ghost use Rattle.c_many.specs.ManyExports.{queries-own-refusal};
+ghost use Rattle.c_many.specs.ManyExports.{queries_own_refusal};
 
 use c_axes::some_modes_refused;
 use c_refusals::own::axes_own_sizes;
@@ -19,7 +19,7 @@ pub fn queries_own_refusal(
     labels: &[usize],
     refusals: &[usize],
 ) -> usize
-    ensures { result ≡ queries-own-refusal axes points.now modes.now knots.now tensor.now
+    ensures { result ≡ queries_own_refusal axes points.now modes.now knots.now tensor.now
         coordinates.now values.now labels.now refusals.now }
 {
     let found = axes_own_sizes(axes, points);

@@ -6,10 +6,10 @@ use lib.Ieee.{Float}
 use Rattle.rules.proofs.Unique.{same}
 use Rattle.c_profile.specs.ProfileExports.{EvenProfileExport}
 
-pub even-profile-unique :
-    (axes : ℕ) (points : List ℕ) (knots : List Float) (told-lent : List ℕ) (r r' : ℕ) (t t' : List ℕ)
-    → EvenProfileExport axes points knots told-lent r t
-    → EvenProfileExport axes points knots told-lent r' t'
+pub even_profile_unique :
+    (axes : ℕ) (points : List ℕ) (knots : List Float) (told_lent : List ℕ) (r r' : ℕ) (t t' : List ℕ)
+    → EvenProfileExport axes points knots told_lent r t
+    → EvenProfileExport axes points knots told_lent r' t'
     → (r ≡ r') × (t ≡ t')
-even-profile-unique axes points knots told-lent r r' t t' one other =
-    (same one.answer other.answer, same one.answer-stored other.answer-stored)
+even_profile_unique axes points knots told_lent r r' t t' one other =
+    (same one.answer other.answer, same one.answer_stored other.answer_stored)

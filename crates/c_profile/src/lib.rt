@@ -1,14 +1,14 @@
 // The profile of even axes as `hullashlar` exports it, over numbers and plain slices. It returns its refusal's number, 0 for none: the
 // host's own first, and then the call's.
 ghost use Rattle.std.specs.Prelude.{◌≡◌};
-ghost use Rattle.c_profile.specs.ProfileExports.{in-slot-of-two, even-profile-own-refusal, EvenProfileExport};
+ghost use Rattle.c_profile.specs.ProfileExports.{in_slot_of_two, even_profile_own_refusal, EvenProfileExport};
 
 use c_refusals::own;
 use grid_checks::lengths;
 
 // What the host itself refuses: what its axes meet, and 4 for the slot of what is told and for the knots.
 fn even_profile_own_refusal(axes: usize, points: &[usize], knots: &[f64], told: &[usize]) -> usize
-    ensures { result ≡ even-profile-own-refusal axes points.now knots.now told.now }
+    ensures { result ≡ even_profile_own_refusal axes points.now knots.now told.now }
 {
     let found = own::axes_own_sizes(axes, points);
     if found.refusal != 0 {
@@ -25,7 +25,7 @@ fn even_profile_own_refusal(axes: usize, points: &[usize], knots: &[f64], told: 
 
 // An axis and a place go to their slot, which is left as it was where it is another slice.
 fn store_told(slot: &mut [usize], axis: usize, place: usize)
-    ensures { slot.new ≡ in-slot-of-two slot.old axis place }
+    ensures { slot.new ≡ in_slot_of_two slot.old axis place }
 {
     if slot.len() != 2 {
         return;

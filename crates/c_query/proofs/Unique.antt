@@ -9,41 +9,41 @@ use Rattle.rules.proofs.Unique.{same}
 use Rattle.c_query.specs.QueryExports.{AnswerExport, QueryExport, QuickQueryExport, EvenQueryExport}
 
 pub same_answer :
-    (own : ℕ) (given : QueryAnswer) (value_lent : List Float) (labels-lent : List ℕ) (r r' : ℕ) (v v' : List Float) (l l' : List ℕ)
-    → AnswerExport own given value_lent labels-lent r v l
-    → AnswerExport own given value_lent labels-lent r' v' l'
+    (own : ℕ) (given : QueryAnswer) (value_lent : List Float) (labels_lent : List ℕ) (r r' : ℕ) (v v' : List Float) (l l' : List ℕ)
+    → AnswerExport own given value_lent labels_lent r v l
+    → AnswerExport own given value_lent labels_lent r' v' l'
     → (r ≡ r') × (v ≡ v') × (l ≡ l')
-same_answer own given value_lent labels-lent r r' v v' l l' p q = (
+same_answer own given value_lent labels_lent r r' v v' l l' p q = (
   same p.answer q.answer,
-  same p.answer-stored.slot q.answer-stored.slot,
-  same p.answer-stored.slots q.answer-stored.slots,
+  same p.answer_stored.slot q.answer_stored.slot,
+  same p.answer_stored.slots q.answer_stored.slots,
 )
 
-pub query-unique :
-    (axes : ℕ) (points modes : List ℕ) (knots tensor-lent coordinates value_lent : List Float) (labels-lent : List ℕ)
+pub query_unique :
+    (axes : ℕ) (points modes : List ℕ) (knots tensor_lent coordinates value_lent : List Float) (labels_lent : List ℕ)
     (r r' : ℕ) (v v' : List Float) (l l' : List ℕ)
-    → QueryExport axes points modes knots tensor-lent coordinates value_lent labels-lent r v l
-    → QueryExport axes points modes knots tensor-lent coordinates value_lent labels-lent r' v' l'
+    → QueryExport axes points modes knots tensor_lent coordinates value_lent labels_lent r v l
+    → QueryExport axes points modes knots tensor_lent coordinates value_lent labels_lent r' v' l'
     → (r ≡ r') × (v ≡ v') × (l ≡ l')
-query-unique axes points modes knots tensor-lent coordinates value_lent labels-lent = same_answer _ _ value_lent labels-lent
+query_unique axes points modes knots tensor_lent coordinates value_lent labels_lent = same_answer _ _ value_lent labels_lent
 
-pub quick-query-unique :
-    (axes : ℕ) (points modes : List ℕ) (knots tensor-lent coordinates value_lent : List Float) (labels-lent : List ℕ)
+pub quick_query_unique :
+    (axes : ℕ) (points modes : List ℕ) (knots tensor_lent coordinates value_lent : List Float) (labels_lent : List ℕ)
     (r r' : ℕ) (v v' : List Float) (l l' : List ℕ)
-    → QuickQueryExport axes points modes knots tensor-lent coordinates value_lent labels-lent r v l
-    → QuickQueryExport axes points modes knots tensor-lent coordinates value_lent labels-lent r' v' l'
+    → QuickQueryExport axes points modes knots tensor_lent coordinates value_lent labels_lent r v l
+    → QuickQueryExport axes points modes knots tensor_lent coordinates value_lent labels_lent r' v' l'
     → (r ≡ r') × (v ≡ v') × (l ≡ l')
-quick-query-unique axes points modes knots tensor-lent coordinates value_lent labels-lent = same_answer _ _ value_lent labels-lent
+quick_query_unique axes points modes knots tensor_lent coordinates value_lent labels_lent = same_answer _ _ value_lent labels_lent
 
-pub even-query-unique :
-    (axes : ℕ) (points modes : List ℕ) (knots tensor-lent coordinates value_lent : List Float) (labels-lent uneven-lent : List ℕ)
+pub even_query_unique :
+    (axes : ℕ) (points modes : List ℕ) (knots tensor_lent coordinates value_lent : List Float) (labels_lent uneven_lent : List ℕ)
     (r r' : ℕ) (v v' : List Float) (l l' u u' : List ℕ)
-    → EvenQueryExport axes points modes knots tensor-lent coordinates value_lent labels-lent uneven-lent r v l u
-    → EvenQueryExport axes points modes knots tensor-lent coordinates value_lent labels-lent uneven-lent r' v' l' u'
+    → EvenQueryExport axes points modes knots tensor_lent coordinates value_lent labels_lent uneven_lent r v l u
+    → EvenQueryExport axes points modes knots tensor_lent coordinates value_lent labels_lent uneven_lent r' v' l' u'
     → (r ≡ r') × (v ≡ v') × (l ≡ l') × (u ≡ u')
-even-query-unique axes points modes knots tensor-lent coordinates value_lent labels-lent uneven-lent r r' v v' l l' u u' p q = (
+even_query_unique axes points modes knots tensor_lent coordinates value_lent labels_lent uneven_lent r r' v v' l l' u u' p q = (
   same p.answer q.answer,
-  same p.answer-stored.slot q.answer-stored.slot,
-  same p.answer-stored.slots q.answer-stored.slots,
-  same p.answer-stored.told q.answer-stored.told,
+  same p.answer_stored.slot q.answer_stored.slot,
+  same p.answer_stored.slots q.answer_stored.slots,
+  same p.answer_stored.told q.answer_stored.told,
 )

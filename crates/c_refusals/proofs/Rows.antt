@@ -9,53 +9,53 @@ use lib.Dec.{ltb}
 use lib.ListN.{length, get_or}
 use lib.Ieee.{Float}
 use borrow.Author.Tests.{lt-ltb}
-use Rattle.rules.specs.Ends.{not-a-knot}
-use Rattle.rules.specs.Sizes.{most-axes, unused-axis, place_of, sum_below, product-below, knots-length, samples-length}
+use Rattle.rules.specs.Ends.{not_a_knot}
+use Rattle.rules.specs.Sizes.{most_axes, unused_axis, place_of, sum_below, product_below, knots_length, samples_length}
 use Rattle.rules.specs.Numbers.{any}
-use Rattle.rules.specs.Refusals.{points-refused, length-refused}
+use Rattle.rules.specs.Refusals.{points_refused, length_refused}
 use Rattle.rules.specs.declared.Mode.TheVariants.{Extend}
-use Rattle.rules.proofs.Refused.{any-ext}
-use Rattle.rules.proofs.Sums.{sum-ext, product-ext}
-use Rattle.grid.specs.GridOfCall.{points-of, InRange}
-use Rattle.grid_checks.specs.Check.{points-check}
+use Rattle.rules.proofs.Refused.{any_ext}
+use Rattle.rules.proofs.Sums.{sum_ext, product_ext}
+use Rattle.grid.specs.GridOfCall.{points_of, InRange}
+use Rattle.grid_checks.specs.Check.{points_check}
 use Rattle.grid_checks.specs.SizesFound.{SizesFound}
 use Rattle.grid_checks.specs.Tables.{row, lowest}
 use Rattle.grid_checks.specs.declared.sizes.Sizes.{Sizes}
-use Rattle.grid_checks.proofs.Rows.{stop, pass, none-applies, rows-stop, rows_pass, axes-few, in-range, exact}
-use Rattle.c_axes.specs.Axes.{axis-without-ends, axes-without-ends}
-use Rattle.c_refusals.specs.OwnRefusals.{sizes-given, axes-rows, axes-own-refusal, query-later-rows}
-use Rattle.c_refusals.specs.OwnSizes.{OwnSizes, rows-of-sizes}
+use Rattle.grid_checks.proofs.Rows.{stop, pass, none_applies, rows_stop, rows_pass, axes_few, in_range, exact}
+use Rattle.c_axes.specs.Axes.{axis_without_ends, axes_without_ends}
+use Rattle.c_refusals.specs.OwnRefusals.{sizes_given, axes_rows, axes_own_refusal, query_later_rows}
+use Rattle.c_refusals.specs.OwnSizes.{OwnSizes, rows_of_sizes}
 
-module _ (axes : ℕ) (points : List ℕ) {number : ℕ} (e : number ≡ axes-own-refusal axes points) where
-  pub axes-stop : (later : ℕ) → (number ≡ 0 → ⊥) → number ≡ lowest (axes-rows axes points) later
-  unfolding axes-own-refusal
-  axes-stop = rows-stop (axes-rows axes points) tt e
+module _ (axes : ℕ) (points : List ℕ) {number : ℕ} (e : number ≡ axes_own_refusal axes points) where
+  pub axes_stop : (later : ℕ) → (number ≡ 0 → ⊥) → number ≡ lowest (axes_rows axes points) later
+  unfolding axes_own_refusal
+  axes_stop = rows_stop (axes_rows axes points) tt e
 
-  pub axes-pass : {answer : ℕ} (later : ℕ) → number ≡ 0 → answer ≡ later → answer ≡ lowest (axes-rows axes points) later
-  unfolding axes-own-refusal
-  axes-pass = rows_pass (axes-rows axes points) tt e
+  pub axes_pass : {answer : ℕ} (later : ℕ) → number ≡ 0 → answer ≡ later → answer ≡ lowest (axes_rows axes points) later
+  unfolding axes_own_refusal
+  axes_pass = rows_pass (axes_rows axes points) tt e
 
-  pub points-four : number ≡ 0 → length points ≡ 4
-  unfolding axes-own-refusal
-  points-four z = exact (length points) 4 (none-applies (axes-rows axes points) tt (sym e ∙ z)).1.0
+  pub points_four : number ≡ 0 → length points ≡ 4
+  unfolding axes_own_refusal
+  points_four z = exact (length points) 4 (none_applies (axes_rows axes points) tt (sym e ∙ z)).1.0
 
-  pub points-in-range : number ≡ 0 → InRange axes (points-of (axes-without-ends axes points))
-  unfolding axes-own-refusal
-  points-in-range z =
-      let none = none-applies (axes-rows axes points) tt (sym e ∙ z) in
-      let few = axes-few {axes = axes} none.0 in
-      in-range few.0 few.1 none.1.1.0
+  pub points_in_range : number ≡ 0 → InRange axes (points_of (axes_without_ends axes points))
+  unfolding axes_own_refusal
+  points_in_range z =
+      let none = none_applies (axes_rows axes points) tt (sym e ∙ z) in
+      let few = axes_few {axes = axes} none.0 in
+      in_range few.0 few.1 none.1.1.0
 
 -- ---- the points given are those of the axes in use
 
 module _ (axes : ℕ) (points : List ℕ) where
   -- an entry in use has its points
   in_use : (i : ℕ) → i < axes
-      → (cond (ltb i axes) (record { points = get_or points i 0; condition = not-a-knot; mode = Extend }) unused-axis).points ≡ get_or points i 0
+      → (cond (ltb i axes) (record { points = get_or points i 0; condition = not_a_knot; mode = Extend }) unused_axis).points ≡ get_or points i 0
   in_use i l = rw (lt-ltb i axes l)
 
-  pub given_below : axes ≤ 4 → (i : ℕ) → i < axes → points-of (axes-without-ends axes points) i ≡ place_of points i
-  unfolding axes-without-ends axis-without-ends
+  pub given_below : axes ≤ 4 → (i : ℕ) → i < axes → points_of (axes_without_ends axes points) i ≡ place_of points i
+  unfolding axes_without_ends axis_without_ends
   given_below few zero l = in_use 0 l
   given_below few (suc zero) l = in_use 1 l
   given_below few (suc (suc zero)) l = in_use 2 l
@@ -63,38 +63,38 @@ module _ (axes : ℕ) (points : List ℕ) where
   given_below few (suc (suc (suc (suc i)))) l = absurd (omega arith)
 
   module _ (few : axes ≤ 4) where
-    pub refused-given : any (λ i. points-refused (points-of (axes-without-ends axes points) i)) axes
-        ≡ any (λ i. points-refused (place_of points i)) axes
-    refused-given = any-ext _ _ axes (λ i l. ap points-refused (given_below few i l))
+    pub refused_given : any (λ i. points_refused (points_of (axes_without_ends axes points) i)) axes
+        ≡ any (λ i. points_refused (place_of points i)) axes
+    refused_given = any_ext _ _ axes (λ i l. ap points_refused (given_below few i l))
 
-    pub sum-given : knots-length (sizes-given axes points) ≡ sum_below (place_of points) axes
-    sum-given = sum-ext _ _ axes (given_below few)
+    pub sum_given : knots_length (sizes_given axes points) ≡ sum_below (place_of points) axes
+    sum_given = sum_ext _ _ axes (given_below few)
 
-    pub product-given : samples-length (sizes-given axes points) ≡ product-below (place_of points) axes
-    product-given = product-ext _ _ axes (given_below few)
+    pub product_given : samples_length (sizes_given axes points) ≡ product_below (place_of points) axes
+    product_given = product_ext _ _ axes (given_below few)
 
   -- what is found where the number of axes is refused
-  pub refused-axes : (ltb axes 1 || ltb most-axes axes) ≡ true → OwnSizes axes points (record { refusal = 1; knots = 0; numbers = 0 })
-  unfolding axes-own-refusal
-  refused-axes bad = record { refusal = stop _ refl bad; knots = λ z. absurd (omega arith); numbers = λ z. absurd (omega arith) }
+  pub refused_axes : (ltb axes 1 || ltb most_axes axes) ≡ true → OwnSizes axes points (record { refusal = 1; knots = 0; numbers = 0 })
+  unfolding axes_own_refusal
+  refused_axes bad = record { refusal = stop _ refl bad; knots = λ z. absurd (omega arith); numbers = λ z. absurd (omega arith) }
 
-  module _ (some : (ltb axes 1 || ltb most-axes axes) ≡ false) where
+  module _ (some : (ltb axes 1 || ltb most_axes axes) ≡ false) where
     -- and where the points are not four
-    pub refused-points : length-refused (length points) most-axes ≡ true
+    pub refused_points : length_refused (length points) most_axes ≡ true
         → OwnSizes axes points (record { refusal = 4; knots = 0; numbers = 0 })
-    unfolding axes-own-refusal
-    refused-points bad = record {
+    unfolding axes_own_refusal
+    refused_points bad = record {
       refusal = pass _ refl some (stop _ refl bad);
       knots = λ z. absurd (omega arith);
       numbers = λ z. absurd (omega arith);
     }
 
     -- where they are, the sizes found of them are those of the axes
-    pub sizes-of-four : {r : Sizes} → length-refused (length points) most-axes ≡ false → SizesFound axes (place_of points) r
+    pub sizes_of_four : {r : Sizes} → length_refused (length points) most_axes ≡ false → SizesFound axes (place_of points) r
         → OwnSizes axes points r
-    unfolding points-check axes-own-refusal
-    sizes-of-four four found =
-        let few = (axes-few {axes = axes} some).1 in
+    unfolding points_check axes_own_refusal
+    sizes_of_four four found =
+        let few = (axes_few {axes = axes} some).1 in
         record {
           refusal =
               pass _ refl some
@@ -102,15 +102,15 @@ module _ (axes : ℕ) (points : List ℕ) where
               (found.refusal
               ∙ sym
               (ap₂ (λ (refused : Bool) (product : ℕ). lowest (row 2 refused ∷ row 3 (ltb 4096 (product * 2 ^ axes)) ∷ []) 0)
-              (refused-given few) (product-given few))));
-          knots = λ none. found.knots none ∙ sym (sum-given few);
-          numbers = λ none. found.numbers none ∙ sym (ap (λ (product : ℕ). product * 2 ^ axes) (product-given few));
+              (refused_given few) (product_given few))));
+          knots = λ none. found.knots none ∙ sym (sum_given few);
+          numbers = λ none. found.numbers none ∙ sym (ap (λ (product : ℕ). product * 2 ^ axes) (product_given few));
         }
 
   -- a query's rows by the sizes that were found are its rows by the points
-  pub later-of-sizes :
+  pub later_of_sizes :
       {r : Sizes} → OwnSizes axes points r → r.refusal ≡ 0
       → (modes : List ℕ) (knots tensor coordinates value : List Float) (labels : List ℕ) {number : ℕ}
-      → number ≡ lowest (rows-of-sizes axes r modes knots tensor coordinates value labels) 0
-      → number ≡ lowest (query-later-rows axes points modes knots tensor coordinates value labels) 0
-  later-of-sizes found none modes knots tensor coordinates value labels e = rw (← found.knots none, ← found.numbers none) e
+      → number ≡ lowest (rows_of_sizes axes r modes knots tensor coordinates value labels) 0
+      → number ≡ lowest (query_later_rows axes points modes knots tensor coordinates value labels) 0
+  later_of_sizes found none modes knots tensor coordinates value labels e = rw (← found.knots none, ← found.numbers none) e

@@ -4,196 +4,196 @@
 -- their modes; a call on one axis by 2, 4 and 13; a call that reads a sheet by 4 alone. Each table has the rows of this order down to where
 -- the call's own refusals may follow.
 use Rattle.std.specs.Prelude.{Bool, cond, ◌||◌, List, [], ◌∷◌, ◌++◌, ℕ, length, Float}
-use Rattle.rules.specs.Sizes.{most-axes, Grid, knots-length, samples-length, tensor-length}
-use Rattle.rules.specs.Refusals.{axes-refused, points-refused, some-points-refused, tensor-refused, length-refused}
+use Rattle.rules.specs.Sizes.{most_axes, Grid, knots_length, samples_length, tensor_length}
+use Rattle.rules.specs.Refusals.{axes_refused, points_refused, some_points_refused, tensor_refused, length_refused}
 use Rattle.grid_checks.specs.Tables.{Refusal, row, lowest}
-use Rattle.grid_codes.specs.Kinds.{kinds-refused}
-use Rattle.c_axes.specs.Axes.{two_ends, eight-ends, lower-kind, upper-kind, some-kinds-refused, some-modes-refused, grid-without-ends}
+use Rattle.grid_codes.specs.Kinds.{kinds_refused}
+use Rattle.c_axes.specs.Axes.{two_ends, eight_ends, lower_kind, upper_kind, some_kinds_refused, some_modes_refused, grid_without_ends}
 
 -- ---- the curve's moments
 
 -- 4 for the kinds and the values of two ends
-abbrev pub two-ends-refused : List ℕ → List Float → Bool
-two-ends-refused kinds values = length-refused (length kinds) two_ends || length-refused (length values) two_ends
+abbrev pub two_ends_refused : List ℕ → List Float → Bool
+two_ends_refused kinds values = length_refused (length kinds) two_ends || length_refused (length values) two_ends
 
-module _ (n : ℕ) (knots samples : List Float) (kinds : List ℕ) (values moments-lent : List Float) where
+module _ (n : ℕ) (knots samples : List Float) (kinds : List ℕ) (values moments_lent : List Float) where
   -- 4 for the two ends and for the call's own slices
-  abbrev pub moments-own-rows : List Refusal
-  moments-own-rows =
-      row 2 (points-refused n)
+  abbrev pub moments_own_rows : List Refusal
+  moments_own_rows =
+      row 2 (points_refused n)
       ∷ row 4 (
-      two-ends-refused kinds values
-      || (length-refused (length knots) n || length-refused (length samples) n || length-refused (length moments-lent) n)
+      two_ends_refused kinds values
+      || (length_refused (length knots) n || length_refused (length samples) n || length_refused (length moments_lent) n)
       )
-      ∷ row 13 (kinds-refused (lower-kind kinds 0) (upper-kind kinds 0))
+      ∷ row 13 (kinds_refused (lower_kind kinds 0) (upper_kind kinds 0))
       ∷ []
 
-  unfoldable pub moments-own-refusal : ℕ
-  moments-own-refusal = lowest moments-own-rows 0
+  unfoldable pub moments_own_refusal : ℕ
+  moments_own_refusal = lowest moments_own_rows 0
 
 -- ---- the curve's value
 
 -- 4 for the slot of the value
-abbrev pub curve-own-rows : ℕ → List Float → List Refusal
-curve-own-rows n value = row 2 (points-refused n) ∷ row 4 (length-refused (length value) 1) ∷ []
+abbrev pub curve_own_rows : ℕ → List Float → List Refusal
+curve_own_rows n value = row 2 (points_refused n) ∷ row 4 (length_refused (length value) 1) ∷ []
 
-unfoldable pub curve-own-refusal : ℕ → List Float → ℕ
-curve-own-refusal n value = lowest (curve-own-rows n value) 0
+unfoldable pub curve_own_refusal : ℕ → List Float → ℕ
+curve_own_refusal n value = lowest (curve_own_rows n value) 0
 
 -- ---- the calls with axes
 
 -- the sizes that are given: ends play no part in them
-abbrev pub sizes-given : ℕ → List ℕ → Grid
-sizes-given axes points = grid-without-ends axes points []
+abbrev pub sizes_given : ℕ → List ℕ → Grid
+sizes_given axes points = grid_without_ends axes points []
 
 -- what every one of them meets first
-abbrev pub axes-rows : ℕ → List ℕ → List Refusal
-axes-rows axes points =
-    row 1 (axes-refused (sizes-given axes points))
-    ∷ row 4 (length-refused (length points) most-axes)
-    ∷ row 2 (some-points-refused (sizes-given axes points))
-    ∷ row 3 (tensor-refused (sizes-given axes points))
+abbrev pub axes_rows : ℕ → List ℕ → List Refusal
+axes_rows axes points =
+    row 1 (axes_refused (sizes_given axes points))
+    ∷ row 4 (length_refused (length points) most_axes)
+    ∷ row 2 (some_points_refused (sizes_given axes points))
+    ∷ row 3 (tensor_refused (sizes_given axes points))
     ∷ []
 
-unfoldable pub axes-own-refusal : ℕ → List ℕ → ℕ
-axes-own-refusal axes points = lowest (axes-rows axes points) 0
+unfoldable pub axes_own_refusal : ℕ → List ℕ → ℕ
+axes_own_refusal axes points = lowest (axes_rows axes points) 0
 
 -- 4 for the kinds and the values of the ends of four axes
-abbrev pub eight-ends-refused : List ℕ → List Float → Bool
-eight-ends-refused kinds values = length-refused (length kinds) eight-ends || length-refused (length values) eight-ends
+abbrev pub eight_ends_refused : List ℕ → List Float → Bool
+eight_ends_refused kinds values = length_refused (length kinds) eight_ends || length_refused (length values) eight_ends
 
 -- ---- the build
 
-module _ (axes : ℕ) (points kinds : List ℕ) (values knots samples tensor-lent : List Float) where
+module _ (axes : ℕ) (points kinds : List ℕ) (values knots samples tensor_lent : List Float) where
   -- 4 for the ends and for the call's own slices
-  abbrev pub build-own-rows : List Refusal
-  build-own-rows =
-      axes-rows axes points ++ (
+  abbrev pub build_own_rows : List Refusal
+  build_own_rows =
+      axes_rows axes points ++ (
       row 4 (
-      eight-ends-refused kinds values
+      eight_ends_refused kinds values
       || (
-      length-refused (length knots) (knots-length (sizes-given axes points))
-      || length-refused (length samples) (samples-length (sizes-given axes points))
-      || length-refused (length tensor-lent) (tensor-length (sizes-given axes points))
+      length_refused (length knots) (knots_length (sizes_given axes points))
+      || length_refused (length samples) (samples_length (sizes_given axes points))
+      || length_refused (length tensor_lent) (tensor_length (sizes_given axes points))
       )
       )
-      ∷ row 13 (some-kinds-refused axes kinds)
+      ∷ row 13 (some_kinds_refused axes kinds)
       ∷ []
       )
 
-  unfoldable pub build-own-refusal : ℕ
-  build-own-refusal = lowest build-own-rows 0
+  unfoldable pub build_own_refusal : ℕ
+  build_own_refusal = lowest build_own_rows 0
 
 -- ---- the change
 
 -- 4 for the place and the slot of the count
-abbrev pub place-or-lanes-refused : List ℕ → List ℕ → Bool
-place-or-lanes-refused place lanes = length-refused (length place) most-axes || length-refused (length lanes) 1
+abbrev pub place_or_lanes_refused : List ℕ → List ℕ → Bool
+place_or_lanes_refused place lanes = length_refused (length place) most_axes || length_refused (length lanes) 1
 
-module _ (axes : ℕ) (points kinds : List ℕ) (values knots tensor-lent : List Float) (place lanes-lent : List ℕ) where
+module _ (axes : ℕ) (points kinds : List ℕ) (values knots tensor_lent : List Float) (place lanes_lent : List ℕ) where
   -- 4 for the ends, the place, the slot of the count and for the call's own slices
-  abbrev pub change-own-rows : List Refusal
-  change-own-rows =
-      axes-rows axes points ++ (
+  abbrev pub change_own_rows : List Refusal
+  change_own_rows =
+      axes_rows axes points ++ (
       row 4 (
-      eight-ends-refused kinds values || place-or-lanes-refused place lanes-lent
+      eight_ends_refused kinds values || place_or_lanes_refused place lanes_lent
       || (
-      length-refused (length knots) (knots-length (sizes-given axes points))
-      || length-refused (length tensor-lent) (tensor-length (sizes-given axes points))
+      length_refused (length knots) (knots_length (sizes_given axes points))
+      || length_refused (length tensor_lent) (tensor_length (sizes_given axes points))
       )
       )
-      ∷ row 13 (some-kinds-refused axes kinds)
+      ∷ row 13 (some_kinds_refused axes kinds)
       ∷ []
       )
 
-  unfoldable pub change-own-refusal : ℕ
-  change-own-refusal = lowest change-own-rows 0
+  unfoldable pub change_own_refusal : ℕ
+  change_own_refusal = lowest change_own_rows 0
 
 -- ---- the writer
 
 -- 4 for the modes of four axes, and for a slot of one number
-abbrev pub modes-or-slot-refused : List ℕ → List ℕ → Bool
-modes-or-slot-refused modes slot = length-refused (length modes) most-axes || length-refused (length slot) 1
+abbrev pub modes_or_slot_refused : List ℕ → List ℕ → Bool
+modes_or_slot_refused modes slot = length_refused (length modes) most_axes || length_refused (length slot) 1
 
-module _ (axes : ℕ) (points kinds : List ℕ) (values : List Float) (modes : List ℕ) (knots samples : List Float) (length-lent : List ℕ) where
+module _ (axes : ℕ) (points kinds : List ℕ) (values : List Float) (modes : List ℕ) (knots samples : List Float) (length_lent : List ℕ) where
   -- 4 for the ends, the modes, the slot of the length and for the call's own slices; the modes are judged after the kinds
-  abbrev pub write-own-rows : List Refusal
-  write-own-rows =
-      axes-rows axes points ++ (
+  abbrev pub write_own_rows : List Refusal
+  write_own_rows =
+      axes_rows axes points ++ (
       row 4 (
-      eight-ends-refused kinds values || modes-or-slot-refused modes length-lent
+      eight_ends_refused kinds values || modes_or_slot_refused modes length_lent
       || (
-      length-refused (length knots) (knots-length (sizes-given axes points))
-      || length-refused (length samples) (samples-length (sizes-given axes points))
+      length_refused (length knots) (knots_length (sizes_given axes points))
+      || length_refused (length samples) (samples_length (sizes_given axes points))
       )
       )
-      ∷ row 13 (some-kinds-refused axes kinds)
-      ∷ row 22 (some-modes-refused axes modes)
+      ∷ row 13 (some_kinds_refused axes kinds)
+      ∷ row 22 (some_modes_refused axes modes)
       ∷ []
       )
 
-  unfoldable pub write-own-refusal : ℕ
-  write-own-refusal = lowest write-own-rows 0
+  unfoldable pub write_own_refusal : ℕ
+  write_own_refusal = lowest write_own_rows 0
 
 -- ---- the query
 
 -- 4 for the slots of value and labels
-abbrev pub query-slots-refused : List Float → List ℕ → Bool
-query-slots-refused value labels = length-refused (length value) 1 || length-refused (length labels) most-axes
+abbrev pub query_slots_refused : List Float → List ℕ → Bool
+query_slots_refused value labels = length_refused (length value) 1 || length_refused (length labels) most_axes
 
 -- 4 for the modes of four axes, and for these slots
-abbrev pub modes-or-slots-refused : List ℕ → List Float → List ℕ → Bool
-modes-or-slots-refused modes value labels = length-refused (length modes) most-axes || query-slots-refused value labels
+abbrev pub modes_or_slots_refused : List ℕ → List Float → List ℕ → Bool
+modes_or_slots_refused modes value labels = length_refused (length modes) most_axes || query_slots_refused value labels
 
 module _ (axes : ℕ) (points modes : List ℕ) (knots tensor coordinates value : List Float) (labels : List ℕ) where
   -- what a query meets after its axes: 4 for the modes, the slots and for the call's own slices, and 22
-  abbrev pub query-later-rows : List Refusal
-  query-later-rows =
+  abbrev pub query_later_rows : List Refusal
+  query_later_rows =
       row 4 (
-      modes-or-slots-refused modes value labels
+      modes_or_slots_refused modes value labels
       || (
-      length-refused (length knots) (knots-length (sizes-given axes points))
-      || length-refused (length tensor) (tensor-length (sizes-given axes points))
-      || length-refused (length coordinates) axes
+      length_refused (length knots) (knots_length (sizes_given axes points))
+      || length_refused (length tensor) (tensor_length (sizes_given axes points))
+      || length_refused (length coordinates) axes
       )
       )
-      ∷ row 22 (some-modes-refused axes modes)
+      ∷ row 22 (some_modes_refused axes modes)
       ∷ []
 
-  abbrev pub query-own-rows : List Refusal
-  query-own-rows = axes-rows axes points ++ query-later-rows
+  abbrev pub query_own_rows : List Refusal
+  query_own_rows = axes_rows axes points ++ query_later_rows
 
-  unfoldable pub query-own-refusal : ℕ
-  query-own-refusal = lowest query-own-rows 0
+  unfoldable pub query_own_refusal : ℕ
+  query_own_refusal = lowest query_own_rows 0
 
   -- ---- the query of even axes
 
   -- 4 for its third slot, too, of what is told of an axis that is not even
-  abbrev pub even-query-own-rows : List ℕ → List Refusal
-  even-query-own-rows uneven = axes-rows axes points ++ (row 4 (length-refused (length uneven) 2) ∷ query-later-rows)
+  abbrev pub even_query_own_rows : List ℕ → List Refusal
+  even_query_own_rows uneven = axes_rows axes points ++ (row 4 (length_refused (length uneven) 2) ∷ query_later_rows)
 
-  unfoldable pub even-query-own-refusal : List ℕ → ℕ
-  even-query-own-refusal uneven = lowest (even-query-own-rows uneven) 0
+  unfoldable pub even_query_own_refusal : List ℕ → ℕ
+  even_query_own_refusal uneven = lowest (even_query_own_rows uneven) 0
 
 -- ---- the sheet
 
 -- 4 for the slot of the number of axes, and for the slices of what is found of them
-abbrev pub found-slots-refused : List ℕ → List ℕ → List ℕ → List Float → Bool
-found-slots-refused axes points kinds values =
-    length-refused (length axes) 1 || length-refused (length points) most-axes || eight-ends-refused kinds values
+abbrev pub found_slots_refused : List ℕ → List ℕ → List ℕ → List Float → Bool
+found_slots_refused axes points kinds values =
+    length_refused (length axes) 1 || length_refused (length points) most_axes || eight_ends_refused kinds values
 
 -- the reader of edition 1 finds no more than these
-unfoldable pub read-edition-1-own-refusal : List ℕ → List ℕ → List ℕ → List Float → ℕ
-read-edition-1-own-refusal axes points kinds values = cond (found-slots-refused axes points kinds values) 4 0
+unfoldable pub read_edition_1_own_refusal : List ℕ → List ℕ → List ℕ → List Float → ℕ
+read_edition_1_own_refusal axes points kinds values = cond (found_slots_refused axes points kinds values) 4 0
 
 -- the reader finds modes too, and an edition for its slot
-unfoldable pub read-own-refusal : List ℕ → List ℕ → List ℕ → List Float → List ℕ → List ℕ → ℕ
-read-own-refusal axes points kinds values modes edition =
-    cond (found-slots-refused axes points kinds values || modes-or-slot-refused modes edition) 4 0
+unfoldable pub read_own_refusal : List ℕ → List ℕ → List ℕ → List Float → List ℕ → List ℕ → ℕ
+read_own_refusal axes points kinds values modes edition =
+    cond (found_slots_refused axes points kinds values || modes_or_slot_refused modes edition) 4 0
 
 -- ---- the sheet's tensor
 
 -- 4 for the same slots, and for that of the length
-unfoldable pub sheet-tensor-own-refusal : List ℕ → List ℕ → List ℕ → List Float → List ℕ → List ℕ → List ℕ → ℕ
-sheet-tensor-own-refusal axes points kinds values modes edition length-lent =
-    cond (found-slots-refused axes points kinds values || modes-or-slot-refused modes edition || length-refused (length length-lent) 1) 4 0
+unfoldable pub sheet_tensor_own_refusal : List ℕ → List ℕ → List ℕ → List Float → List ℕ → List ℕ → List ℕ → ℕ
+sheet_tensor_own_refusal axes points kinds values modes edition length_lent =
+    cond (found_slots_refused axes points kinds values || modes_or_slot_refused modes edition || length_refused (length length_lent) 1) 4 0

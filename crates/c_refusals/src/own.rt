@@ -2,30 +2,30 @@
 // slice and slot, 13 for the kinds and 22 for the modes; on one axis 2, 4 and 13; of a sheet that is read 4 alone. Each is 0 where none
 // applies, and then the call's own follow. Steps have theirs in c_step::own, and the device in c_device.
 ghost use Rattle.std.specs.Prelude.{◌≡◌, ◌||◌, ◌≤◌};
-ghost use Rattle.rules.specs.Sizes.{knots-length, samples-length};
-ghost use Rattle.rules.specs.Refusals.{length-refused};
-ghost use Rattle.grid.specs.GridOfCall.{sizes-of, points-of, InRange};
+ghost use Rattle.rules.specs.Sizes.{knots_length, samples_length};
+ghost use Rattle.rules.specs.Refusals.{length_refused};
+ghost use Rattle.grid.specs.GridOfCall.{sizes_of, points_of, InRange};
 ghost use Rattle.c_refusals.specs.OwnRefusals.{
-  two-ends-refused,
-  eight-ends-refused,
-  place-or-lanes-refused,
-  query-slots-refused,
-  modes-or-slots-refused,
-  found-slots-refused,
-  moments-own-refusal,
-  curve-own-refusal,
-  axes-own-refusal,
-  build-own-refusal,
-  change-own-refusal,
-  write-own-refusal,
-  query-own-refusal,
-  modes-or-slot-refused,
-  read-edition-1-own-refusal,
-  read-own-refusal,
-  sheet-tensor-own-refusal,
-  even-query-own-refusal,
+  two_ends_refused,
+  eight_ends_refused,
+  place_or_lanes_refused,
+  query_slots_refused,
+  modes_or_slots_refused,
+  found_slots_refused,
+  moments_own_refusal,
+  curve_own_refusal,
+  axes_own_refusal,
+  build_own_refusal,
+  change_own_refusal,
+  write_own_refusal,
+  query_own_refusal,
+  modes_or_slot_refused,
+  read_edition_1_own_refusal,
+  read_own_refusal,
+  sheet_tensor_own_refusal,
+  even_query_own_refusal,
 };
-ghost use Rattle.c_refusals.specs.OwnSizes.{OwnSizes, rows-of-sizes};
+ghost use Rattle.c_refusals.specs.OwnSizes.{OwnSizes, rows_of_sizes};
 ghost use Rattle.grid_checks.specs.Tables.{lowest};
 
 use c_axes::{axes_without_ends, some_kinds_refused, some_modes_refused};
@@ -36,7 +36,7 @@ use rules::Axis;
 
 // Whether kinds or values are not those of one axis's two ends.
 fn two_ends_refused(kinds: &[u8], values: &[f64]) -> bool
-    ensures { result ≡ two-ends-refused kinds.now values.now }
+    ensures { result ≡ two_ends_refused kinds.now values.now }
 {
     if lengths::length_refused(kinds.len(), 2) {
         return true;
@@ -53,7 +53,7 @@ pub fn moments_own_refusal(
     values: &[f64],
     moments: &[f64],
 ) -> usize
-    ensures { result ≡ moments-own-refusal points knots.now samples.now kinds.now values.now
+    ensures { result ≡ moments_own_refusal points knots.now samples.now kinds.now values.now
         moments.now }
 {
     if sizes::points_refused(points) {
@@ -73,7 +73,7 @@ pub fn moments_own_refusal(
 
 // Of the curve's value: its slot.
 pub fn curve_own_refusal(points: usize, value: &[f64]) -> usize
-    ensures { result ≡ curve-own-refusal points value.now }
+    ensures { result ≡ curve_own_refusal points value.now }
 {
     if sizes::points_refused(points) {
         return 2;
@@ -108,7 +108,7 @@ pub fn axes_own_sizes(axes: usize, points: &[usize]) -> Sizes
 
 // The same number alone.
 pub fn axes_own_refusal(axes: usize, points: &[usize]) -> usize
-    ensures { result ≡ axes-own-refusal axes points.now }
+    ensures { result ≡ axes_own_refusal axes points.now }
 {
     let found = axes_own_sizes(axes, points);
     found.refusal
@@ -116,7 +116,7 @@ pub fn axes_own_refusal(axes: usize, points: &[usize]) -> usize
 
 // Whether kinds or values are not those of the eight ends of four axes.
 fn eight_ends_refused(kinds: &[u8], values: &[f64]) -> bool
-    ensures { result ≡ eight-ends-refused kinds.now values.now }
+    ensures { result ≡ eight_ends_refused kinds.now values.now }
 {
     if lengths::length_refused(kinds.len(), 8) {
         return true;
@@ -134,7 +134,7 @@ pub fn build_own_refusal(
     samples: &[f64],
     tensor: &[f64],
 ) -> usize
-    ensures { result ≡ build-own-refusal axes points.now kinds.now values.now knots.now
+    ensures { result ≡ build_own_refusal axes points.now kinds.now values.now knots.now
         samples.now tensor.now }
 {
     let refusal = axes_own_refusal(axes, points);
@@ -156,7 +156,7 @@ pub fn build_own_refusal(
 
 // Whether the place or the slot of the count of a change is of another length.
 fn place_or_lanes_refused(place: &[usize], lanes: &[usize]) -> bool
-    ensures { result ≡ place-or-lanes-refused place.now lanes.now }
+    ensures { result ≡ place_or_lanes_refused place.now lanes.now }
 {
     if lengths::length_refused(place.len(), 4) {
         return true;
@@ -175,7 +175,7 @@ pub fn change_own_refusal(
     place: &[usize],
     lanes: &[usize],
 ) -> usize
-    ensures { result ≡ change-own-refusal axes points.now kinds.now values.now knots.now
+    ensures { result ≡ change_own_refusal axes points.now kinds.now values.now knots.now
         tensor.now place.now lanes.now }
 {
     let refusal = axes_own_refusal(axes, points);
@@ -201,15 +201,15 @@ pub fn change_own_refusal(
 // Whether knots or samples are not as many as the axes say: the build's test, told of a tensor that has its length. Not a public call: what
 // refusals 1 and 2 leave is required.
 fn parts_refused(axes: usize, all: [Axis; 4], knots: usize, samples: usize) -> bool
-    requires { InRange axes (points-of all) }
-    ensures { result ≡ (length-refused knots (knots-length (sizes-of axes all)) || length-refused samples (samples-length (sizes-of axes all))) }
+    requires { InRange axes (points_of all) }
+    ensures { result ≡ (length_refused knots (knots_length (sizes_of axes all)) || length_refused samples (samples_length (sizes_of axes all))) }
 {
     lengths::build_refused(axes, all, knots, samples, grid::tensor_length(axes, all))
 }
 
 // Whether modes are not those of four axes, or a slot is not one number.
 fn modes_or_slot_refused(modes: &[u8], slot: &[usize]) -> bool
-    ensures { result ≡ modes-or-slot-refused modes.now slot.now }
+    ensures { result ≡ modes_or_slot_refused modes.now slot.now }
 {
     if lengths::length_refused(modes.len(), 4) {
         return true;
@@ -228,7 +228,7 @@ pub fn write_own_refusal(
     samples: &[f64],
     length: &[usize],
 ) -> usize
-    ensures { result ≡ write-own-refusal axes points.now kinds.now values.now modes.now
+    ensures { result ≡ write_own_refusal axes points.now kinds.now values.now modes.now
         knots.now samples.now length.now }
 {
     let refusal = axes_own_refusal(axes, points);
@@ -256,7 +256,7 @@ pub fn write_own_refusal(
 
 // Whether a slot of a query's answer is of another length.
 pub fn query_slots_refused(value: &[f64], labels: &[usize]) -> bool
-    ensures { result ≡ query-slots-refused value.now labels.now }
+    ensures { result ≡ query_slots_refused value.now labels.now }
 {
     if lengths::length_refused(value.len(), 1) {
         return true;
@@ -266,7 +266,7 @@ pub fn query_slots_refused(value: &[f64], labels: &[usize]) -> bool
 
 // Whether the modes are not those of four axes, or a slot of a query's answer is of another length.
 fn modes_or_slots_refused(modes: &[u8], value: &[f64], labels: &[usize]) -> bool
-    ensures { result ≡ modes-or-slots-refused modes.now value.now labels.now }
+    ensures { result ≡ modes_or_slots_refused modes.now value.now labels.now }
 {
     if lengths::length_refused(modes.len(), 4) {
         return true;
@@ -288,7 +288,7 @@ fn query_later_refusal(
 ) -> usize
     requires { axes ≤ 4 }
     ensures { result ≡ lowest
-        (rows-of-sizes axes sizes modes.now knots.now tensor.now coordinates.now
+        (rows_of_sizes axes sizes modes.now knots.now tensor.now coordinates.now
         value.now labels.now)
         0 }
 {
@@ -315,7 +315,7 @@ pub fn query_own_refusal(
     value: &[f64],
     labels: &[usize],
 ) -> usize
-    ensures { result ≡ query-own-refusal axes points.now modes.now knots.now tensor.now
+    ensures { result ≡ query_own_refusal axes points.now modes.now knots.now tensor.now
         coordinates.now value.now labels.now }
 {
     let found = axes_own_sizes(axes, points);
@@ -346,7 +346,7 @@ pub fn even_query_own_refusal(
     labels: &[usize],
     uneven: &[usize],
 ) -> usize
-    ensures { result ≡ even-query-own-refusal axes points.now modes.now knots.now tensor.now
+    ensures { result ≡ even_query_own_refusal axes points.now modes.now knots.now tensor.now
         coordinates.now value.now labels.now uneven.now }
 {
     let found = axes_own_sizes(axes, points);
@@ -370,7 +370,7 @@ pub fn even_query_own_refusal(
 
 // Whether the slot of the number of a sheet's axes, or a slice of what is found of them, is of another length.
 fn found_slots_refused(axes: &[usize], points: &[usize], kinds: &[u8], values: &[f64]) -> bool
-    ensures { result ≡ found-slots-refused axes.now points.now kinds.now values.now }
+    ensures { result ≡ found_slots_refused axes.now points.now kinds.now values.now }
 {
     if lengths::length_refused(axes.len(), 1) {
         return true;
@@ -388,7 +388,7 @@ pub fn read_edition_1_own_refusal(
     kinds: &[u8],
     values: &[f64],
 ) -> usize
-    ensures { result ≡ read-edition-1-own-refusal axes.now points.now kinds.now values.now }
+    ensures { result ≡ read_edition_1_own_refusal axes.now points.now kinds.now values.now }
 {
     if found_slots_refused(axes, points, kinds, values) {
         return 4;
@@ -405,7 +405,7 @@ pub fn read_own_refusal(
     modes: &[u8],
     edition: &[usize],
 ) -> usize
-    ensures { result ≡ read-own-refusal axes.now points.now kinds.now values.now modes.now
+    ensures { result ≡ read_own_refusal axes.now points.now kinds.now values.now modes.now
         edition.now }
 {
     if found_slots_refused(axes, points, kinds, values) {
@@ -427,7 +427,7 @@ pub fn sheet_tensor_own_refusal(
     edition: &[usize],
     length: &[usize],
 ) -> usize
-    ensures { result ≡ sheet-tensor-own-refusal axes.now points.now kinds.now values.now
+    ensures { result ≡ sheet_tensor_own_refusal axes.now points.now kinds.now values.now
         modes.now edition.now length.now }
 {
     if found_slots_refused(axes, points, kinds, values) {

@@ -1,12 +1,12 @@
 // The slots of an answer: written where all of them have their lengths, and else left as they were.
 ghost use Rattle.std.specs.Prelude.{◌≡◌, length};
-ghost use Rattle.c_refusals.specs.Slots.{in-slot, QueryStored, EvenStored};
+ghost use Rattle.c_refusals.specs.Slots.{in_slot, QueryStored, EvenStored};
 
 use crate::own;
 
 // A value goes to its slot.
 pub fn store_value(slot: &mut [f64], value: f64)
-    ensures { slot.new ≡ in-slot slot.old value }
+    ensures { slot.new ≡ in_slot slot.old value }
 {
     if slot.len() != 1 {
         return;
@@ -16,7 +16,7 @@ pub fn store_value(slot: &mut [f64], value: f64)
 
 // A count goes to its slot.
 pub fn store_count(slot: &mut [usize], count: usize)
-    ensures { slot.new ≡ in-slot slot.old count }
+    ensures { slot.new ≡ in_slot slot.old count }
 {
     if slot.len() != 1 {
         return;

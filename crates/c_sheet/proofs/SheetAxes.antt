@@ -7,90 +7,90 @@ use Prim.Native.Nat.{ℕ, zero, suc, ◌<◌, ◌≤◌}
 use native.Mathlib.Omega.{arith}
 use lib.ListN.{length, get_or}
 use lib.Ieee.{Float}
-use Rattle.rules.specs.Sizes.{unused-axis}
+use Rattle.rules.specs.Sizes.{unused_axis}
 use Rattle.rules.specs.Outside.{ButForModes}
 use Rattle.rules.specs.declared.End.TheVariants.{NotAKnot, FirstDerivative, SecondDerivative}
 use Rattle.rules.specs.declared.Axis.{Axis}
 use Rattle.rules.specs.declared.Condition.{Condition}
 use Rattle.rules.specs.declared.Condition.TheVariants.{Endpoints, Periodic}
-use Rattle.base_numbers.proofs.Scan.{any-never}
-use Rattle.grid_codes.specs.Kinds.{periodic-at-one-end, kinds-refused, lower-kind-of, upper-kind-of}
-use Rattle.grid_codes.specs.Modes.{unknown-mode}
-use Rattle.grid_codes.proofs.Told.{mode-known}
-use Rattle.sheet_read.specs.Fields.{axis-at, axis-begin, entries}
+use Rattle.base_numbers.proofs.Scan.{any_never}
+use Rattle.grid_codes.specs.Kinds.{periodic_at_one_end, kinds_refused, lower_kind_of, upper_kind_of}
+use Rattle.grid_codes.specs.Modes.{unknown_mode}
+use Rattle.grid_codes.proofs.Told.{mode_known}
+use Rattle.sheet_read.specs.Fields.{axis_at, axis_begin, entries}
 use Rattle.c_axes.specs.Axes.{
-  lower-kind,
-  upper-kind,
-  some-kinds-refused,
-  some-modes-refused,
-  axes-given,
-  axes-in-modes,
-  points-found,
-  kinds-found,
-  values-found,
-  modes-found,
+  lower_kind,
+  upper_kind,
+  some_kinds_refused,
+  some_modes_refused,
+  axes_given,
+  axes_in_modes,
+  points_found,
+  kinds_found,
+  values_found,
+  modes_found,
 }
-use Rattle.c_axes.proofs.Found.{axes-in-modes-again, axes-again}
+use Rattle.c_axes.proofs.Found.{axes_in_modes_again, axes_again}
 use Rattle.c_tensor.proofs.Accepted.{Fine}
 
-pub sheet-axes-again :
+pub sheet_axes_again :
     (bytes : List ℕ) (n : ℕ) (x : List Float)
-    → ButForModes (record { axes = n; entries = entries bytes n; flat-knots = x })
-    (axes-given n (points-found (entries bytes n)) (kinds-found (entries bytes n)) (values-found (entries bytes n)))
+    → ButForModes (record { axes = n; entries = entries bytes n; flat_knots = x })
+    (axes_given n (points_found (entries bytes n)) (kinds_found (entries bytes n)) (values_found (entries bytes n)))
 unfolding entries
-sheet-axes-again bytes n x = axes-again (λ i. axis-at bytes (axis-begin bytes i)) n x
+sheet_axes_again bytes n x = axes_again (λ i. axis_at bytes (axis_begin bytes i)) n x
 
-pub sheet-axes-in-modes-again :
+pub sheet_axes_in_modes_again :
     (bytes : List ℕ) (n : ℕ)
     → let found : List Axis = entries bytes n in
-    axes-in-modes n (axes-given n (points-found found) (kinds-found found) (values-found found)) (modes-found found) ≡ found
+    axes_in_modes n (axes_given n (points_found found) (kinds_found found) (values_found found)) (modes_found found) ≡ found
 unfolding entries
-sheet-axes-in-modes-again bytes n = axes-in-modes-again (λ i. axis-at bytes (axis-begin bytes i)) n
+sheet_axes_in_modes_again bytes n = axes_in_modes_again (λ i. axis_at bytes (axis_begin bytes i)) n
 
 -- the kinds of a condition are never refused
-told-stands : (c : Condition) → kinds-refused (lower-kind-of c) (upper-kind-of c) ≡ false
-unfolding kinds-refused periodic-at-one-end
-told-stands (Endpoints NotAKnot NotAKnot) = refl
-told-stands (Endpoints NotAKnot (FirstDerivative upper)) = refl
-told-stands (Endpoints NotAKnot (SecondDerivative upper)) = refl
-told-stands (Endpoints (FirstDerivative lower) NotAKnot) = refl
-told-stands (Endpoints (FirstDerivative lower) (FirstDerivative upper)) = refl
-told-stands (Endpoints (FirstDerivative lower) (SecondDerivative upper)) = refl
-told-stands (Endpoints (SecondDerivative lower) NotAKnot) = refl
-told-stands (Endpoints (SecondDerivative lower) (FirstDerivative upper)) = refl
-told-stands (Endpoints (SecondDerivative lower) (SecondDerivative upper)) = refl
-told-stands Periodic = refl
+told_stands : (c : Condition) → kinds_refused (lower_kind_of c) (upper_kind_of c) ≡ false
+unfolding kinds_refused periodic_at_one_end
+told_stands (Endpoints NotAKnot NotAKnot) = refl
+told_stands (Endpoints NotAKnot (FirstDerivative upper)) = refl
+told_stands (Endpoints NotAKnot (SecondDerivative upper)) = refl
+told_stands (Endpoints (FirstDerivative lower) NotAKnot) = refl
+told_stands (Endpoints (FirstDerivative lower) (FirstDerivative upper)) = refl
+told_stands (Endpoints (FirstDerivative lower) (SecondDerivative upper)) = refl
+told_stands (Endpoints (SecondDerivative lower) NotAKnot) = refl
+told_stands (Endpoints (SecondDerivative lower) (FirstDerivative upper)) = refl
+told_stands (Endpoints (SecondDerivative lower) (SecondDerivative upper)) = refl
+told_stands Periodic = refl
 
-pub sheet-axes-fine :
+pub sheet_axes_fine :
     (bytes : List ℕ) (n : ℕ) → n ≤ 4
-    → Fine n (points-found (entries bytes n)) (kinds-found (entries bytes n)) (values-found (entries bytes n))
-unfolding entries some-kinds-refused
-sheet-axes-fine bytes n few = record {
-  points-four = refl;
-  kinds-eight = refl;
-  values-eight = refl;
-  kinds-stand =
-      any-never (λ i. kinds-refused (lower-kind (kinds-found (entries bytes n)) i) (upper-kind (kinds-found (entries bytes n)) i)) n each;
+    → Fine n (points_found (entries bytes n)) (kinds_found (entries bytes n)) (values_found (entries bytes n))
+unfolding entries some_kinds_refused
+sheet_axes_fine bytes n few = record {
+  points_four = refl;
+  kinds_eight = refl;
+  values_eight = refl;
+  kinds_stand =
+      any_never (λ i. kinds_refused (lower_kind (kinds_found (entries bytes n)) i) (upper_kind (kinds_found (entries bytes n)) i)) n each;
 }
   where
     each : (i : ℕ) → i < n
-        → kinds-refused (lower-kind (kinds-found (entries bytes n)) i) (upper-kind (kinds-found (entries bytes n)) i) ≡ false
-    each zero l = told-stands (get_or (entries bytes n) 0 unused-axis).condition
-    each (suc zero) l = told-stands (get_or (entries bytes n) 1 unused-axis).condition
-    each (suc (suc zero)) l = told-stands (get_or (entries bytes n) 2 unused-axis).condition
-    each (suc (suc (suc zero))) l = told-stands (get_or (entries bytes n) 3 unused-axis).condition
+        → kinds_refused (lower_kind (kinds_found (entries bytes n)) i) (upper_kind (kinds_found (entries bytes n)) i) ≡ false
+    each zero l = told_stands (get_or (entries bytes n) 0 unused_axis).condition
+    each (suc zero) l = told_stands (get_or (entries bytes n) 1 unused_axis).condition
+    each (suc (suc zero)) l = told_stands (get_or (entries bytes n) 2 unused_axis).condition
+    each (suc (suc (suc zero))) l = told_stands (get_or (entries bytes n) 3 unused_axis).condition
     each (suc (suc (suc (suc i)))) l = absurd (omega arith)
 
 -- nor are their modes
-pub sheet-modes-fine :
+pub sheet_modes_fine :
     (bytes : List ℕ) (n : ℕ) → n ≤ 4
-    → (length (modes-found (entries bytes n)) ≡ 4) × (some-modes-refused n (modes-found (entries bytes n)) ≡ false)
-unfolding entries some-modes-refused
-sheet-modes-fine bytes n few = (refl, any-never (λ i. unknown-mode (get_or (modes-found (entries bytes n)) i 0)) n each)
+    → (length (modes_found (entries bytes n)) ≡ 4) × (some_modes_refused n (modes_found (entries bytes n)) ≡ false)
+unfolding entries some_modes_refused
+sheet_modes_fine bytes n few = (refl, any_never (λ i. unknown_mode (get_or (modes_found (entries bytes n)) i 0)) n each)
   where
-    each : (i : ℕ) → i < n → unknown-mode (get_or (modes-found (entries bytes n)) i 0) ≡ false
-    each zero l = mode-known (get_or (entries bytes n) 0 unused-axis).mode
-    each (suc zero) l = mode-known (get_or (entries bytes n) 1 unused-axis).mode
-    each (suc (suc zero)) l = mode-known (get_or (entries bytes n) 2 unused-axis).mode
-    each (suc (suc (suc zero))) l = mode-known (get_or (entries bytes n) 3 unused-axis).mode
+    each : (i : ℕ) → i < n → unknown_mode (get_or (modes_found (entries bytes n)) i 0) ≡ false
+    each zero l = mode_known (get_or (entries bytes n) 0 unused_axis).mode
+    each (suc zero) l = mode_known (get_or (entries bytes n) 1 unused_axis).mode
+    each (suc (suc zero)) l = mode_known (get_or (entries bytes n) 2 unused_axis).mode
+    each (suc (suc (suc zero))) l = mode_known (get_or (entries bytes n) 3 unused_axis).mode
     each (suc (suc (suc (suc i)))) l = absurd (omega arith)

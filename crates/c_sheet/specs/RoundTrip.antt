@@ -7,15 +7,15 @@
 use Rattle.std.specs.Prelude.{◌≡◌, cond, List, [], ◌∷◌, ℕ, ◌/◌, ◌≤◌, T, ltb, length, get_or, take, Float}
 use Rattle.std.specs.Float.{binary64}
 use Rattle.std.specs.Float.Ieee.{fits}
-use Rattle.rules.specs.Numbers.{plus-zero, at, table}
-use Rattle.rules.specs.Sizes.{most-axes, Grid, knots-length, samples-length}
+use Rattle.rules.specs.Numbers.{plus_zero, at, table}
+use Rattle.rules.specs.Sizes.{most_axes, Grid, knots_length, samples_length}
 use Rattle.base_bits.proofs.Writes.{Bytes}
 use Rattle.grid_codes.specs.Ranges.{among}
-use Rattle.sheet_read.specs.Read.{buffer-length, over}
-use Rattle.sheet_write.specs.Write.{no-sheet-refusal}
-use Rattle.c_axes.specs.Axes.{eight-ends}
-use Rattle.c_refusals.specs.OwnRefusals.{sizes-given}
-use Rattle.c_sheet.specs.SheetExports.{ReadExport, WriteExport, grid-with-modes}
+use Rattle.sheet_read.specs.Read.{buffer_length, over}
+use Rattle.sheet_write.specs.Write.{no_sheet_refusal}
+use Rattle.c_axes.specs.Axes.{eight_ends}
+use Rattle.c_refusals.specs.OwnRefusals.{sizes_given}
+use Rattle.c_sheet.specs.SheetExports.{ReadExport, WriteExport, grid_with_modes}
 
 -- ---- what the statements speak of
 
@@ -38,14 +38,14 @@ ReadTo bytes lent refusal later =
 
 -- slices of the lengths that it asks for
 pub record Lengths (lent : Slices) : Type 0 where
-  pub knots-long : length lent.knots ≡ buffer-length
-  pub samples-long : length lent.samples ≡ buffer-length
-  pub one-axes : length lent.axes ≡ 1
-  pub four-points : length lent.points ≡ most-axes
-  pub eight-kinds : length lent.kinds ≡ eight-ends
-  pub eight-values : length lent.values ≡ eight-ends
-  pub four-modes : length lent.modes ≡ most-axes
-  pub one-edition : length lent.edition ≡ 1
+  pub knots_long : length lent.knots ≡ buffer_length
+  pub samples_long : length lent.samples ≡ buffer_length
+  pub one_axes : length lent.axes ≡ 1
+  pub four_points : length lent.points ≡ most_axes
+  pub eight-kinds : length lent.kinds ≡ eight_ends
+  pub eight_values : length lent.values ≡ eight_ends
+  pub four_modes : length lent.modes ≡ most_axes
+  pub one_edition : length lent.edition ≡ 1
 
 -- the parts of a sheet that `hullashlar_write` is given
 pub record Parts : Type 0 where
@@ -64,38 +64,38 @@ WriteFrom parts =
     WriteExport parts.axes parts.points parts.kinds parts.values parts.modes parts.knots parts.samples parts.edition
 
 -- the grid that the parts make, and what the build's checks refuse of it and its samples
-abbrev pub grid-of : Parts → Grid
-grid-of parts = grid-with-modes parts.axes parts.points parts.kinds parts.values parts.modes parts.knots
+abbrev pub grid_of : Parts → Grid
+grid_of parts = grid_with_modes parts.axes parts.points parts.kinds parts.values parts.modes parts.knots
 
-abbrev pub parts-refusal : Parts → ℕ
-parts-refusal parts = no-sheet-refusal (grid-of parts) parts.samples
+abbrev pub parts_refusal : Parts → ℕ
+parts_refusal parts = no_sheet_refusal (grid_of parts) parts.samples
 
 -- binary64 holds each number of them, as it does all that a call is given
 pub record NumbersHeld (parts : Parts) : Type 0 where
-  pub values-held : (k : ℕ) → T (fits binary64 (at parts.values k))
-  pub knots-held : (k : ℕ) → T (fits binary64 (at parts.knots k))
-  pub samples-held : (k : ℕ) → T (fits binary64 (at parts.samples k))
+  pub values_held : (k : ℕ) → T (fits binary64 (at parts.values k))
+  pub knots_held : (k : ℕ) → T (fits binary64 (at parts.knots k))
+  pub samples_held : (k : ℕ) → T (fits binary64 (at parts.samples k))
 
 -- the number in a slot of one
 abbrev pub in_place : List ℕ → ℕ
 in_place slot = get_or slot 0 0
 
 -- the parts that a read handed over: knots and samples are the first in their buffers, as many as the points say
-abbrev pub parts-of : Slices → Parts
-parts-of read = record {
+abbrev pub parts_of : Slices → Parts
+parts_of read = record {
   axes = in_place read.axes;
   points = read.points;
   kinds = read.kinds;
   values = read.values;
   modes = read.modes;
-  knots = take (knots-length (sizes-given (in_place read.axes) read.points)) read.knots;
-  samples = take (samples-length (sizes-given (in_place read.axes) read.points)) read.samples;
+  knots = take (knots_length (sizes_given (in_place read.axes) read.points)) read.knots;
+  samples = take (samples_length (sizes_given (in_place read.axes) read.points)) read.samples;
   edition = in_place read.edition;
 }
 
 -- the value of an end: +0.0 where its kind has none
-abbrev pub value-told : ℕ → Float → Float
-value-told kind value = cond (among 1 2 kind) value plus-zero
+abbrev pub value_told : ℕ → Float → Float
+value_told kind value = cond (among 1 2 kind) value plus_zero
 
 -- the slices with these parts in them: of axes not in use all is 0
 abbrev pub filled : Parts → Slices → Slices
@@ -103,10 +103,10 @@ filled parts lent = record {
   knots = over parts.knots lent.knots;
   samples = over parts.samples lent.samples;
   axes = parts.axes ∷ [];
-  points = table most-axes (λ i. cond (ltb i parts.axes) (get_or parts.points i 0) 0);
-  kinds = table eight-ends (λ j. cond (ltb (j / 2) parts.axes) (get_or parts.kinds j 0) 0);
-  values = table eight-ends (λ j. cond (ltb (j / 2) parts.axes) (value-told (get_or parts.kinds j 0) (at parts.values j)) plus-zero);
-  modes = table most-axes (λ i. cond (ltb i parts.axes) (get_or parts.modes i 0) 0);
+  points = table most_axes (λ i. cond (ltb i parts.axes) (get_or parts.points i 0) 0);
+  kinds = table eight_ends (λ j. cond (ltb (j / 2) parts.axes) (get_or parts.kinds j 0) 0);
+  values = table eight_ends (λ j. cond (ltb (j / 2) parts.axes) (value_told (get_or parts.kinds j 0) (at parts.values j)) plus_zero);
+  modes = table most_axes (λ i. cond (ltb i parts.axes) (get_or parts.modes i 0) 0);
   edition = parts.edition ∷ [];
 }
 
@@ -118,8 +118,8 @@ OneSheet =
     (bytes other : List ℕ) → Bytes bytes → Bytes other
     → (lent read : Slices) → ReadTo bytes lent 0 read
     → (lent' read' : Slices) → ReadTo other lent' 0 read'
-    → parts-of read ≡ parts-of read'
-    → parts-refusal (parts-of read) ≡ 0
+    → parts_of read ≡ parts_of read'
+    → parts_refusal (parts_of read) ≡ 0
     → bytes ≡ other
 
 -- 2: the bytes that were left, as many as the slot says, are not refused where the slices have their lengths
@@ -136,7 +136,7 @@ abbrev pub WrittenBack : Type 0
 WrittenBack =
     (bytes : List ℕ) → Bytes bytes
     → (lent read : Slices) → ReadTo bytes lent 0 read
-    → parts-refusal (parts-of read) ≡ 0
+    → parts_refusal (parts_of read) ≡ 0
     → (buffer slot : List ℕ) → length bytes ≤ length buffer → length slot ≡ 1
-    → (refusal : ℕ) (b l : List ℕ) → WriteFrom (parts-of read) buffer slot refusal b l
+    → (refusal : ℕ) (b l : List ℕ) → WriteFrom (parts_of read) buffer slot refusal b l
     → (refusal ≡ 0) × (b ≡ over bytes buffer) × (l ≡ length bytes ∷ [])

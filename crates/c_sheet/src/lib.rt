@@ -1,7 +1,7 @@
 // The calls of sheets as `hullashlar` exports them, over numbers and plain slices. Each returns its refusal's number, 0 for none, in the
 // order that c_refusals::own says.
 ghost use Rattle.std.specs.Prelude.{◌≡◌, [], ◌∷◌, length};
-ghost use Rattle.c_axes.specs.Axes.{modes-found};
+ghost use Rattle.c_axes.specs.Axes.{modes_found};
 ghost use Rattle.c_sheet.specs.SheetExports.{ReadExport, ReadEdition1Export, SheetTensorExport, WriteExport};
 
 use c_refusals::{own, slots};
@@ -10,7 +10,7 @@ use rules::Axis;
 // The modes of axes that were found, and the edition in its slot. Not a public call: that they have their lengths is required.
 fn store_told(said: usize, found: [Axis; 4], modes: &mut [u8], edition: &mut [usize])
     requires { (length modes.old ≡ 4) × (length edition.old ≡ 1) }
-    ensures { (modes.new ≡ modes-found found) × (edition.new ≡ said ∷ []) }
+    ensures { (modes.new ≡ modes_found found) × (edition.new ≡ said ∷ []) }
 {
     edition[0] = said;
     c_axes::store_modes(found, modes);

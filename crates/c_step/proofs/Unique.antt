@@ -6,40 +6,40 @@ use lib.Ieee.{Float}
 use Rattle.rules.proofs.Unique.{same}
 use Rattle.c_step.specs.StepExports.{ExactExport, AxisExport, StepExport, SteppedExport}
 
-pub exact-unique :
-    (n : ℕ) (knots : List Float) (lower : ℕ) (point : Float) (found-lent : List ℕ) (r r' : ℕ) (f f' : List ℕ)
-    → ExactExport n knots lower point found-lent r f
-    → ExactExport n knots lower point found-lent r' f'
+pub exact_unique :
+    (n : ℕ) (knots : List Float) (lower : ℕ) (point : Float) (found_lent : List ℕ) (r r' : ℕ) (f f' : List ℕ)
+    → ExactExport n knots lower point found_lent r f
+    → ExactExport n knots lower point found_lent r' f'
     → (r ≡ r') × (f ≡ f')
-exact-unique n knots lower point found-lent r r' f f' p q = (same p.answer q.answer, same p.slot q.slot)
+exact_unique n knots lower point found_lent r r' f f' p q = (same p.answer q.answer, same p.slot q.slot)
 
-pub axis-unique :
-    (n : ℕ) (knots : List Float) (point : Float) (location-lent : List ℕ) (fraction-lent : List Float) (r r' : ℕ) (l l' : List ℕ)
+pub axis_unique :
+    (n : ℕ) (knots : List Float) (point : Float) (location_lent : List ℕ) (fraction_lent : List Float) (r r' : ℕ) (l l' : List ℕ)
     (f f' : List Float)
-    → AxisExport n knots point location-lent fraction-lent r l f
-    → AxisExport n knots point location-lent fraction-lent r' l' f'
+    → AxisExport n knots point location_lent fraction_lent r l f
+    → AxisExport n knots point location_lent fraction_lent r' l' f'
     → (r ≡ r') × (l ≡ l') × (f ≡ f')
-axis-unique n knots point location-lent fraction-lent r r' l l' f f' p q = (
+axis_unique n knots point location_lent fraction_lent r r' l l' f f' p q = (
   same p.answer q.answer,
-  same p.answer-stored.numbers q.answer-stored.numbers,
-  same p.answer-stored.fraction q.answer-stored.fraction,
+  same p.answer_stored.numbers q.answer_stored.numbers,
+  same p.answer_stored.fraction q.answer_stored.fraction,
 )
 
-pub step-unique :
-    (n : ℕ) (knots : List Float) (number : ℕ) (point : Float) (index-lent : List ℕ) (r r' : ℕ) (i i' : List ℕ)
-    → StepExport n knots number point index-lent r i
-    → StepExport n knots number point index-lent r' i'
+pub step_unique :
+    (n : ℕ) (knots : List Float) (number : ℕ) (point : Float) (index_lent : List ℕ) (r r' : ℕ) (i i' : List ℕ)
+    → StepExport n knots number point index_lent r i
+    → StepExport n knots number point index_lent r' i'
     → (r ≡ r') × (i ≡ i')
-step-unique n knots number point index-lent r r' i i' p q = (same p.answer q.answer, same p.slot q.slot)
+step_unique n knots number point index_lent r r' i i' p q = (same p.answer q.answer, same p.slot q.slot)
 
-pub stepped-unique :
-    (axes : ℕ) (points numbers : List ℕ) (knots samples coordinates value_lent : List Float) (indices-lent : List ℕ)
+pub stepped_unique :
+    (axes : ℕ) (points numbers : List ℕ) (knots samples coordinates value_lent : List Float) (indices_lent : List ℕ)
     (r r' : ℕ) (v v' : List Float) (i i' : List ℕ)
-    → SteppedExport axes points numbers knots samples coordinates value_lent indices-lent r v i
-    → SteppedExport axes points numbers knots samples coordinates value_lent indices-lent r' v' i'
+    → SteppedExport axes points numbers knots samples coordinates value_lent indices_lent r v i
+    → SteppedExport axes points numbers knots samples coordinates value_lent indices_lent r' v' i'
     → (r ≡ r') × (v ≡ v') × (i ≡ i')
-stepped-unique axes points numbers knots samples coordinates value_lent indices-lent r r' v v' i i' p q = (
+stepped_unique axes points numbers knots samples coordinates value_lent indices_lent r r' v v' i i' p q = (
   same p.answer q.answer,
-  same p.answer-stored.slot q.answer-stored.slot,
-  same p.answer-stored.slots q.answer-stored.slots,
+  same p.answer_stored.slot q.answer_stored.slot,
+  same p.answer_stored.slots q.answer_stored.slots,
 )

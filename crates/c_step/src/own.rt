@@ -2,11 +2,11 @@
 // one axis 2, 4 and 22. Each is 0 where none applies, and then the call's own follow.
 ghost use Rattle.std.specs.Prelude.{◌≡◌};
 ghost use Rattle.c_step.specs.StepExports.{
-  exact-own-refusal,
-  axis-own-refusal,
-  step-own-refusal,
-  stepped-slots-refused,
-  stepped-own-refusal,
+  exact_own_refusal,
+  axis_own_refusal,
+  step_own_refusal,
+  stepped_slots_refused,
+  stepped_own_refusal,
 };
 
 use crate::{directions, slots};
@@ -15,7 +15,7 @@ use grid_checks::{lengths, sizes};
 
 // Of the exact index: its slot.
 pub fn exact_own_refusal(points: usize, found: &[usize]) -> usize
-    ensures { result ≡ exact-own-refusal points found.now }
+    ensures { result ≡ exact_own_refusal points found.now }
 {
     if sizes::points_refused(points) {
         return 2;
@@ -28,7 +28,7 @@ pub fn exact_own_refusal(points: usize, found: &[usize]) -> usize
 
 // Of the location: its slots.
 pub fn axis_own_refusal(points: usize, location: &[usize], fraction: &[f64]) -> usize
-    ensures { result ≡ axis-own-refusal points location.now fraction.now }
+    ensures { result ≡ axis_own_refusal points location.now fraction.now }
 {
     if sizes::points_refused(points) {
         return 2;
@@ -41,7 +41,7 @@ pub fn axis_own_refusal(points: usize, location: &[usize], fraction: &[f64]) -> 
 
 // Of the index of a step: its slot and the call's own slice, which 22 comes after.
 pub fn step_own_refusal(points: usize, knots: &[f64], direction: u8, index: &[usize]) -> usize
-    ensures { result ≡ step-own-refusal points knots.now direction index.now }
+    ensures { result ≡ step_own_refusal points knots.now direction index.now }
 {
     if sizes::points_refused(points) {
         return 2;
@@ -60,7 +60,7 @@ pub fn step_own_refusal(points: usize, knots: &[f64], direction: u8, index: &[us
 
 // Whether the directions or a slot of the answer are of another length.
 fn stepped_slots_refused(directions: &[u8], value: &[f64], indices: &[usize]) -> bool
-    ensures { result ≡ stepped-slots-refused directions.now value.now indices.now }
+    ensures { result ≡ stepped_slots_refused directions.now value.now indices.now }
 {
     if lengths::length_refused(directions.len(), 4) {
         return true;
@@ -79,7 +79,7 @@ pub fn stepped_own_refusal(
     value: &[f64],
     indices: &[usize],
 ) -> usize
-    ensures { result ≡ stepped-own-refusal axes points.now numbers.now knots.now samples.now
+    ensures { result ≡ stepped_own_refusal axes points.now numbers.now knots.now samples.now
         coordinates.now value.now indices.now }
 {
     let found = axes_own_sizes(axes, points);

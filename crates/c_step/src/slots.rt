@@ -1,6 +1,6 @@
 // The slots of an exact index and of a location: written where all of them have their lengths, and else left as they were.
 ghost use Rattle.std.specs.Prelude.{◌≡◌, [], ◌∷◌, length};
-ghost use Rattle.c_step.specs.StepExports.{in_pair, exact-numbers, location-slots-refused, LocationStored};
+ghost use Rattle.c_step.specs.StepExports.{in_pair, exact_numbers, location_slots_refused, LocationStored};
 
 use grid_checks::lengths;
 use rules::{AxisLocation, ExactIndex};
@@ -16,7 +16,7 @@ fn store_two(slot: &mut [usize], first: usize, second: usize)
 
 // An exact index goes to its slot.
 pub fn store_exact(slot: &mut [usize], index: ExactIndex)
-    ensures { slot.new ≡ in_pair slot.old (exact-numbers index) }
+    ensures { slot.new ≡ in_pair slot.old (exact_numbers index) }
 {
     if lengths::length_refused(slot.len(), 2) {
         return;
@@ -29,7 +29,7 @@ pub fn store_exact(slot: &mut [usize], index: ExactIndex)
 
 // Whether a slot of a location is of another length.
 pub fn location_slots_refused(location: &[usize], fraction: &[f64]) -> bool
-    ensures { result ≡ location-slots-refused location.now fraction.now }
+    ensures { result ≡ location_slots_refused location.now fraction.now }
 {
     if lengths::length_refused(location.len(), 2) {
         return true;

@@ -1,6 +1,6 @@
 // The host's own refusal of many points to step at.
 ghost use Rattle.std.specs.Prelude.{◌≡◌};
-ghost use Rattle.c_step_many.specs.ManyStepExports.{many-own-refusal};
+ghost use Rattle.c_step_many.specs.ManyStepExports.{many_own_refusal};
 
 use c_refusals::own::axes_own_sizes;
 use c_step::directions::some_direction_refused;
@@ -21,7 +21,7 @@ pub fn many_own_refusal(
     indices: &[usize],
     refusals: &[usize],
 ) -> usize
-    ensures { result ≡ many-own-refusal axes points.now numbers.now knots.now samples.now
+    ensures { result ≡ many_own_refusal axes points.now numbers.now knots.now samples.now
         coordinates.now values.now indices.now refusals.now }
 {
     let found = axes_own_sizes(axes, points);

@@ -7,21 +7,21 @@ use lib.Ieee.{Float}
 use Rattle.rules.proofs.Unique.{same}
 use Rattle.c_tensor.specs.TensorExports.{BuildExport, ChangeExport}
 
-pub build-unique :
-    (axes : ℕ) (points kinds : List ℕ) (values knots samples tensor-lent scratch-lent : List Float)
+pub build_unique :
+    (axes : ℕ) (points kinds : List ℕ) (values knots samples tensor_lent scratch_lent : List Float)
     (r r' : ℕ) (t t' s s' : List Float)
-    → BuildExport axes points kinds values knots samples tensor-lent scratch-lent r t s
-    → BuildExport axes points kinds values knots samples tensor-lent scratch-lent r' t' s'
+    → BuildExport axes points kinds values knots samples tensor_lent scratch_lent r t s
+    → BuildExport axes points kinds values knots samples tensor_lent scratch_lent r' t' s'
     → (r ≡ r') × (t ≡ t') × (s ≡ s')
-build-unique axes points kinds values knots samples tensor-lent scratch-lent r r' t t' s s' p q =
+build_unique axes points kinds values knots samples tensor_lent scratch_lent r r' t t' s s' p q =
     (same p.answer q.answer, same p.output q.output, same p.scratch q.scratch)
 
-pub change-unique :
-    (axes : ℕ) (points kinds : List ℕ) (values knots tensor-lent scratch-lent : List Float) (place : List ℕ) (sample : Float)
-    (lanes-lent : List ℕ)
+pub change_unique :
+    (axes : ℕ) (points kinds : List ℕ) (values knots tensor_lent scratch_lent : List Float) (place : List ℕ) (sample : Float)
+    (lanes_lent : List ℕ)
     (r r' : ℕ) (t t' s s' : List Float) (l l' : List ℕ)
-    → ChangeExport axes points kinds values knots tensor-lent scratch-lent place sample lanes-lent r t s l
-    → ChangeExport axes points kinds values knots tensor-lent scratch-lent place sample lanes-lent r' t' s' l'
+    → ChangeExport axes points kinds values knots tensor_lent scratch_lent place sample lanes_lent r t s l
+    → ChangeExport axes points kinds values knots tensor_lent scratch_lent place sample lanes_lent r' t' s' l'
     → (r ≡ r') × (t ≡ t') × (s ≡ s') × (l ≡ l')
-change-unique axes points kinds values knots tensor-lent scratch-lent place sample lanes-lent r r' t t' s s' l l' p q =
+change_unique axes points kinds values knots tensor_lent scratch_lent place sample lanes_lent r r' t t' s s' l l' p q =
     (same p.answer q.answer, same p.output q.output, same p.scratch q.scratch, same p.slot q.slot)

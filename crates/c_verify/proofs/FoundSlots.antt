@@ -4,23 +4,23 @@ use mathlib.Core.Bool.{true, false, cond}
 use mathlib.Core.List.{List}
 use Prim.Native.Nat.{ℕ}
 use lib.ListN.{length, set}
-use Rattle.grid_checks.proofs.Rows.{exact-2}
+use Rattle.grid_checks.proofs.Rows.{exact_2}
 use Rattle.tensor_verify.specs.declared.VerifyAnswer.{VerifyAnswer}
-use Rattle.c_axes.proofs.Slots.{three-stored}
-use Rattle.c_verify.specs.VerifyExports.{verify-slots-refused, FoundStored}
+use Rattle.c_axes.proofs.Slots.{three_stored}
+use Rattle.c_verify.specs.VerifyExports.{verify_slots_refused, FoundStored}
 
-module _ (place-lent found-lent : List ℕ) where
-  pub found-lengths : verify-slots-refused place-lent found-lent ≡ false → (length place-lent ≡ 4) × (length found-lent ≡ 3)
-  found-lengths fit = exact-2 (length place-lent) 4 (length found-lent) 3 fit
+module _ (place_lent found_lent : List ℕ) where
+  pub found_lengths : verify_slots_refused place_lent found_lent ≡ false → (length place_lent ≡ 4) × (length found_lent ≡ 3)
+  found_lengths fit = exact_2 (length place_lent) 4 (length found_lent) 3 fit
 
   module _ (told : VerifyAnswer) where
-    pub other-slots : verify-slots-refused place-lent found-lent ≡ true → FoundStored place-lent found-lent told place-lent found-lent
-    other-slots other = record { place = rw other refl; numbers = rw other refl }
+    pub other_slots : verify_slots_refused place_lent found_lent ≡ true → FoundStored place_lent found_lent told place_lent found_lent
+    other_slots other = record { place = rw other refl; numbers = rw other refl }
 
     pub both_stored :
-        verify-slots-refused place-lent found-lent ≡ false → {p : List ℕ} → p ≡ told.place → (whole : ℕ) → whole ≡ cond told.whole 1 0
-        → FoundStored place-lent found-lent told p (set (set (set found-lent 0 whole) 1 told.mask) 2 told.differing)
+        verify_slots_refused place_lent found_lent ≡ false → {p : List ℕ} → p ≡ told.place → (whole : ℕ) → whole ≡ cond told.whole 1 0
+        → FoundStored place_lent found_lent told p (set (set (set found_lent 0 whole) 1 told.mask) 2 told.differing)
     both_stored fit placed whole is = record {
       place = rw fit placed;
-      numbers = rw (fit, is) (three-stored found-lent _ _ _ (found-lengths fit).1);
+      numbers = rw (fit, is) (three_stored found_lent _ _ _ (found_lengths fit).1);
     }

@@ -6,15 +6,15 @@ use lib.Ieee.{Float}
 use Rattle.rules.proofs.Unique.{same}
 use Rattle.c_verify.specs.VerifyExports.{VerifyExport}
 
-pub verify-unique :
-    (axes : ℕ) (points kinds : List ℕ) (values knots tensor scratch-lent : List Float) (place-lent found-lent : List ℕ)
+pub verify_unique :
+    (axes : ℕ) (points kinds : List ℕ) (values knots tensor scratch_lent : List Float) (place_lent found_lent : List ℕ)
     (r r' : ℕ) (s s' : List Float) (p p' f f' : List ℕ)
-    → VerifyExport axes points kinds values knots tensor scratch-lent place-lent found-lent r s p f
-    → VerifyExport axes points kinds values knots tensor scratch-lent place-lent found-lent r' s' p' f'
+    → VerifyExport axes points kinds values knots tensor scratch_lent place_lent found_lent r s p f
+    → VerifyExport axes points kinds values knots tensor scratch_lent place_lent found_lent r' s' p' f'
     → (r ≡ r') × (s ≡ s') × (p ≡ p') × (f ≡ f')
-verify-unique axes points kinds values knots tensor scratch-lent place-lent found-lent r r' s s' p p' f f' one other = (
+verify_unique axes points kinds values knots tensor scratch_lent place_lent found_lent r r' s s' p p' f f' one other = (
   same one.answer other.answer,
   same one.scratch other.scratch,
-  same one.answer-stored.place other.answer-stored.place,
-  same one.answer-stored.numbers other.answer-stored.numbers,
+  same one.answer_stored.place other.answer_stored.place,
+  same one.answer_stored.numbers other.answer_stored.numbers,
 )

@@ -1,6 +1,6 @@
 // What the host itself refuses of a call that looks at a tensor, in the order of c_refusals::own.
 ghost use Rattle.std.specs.Prelude.{◌≡◌};
-ghost use Rattle.c_verify.specs.VerifyExports.{verify-own-refusal};
+ghost use Rattle.c_verify.specs.VerifyExports.{verify_own_refusal};
 
 use crate::slots;
 use c_refusals::own;
@@ -16,7 +16,7 @@ pub fn verify_own_refusal(
     place: &[usize],
     found: &[usize],
 ) -> usize
-    ensures { result ≡ verify-own-refusal axes points.now kinds.now values.now knots.now
+    ensures { result ≡ verify_own_refusal axes points.now kinds.now values.now knots.now
         tensor.now place.now found.now }
 {
     let refusal = own::axes_own_refusal(axes, points);

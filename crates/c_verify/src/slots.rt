@@ -1,6 +1,6 @@
 // The slots of what a look at a tensor found: written where both have their lengths, and else left as they were.
 ghost use Rattle.std.specs.Prelude.{◌≡◌, cond};
-ghost use Rattle.c_verify.specs.VerifyExports.{verify-slots-refused, FoundStored};
+ghost use Rattle.c_verify.specs.VerifyExports.{verify_slots_refused, FoundStored};
 
 use c_refusals::slots::store_labels;
 use grid_checks::lengths;
@@ -8,7 +8,7 @@ use tensor_verify::VerifyAnswer;
 
 // Whether the slot of the place is not four numbers, or that of what else was found not three.
 pub fn slots_refused(place: &[usize], found: &[usize]) -> bool
-    ensures { result ≡ verify-slots-refused place.now found.now }
+    ensures { result ≡ verify_slots_refused place.now found.now }
 {
     if lengths::length_refused(place.len(), 4) {
         return true;

@@ -13,20 +13,20 @@ use Rattle.base_integers.proofs.Tests.{both}
 use Rattle.device_cell.specs.DeviceCell.{
   exact,
   nearest,
-  cell-number,
-  cell-in-range,
-  position-in-range,
-  cell-refusal,
+  cell_number,
+  cell_in_range,
+  position_in_range,
+  cell_refusal,
   valued,
-  cell-answer,
+  cell_answer,
 }
 use Rattle.device_cell.specs.declared.Cell.{Cell}
-use Rattle.device_cell.proofs.Nearest.{nearest-whole}
+use Rattle.device_cell.proofs.Nearest.{nearest_whole}
 
 -- ---- what is known where nothing is refused
 
 pub record Passed (c : Cell) (k : ℤ) : Type 0 where
-  pub cell : cell-in-range c ≡ true
+  pub cell : cell_in_range c ≡ true
   pub position : k ≡ pos (nat_abs k)
   pub most : nat_abs k ≤ 256
 
@@ -35,15 +35,15 @@ chosen true true e = (refl, refl)
 chosen true false e = let z : ⊥ = omega arith in absurd z
 chosen false b e = let z : ⊥ = omega arith in absurd z
 
-position-known : (k : ℤ) → position-in-range k ≡ true → (k ≡ pos (nat_abs k)) × (nat_abs k ≤ 256)
-position-known (pos n) e = (refl, leb-true n 256 (both (leb 0 n) (leb n 256) e).1)
-position-known (negsuc n) e = let z : ◌≡◌ {A = ℕ} 0 1 = cc in (let y : ⊥ = omega arith in absurd y)
+position_known : (k : ℤ) → position_in_range k ≡ true → (k ≡ pos (nat_abs k)) × (nat_abs k ≤ 256)
+position_known (pos n) e = (refl, leb-true n 256 (both (leb 0 n) (leb n 256) e).1)
+position_known (negsuc n) e = let z : ◌≡◌ {A = ℕ} 0 1 = cc in (let y : ⊥ = omega arith in absurd y)
 
-pub passed : (c : Cell) (k : ℤ) → cell-refusal c k ≡ 0 → Passed c k
-unfolding cell-refusal
+pub passed : (c : Cell) (k : ℤ) → cell_refusal c k ≡ 0 → Passed c k
+unfolding cell_refusal
 passed c k e =
-    let tests = chosen (cell-in-range c) (position-in-range k) e in
-    let position = position-known k tests.1 in
+    let tests = chosen (cell_in_range c) (position_in_range k) e in
+    let position = position_known k tests.1 in
     record { cell = tests.0; position = position.0; most = position.1 }
 
 -- a position that is its own magnitude is cast to one
@@ -58,37 +58,37 @@ pub no_value : (r : ℕ) (v : ℤ) → (r ≡ 0 → ⊥) → pos 0 ≡ valued r 
 no_value zero v some = absurd (some refl)
 no_value (suc r) v some = refl
 
-pub answer-refused : (c : Cell) (k : ℤ) (r : ℕ) → r ≡ cell-refusal c k → (r ≡ 0 → ⊥)
-    → record { refusal = r; value = pos 0 } ≡ cell-answer c k
-unfolding cell-answer
-answer-refused c k r e some = rw (← e, ← no_value r (cell-number c (nat_abs k)) some)
+pub answer_refused : (c : Cell) (k : ℤ) (r : ℕ) → r ≡ cell_refusal c k → (r ≡ 0 → ⊥)
+    → record { refusal = r; value = pos 0 } ≡ cell_answer c k
+unfolding cell_answer
+answer_refused c k r e some = rw (← e, ← no_value r (cell_number c (nat_abs k)) some)
 
-pub answer-given : (c : Cell) (k : ℤ) (v : ℤ) → cell-refusal c k ≡ 0 → v ≡ cell-number c (nat_abs k)
-    → record { refusal = 0; value = v } ≡ cell-answer c k
-unfolding cell-answer
-answer-given c k v none e = rw (none, e)
+pub answer_given : (c : Cell) (k : ℤ) (v : ℤ) → cell_refusal c k ≡ 0 → v ≡ cell_number c (nat_abs k)
+    → record { refusal = 0; value = v } ≡ cell_answer c k
+unfolding cell_answer
+answer_given c k v none e = rw (none, e)
 
 -- ---- the ends of a cell
 
-first-only : (a b c d : ℤ) → a +ℤ pos 0 *ℤ b +ℤ pos 0 *ℤ c +ℤ pos 0 *ℤ d ≡ a
-first-only a b c d = rw (zero-*ℤ b, zero-*ℤ c, zero-*ℤ d, +ℤ_idr a, +ℤ_idr a, +ℤ_idr a)
+first_only : (a b c d : ℤ) → a +ℤ pos 0 *ℤ b +ℤ pos 0 *ℤ c +ℤ pos 0 *ℤ d ≡ a
+first_only a b c d = rw (zero-*ℤ b, zero-*ℤ c, zero-*ℤ d, +ℤ_idr a, +ℤ_idr a, +ℤ_idr a)
 
-third-only : (a b c d : ℤ) → pos 0 *ℤ b +ℤ pos 0 *ℤ c +ℤ a +ℤ pos 0 *ℤ d ≡ a
-third-only a b c d = rw (zero-*ℤ b, zero-*ℤ c, zero-*ℤ d, +ℤ_idl a, +ℤ_idr a)
+third_only : (a b c d : ℤ) → pos 0 *ℤ b +ℤ pos 0 *ℤ c +ℤ a +ℤ pos 0 *ℤ d ≡ a
+third_only a b c d = rw (zero-*ℤ b, zero-*ℤ c, zero-*ℤ d, +ℤ_idl a, +ℤ_idr a)
 
-number-at-0 : (c : Cell) → cell-number c 0 ≡ c.p0
+number_at_0 : (c : Cell) → cell_number c 0 ≡ c.p0
 unfolding exact
-number-at-0 c = ap nearest (first-only (pos 16777216 *ℤ c.p0) c.d0 c.p1 c.d1) ∙ nearest-whole c.p0
+number_at_0 c = ap nearest (first_only (pos 16777216 *ℤ c.p0) c.d0 c.p1 c.d1) ∙ nearest_whole c.p0
 
-number-at-256 : (c : Cell) → cell-number c 256 ≡ c.p1
+number_at_256 : (c : Cell) → cell_number c 256 ≡ c.p1
 unfolding exact
-number-at-256 c = ap nearest (third-only (pos 16777216 *ℤ c.p1) c.p0 c.d0 c.d1) ∙ nearest-whole c.p1
+number_at_256 c = ap nearest (third_only (pos 16777216 *ℤ c.p1) c.p0 c.d0 c.d1) ∙ nearest_whole c.p1
 
 -- the values themselves, for cells in range
-pub p0-at-0 : (c : Cell) → cell-in-range c ≡ true → cell-answer c (pos 0) ≡ record { refusal = 0; value = c.p0 }
-unfolding cell-answer cell-refusal
-p0-at-0 c range = rw (range, number-at-0 c)
+pub p0_at_0 : (c : Cell) → cell_in_range c ≡ true → cell_answer c (pos 0) ≡ record { refusal = 0; value = c.p0 }
+unfolding cell_answer cell_refusal
+p0_at_0 c range = rw (range, number_at_0 c)
 
-pub p1-at-256 : (c : Cell) → cell-in-range c ≡ true → cell-answer c (pos 256) ≡ record { refusal = 0; value = c.p1 }
-unfolding cell-answer cell-refusal
-p1-at-256 c range = rw (range, number-at-256 c)
+pub p1_at_256 : (c : Cell) → cell_in_range c ≡ true → cell_answer c (pos 256) ≡ record { refusal = 0; value = c.p1 }
+unfolding cell_answer cell_refusal
+p1_at_256 c range = rw (range, number_at_256 c)

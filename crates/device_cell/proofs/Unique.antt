@@ -4,5 +4,5 @@ use lib.IntN.{ℤ}
 use Rattle.device_cell.specs.DeviceCell.{CellPromise}
 use Rattle.device_cell.specs.declared.CellAnswer.{CellAnswer}
 
-pub cell-unique : (p0 p1 d0 d1 k : ℤ) (a a' : CellAnswer) → CellPromise p0 p1 d0 d1 k a → CellPromise p0 p1 d0 d1 k a' → a ≡ a'
-cell-unique p0 p1 d0 d1 k a a' p q = p.answer ∙ sym q.answer
+pub cell_unique : (p0 p1 d0 d1 k : ℤ) (a a' : CellAnswer) → CellPromise p0 p1 d0 d1 k a → CellPromise p0 p1 d0 d1 k a' → a ≡ a'
+cell_unique p0 p1 d0 d1 k a a' p q = p.answer ∙ sym q.answer

@@ -5,30 +5,30 @@ use Rattle.std.proofs.Common.{SFits}
 use Rattle.device_cell.specs.declared.Weights.{Weights}
 
 -- the weights as naturals, for a position of at most 256; that of d1 is taken away
-abbrev pub weight-p1 : ℕ → ℕ
-weight-p1 k = k * k * (768 - 2 * k)
+abbrev pub weight_p1 : ℕ → ℕ
+weight_p1 k = k * k * (768 - 2 * k)
 
-abbrev pub weight-p0 : ℕ → ℕ
-weight-p0 k = 16777216 - weight-p1 k
+abbrev pub weight_p0 : ℕ → ℕ
+weight_p0 k = 16777216 - weight_p1 k
 
-abbrev pub weight-d0 : ℕ → ℕ
-weight-d0 k = k * (256 - k) * (256 - k)
+abbrev pub weight_d0 : ℕ → ℕ
+weight_d0 k = k * (256 - k) * (256 - k)
 
-abbrev pub weight-d1 : ℕ → ℕ
-weight-d1 k = k * k * (256 - k)
+abbrev pub weight_d1 : ℕ → ℕ
+weight_d1 k = k * k * (256 - k)
 
-abbrev pub weights-at : ℕ → Weights
-weights-at k = record { p0 = pos (weight-p0 k); p1 = pos (weight-p1 k); d0 = pos (weight-d0 k); d1 = pos (weight-d1 k) }
+abbrev pub weights_at : ℕ → Weights
+weights_at k = record { p0 = pos (weight_p0 k); p1 = pos (weight_p1 k); d0 = pos (weight_d0 k); d1 = pos (weight_d1 k) }
 
 abbrev pub weighted : Weights → ℤ → ℤ → ℤ → ℤ → ℤ
-weighted w p0 p1 d0 d1 = w.p0 *ℤ p0 +ℤ w.d0 *ℤ d0 +ℤ w.p1 *ℤ p1 -ℤ w.d1 *ℤ d1
+weighted w p0 p1 d0 d1 = w.p0 *ℤ p0 +ℤ w.d0 *ℤ d0 +ℤ w.p1 *ℤ p1 _ℤ w.d1 *ℤ d1
 
 -- every number on the way to the sum fits 64 bits
 pub record Room (w : Weights) (p0 p1 d0 d1 : ℤ) : Type 0 where
-  pub of-p0 : SFits w64 (w.p0 *ℤ p0)
-  pub of-d0 : SFits w64 (w.d0 *ℤ d0)
-  pub of-p1 : SFits w64 (w.p1 *ℤ p1)
-  pub of-d1 : SFits w64 (w.d1 *ℤ d1)
+  pub of_p0 : SFits w64 (w.p0 *ℤ p0)
+  pub of_d0 : SFits w64 (w.d0 *ℤ d0)
+  pub of_p1 : SFits w64 (w.p1 *ℤ p1)
+  pub of_d1 : SFits w64 (w.d1 *ℤ d1)
   pub of_two : SFits w64 (w.p0 *ℤ p0 +ℤ w.d0 *ℤ d0)
   pub of_three : SFits w64 (w.p0 *ℤ p0 +ℤ w.d0 *ℤ d0 +ℤ w.p1 *ℤ p1)
-  pub of-all : SFits w64 (weighted w p0 p1 d0 d1)
+  pub of_all : SFits w64 (weighted w p0 p1 d0 d1)

@@ -9,10 +9,10 @@ use Rattle.device_cell.specs.declared.CellAnswer.{CellAnswer}
 -- the exact value times 256³ at a position
 unfoldable pub exact : Cell → ℕ → ℤ
 exact c k =
-    (pos (2 * k ^ 3) -ℤ pos (768 * k ^ 2) +ℤ pos (256 ^ 3)) *ℤ c.p0
-    +ℤ (pos (k ^ 3) -ℤ pos (512 * k ^ 2) +ℤ pos (65536 * k)) *ℤ c.d0
-    +ℤ (pos (768 * k ^ 2) -ℤ pos (2 * k ^ 3)) *ℤ c.p1
-    +ℤ (pos (k ^ 3) -ℤ pos (256 * k ^ 2)) *ℤ c.d1
+    (pos (2 * k ^ 3) _ℤ pos (768 * k ^ 2) +ℤ pos (256 ^ 3)) *ℤ c.p0
+    +ℤ (pos (k ^ 3) _ℤ pos (512 * k ^ 2) +ℤ pos (65536 * k)) *ℤ c.d0
+    +ℤ (pos (768 * k ^ 2) _ℤ pos (2 * k ^ 3)) *ℤ c.p1
+    +ℤ (pos (k ^ 3) _ℤ pos (256 * k ^ 2)) *ℤ c.d1
 
 -- a number over 256³ to the nearest whole number, a half away from zero
 unfoldable pub nearest : ℤ → ℤ
@@ -20,34 +20,34 @@ nearest (pos n) = pos ((n + 8388608) / 16777216)
 nearest (negsuc n) = neg_ℤ (pos ((suc n + 8388608) / 16777216))
 
 -- the number of a cell at a position
-abbrev pub cell-number : Cell → ℕ → ℤ
-cell-number c k = nearest (exact c k)
+abbrev pub cell_number : Cell → ℕ → ℤ
+cell_number c k = nearest (exact c k)
 
 -- ---- the refusals
 
 -- from one number to another, both of them too
-abbrev pub in-range : ℤ → ℤ → ℤ → Bool
-in-range low high z = le_z low z && le_z z high
+abbrev pub in_range : ℤ → ℤ → ℤ → Bool
+in_range low high z = le_z low z && le_z z high
 
 -- a value lies in -32,768 .. 32,767
-abbrev pub value-in-range : ℤ → Bool
-value-in-range z = in-range (negsuc 32767) (pos 32767) z
+abbrev pub value_in_range : ℤ → Bool
+value_in_range z = in_range (negsuc 32767) (pos 32767) z
 
 -- a slope, which is scaled by the cell's width, in -131,072 .. 131,071
-abbrev pub slope-in-range : ℤ → Bool
-slope-in-range z = in-range (negsuc 131071) (pos 131071) z
+abbrev pub slope_in_range : ℤ → Bool
+slope_in_range z = in_range (negsuc 131071) (pos 131071) z
 
 -- all four numbers of a cell do
-unfoldable pub cell-in-range : Cell → Bool
-cell-in-range c = value-in-range c.p0 && (value-in-range c.p1 && (slope-in-range c.d0 && slope-in-range c.d1))
+unfoldable pub cell_in_range : Cell → Bool
+cell_in_range c = value_in_range c.p0 && (value_in_range c.p1 && (slope_in_range c.d0 && slope_in_range c.d1))
 
 -- a position in 0 .. 256
-abbrev pub position-in-range : ℤ → Bool
-position-in-range k = in-range (pos 0) (pos 256) k
+abbrev pub position_in_range : ℤ → Bool
+position_in_range k = in_range (pos 0) (pos 256) k
 
 -- 19: a value or a slope is out of range; then 20: the position is
-unfoldable pub cell-refusal : Cell → ℤ → ℕ
-cell-refusal c k = cond (cell-in-range c) (cond (position-in-range k) 0 20) 19
+unfoldable pub cell_refusal : Cell → ℤ → ℕ
+cell_refusal c k = cond (cell_in_range c) (cond (position_in_range k) 0 20) 19
 
 -- ---- the call
 
@@ -57,9 +57,9 @@ valued zero value = value
 valued (suc refusal) value = pos 0
 
 -- its answer; a position that is not refused is its own magnitude
-unfoldable pub cell-answer : Cell → ℤ → CellAnswer
-cell-answer c k = record { refusal = cell-refusal c k; value = valued (cell-refusal c k) (cell-number c (nat_abs k)) }
+unfoldable pub cell_answer : Cell → ℤ → CellAnswer
+cell_answer c k = record { refusal = cell_refusal c k; value = valued (cell_refusal c k) (cell_number c (nat_abs k)) }
 
 -- what it promises
 pub record CellPromise (p0 p1 d0 d1 k : ℤ) (given : CellAnswer) : Type 0 where
-  pub answer : given ≡ cell-answer (record { p0 = p0; p1 = p1; d0 = d0; d1 = d1 }) k
+  pub answer : given ≡ cell_answer (record { p0 = p0; p1 = p1; d0 = d0; d1 = d1 }) k

@@ -1,8 +1,8 @@
 // One cell of a curve in whole numbers, for aids without a float unit. Nothing here knows a float.
 ghost use Rattle.std.specs.Prelude.{◌≡◌, true, ◌≤◌};
 ghost use Rattle.base_integers.specs.Sized.{Sized};
-ghost use Rattle.device_cell.specs.DeviceCell.{nearest, cell-number, in-range, cell-in-range, cell-refusal, CellPromise};
-ghost use Rattle.device_cell.specs.CellWeights.{weights-at, weighted, Room};
+ghost use Rattle.device_cell.specs.DeviceCell.{nearest, cell_number, in_range, cell_in_range, cell_refusal, CellPromise};
+ghost use Rattle.device_cell.specs.CellWeights.{weights_at, weighted, Room};
 
 // The values and the slopes, scaled by the width, at the two ends of a cell.
 #[derive(Drop)]
@@ -43,14 +43,14 @@ fn cell_of(p0: i32, p1: i32, d0: i32, d1: i32) -> Cell
 
 // Whether a number lies between two others or is one of them.
 fn in_range(low: i64, high: i64, number: i64) -> bool
-    ensures { result ≡ in-range low high number }
+    ensures { result ≡ in_range low high number }
 {
     if low <= number { number <= high } else { false }
 }
 
 // Whether the values and the slopes of a cell are in range.
 pub fn cell_in_range(cell: Cell) -> bool
-    ensures { result ≡ cell-in-range cell }
+    ensures { result ≡ cell_in_range cell }
 {
     if in_range(-32768, 32767, cell.p0) {
         if in_range(-32768, 32767, cell.p1) {
@@ -70,7 +70,7 @@ pub fn cell_in_range(cell: Cell) -> bool
 // The weights at a position, which is required to be at most 256.
 fn weights_at(k: u64) -> Weights
     requires { k ≤ 256 }
-    ensures { result ≡ weights-at k }
+    ensures { result ≡ weights_at k }
 {
     let rest = 256 - k;
     let p1 = k * k * (768 - 2 * k);
@@ -104,15 +104,15 @@ fn rounded(number: i64) -> i64
 
 // The number of a cell at a position. Not a public call: it requires a cell in range and a position of at most 256.
 pub fn cell_number(cell: Cell, k: u64) -> i32
-    requires { (cell-in-range cell ≡ true) × (k ≤ 256) }
-    ensures { result ≡ cell-number cell k }
+    requires { (cell_in_range cell ≡ true) × (k ≤ 256) }
+    ensures { result ≡ cell_number cell k }
 {
     rounded(weighted(weights_at(k), cell.p0, cell.p1, cell.d0, cell.d1)) as i32
 }
 
 // The refusal of a cell at a position.
 fn cell_refusal(cell: Cell, k: i64) -> usize
-    ensures { result ≡ cell-refusal cell k }
+    ensures { result ≡ cell_refusal cell k }
 {
     if cell_in_range(cell) {
         if in_range(0, 256, k) { 0 } else { 20 }

@@ -12,9 +12,9 @@ use lib.IntN.{pos, ◌-ℤ◌}
 use lib.ListN.{length}
 use borrow.Author.Tests.{lt-ltb, le-ltb, leb-true, eqb-true}
 use Rattle.base_integers.proofs.Tests.{both}
-use Rattle.device_cell.specs.DeviceCell.{value-in-range, slope-in-range, cell-in-range}
-use Rattle.device_cursor.proofs.Flags.{flags-of-two, flags-of-four}
-use Rattle.device_cursor.specs.DeviceCurve.{signed, number_at, cell_at, cells, whole_cells, all-in-range, curve-refusal}
+use Rattle.device_cell.specs.DeviceCell.{value_in_range, slope_in_range, cell_in_range}
+use Rattle.device_cursor.proofs.Flags.{flags_of_two, flags_of_four}
+use Rattle.device_cursor.specs.DeviceCurve.{signed, number_at, cell_at, cells, whole_cells, all_in_range, curve_refusal}
 
 -- ---- 32 bits with a sign
 
@@ -22,7 +22,7 @@ pub low : (n : ℕ) → n < 2147483648 → pos n ≡ signed n
 unfolding signed
 low n h = rw (lt-ltb n 2147483648 h)
 
-pub high : (n : ℕ) → 2147483648 ≤ n → pos n -ℤ pos 4294967296 ≡ signed n
+pub high : (n : ℕ) → 2147483648 ≤ n → pos n _ℤ pos 4294967296 ≡ signed n
 unfolding signed
 high n h = rw (le-ltb n 2147483648 h)
 
@@ -33,9 +33,9 @@ pub record Whole (n : ℕ) : Type 0 where
   pub least : 16 ≤ n
   pub most : n ≤ 4080
 
-pub whole-known : (n : ℕ) → whole_cells n ≡ true → Whole n
+pub whole_known : (n : ℕ) → whole_cells n ≡ true → Whole n
 unfolding whole_cells
-whole-known n e =
+whole_known n e =
     let first = both (eqb (n % 16) 0) (leb 16 n && leb n 4080) e in
     let second = both (leb 16 n) (leb n 4080) first.1 in
     record { whole = eqb-true (n % 16) 0 first.0; least = leb-true 16 n second.0; most = leb-true n 4080 second.1 }
@@ -43,54 +43,54 @@ whole-known n e =
 -- ---- the loop over the cells
 
 module _ (curve : List ℕ) where
-  pub cell-flags : (i : ℕ) (p0 p1 d0 d1 : Bool) → p0 ≡ not (value-in-range (number_at curve (16 * i)))
-      → p1 ≡ not (value-in-range (number_at curve (16 * i + 4))) → d0 ≡ not (slope-in-range (number_at curve (16 * i + 8)))
-      → d1 ≡ not (slope-in-range (number_at curve (16 * i + 12))) → (p0 || p1 || d0 || d1) ≡ not (cell-in-range (cell_at curve i))
-  unfolding cell-in-range
-  cell-flags i p0 p1 d0 d1 e f g h =
+  pub cell_flags : (i : ℕ) (p0 p1 d0 d1 : Bool) → p0 ≡ not (value_in_range (number_at curve (16 * i)))
+      → p1 ≡ not (value_in_range (number_at curve (16 * i + 4))) → d0 ≡ not (slope_in_range (number_at curve (16 * i + 8)))
+      → d1 ≡ not (slope_in_range (number_at curve (16 * i + 12))) → (p0 || p1 || d0 || d1) ≡ not (cell_in_range (cell_at curve i))
+  unfolding cell_in_range
+  cell_flags i p0 p1 d0 d1 e f g h =
       rw (e, f, g, h)
-      (flags-of-four (value-in-range (number_at curve (16 * i))) (value-in-range (number_at curve (16 * i + 4)))
-      (slope-in-range (number_at curve (16 * i + 8))) (slope-in-range (number_at curve (16 * i + 12))))
+      (flags_of_four (value_in_range (number_at curve (16 * i))) (value_in_range (number_at curve (16 * i + 4)))
+      (slope_in_range (number_at curve (16 * i + 8))) (slope_in_range (number_at curve (16 * i + 12))))
 
-  pub flag-next : (i : ℕ) (refused here : Bool) → refused ≡ not (all-in-range curve i) → here ≡ not (cell-in-range (cell_at curve i))
-      → (refused || here) ≡ not (all-in-range curve (i + 1))
-  unfolding all-in-range
-  flag-next i refused here e f = rw (add-one, e, f) (flags-of-two (all-in-range curve i) (cell-in-range (cell_at curve i)))
+  pub flag_next : (i : ℕ) (refused here : Bool) → refused ≡ not (all_in_range curve i) → here ≡ not (cell_in_range (cell_at curve i))
+      → (refused || here) ≡ not (all_in_range curve (i + 1))
+  unfolding all_in_range
+  flag_next i refused here e f = rw (add-one, e, f) (flags_of_two (all_in_range curve i) (cell_in_range (cell_at curve i)))
 
-  range_at : (n : ℕ) → all-in-range curve n ≡ true → (i : ℕ) → i < n → cell-in-range (cell_at curve i) ≡ true
-  unfolding all-in-range
+  range_at : (n : ℕ) → all_in_range curve n ≡ true → (i : ℕ) → i < n → cell_in_range (cell_at curve i) ≡ true
+  unfolding all_in_range
   range_at zero all i l = absurd (not-suc-le-zero l)
   range_at (suc n) all i l =
-      let known = both (all-in-range curve n) (cell-in-range (cell_at curve n)) all in
+      let known = both (all_in_range curve n) (cell_in_range (cell_at curve n)) all in
       ⊎_elim (λ e. rw e known.1) (λ lt. range_at n known.0 i lt) (eq-or-lt_of_le (le_of_suc-le-suc l))
 
   -- ---- the refusal, for each way that judging ends
 
-  pub broken-length : whole_cells (length curve) ≡ false → 20 ≡ curve-refusal curve
-  unfolding curve-refusal
-  broken-length e = rw e
+  pub broken_length : whole_cells (length curve) ≡ false → 20 ≡ curve_refusal curve
+  unfolding curve_refusal
+  broken_length e = rw e
 
-  pub out_of_range : whole_cells (length curve) ≡ true → all-in-range curve (cells curve) ≡ false → 19 ≡ curve-refusal curve
-  unfolding curve-refusal
+  pub out_of_range : whole_cells (length curve) ≡ true → all_in_range curve (cells curve) ≡ false → 19 ≡ curve_refusal curve
+  unfolding curve_refusal
   out_of_range e f = rw (e, f)
 
-  pub good : whole_cells (length curve) ≡ true → all-in-range curve (cells curve) ≡ true → 0 ≡ curve-refusal curve
-  unfolding curve-refusal
+  pub good : whole_cells (length curve) ≡ true → all_in_range curve (cells curve) ≡ true → 0 ≡ curve_refusal curve
+  unfolding curve_refusal
   good e f = rw (e, f)
 
   -- ---- a curve that is not refused
 
-  tests : curve-refusal curve ≡ 0 → (whole_cells (length curve) ≡ true) × (all-in-range curve (cells curve) ≡ true)
-  unfolding curve-refusal
-  tests e = outcome (whole_cells (length curve)) (all-in-range curve (cells curve)) e
+  tests : curve_refusal curve ≡ 0 → (whole_cells (length curve) ≡ true) × (all_in_range curve (cells curve) ≡ true)
+  unfolding curve_refusal
+  tests e = outcome (whole_cells (length curve)) (all_in_range curve (cells curve)) e
     where
       outcome : (w a : Bool) → ◌≡◌ {A = ℕ} (cond w (cond a 0 19) 20) 0 → (w ≡ true) × (a ≡ true)
       outcome true true e = (refl, refl)
       outcome true false e = let y : ⊥ = omega arith in absurd y
       outcome false a e = let y : ⊥ = omega arith in absurd y
 
-  pub length-known : curve-refusal curve ≡ 0 → Whole (length curve)
-  length-known e = whole-known (length curve) (tests e).0
+  pub length_known : curve_refusal curve ≡ 0 → Whole (length curve)
+  length_known e = whole_known (length curve) (tests e).0
 
-  pub cell-known : curve-refusal curve ≡ 0 → (i : ℕ) → i < cells curve → cell-in-range (cell_at curve i) ≡ true
-  cell-known e i l = range_at (cells curve) (tests e).1 i l
+  pub cell_known : curve_refusal curve ≡ 0 → (i : ℕ) → i < cells curve → cell_in_range (cell_at curve i) ≡ true
+  cell_known e i l = range_at (cells curve) (tests e).1 i l

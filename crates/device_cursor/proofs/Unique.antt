@@ -6,8 +6,8 @@ use Rattle.device_cursor.specs.DeviceCurve.{StartPromise, NextPromise}
 use Rattle.device_cursor.specs.declared.Cursor.{Cursor}
 use Rattle.device_cursor.specs.declared.NextAnswer.{NextAnswer}
 
-pub start-unique : (c c' : Cursor) → StartPromise c → StartPromise c' → c ≡ c'
-start-unique c c' p q = p.answer ∙ sym q.answer
+pub start_unique : (c c' : Cursor) → StartPromise c → StartPromise c' → c ≡ c'
+start_unique c c' p q = p.answer ∙ sym q.answer
 
-pub next-unique : (curve : List ℕ) (cursor : Cursor) (a a' : NextAnswer) → NextPromise curve cursor a → NextPromise curve cursor a' → a ≡ a'
-next-unique curve cursor a a' p q = p.answer ∙ sym q.answer
+pub next_unique : (curve : List ℕ) (cursor : Cursor) (a a' : NextAnswer) → NextPromise curve cursor a → NextPromise curve cursor a' → a ≡ a'
+next_unique curve cursor a a' p q = p.answer ∙ sym q.answer

@@ -1,21 +1,21 @@
 // A curve of cells as bytes, judged whole, and a cursor that walks its numbers. Nothing here knows a float.
 ghost use Rattle.std.specs.Prelude.{◌≡◌, true, not, ◌+◌, ◌*◌, ◌/◌, ◌<◌, ◌≤◌, length};
-ghost use Rattle.device_cell.specs.DeviceCell.{cell-number, cell-in-range};
+ghost use Rattle.device_cell.specs.DeviceCell.{cell_number, cell_in_range};
 ghost use Rattle.device_cursor.specs.DeviceCurve.{
   four_bytes,
   number_at,
   cell_at,
   cells,
   whole_cells,
-  all-in-range,
-  curve-refusal,
-  last-cursor,
-  cursor-number,
-  next-refusal,
+  all_in_range,
+  curve_refusal,
+  last_cursor,
+  cursor_number,
+  next_refusal,
   StartPromise,
   NextPromise,
 };
-ghost use Rattle.device_cursor.specs.Columns.{value_out, slope-out, one-of-four-out};
+ghost use Rattle.device_cursor.specs.Columns.{value_out, slope_out, one_of_four_out};
 
 use device_cell::Cell;
 
@@ -100,7 +100,7 @@ fn value_refused(curve: &[u8], at: usize) -> bool
 // The same of a slope, whose range is four times as wide.
 fn slope_refused(curve: &[u8], at: usize) -> bool
     requires { at + 4 ≤ length curve.now }
-    ensures { result ≡ slope-out curve.now at }
+    ensures { result ≡ slope_out curve.now at }
 {
     (four_bytes(curve, at) + 131072) % 4294967296 >= 262144
 }
@@ -108,7 +108,7 @@ fn slope_refused(curve: &[u8], at: usize) -> bool
 // Whether a number of cell i is out of range.
 fn cell_refused(curve: &[u8], i: usize) -> bool
     requires { 16 * i + 16 ≤ length curve.now }
-    ensures { result ≡ not (cell-in-range (cell_at curve.now i)) }
+    ensures { result ≡ not (cell_in_range (cell_at curve.now i)) }
 {
     let at = 16 * i;
     value_refused(curve, at)
@@ -120,7 +120,7 @@ fn cell_refused(curve: &[u8], i: usize) -> bool
 // Whether one of four values is out of range, each in the cell after the one before. It requires that they are there, as the next does.
 fn four_values_refused(curve: &[u8], at: usize) -> bool
     requires { at + 52 ≤ length curve.now }
-    ensures { result ≡ one-of-four-out (value_out curve.now) at }
+    ensures { result ≡ one_of_four_out (value_out curve.now) at }
 {
     value_refused(curve, at)
         | value_refused(curve, at + 16)
@@ -131,7 +131,7 @@ fn four_values_refused(curve: &[u8], at: usize) -> bool
 // The same of four slopes.
 fn four_slopes_refused(curve: &[u8], at: usize) -> bool
     requires { at + 52 ≤ length curve.now }
-    ensures { result ≡ one-of-four-out (slope-out curve.now) at }
+    ensures { result ≡ one_of_four_out (slope_out curve.now) at }
 {
     slope_refused(curve, at)
         | slope_refused(curve, at + 16)
@@ -142,7 +142,7 @@ fn four_slopes_refused(curve: &[u8], at: usize) -> bool
 // Whether a number is out of range in a cell of those that come in fours. A flag for each of a cell's numbers is kept to the last four, so
 // the compiler looks at the four numbers of a cell at a time.
 fn some_of_fours_refused(curve: &[u8]) -> bool
-    ensures { result ≡ not (all-in-range curve.now (4 * (length curve.now / 64))) }
+    ensures { result ≡ not (all_in_range curve.now (4 * (length curve.now / 64))) }
 {
     let fours = curve.len() / 64;
     let mut p0 = false;
@@ -163,7 +163,7 @@ fn some_of_fours_refused(curve: &[u8]) -> bool
 
 // Whether a number of a cell is out of range: in those that come in fours, and in the three behind them at most.
 fn some_cell_refused(curve: &[u8]) -> bool
-    ensures { result ≡ not (all-in-range curve.now (cells curve.now)) }
+    ensures { result ≡ not (all_in_range curve.now (cells curve.now)) }
 {
     let cells = curve.len() / 16;
     let mut refused = some_of_fours_refused(curve);
@@ -177,7 +177,7 @@ fn some_cell_refused(curve: &[u8]) -> bool
 
 // The refusal of a curve, which is judged whole: 20 for its length, then 19 for its numbers.
 pub fn curve_refusal(curve: &[u8]) -> usize
-    ensures { result ≡ curve-refusal curve.now }
+    ensures { result ≡ curve_refusal curve.now }
 {
     if whole_cells(curve.len()) {
         if some_cell_refused(curve) { 19 } else { 0 }
@@ -188,8 +188,8 @@ pub fn curve_refusal(curve: &[u8]) -> usize
 
 // Cell i at a position: it requires that the cell is there and in range, and a position of at most 256.
 fn number_of(curve: &[u8], i: usize, k: u64) -> i32
-    requires { (16 * i + 16 ≤ length curve.now) × (cell-in-range (cell_at curve.now i) ≡ true) × (k ≤ 256) }
-    ensures { result ≡ cell-number (cell_at curve.now i) k }
+    requires { (16 * i + 16 ≤ length curve.now) × (cell_in_range (cell_at curve.now i) ≡ true) × (k ≤ 256) }
+    ensures { result ≡ cell_number (cell_at curve.now i) k }
 {
     device_cell::cell_number(cell_at(curve, i), k)
 }
@@ -197,8 +197,8 @@ fn number_of(curve: &[u8], i: usize, k: u64) -> i32
 // The number at a cursor of a curve that has been judged. Not a public call: it requires that the curve is not refused, and that the cursor
 // is not past its end.
 pub fn cursor_number(curve: &[u8], n: usize) -> i32
-    requires { (curve-refusal curve.now ≡ 0) × (n ≤ last-cursor curve.now) }
-    ensures { result ≡ cursor-number curve.now n }
+    requires { (curve_refusal curve.now ≡ 0) × (n ≤ last_cursor curve.now) }
+    ensures { result ≡ cursor_number curve.now n }
 {
     let cells = curve.len() / 16;
     if n < 256 * cells {
@@ -210,7 +210,7 @@ pub fn cursor_number(curve: &[u8], n: usize) -> i32
 
 // The refusal of a step: the curve's, and then 20 past the end.
 fn next_refusal(curve: &[u8], n: usize) -> usize
-    ensures { result ≡ next-refusal curve.now n }
+    ensures { result ≡ next_refusal curve.now n }
 {
     let refusal = curve_refusal(curve);
     if refusal != 0 {

@@ -13,24 +13,24 @@ use lib.Ieee.{Float, nan, inf, fin, binary64, low, up, down, lt, le, eq, below, 
 use lib.Ieee.Bits.{nan_bits_is, nan_bits_above}
 use lib.Ieee.Fits.{down_pos}
 use lib.Ieee.Exact.{HasValue}
-use Rattle.doubles_patterns.specs.Doubles.{is-less, is-equal, is-unordered}
-use Rattle.doubles_patterns.specs.Patterns.{word, top-place, infinity, magnitude, negative, units_of}
-use Rattle.doubles_patterns.proofs.Sizes.{le-or-lt}
+use Rattle.doubles_patterns.specs.Doubles.{is_less, is_equal, is_unordered}
+use Rattle.doubles_patterns.specs.Patterns.{word, top_place, infinity, magnitude, negative, units_of}
+use Rattle.doubles_patterns.proofs.Sizes.{le_or_lt}
 use Rattle.doubles_patterns.proofs.Values.{less, sums}
-use Rattle.doubles_patterns.proofs.Magnitudes.{units-less, units-zero, units-some}
-use Rattle.doubles_patterns.proofs.Specials.{value_of, nan-of, inf-of}
-use Rattle.doubles_patterns.proofs.Signs.{signs-unlike}
+use Rattle.doubles_patterns.proofs.Magnitudes.{units_less, units_zero, units_some}
+use Rattle.doubles_patterns.proofs.Specials.{value_of, nan_of, inf_of}
+use Rattle.doubles_patterns.proofs.Signs.{signs_unlike}
 
 -- ---- values in units
-below-scale : (s t : Bool) (A B c X Y L : ℕ) → 0 < c → 0 < L → A * L ≡ X * c → B * L ≡ Y * c → below s A t B ≡ below s X t Y
-below-scale false false A B c X Y L C l x y = less A B c X Y L C l x y
-below-scale false true A B c X Y L C l x y = refl
-below-scale true false A B c X Y L C l x y = less 0 (A + B) c 0 (X + Y) L C l (zero-mul L ∙ sym (zero-mul c)) (sums A B c X Y L C l x y)
-below-scale true true A B c X Y L C l x y = less B A c Y X L C l y x
+below_scale : (s t : Bool) (A B c X Y L : ℕ) → 0 < c → 0 < L → A * L ≡ X * c → B * L ≡ Y * c → below s A t B ≡ below s X t Y
+below_scale false false A B c X Y L C l x y = less A B c X Y L C l x y
+below_scale false true A B c X Y L C l x y = refl
+below_scale true false A B c X Y L C l x y = less 0 (A + B) c 0 (X + Y) L C l (zero-mul L ∙ sym (zero-mul c)) (sums A B c X Y L C l x y)
+below_scale true true A B c X Y L C l x y = less B A c Y X L C l y x
 
 -- two tests of equality that say the same, by the two orders
-eqb-by-order : (A B X Y : ℕ) → ltb A B ≡ ltb X Y → ltb B A ≡ ltb Y X → eqb A B ≡ eqb X Y
-eqb-by-order A B X Y p q = go (eqb X Y) refl
+eqb_by_order : (A B X Y : ℕ) → ltb A B ≡ ltb X Y → ltb B A ≡ ltb Y X → eqb A B ≡ eqb X Y
+eqb_by_order A B X Y p q = go (eqb X Y) refl
   where
     go : (t : Bool) → eqb X Y ≡ t → eqb A B ≡ t
     go true e =
@@ -49,15 +49,15 @@ eqb-by-order A B X Y p q = go (eqb X Y) refl
 level_by : (s t : Bool) (A B X Y : ℕ) → eqb A B ≡ eqb X Y → eqb A 0 ≡ eqb X 0 → level s A t B ≡ level s X t Y
 level_by s t A B X Y p q = ap (λ (b : Bool). b && (beq s t || eqb A 0)) p ∙ ap (λ (b : Bool). eqb X Y && (beq s t || b)) q
 
-lt-opened : (s : Bool) (m : ℕ) (e : ℤ) (t : Bool) (n : ℕ) (d : ℤ)
+lt_opened : (s : Bool) (m : ℕ) (e : ℤ) (t : Bool) (n : ℕ) (d : ℤ)
     → lt (fin s m e) (fin t n d) ≡ below s (m * up e * down d) t (n * up d * down e)
 unfolding lt
-lt-opened s m e t n d = refl
+lt_opened s m e t n d = refl
 
-eq-opened : (s : Bool) (m : ℕ) (e : ℤ) (t : Bool) (n : ℕ) (d : ℤ)
+eq_opened : (s : Bool) (m : ℕ) (e : ℤ) (t : Bool) (n : ℕ) (d : ℤ)
     → eq (fin s m e) (fin t n d) ≡ level s (m * up e * down d) t (n * up d * down e)
 unfolding eq
-eq-opened s m e t n d = refl
+eq_opened s m e t n d = refl
 
 values : (x y : Float) (s : Bool) (X : ℕ) (t : Bool) (Y L : ℕ) → 0 < L → HasValue x s X L → HasValue y t Y L
     → (lt x y ≡ below s X t Y) × (eq x y ≡ level s X t Y)
@@ -75,64 +75,64 @@ values (fin u m e) (fin v n d) s X t Y L l h k =
     mul_right_comm (n * up d) (down e) L ∙ ap (λ (z : ℕ). z * down e) k.1 ∙ mul_assoc Y (down d) (down e)
     ∙ ap (λ (z : ℕ). Y * z) (mul_comm (down d) (down e)) in
     let o : 0 * L ≡ 0 * c = zero-mul L ∙ sym (zero-mul c) in (
-      lt-opened u m e v n d ∙ ap (λ (b : Bool). below b A v B) h.0 ∙ ap (λ (b : Bool). below s A b B) k.0
-          ∙ below-scale s t A B c X Y L C l x y,
-      eq-opened u m e v n d ∙ ap (λ (b : Bool). level b A v B) h.0 ∙ ap (λ (b : Bool). level s A b B) k.0
-          ∙ level_by s t A B X Y (eqb-by-order A B X Y (less A B c X Y L C l x y) (less B A c Y X L C l y x))
-          (eqb-by-order A 0 X 0 (less A 0 c X 0 L C l x o) (less 0 A c 0 X L C l o x)),
+      lt_opened u m e v n d ∙ ap (λ (b : Bool). below b A v B) h.0 ∙ ap (λ (b : Bool). below s A b B) k.0
+          ∙ below_scale s t A B c X Y L C l x y,
+      eq_opened u m e v n d ∙ ap (λ (b : Bool). level b A v B) h.0 ∙ ap (λ (b : Bool). level s A b B) k.0
+          ∙ level_by s t A B X Y (eqb_by_order A B X Y (less A B c X Y L C l x y) (less B A c Y X L C l y x))
+          (eqb_by_order A 0 X 0 (less A 0 c X 0 L C l x o) (less 0 A c 0 X L C l o x)),
     )
 
 -- ---- units are in the patterns' order
-units-order : (p o : ℕ) → p < infinity → o < infinity → ltb (units_of p) (units_of o) ≡ ltb p o
-units-order p o hp ho = go (le-or-lt o p)
+units_order : (p o : ℕ) → p < infinity → o < infinity → ltb (units_of p) (units_of o) ≡ ltb p o
+units_order p o hp ho = go (le_or_lt o p)
   where
     go : (o ≤ p) ⊎ (p < o) → ltb (units_of p) (units_of o) ≡ ltb p o
-    go (inr l) = lt-ltb (units_of p) (units_of o) (units-less o p ho l) ∙ sym (lt-ltb p o l)
+    go (inr l) = lt-ltb (units_of p) (units_of o) (units_less o p ho l) ∙ sym (lt-ltb p o l)
     go (inl l) = le-ltb (units_of p) (units_of o) (at_most (eq-or-lt_of_le l)) ∙ sym (le-ltb p o l)
       where
         at_most : (o ≡ p) ⊎ (o < p) → units_of o ≤ units_of p
-        at_most (inl e) = native-le (ap units_of e)
+        at_most (inl e) = native_le (ap units_of e)
           where
-            native-le : units_of o ≡ units_of p → units_of o ≤ units_of p
-            native-le e = omega arith
-        at_most (inr g) = let h = units-less p o hp g in omega arith
+            native_le : units_of o ≡ units_of p → units_of o ≤ units_of p
+            native_le e = omega arith
+        at_most (inr g) = let h = units_less p o hp g in omega arith
 
-units-some-order : (p o : ℕ) → p < infinity → o < infinity → ltb 0 (units_of p + units_of o) ≡ ltb 0 (p + o)
-units-some-order p o hp ho = go (le-or-lt 1 p) (le-or-lt 1 o)
+units_some_order : (p o : ℕ) → p < infinity → o < infinity → ltb 0 (units_of p + units_of o) ≡ ltb 0 (p + o)
+units_some_order p o hp ho = go (le_or_lt 1 p) (le_or_lt 1 o)
   where
     none : (p : ℕ) → p < 1 → units_of p ≡ 0
-    none p h = ap units_of (zero_is p h) ∙ units-zero
+    none p h = ap units_of (zero_is p h) ∙ units_zero
       where
         zero_is : (p : ℕ) → p < 1 → p ≡ 0
         zero_is p h = omega arith
 
     go : (1 ≤ p) ⊎ (p < 1) → (1 ≤ o) ⊎ (o < 1) → ltb 0 (units_of p + units_of o) ≡ ltb 0 (p + o)
-    go (inl a) y = let h = units-some p hp a in lt-ltb 0 (units_of p + units_of o) (omega arith) ∙ sym (lt-ltb 0 (p + o) (omega arith))
+    go (inl a) y = let h = units_some p hp a in lt-ltb 0 (units_of p + units_of o) (omega arith) ∙ sym (lt-ltb 0 (p + o) (omega arith))
     go (inr a) (inl b) =
-        let h = units-some o ho b in lt-ltb 0 (units_of p + units_of o) (omega arith) ∙ sym (lt-ltb 0 (p + o) (omega arith))
+        let h = units_some o ho b in lt-ltb 0 (units_of p + units_of o) (omega arith) ∙ sym (lt-ltb 0 (p + o) (omega arith))
     go (inr a) (inr b) =
         let h = none p a in let k = none o b in le-ltb 0 (units_of p + units_of o) (omega arith) ∙ sym (le-ltb 0 (p + o) (omega arith))
 
-below-units : (s t : Bool) (p o : ℕ) → p < infinity → o < infinity → below s (units_of p) t (units_of o) ≡ below s p t o
-below-units false false p o hp ho = units-order p o hp ho
-below-units false true p o hp ho = refl
-below-units true false p o hp ho = units-some-order p o hp ho
-below-units true true p o hp ho = units-order o p ho hp
+below_units : (s t : Bool) (p o : ℕ) → p < infinity → o < infinity → below s (units_of p) t (units_of o) ≡ below s p t o
+below_units false false p o hp ho = units_order p o hp ho
+below_units false true p o hp ho = refl
+below_units true false p o hp ho = units_some_order p o hp ho
+below_units true true p o hp ho = units_order o p ho hp
 
-level-units : (s t : Bool) (p o : ℕ) → p < infinity → o < infinity → level s (units_of p) t (units_of o) ≡ level s p t o
-level-units s t p o hp ho =
-    level_by s t (units_of p) (units_of o) p o (eqb-by-order (units_of p) (units_of o) p o (units-order p o hp ho) (units-order o p ho hp))
-    (ap (eqb (units_of p)) (sym units-zero)
-    ∙ eqb-by-order (units_of p) (units_of 0) p 0 (units-order p 0 hp (omega arith)) (units-order 0 p (omega arith) hp))
+level_units : (s t : Bool) (p o : ℕ) → p < infinity → o < infinity → level s (units_of p) t (units_of o) ≡ level s p t o
+level_units s t p o hp ho =
+    level_by s t (units_of p) (units_of o) p o (eqb_by_order (units_of p) (units_of o) p o (units_order p o hp ho) (units_order o p ho hp))
+    (ap (eqb (units_of p)) (sym units_zero)
+    ∙ eqb_by_order (units_of p) (units_of 0) p 0 (units_order p 0 hp (omega arith)) (units_order 0 p (omega arith) hp))
 
 -- ---- infinities
-inf-fin : (s t : Bool) (y : Float) (Y L o : ℕ) → HasValue y t Y L → o < infinity
+inf_fin : (s t : Bool) (y : Float) (Y L o : ℕ) → HasValue y t Y L → o < infinity
     → (lt (inf s) y ≡ below s infinity t o) × (eq (inf s) y ≡ level s infinity t o) × (lt y (inf s) ≡ below t o s infinity) ×
     (eq y (inf s) ≡ level t o s infinity)
 unfolding lt eq
-inf-fin s t nan Y L o h g = absurd h
-inf-fin s t (inf u) Y L o h g = absurd h
-inf-fin s t (fin u n d) Y L o h g = (
+inf_fin s t nan Y L o h g = absurd h
+inf_fin s t (inf u) Y L o h g = absurd h
+inf_fin s t (fin u n d) Y L o h g = (
   one s t,
   ap (λ (b : Bool). b && (beq s t || eqb infinity 0)) (sym (ne_eqb infinity o (λ e. apart o g e))),
   two t s,
@@ -154,53 +154,53 @@ inf-fin s t (fin u n d) Y L o h g = (
     two true false = sym (lt-ltb 0 (o + infinity) (omega arith))
     two true true = sym (le-ltb infinity o (omega arith))
 
-inf-inf : (s t : Bool) → (lt (inf s) (inf t) ≡ below s infinity t infinity) × (eq (inf s) (inf t) ≡ level s infinity t infinity)
+inf_inf : (s t : Bool) → (lt (inf s) (inf t) ≡ below s infinity t infinity) × (eq (inf s) (inf t) ≡ level s infinity t infinity)
 unfolding lt eq
-inf-inf false false = (refl, refl)
-inf-inf false true = (refl, refl)
-inf-inf true false = (refl, refl)
-inf-inf true true = (refl, refl)
+inf_inf false false = (refl, refl)
+inf_inf false true = (refl, refl)
+inf_inf true false = (refl, refl)
+inf_inf true true = (refl, refl)
 
 -- ---- the law
 pub compared : (a b : ℕ) → magnitude a ≤ infinity → magnitude b ≤ infinity
-    → (is-less a b ≡ below (negative a) (magnitude a) (negative b) (magnitude b))
-    × (is-equal a b ≡ level (negative a) (magnitude a) (negative b) (magnitude b))
+    → (is_less a b ≡ below (negative a) (magnitude a) (negative b) (magnitude b))
+    × (is_equal a b ≡ level (negative a) (magnitude a) (negative b) (magnitude b))
 compared a b ha hb = go (eq-or-lt_of_le ha) (eq-or-lt_of_le hb)
   where
     go : (magnitude a ≡ infinity) ⊎ (magnitude a < infinity) → (magnitude b ≡ infinity) ⊎ (magnitude b < infinity)
-        → (is-less a b ≡ below (negative a) (magnitude a) (negative b) (magnitude b))
-        × (is-equal a b ≡ level (negative a) (magnitude a) (negative b) (magnitude b))
+        → (is_less a b ≡ below (negative a) (magnitude a) (negative b) (magnitude b))
+        × (is_equal a b ≡ level (negative a) (magnitude a) (negative b) (magnitude b))
     go (inr x) (inr y) =
         let v =
         values (of_bits binary64 a) (of_bits binary64 b) (negative a) (units_of (magnitude a)) (negative b) (units_of (magnitude b))
         (2 ^ low binary64) (pow_pos (low binary64)) (value_of a x) (value_of b y) in (
-          v.0 ∙ below-units (negative a) (negative b) (magnitude a) (magnitude b) x y,
-          v.1 ∙ level-units (negative a) (negative b) (magnitude a) (magnitude b) x y,
+          v.0 ∙ below_units (negative a) (negative b) (magnitude a) (magnitude b) x y,
+          v.1 ∙ level_units (negative a) (negative b) (magnitude a) (magnitude b) x y,
         )
     go (inl x) (inl y) =
-        let v = inf-inf (negative a) (negative b) in (
-          ap (λ (z : Float). lt z (of_bits binary64 b)) (inf-of a x) ∙ ap (lt (inf (negative a))) (inf-of b y) ∙ v.0
+        let v = inf_inf (negative a) (negative b) in (
+          ap (λ (z : Float). lt z (of_bits binary64 b)) (inf_of a x) ∙ ap (lt (inf (negative a))) (inf_of b y) ∙ v.0
               ∙ ap (λ (z : ℕ). below (negative a) z (negative b) infinity) (sym x)
               ∙ ap (below (negative a) (magnitude a) (negative b)) (sym y),
-          ap (λ (z : Float). eq z (of_bits binary64 b)) (inf-of a x) ∙ ap (eq (inf (negative a))) (inf-of b y) ∙ v.1
+          ap (λ (z : Float). eq z (of_bits binary64 b)) (inf_of a x) ∙ ap (eq (inf (negative a))) (inf_of b y) ∙ v.1
               ∙ ap (λ (z : ℕ). level (negative a) z (negative b) infinity) (sym x)
               ∙ ap (level (negative a) (magnitude a) (negative b)) (sym y),
         )
     go (inl x) (inr y) =
         let v =
-        inf-fin (negative a) (negative b) (of_bits binary64 b) (units_of (magnitude b)) (2 ^ low binary64)
+        inf_fin (negative a) (negative b) (of_bits binary64 b) (units_of (magnitude b)) (2 ^ low binary64)
         (magnitude b) (value_of b y) y in (
-          ap (λ (z : Float). lt z (of_bits binary64 b)) (inf-of a x) ∙ v.0
+          ap (λ (z : Float). lt z (of_bits binary64 b)) (inf_of a x) ∙ v.0
               ∙ ap (λ (z : ℕ). below (negative a) z (negative b) (magnitude b)) (sym x),
-          ap (λ (z : Float). eq z (of_bits binary64 b)) (inf-of a x) ∙ v.1
+          ap (λ (z : Float). eq z (of_bits binary64 b)) (inf_of a x) ∙ v.1
               ∙ ap (λ (z : ℕ). level (negative a) z (negative b) (magnitude b)) (sym x),
         )
     go (inr x) (inl y) =
         let v =
-        inf-fin (negative b) (negative a) (of_bits binary64 a) (units_of (magnitude a)) (2 ^ low binary64)
+        inf_fin (negative b) (negative a) (of_bits binary64 a) (units_of (magnitude a)) (2 ^ low binary64)
         (magnitude a) (value_of a x) x in (
-          ap (lt (of_bits binary64 a)) (inf-of b y) ∙ v.2 ∙ ap (below (negative a) (magnitude a) (negative b)) (sym y),
-          ap (eq (of_bits binary64 a)) (inf-of b y) ∙ v.3 ∙ ap (level (negative a) (magnitude a) (negative b)) (sym y),
+          ap (lt (of_bits binary64 a)) (inf_of b y) ∙ v.2 ∙ ap (below (negative a) (magnitude a) (negative b)) (sym y),
+          ap (eq (of_bits binary64 a)) (inf_of b y) ∙ v.3 ∙ ap (level (negative a) (magnitude a) (negative b)) (sym y),
         )
 
 -- ---- NaN
@@ -215,39 +215,39 @@ nan_right (inf s) = (refl, refl)
 nan_right (fin s m e) = (refl, refl)
 
 module _ (a b : ℕ) where
-  pub nan-first : infinity < magnitude a → (false ≡ is-less a b) × (false ≡ is-equal a b)
-  nan-first h = (
-    sym (ap (λ (z : Float). lt z (of_bits binary64 b)) (nan-of a h) ∙ (nan_left (of_bits binary64 b)).0),
-    sym (ap (λ (z : Float). eq z (of_bits binary64 b)) (nan-of a h) ∙ (nan_left (of_bits binary64 b)).1),
+  pub nan_first : infinity < magnitude a → (false ≡ is_less a b) × (false ≡ is_equal a b)
+  nan_first h = (
+    sym (ap (λ (z : Float). lt z (of_bits binary64 b)) (nan_of a h) ∙ (nan_left (of_bits binary64 b)).0),
+    sym (ap (λ (z : Float). eq z (of_bits binary64 b)) (nan_of a h) ∙ (nan_left (of_bits binary64 b)).1),
   )
 
-  pub nan-second : infinity < magnitude b → (false ≡ is-less a b) × (false ≡ is-equal a b)
-  nan-second h = (
-    sym (ap (lt (of_bits binary64 a)) (nan-of b h) ∙ (nan_right (of_bits binary64 a)).0),
-    sym (ap (eq (of_bits binary64 a)) (nan-of b h) ∙ (nan_right (of_bits binary64 a)).1),
+  pub nan_second : infinity < magnitude b → (false ≡ is_less a b) × (false ≡ is_equal a b)
+  nan_second h = (
+    sym (ap (lt (of_bits binary64 a)) (nan_of b h) ∙ (nan_right (of_bits binary64 a)).0),
+    sym (ap (eq (of_bits binary64 a)) (nan_of b h) ∙ (nan_right (of_bits binary64 a)).1),
   )
 
 -- ---- as the code has them
 module _ (a b : ℕ) (ha : magnitude a ≤ infinity) (hb : magnitude b ≤ infinity) where
-  lt_at : (s t : Bool) → negative a ≡ s → negative b ≡ t → below s (magnitude a) t (magnitude b) ≡ is-less a b
+  lt_at : (s t : Bool) → negative a ≡ s → negative b ≡ t → below s (magnitude a) t (magnitude b) ≡ is_less a b
   lt_at s t x y =
       sym ((compared a b ha hb).0 ∙ ap (λ (z : Bool). below z (magnitude a) (negative b) (magnitude b)) x
       ∙ ap (λ (z : Bool). below s (magnitude a) z (magnitude b)) y)
 
-  pub lt_above : a < top-place → b < top-place → ltb (magnitude a) (magnitude b) ≡ is-less a b
-  lt_above x y = lt_at false false (lt-leb top-place a x) (lt-leb top-place b y)
+  pub lt_above : a < top_place → b < top_place → ltb (magnitude a) (magnitude b) ≡ is_less a b
+  lt_above x y = lt_at false false (lt-leb top_place a x) (lt-leb top_place b y)
 
-  pub lt-down : a < top-place → top-place ≤ b → false ≡ is-less a b
-  lt-down x y = lt_at false true (lt-leb top-place a x) (le-leb top-place b y)
+  pub lt_down : a < top_place → top_place ≤ b → false ≡ is_less a b
+  lt_down x y = lt_at false true (lt-leb top_place a x) (le-leb top_place b y)
 
-  pub lt_up : top-place ≤ a → b < top-place → ltb 0 (magnitude a + magnitude b) ≡ is-less a b
-  lt_up x y = lt_at true false (le-leb top-place a x) (lt-leb top-place b y)
+  pub lt_up : top_place ≤ a → b < top_place → ltb 0 (magnitude a + magnitude b) ≡ is_less a b
+  lt_up x y = lt_at true false (le-leb top_place a x) (lt-leb top_place b y)
 
-  pub lt-below : top-place ≤ a → top-place ≤ b → ltb (magnitude b) (magnitude a) ≡ is-less a b
-  lt-below x y = lt_at true true (le-leb top-place a x) (le-leb top-place b y)
+  pub lt_below : top_place ≤ a → top_place ≤ b → ltb (magnitude b) (magnitude a) ≡ is_less a b
+  lt_below x y = lt_at true true (le-leb top_place a x) (le-leb top_place b y)
 
-  pub eq-zero : magnitude a ≡ 0 → eqb (magnitude b) 0 ≡ is-equal a b
-  eq-zero z =
+  pub eq_zero : magnitude a ≡ 0 → eqb (magnitude b) 0 ≡ is_equal a b
+  eq_zero z =
       sym ((compared a b ha hb).1 ∙ ap (λ (p : ℕ). level (negative a) p (negative b) (magnitude b)) z
       ∙ go (negative a) (negative b) (magnitude b))
     where
@@ -269,8 +269,8 @@ module _ (a b : ℕ) (ha : magnitude a ≤ infinity) (hb : magnitude b ≤ infin
       go : (s t : Bool) (o : ℕ) → level s 0 t o ≡ eqb o 0
       go s t o = ap (λ (x : Bool). eqb 0 o && x) (either (beq s t)) ∙ both (eqb 0 o) ∙ turned o
 
-  pub eq-other : a < word → b < word → (magnitude a ≡ 0 → ⊥) → eqb a b ≡ is-equal a b
-  eq-other sa sb z = go (eqb a b) refl ∙ sym (compared a b ha hb).1
+  pub eq_other : a < word → b < word → (magnitude a ≡ 0 → ⊥) → eqb a b ≡ is_equal a b
+  eq_other sa sb z = go (eqb a b) refl ∙ sym (compared a b ha hb).1
     where
       beq_same : (s t : Bool) → s ≡ t → beq s t || eqb (magnitude a) 0 ≡ true
       beq_same true true e = refl
@@ -278,11 +278,11 @@ module _ (a b : ℕ) (ha : magnitude a ≤ infinity) (hb : magnitude b ≤ infin
       beq_same true false e = absurd (true≢false e)
       beq_same false true e = absurd (true≢false (sym e))
 
-      beq-other : (s t : Bool) → (s ≡ t → ⊥) → beq s t ≡ false
-      beq-other true true e = absurd (e refl)
-      beq-other false false e = absurd (e refl)
-      beq-other true false e = refl
-      beq-other false true e = refl
+      beq_other : (s t : Bool) → (s ≡ t → ⊥) → beq s t ≡ false
+      beq_other true true e = absurd (e refl)
+      beq_other false false e = absurd (e refl)
+      beq_other true false e = refl
+      beq_other false true e = refl
 
       none : (x : Bool) → x && false ≡ false
       none true = refl
@@ -293,7 +293,7 @@ module _ (a b : ℕ) (ha : magnitude a ≤ infinity) (hb : magnitude b ≤ infin
           let x : a ≡ b = eqb-true a b e in
           sym (ap (λ (y : Bool). y && (beq (negative a) (negative b) || eqb (magnitude a) 0))
           (eq-eqb (magnitude a) (magnitude b) (ap (λ (y : ℕ). magnitude y) x))
-          ∙ beq_same (negative a) (negative b) (ap (leb top-place) x))
+          ∙ beq_same (negative a) (negative b) (ap (leb top_place) x))
       go false e = sym (apart (eqb (magnitude a) (magnitude b)) refl)
         where
           apart : (t : Bool) → eqb (magnitude a) (magnitude b) ≡ t
@@ -302,31 +302,31 @@ module _ (a b : ℕ) (ha : magnitude a ≤ infinity) (hb : magnitude b ≤ infin
           apart true f =
               let p = eqb-true (magnitude a) (magnitude b) f in
               ap (λ (y : Bool). y || eqb (magnitude a) 0)
-              (beq-other (negative a) (negative b)
-              (signs-unlike a b sa sb (λ (q : a / top-place ≡ b / top-place). eqb-false a b e (same a b q p))))
+              (beq_other (negative a) (negative b)
+              (signs_unlike a b sa sb (λ (q : a / top_place ≡ b / top_place). eqb-false a b e (same a b q p))))
               ∙ ne_eqb (magnitude a) 0 z
             where
-              same : (a b : ℕ) → a / top-place ≡ b / top-place → magnitude a ≡ magnitude b → a ≡ b
+              same : (a b : ℕ) → a / top_place ≡ b / top_place → magnitude a ≡ magnitude b → a ≡ b
               same a b q p = omega arith
 
-pub le-less : (x y : Float) → lt x y ≡ true → true ≡ le x y
+pub le_less : (x y : Float) → lt x y ≡ true → true ≡ le x y
 unfolding le
-le-less x y h = sym (ap (λ (b : Bool). b || eq x y) h)
+le_less x y h = sym (ap (λ (b : Bool). b || eq x y) h)
 
-pub le-other : (x y : Float) → lt x y ≡ false → eq x y ≡ le x y
+pub le_other : (x y : Float) → lt x y ≡ false → eq x y ≡ le x y
 unfolding le
-le-other x y h = sym (ap (λ (b : Bool). b || eq x y) h)
+le_other x y h = sym (ap (λ (b : Bool). b || eq x y) h)
 
 -- ---- whether one is a NaN
 nan_is : (a : ℕ) → ltb infinity (magnitude a) ≡ is_nan (of_bits binary64 a)
 nan_is a = sym (nan_bits_above binary64 a) ∙ nan_bits_is binary64 a
 
-unordered : (a b : ℕ) → ltb infinity (magnitude a) || ltb infinity (magnitude b) ≡ is-unordered a b
+unordered : (a b : ℕ) → ltb infinity (magnitude a) || ltb infinity (magnitude b) ≡ is_unordered a b
 unordered a b = ap (λ (x : Bool). x || ltb infinity (magnitude b)) (nan_is a) ∙ ap (λ (x : Bool). is_nan (of_bits binary64 a) || x) (nan_is b)
 
 module _ (a b : ℕ) where
-  pub unordered-first : infinity < magnitude a → true ≡ is-unordered a b
-  unordered-first h = sym (sym (unordered a b) ∙ ap (λ (x : Bool). x || ltb infinity (magnitude b)) (lt-ltb infinity (magnitude a) h))
+  pub unordered_first : infinity < magnitude a → true ≡ is_unordered a b
+  unordered_first h = sym (sym (unordered a b) ∙ ap (λ (x : Bool). x || ltb infinity (magnitude b)) (lt-ltb infinity (magnitude a) h))
 
-  pub unordered-second : magnitude a ≤ infinity → ltb infinity (magnitude b) ≡ is-unordered a b
-  unordered-second h = sym (sym (unordered a b) ∙ ap (λ (x : Bool). x || ltb infinity (magnitude b)) (le-ltb infinity (magnitude a) h))
+  pub unordered_second : magnitude a ≤ infinity → ltb infinity (magnitude b) ≡ is_unordered a b
+  unordered_second h = sym (sym (unordered a b) ∙ ap (λ (x : Bool). x || ltb infinity (magnitude b)) (le-ltb infinity (magnitude a) h))

@@ -1,10 +1,10 @@
 // Two doubles compared by their bit patterns, in whole numbers: magnitudes are in the order of their patterns. Nothing here knows a float.
 ghost use Rattle.std.specs.Prelude.{◌≡◌};
-ghost use Rattle.doubles_patterns.specs.Doubles.{is-less, is-at-most, is-equal, is-unordered};
+ghost use Rattle.doubles_patterns.specs.Doubles.{is_less, is_at_most, is_equal, is_unordered};
 
 // Whether the first of two doubles is less than the second; never where one is a NaN, nor of two zeros.
 pub fn less(a: u64, b: u64) -> bool
-    ensures { result ≡ is-less a b }
+    ensures { result ≡ is_less a b }
 {
     let p = a % 0x8000000000000000;
     let o = b % 0x8000000000000000;
@@ -23,7 +23,7 @@ pub fn less(a: u64, b: u64) -> bool
 
 // Whether two doubles are equal; zeros are, whatever their signs, and a NaN is equal to nothing.
 pub fn equal(a: u64, b: u64) -> bool
-    ensures { result ≡ is-equal a b }
+    ensures { result ≡ is_equal a b }
 {
     let p = a % 0x8000000000000000;
     let o = b % 0x8000000000000000;
@@ -40,14 +40,14 @@ pub fn equal(a: u64, b: u64) -> bool
 
 // Whether the first of two doubles is less than the second, or equal to it.
 pub fn at_most(a: u64, b: u64) -> bool
-    ensures { result ≡ is-at-most a b }
+    ensures { result ≡ is_at_most a b }
 {
     if less(a, b) { true } else { equal(a, b) }
 }
 
 // Whether one of two doubles is a NaN.
 pub fn unordered(a: u64, b: u64) -> bool
-    ensures { result ≡ is-unordered a b }
+    ensures { result ≡ is_unordered a b }
 {
     if 0x7FF0000000000000 < a % 0x8000000000000000 {
         true

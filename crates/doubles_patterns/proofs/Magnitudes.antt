@@ -20,18 +20,18 @@ use native.Mathlib.Nat.{
 use native.Mathlib.Omega.{arith}
 use lib.Count.{count_leading_zeros, leading_top}
 use lib.Pow.{pow-add, pow_pos, pow_mono}
-use Rattle.doubles_patterns.specs.Patterns.{word, leading, infinity, exponent-of, digits_of, units_of}
+use Rattle.doubles_patterns.specs.Patterns.{word, leading, infinity, exponent_of, digits_of, units_of}
 use Rattle.doubles_patterns.specs.Finite.{Fields, Raised}
-use Rattle.doubles_patterns.proofs.Sizes.{le-or-lt}
+use Rattle.doubles_patterns.proofs.Sizes.{le_or_lt}
 
 -- ---- the fields of a finite pattern
-pub fields-of : (p e : ℕ) → p < infinity → e ≡ exponent-of p → Fields p e (p - e * leading)
-unfolding exponent-of
-fields-of p e h is = record { whole = omega arith; high = omega arith; short = omega arith; long = λ g. omega arith }
+pub fields_of : (p e : ℕ) → p < infinity → e ≡ exponent_of p → Fields p e (p - e * leading)
+unfolding exponent_of
+fields_of p e h is = record { whole = omega arith; high = omega arith; short = omega arith; long = λ g. omega arith }
 
 -- a larger pattern has no smaller exponent
 pub exponents : (p e m o f n : ℕ) → Fields p e m → Fields o f n → o ≤ p → f ≤ e
-exponents p e m o f n a b h = go (le-or-lt f e)
+exponents p e m o f n a b h = go (le_or_lt f e)
   where
     go : (f ≤ e) ⊎ (e < f) → f ≤ e
     go (inl g) = g
@@ -54,39 +54,39 @@ larger p e m o f n a b h = go (eq-or-lt_of_le (exponents p e m o f n a b (omega 
         twice f = rw (pow-succ' 2 f) (omega arith)
 
 -- ---- units
-pub units-is : (p e : ℕ) → e ≡ exponent-of p → units_of p ≡ (p - e * leading) * 2 ^ e
+pub units_is : (p e : ℕ) → e ≡ exponent_of p → units_of p ≡ (p - e * leading) * 2 ^ e
 unfolding units_of digits_of
-units-is p e h = ap (λ (x : ℕ). (p - x * leading) * 2 ^ x) (sym h)
+units_is p e h = ap (λ (x : ℕ). (p - x * leading) * 2 ^ x) (sym h)
 
-pub units-less : (p o : ℕ) → p < infinity → o < p → units_of o < units_of p
-units-less p o h g =
-    let e = exponent-of p in
-    let f = exponent-of o in
-    subst (λ (x : ℕ). x < units_of p) (sym (units-is o f refl))
-    (subst (λ (x : ℕ). (o - f * leading) * 2 ^ f < x) (sym (units-is p e refl))
-    (larger p e (p - e * leading) o f (o - f * leading) (fields-of p e h refl) (fields-of o f (omega arith) refl) g))
+pub units_less : (p o : ℕ) → p < infinity → o < p → units_of o < units_of p
+units_less p o h g =
+    let e = exponent_of p in
+    let f = exponent_of o in
+    subst (λ (x : ℕ). x < units_of p) (sym (units_is o f refl))
+    (subst (λ (x : ℕ). (o - f * leading) * 2 ^ f < x) (sym (units_is p e refl))
+    (larger p e (p - e * leading) o f (o - f * leading) (fields_of p e h refl) (fields_of o f (omega arith) refl) g))
 
-pub some-digits : (p e m : ℕ) → Fields p e m → 0 < p → 0 < m
-some-digits p zero m a h = let w = a.whole in omega arith
-some-digits p (suc e) m a h = let l = a.long (zero-lt-suc e) in omega arith
+pub some_digits : (p e m : ℕ) → Fields p e m → 0 < p → 0 < m
+some_digits p zero m a h = let w = a.whole in omega arith
+some_digits p (suc e) m a h = let l = a.long (zero-lt-suc e) in omega arith
 
-pub units-zero : units_of 0 ≡ 0
+pub units_zero : units_of 0 ≡ 0
 unfolding units_of
-units-zero = refl
+units_zero = refl
 
-pub units-some : (p : ℕ) → p < infinity → 0 < p → 0 < units_of p
-units-some p h g =
-    subst (λ (x : ℕ). 0 < x) (sym (units-is p (exponent-of p) refl))
-    (mul-pos (some-digits p (exponent-of p) (p - exponent-of p * leading) (fields-of p (exponent-of p) h refl) g) (pow_pos (exponent-of p)))
+pub units_some : (p : ℕ) → p < infinity → 0 < p → 0 < units_of p
+units_some p h g =
+    subst (λ (x : ℕ). 0 < x) (sym (units_is p (exponent_of p) refl))
+    (mul-pos (some_digits p (exponent_of p) (p - exponent_of p * leading) (fields_of p (exponent_of p) h refl) g) (pow_pos (exponent_of p)))
 
 -- ---- the digits with the leading one in its place: a normal number has it there
 one_more : (x : ℕ) → 0 < x → x + 51 ≡ x - 1 + 52
 one_more x h = omega arith
 
-pub raised-normal : (p : ℕ) → leading ≤ p → p < infinity → Raised p (p % leading + leading) (p / leading + 51)
-unfolding exponent-of
-raised-normal p normal finite =
-    let e = exponent-of p in
+pub raised_normal : (p : ℕ) → leading ≤ p → p < infinity → Raised p (p % leading + leading) (p / leading + 51)
+unfolding exponent_of
+raised_normal p normal finite =
+    let e = exponent_of p in
     let digits : p - e * leading ≡ p % leading + leading = omega arith in
     record {
       units =
@@ -94,7 +94,7 @@ raised-normal p normal finite =
           ∙ ap (λ (x : ℕ). (p % leading + leading) * x) (pow-add 2 e 52)
           ∙ sym (mul_assoc (p % leading + leading) (2 ^ e) leading)
           ∙ ap (λ (x : ℕ). x * 2 ^ e * leading) (sym digits)
-          ∙ ap (λ (x : ℕ). x * leading) (sym (units-is p e refl));
+          ∙ ap (λ (x : ℕ). x * leading) (sym (units_is p e refl));
       long = omega arith;
       short = omega arith;
       high = omega arith;
@@ -102,30 +102,30 @@ raised-normal p normal finite =
 
 -- ---- and a subnormal one is moved up to it, by eleven places fewer than a word has before its first digit
 module _ (p : ℕ) (some : 0 < p) (subnormal : p < leading) where
-  few-places : (j : ℕ) → 2 ^ j ≤ p → j < 52
-  few-places j reached = go (le-or-lt 52 j)
+  few_places : (j : ℕ) → 2 ^ j ≤ p → j < 52
+  few_places j reached = go (le_or_lt 52 j)
     where
       go : (52 ≤ j) ⊎ (j < 52) → j < 52
       go (inr h) = h
       go (inl h) = let high : leading ≤ 2 ^ j = pow_mono {i = 52} {j = j} h in let z : ⊥ = omega arith in absurd z
 
-  pub places-up : (11 ≤ count_leading_zeros 64 p) × (count_leading_zeros 64 p ≤ 63)
-  places-up =
+  pub places_up : (11 ≤ count_leading_zeros 64 p) × (count_leading_zeros 64 p ≤ 63)
+  places_up =
       let t = leading_top 64 p some (omega arith) in
-      let few = few-places t.0 t.2 in
+      let few = few_places t.0 t.2 in
       let sum = t.1 in
       (omega arith, omega arith)
 
-  units-alone : units_of p ≡ p
-  unfolding exponent-of
-  units-alone = units-is p 0 (omega arith) ∙ mul-one (p - 0 * leading) ∙ (omega arith)
+  units_alone : units_of p ≡ p
+  unfolding exponent_of
+  units_alone = units_is p 0 (omega arith) ∙ mul-one (p - 0 * leading) ∙ (omega arith)
 
-  pub raised-subnormal : Raised p (p * 2 ^ (count_leading_zeros 64 p - 11) % word) (52 - (count_leading_zeros 64 p - 11))
-  raised-subnormal =
+  pub raised_subnormal : Raised p (p * 2 ^ (count_leading_zeros 64 p - 11) % word) (52 - (count_leading_zeros 64 p - 11))
+  raised_subnormal =
       let t = leading_top 64 p some (omega arith) in
       let j = t.0 in
       let u = count_leading_zeros 64 p - 11 in
-      let few = few-places j t.2 in
+      let few = few_places j t.2 in
       let sum = t.1 in
       let least : leading ≤ p * 2 ^ u = le_trans (le_of_eq (powers 52 j u (omega arith))) (mul-le-mul_right (2 ^ u) t.2) in
       let most : p * 2 ^ u < 2 * leading =
@@ -135,7 +135,7 @@ module _ (p : ℕ) (some : 0 < p) (subnormal : p < leading) where
         units =
             ap (λ (x : ℕ). x * 2 ^ (52 - u)) fits ∙ mul_assoc p (2 ^ u) (2 ^ (52 - u))
             ∙ ap (λ (x : ℕ). p * x) (sym (powers 52 u (52 - u) (omega arith)))
-            ∙ ap (λ (x : ℕ). x * leading) (sym units-alone);
+            ∙ ap (λ (x : ℕ). x * leading) (sym units_alone);
         long = omega arith;
         short = omega arith;
         high = omega arith;

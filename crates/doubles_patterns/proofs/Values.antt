@@ -28,9 +28,9 @@ zero_field : (f : Format) (s : Bool) (t : ℕ) → of_fields f s 0 t ≡ odd (pr
 unfolding of_fields
 zero_field f s t = refl
 
-other-field : (f : Format) (s : Bool) (x t : ℕ) → suc x < ones f → of_fields f s (suc x) t ≡ odd (prec f) s (hid f + t) x (low f)
+other_field : (f : Format) (s : Bool) (x t : ℕ) → suc x < ones f → of_fields f s (suc x) t ≡ odd (prec f) s (hid f + t) x (low f)
 unfolding of_fields
-other-field f s x t h =
+other_field f s x t h =
     ap (λ (b : Bool). cond b (cond (eqb t 0) (inf s) nan) (odd (prec f) s (hid f + t) x (low f)))
     (ne_eqb (suc x) (ones f) (λ (e : suc x ≡ ones f). apart (suc x) (ones f) h e))
   where
@@ -48,7 +48,7 @@ fields_value f s zero t p h e =
     digits h t p e = omega arith
 fields_value f s (suc x) t p h e =
     subst (λ (y : ℕ). HasValue (of_fields f s (suc x) t) s ((p - y * hid f) * 2 ^ y) (2 ^ low f)) (before x)
-    (subst (λ (v : Float). HasValue v s ((p - x * hid f) * 2 ^ x) (2 ^ low f)) (sym (other-field f s x t h))
+    (subst (λ (v : Float). HasValue v s ((p - x * hid f) * 2 ^ x) (2 ^ low f)) (sym (other_field f s x t h))
     (subst (λ (y : ℕ). HasValue (odd (prec f) s (hid f + t) x (low f)) s (y * 2 ^ x) (2 ^ low f))
     (digits (x * hid f) (hid f) t p (e ∙ ap (λ (z : ℕ). z + t) (suc-mul x (hid f))))
     (odd_sign (prec f) s (hid f + t) x (low f))))
@@ -68,17 +68,17 @@ pub of_bits_is : (f : Format) (b : ℕ) → of_bits f b ≡ of_fields f (leb (to
 unfolding of_bits
 of_bits_is f b = refl
 
-pub finite-value : (f : Format) (b : ℕ) → b % top f < ones f * hid f
+pub finite_value : (f : Format) (b : ℕ) → b % top f < ones f * hid f
     → HasValue (of_bits f b) (leb (top f) b) ((b % top f - (b % top f / hid f - 1) * hid f) * 2 ^ (b % top f / hid f - 1)) (2 ^ low f)
-finite-value f b h =
+finite_value f b h =
     let p = b % top f in
     subst (λ (v : Float). HasValue v (leb (top f) b) ((p - (p / hid f - 1) * hid f) * 2 ^ (p / hid f - 1)) (2 ^ low f))
     (sym (of_bits_is f b))
     (fields_value f (leb (top f) b) (p / hid f) (b % hid f) p ((div-lt_iff_lt-mul (pow_pos (prec f - 1))).1 h) (two_fields f b))
 
 -- ---- two numbers on another scale
-pub sub-mul : (a b k : ℕ) → (a - b) * k ≡ a * k - b * k
-sub-mul a b k = rw (mul_comm (a - b) k, mul-sub k a b, mul_comm k a, mul_comm k b) refl
+pub sub_mul : (a b k : ℕ) → (a - b) * k ≡ a * k - b * k
+sub_mul a b k = rw (mul_comm (a - b) k, mul-sub k a b, mul_comm k a, mul_comm k b) refl
 
 module _ (A B c X Y L : ℕ) (C : 0 < c) (l : 0 < L) (x : A * L ≡ X * c) (y : B * L ≡ Y * c) where
   pub less : ltb A B ≡ ltb X Y
@@ -96,4 +96,4 @@ module _ (A B c X Y L : ℕ) (C : 0 < c) (l : 0 < L) (x : A * L ≡ X * c) (y : 
   sums = rw (add-mul A B L, add-mul X Y c, x, y) refl
 
   pub differences : (A - B) * L ≡ (X - Y) * c
-  differences = rw (sub-mul A B L, sub-mul X Y c, x, y) refl
+  differences = rw (sub_mul A B L, sub_mul X Y c, x, y) refl

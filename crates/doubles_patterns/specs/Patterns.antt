@@ -10,11 +10,11 @@ use Rattle.std.specs.Float.Ieee.Order.{drop, kept}
 abbrev pub word : ℕ
 word = 18446744073709551616
 
-abbrev pub top-place : ℕ
-top-place = 9223372036854775808
+abbrev pub top_place : ℕ
+top_place = 9223372036854775808
 
-abbrev pub second-place : ℕ
-second-place = 4611686018427387904
+abbrev pub second_place : ℕ
+second_place = 4611686018427387904
 
 -- 2 ^ 52, the weight of a number's leading digit, which no pattern holds, and of the exponent's last place
 abbrev pub leading : ℕ
@@ -24,19 +24,19 @@ leading = 4503599627370496
 abbrev pub infinity : ℕ
 infinity = 9218868437227405312
 
-abbrev pub not-a-number : ℕ
-not-a-number = 9221120237041090560
+abbrev pub not_a_number : ℕ
+not_a_number = 9221120237041090560
 
 -- ---- the sign, and the rest
 
 abbrev pub magnitude : ℕ → ℕ
-magnitude a = a % top-place
+magnitude a = a % top_place
 
 abbrev pub negative : ℕ → Bool
-negative a = leb top-place a
+negative a = leb top_place a
 
-abbrev pub sign-weight : Bool → ℕ
-sign-weight s = cond s top-place 0
+abbrev pub sign_weight : Bool → ℕ
+sign_weight s = cond s top_place 0
 
 -- ---- rounding
 
@@ -51,22 +51,22 @@ pattern f n d = capped f (drop (prec f) n d * hid f + kept (prec f) n d)
 
 -- ---- the magnitude p is exponent * 2 ^ 52 + digits, and stands for digits * 2 ^ exponent units
 
-unfoldable pub exponent-of : ℕ → ℕ
-exponent-of p = p / leading - 1
+unfoldable pub exponent_of : ℕ → ℕ
+exponent_of p = p / leading - 1
 
 unfoldable pub digits_of : ℕ → ℕ
-unfolding exponent-of
-digits_of p = p - exponent-of p * leading
+unfolding exponent_of
+digits_of p = p - exponent_of p * leading
 
 unfoldable pub units_of : ℕ → ℕ
-unfolding digits_of exponent-of
-units_of p = digits_of p * 2 ^ exponent-of p
+unfolding digits_of exponent_of
+units_of p = digits_of p * 2 ^ exponent_of p
 
 -- the patterns of the product and of the quotient of x units and y units
-unfoldable pub product-of-units : ℕ → ℕ → ℕ
+unfoldable pub product_of_units : ℕ → ℕ → ℕ
 unfolding pattern
-product-of-units x y = pattern binary64 (x * y) (2 ^ low binary64)
+product_of_units x y = pattern binary64 (x * y) (2 ^ low binary64)
 
-unfoldable pub quotient-of-units : ℕ → ℕ → ℕ
+unfoldable pub quotient_of_units : ℕ → ℕ → ℕ
 unfolding pattern
-quotient-of-units x y = pattern binary64 (x * 2 ^ low binary64) y
+quotient_of_units x y = pattern binary64 (x * 2 ^ low binary64) y

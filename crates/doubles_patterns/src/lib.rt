@@ -2,7 +2,7 @@
 ghost use Rattle.std.specs.Prelude.{◌≡◌, ◌-◌, ◌*◌, ◌<◌, ◌≤◌};
 ghost use Rattle.std.specs.Float.Ieee.{unlike, neg, of_bits};
 ghost use Rattle.std.specs.Float.{binary64};
-ghost use Rattle.doubles_patterns.specs.Patterns.{leading, top-place, infinity, negative, sign-weight, exponent-of};
+ghost use Rattle.doubles_patterns.specs.Patterns.{leading, top_place, infinity, negative, sign_weight, exponent_of};
 ghost use Rattle.doubles_patterns.specs.Finite.{Fields, Raised};
 
 // The digits of a magnitude with the leading one in its place, and the exponent that goes with them.
@@ -15,7 +15,7 @@ pub struct Parts {
 // The exponent of a finite magnitude: its last digit weighs 2 ^ exponent of the smallest double.
 pub fn exponent(p: u64) -> u64
     requires { p < infinity }
-    ensures { (result ≡ exponent-of p) × Fields p result (p - result * leading) }
+    ensures { (result ≡ exponent_of p) × Fields p result (p - result * leading) }
 {
     let field = p / 0x10000000000000;
     if field == 0 { 0 } else { field - 1 }
@@ -43,7 +43,7 @@ pub fn parts_of(p: u64) -> Parts
 
 // The weight of the sign that a product or a quotient has.
 pub fn sign_of(a: u64, b: u64) -> u64
-    ensures { (result ≡ sign-weight (unlike (negative a) (negative b))) × (result ≤ top-place) }
+    ensures { (result ≡ sign_weight (unlike (negative a) (negative b))) × (result ≤ top_place) }
 {
     if a / 0x8000000000000000 == b / 0x8000000000000000 {
         0

@@ -13,12 +13,12 @@ use lib.Ieee.{Float, nan, inf, fin, Format, binary64, low, unlike, up, down, siz
 use lib.Ieee.Fits.{up_pos, down_pos}
 use lib.Ieee.Exact.{HasValue}
 use lib.Ieee.Scale.{round_same}
-use Rattle.doubles_patterns.specs.Doubles.{product-pattern}
-use Rattle.doubles_patterns.specs.Patterns.{infinity, not-a-number, magnitude, negative, sign-weight, pattern, units_of, product-of-units}
-use Rattle.doubles_patterns.proofs.Sizes.{le-or-lt}
-use Rattle.doubles_patterns.proofs.Packing.{round-pattern-over, pattern-same}
-use Rattle.doubles_patterns.proofs.Magnitudes.{units-zero, units-some}
-use Rattle.doubles_patterns.proofs.Specials.{value_of, nan-of, inf-of, to_bits_nan, to_bits_inf, value-zero, value-some}
+use Rattle.doubles_patterns.specs.Doubles.{product_pattern}
+use Rattle.doubles_patterns.specs.Patterns.{infinity, not_a_number, magnitude, negative, sign_weight, pattern, units_of, product_of_units}
+use Rattle.doubles_patterns.proofs.Sizes.{le_or_lt}
+use Rattle.doubles_patterns.proofs.Packing.{round_pattern_over, pattern_same}
+use Rattle.doubles_patterns.proofs.Magnitudes.{units_zero, units_some}
+use Rattle.doubles_patterns.proofs.Specials.{value_of, nan_of, inf_of, to_bits_nan, to_bits_inf, value_zero, value_some}
 
 -- ---- finite values
 opened : (f : Format) (u : Bool) (m : ℕ) (e : ℤ) (v : Bool) (n : ℕ) (d : ℤ)
@@ -32,13 +32,13 @@ cross a b L = simp (mul_assoc, mul_left_comm)
 cross' : (X Y p q : ℕ) → X * p * (Y * q) ≡ X * Y * (p * q)
 cross' X Y p q = simp (mul_assoc, mul_left_comm)
 
-pub mul-values : (f : Format) (x y : Float) (s : Bool) (X : ℕ) (t : Bool) (Y L : ℕ) → 0 < L → HasValue x s X L → HasValue y t Y L
+pub mul_values : (f : Format) (x y : Float) (s : Bool) (X : ℕ) (t : Bool) (Y L : ℕ) → 0 < L → HasValue x s X L → HasValue y t Y L
     → mul f x y ≡ round f (unlike s t) (X * Y) (L * L)
-mul-values f nan y s X t Y L l h k = absurd h
-mul-values f (inf u) y s X t Y L l h k = absurd h
-mul-values f (fin u m e) nan s X t Y L l h k = absurd k
-mul-values f (fin u m e) (inf v) s X t Y L l h k = absurd k
-mul-values f (fin u m e) (fin v n d) s X t Y L l h k =
+mul_values f nan y s X t Y L l h k = absurd h
+mul_values f (inf u) y s X t Y L l h k = absurd h
+mul_values f (fin u m e) nan s X t Y L l h k = absurd k
+mul_values f (fin u m e) (inf v) s X t Y L l h k = absurd k
+mul_values f (fin u m e) (fin v n d) s X t Y L l h k =
     opened f u m e v n d
     ∙ ap (λ (b : Bool). round f (unlike b v) (m * up e * (n * up d)) (down e * down d)) h.0
     ∙ ap (λ (b : Bool). round f (unlike s b) (m * up e * (n * up d)) (down e * down d)) k.0
@@ -47,136 +47,136 @@ mul-values f (fin u m e) (fin v n d) s X t Y L l h k =
     ∙ cross' X Y (down e) (down d))
 
 module _ (a b : ℕ) (ha : magnitude a < infinity) (hb : magnitude b < infinity) where
-  pub product-finite : product-pattern a b
-      ≡ sign-weight (unlike (negative a) (negative b)) + product-of-units (units_of (magnitude a)) (units_of (magnitude b))
-  unfolding product-of-units
-  product-finite =
+  pub product_finite : product_pattern a b
+      ≡ sign_weight (unlike (negative a) (negative b)) + product_of_units (units_of (magnitude a)) (units_of (magnitude b))
+  unfolding product_of_units
+  product_finite =
       ap (to_bits binary64)
-      (mul-values binary64 (of_bits binary64 a) (of_bits binary64 b) (negative a) (units_of (magnitude a)) (negative b)
+      (mul_values binary64 (of_bits binary64 a) (of_bits binary64 b) (negative a) (units_of (magnitude a)) (negative b)
       (units_of (magnitude b)) (2 ^ low binary64) (pow_pos (low binary64)) (value_of a ha) (value_of b hb))
-      ∙ round-pattern-over binary64 (unlike (negative a) (negative b)) (units_of (magnitude a) * units_of (magnitude b))
+      ∙ round_pattern_over binary64 (unlike (negative a) (negative b)) (units_of (magnitude a) * units_of (magnitude b))
       (2 ^ low binary64) (pow_pos (low binary64))
 
 -- ---- zero
 zero_pattern : pattern binary64 0 (2 ^ low binary64) ≡ 0
 unfolding pattern size
-zero_pattern = pattern-same binary64 0 (2 ^ low binary64) 0 1 (pow_pos (low binary64)) (lit< tt) refl ∙ refl
+zero_pattern = pattern_same binary64 0 (2 ^ low binary64) 0 1 (pow_pos (low binary64)) (lit< tt) refl ∙ refl
 
-pub product-zero : (p o : ℕ) → p ≡ 0 → product-of-units (units_of p) (units_of o) ≡ 0
-unfolding product-of-units
-product-zero p o e =
-    ap (λ (x : ℕ). pattern binary64 (x * units_of o) (2 ^ low binary64)) (ap units_of e ∙ units-zero)
+pub product_zero : (p o : ℕ) → p ≡ 0 → product_of_units (units_of p) (units_of o) ≡ 0
+unfolding product_of_units
+product_zero p o e =
+    ap (λ (x : ℕ). pattern binary64 (x * units_of o) (2 ^ low binary64)) (ap units_of e ∙ units_zero)
     ∙ ap (λ (x : ℕ). pattern binary64 x (2 ^ low binary64)) (zero-mul (units_of o)) ∙ zero_pattern
 
-pub product-zero-back : (p o : ℕ) → o ≡ 0 → product-of-units (units_of p) (units_of o) ≡ 0
-unfolding product-of-units
-product-zero-back p o e =
-    ap (λ (x : ℕ). pattern binary64 (units_of p * x) (2 ^ low binary64)) (ap units_of e ∙ units-zero)
+pub product_zero_back : (p o : ℕ) → o ≡ 0 → product_of_units (units_of p) (units_of o) ≡ 0
+unfolding product_of_units
+product_zero_back p o e =
+    ap (λ (x : ℕ). pattern binary64 (units_of p * x) (2 ^ low binary64)) (ap units_of e ∙ units_zero)
     ∙ ap (λ (x : ℕ). pattern binary64 x (2 ^ low binary64)) (mul-zero (units_of p)) ∙ zero_pattern
 
 -- ---- infinity
-inf-zero : (s t : Bool) (y : Float) (Y L : ℕ) → 0 < L → HasValue y t Y L → Y ≡ 0
+inf_zero : (s t : Bool) (y : Float) (Y L : ℕ) → 0 < L → HasValue y t Y L → Y ≡ 0
     → (mul binary64 (inf s) y ≡ nan) × (mul binary64 y (inf s) ≡ nan)
 unfolding mul
-inf-zero s t nan Y L l h z = absurd h
-inf-zero s t (inf u) Y L l h z = absurd h
-inf-zero s t (fin u n d) Y L l h z =
-    let e : eqb n 0 ≡ true = eq-eqb n 0 (value-zero n (up d) L Y (down d) (up_pos d) l h.1 z) in
+inf_zero s t nan Y L l h z = absurd h
+inf_zero s t (inf u) Y L l h z = absurd h
+inf_zero s t (fin u n d) Y L l h z =
+    let e : eqb n 0 ≡ true = eq-eqb n 0 (value_zero n (up d) L Y (down d) (up_pos d) l h.1 z) in
     (ap (λ (b : Bool). cond b nan (inf (unlike s u))) e, ap (λ (b : Bool). cond b nan (inf (unlike u s))) e)
 
-inf-some : (s t : Bool) (y : Float) (Y L : ℕ) → 0 < L → HasValue y t Y L → 0 < Y
+inf_some : (s t : Bool) (y : Float) (Y L : ℕ) → 0 < L → HasValue y t Y L → 0 < Y
     → (mul binary64 (inf s) y ≡ inf (unlike s t)) × (mul binary64 y (inf s) ≡ inf (unlike t s))
 unfolding mul
-inf-some s t nan Y L l h z = absurd h
-inf-some s t (inf u) Y L l h z = absurd h
-inf-some s t (fin u n d) Y L l h z =
-    let e : eqb n 0 ≡ false = ne_eqb n 0 (value-some n (up d) L Y (down d) z (down_pos d) h.1) in (
+inf_some s t nan Y L l h z = absurd h
+inf_some s t (inf u) Y L l h z = absurd h
+inf_some s t (fin u n d) Y L l h z =
+    let e : eqb n 0 ≡ false = ne_eqb n 0 (value_some n (up d) L Y (down d) z (down_pos d) h.1) in (
       ap (λ (b : Bool). cond b nan (inf (unlike s u))) e
           ∙ ap (λ (b : Bool). inf (unlike s b)) h.0,
       ap (λ (b : Bool). cond b nan (inf (unlike u s))) e
           ∙ ap (λ (b : Bool). inf (unlike b s)) h.0,
     )
 
-mul-infs : (s t : Bool) → mul binary64 (inf s) (inf t) ≡ inf (unlike s t)
+mul_infs : (s t : Bool) → mul binary64 (inf s) (inf t) ≡ inf (unlike s t)
 unfolding mul
-mul-infs s t = refl
+mul_infs s t = refl
 
-mul-nan : (y : Float) → (mul binary64 nan y ≡ nan) × (mul binary64 y nan ≡ nan)
+mul_nan : (y : Float) → (mul binary64 nan y ≡ nan) × (mul binary64 y nan ≡ nan)
 unfolding mul
-mul-nan nan = (refl, refl)
-mul-nan (inf s) = (refl, refl)
-mul-nan (fin s m e) = (refl, refl)
+mul_nan nan = (refl, refl)
+mul_nan (inf s) = (refl, refl)
+mul_nan (fin s m e) = (refl, refl)
 
 module _ (a b : ℕ) where
-  pub product-nan : infinity < magnitude a → not-a-number ≡ product-pattern a b
-  product-nan h =
-      sym (ap (λ (x : Float). to_bits binary64 (mul binary64 x (of_bits binary64 b))) (nan-of a h)
-      ∙ ap (to_bits binary64) (mul-nan (of_bits binary64 b)).0 ∙ to_bits_nan)
+  pub product_nan : infinity < magnitude a → not_a_number ≡ product_pattern a b
+  product_nan h =
+      sym (ap (λ (x : Float). to_bits binary64 (mul binary64 x (of_bits binary64 b))) (nan_of a h)
+      ∙ ap (to_bits binary64) (mul_nan (of_bits binary64 b)).0 ∙ to_bits_nan)
 
-  pub product-nan-back : infinity < magnitude b → not-a-number ≡ product-pattern a b
-  product-nan-back h =
-      sym (ap (λ (x : Float). to_bits binary64 (mul binary64 (of_bits binary64 a) x)) (nan-of b h)
-      ∙ ap (to_bits binary64) (mul-nan (of_bits binary64 a)).1 ∙ to_bits_nan)
+  pub product_nan_back : infinity < magnitude b → not_a_number ≡ product_pattern a b
+  product_nan_back h =
+      sym (ap (λ (x : Float). to_bits binary64 (mul binary64 (of_bits binary64 a) x)) (nan_of b h)
+      ∙ ap (to_bits binary64) (mul_nan (of_bits binary64 a)).1 ∙ to_bits_nan)
 
-  pub product-infs : magnitude a ≡ infinity → magnitude b ≡ infinity
-      → sign-weight (unlike (negative a) (negative b)) + infinity ≡ product-pattern a b
-  product-infs h g =
-      sym (ap (λ (x : Float). to_bits binary64 (mul binary64 x (of_bits binary64 b))) (inf-of a h)
-      ∙ ap (λ (y : Float). to_bits binary64 (mul binary64 (inf (negative a)) y)) (inf-of b g)
-      ∙ ap (to_bits binary64) (mul-infs (negative a) (negative b)) ∙ to_bits_inf (unlike (negative a) (negative b)))
+  pub product_infs : magnitude a ≡ infinity → magnitude b ≡ infinity
+      → sign_weight (unlike (negative a) (negative b)) + infinity ≡ product_pattern a b
+  product_infs h g =
+      sym (ap (λ (x : Float). to_bits binary64 (mul binary64 x (of_bits binary64 b))) (inf_of a h)
+      ∙ ap (λ (y : Float). to_bits binary64 (mul binary64 (inf (negative a)) y)) (inf_of b g)
+      ∙ ap (to_bits binary64) (mul_infs (negative a) (negative b)) ∙ to_bits_inf (unlike (negative a) (negative b)))
 
-  pub product-inf-zero : magnitude a ≡ infinity → magnitude b ≡ 0 → not-a-number ≡ product-pattern a b
-  product-inf-zero h g =
-      sym (ap (λ (x : Float). to_bits binary64 (mul binary64 x (of_bits binary64 b))) (inf-of a h)
-      ∙ ap (to_bits binary64) (inf-zero (negative a) (negative b) (of_bits binary64 b) (units_of (magnitude b)) (2 ^ low binary64)
-      (pow_pos (low binary64)) (value_of b (omega arith)) (ap units_of g ∙ units-zero)).0 ∙ to_bits_nan)
+  pub product_inf_zero : magnitude a ≡ infinity → magnitude b ≡ 0 → not_a_number ≡ product_pattern a b
+  product_inf_zero h g =
+      sym (ap (λ (x : Float). to_bits binary64 (mul binary64 x (of_bits binary64 b))) (inf_of a h)
+      ∙ ap (to_bits binary64) (inf_zero (negative a) (negative b) (of_bits binary64 b) (units_of (magnitude b)) (2 ^ low binary64)
+      (pow_pos (low binary64)) (value_of b (omega arith)) (ap units_of g ∙ units_zero)).0 ∙ to_bits_nan)
 
-  pub product-zero-inf : magnitude b ≡ infinity → magnitude a ≡ 0 → not-a-number ≡ product-pattern a b
-  product-zero-inf h g =
-      sym (ap (λ (x : Float). to_bits binary64 (mul binary64 (of_bits binary64 a) x)) (inf-of b h)
-      ∙ ap (to_bits binary64) (inf-zero (negative b) (negative a) (of_bits binary64 a) (units_of (magnitude a)) (2 ^ low binary64)
-      (pow_pos (low binary64)) (value_of a (omega arith)) (ap units_of g ∙ units-zero)).1 ∙ to_bits_nan)
+  pub product_zero_inf : magnitude b ≡ infinity → magnitude a ≡ 0 → not_a_number ≡ product_pattern a b
+  product_zero_inf h g =
+      sym (ap (λ (x : Float). to_bits binary64 (mul binary64 (of_bits binary64 a) x)) (inf_of b h)
+      ∙ ap (to_bits binary64) (inf_zero (negative b) (negative a) (of_bits binary64 a) (units_of (magnitude a)) (2 ^ low binary64)
+      (pow_pos (low binary64)) (value_of a (omega arith)) (ap units_of g ∙ units_zero)).1 ∙ to_bits_nan)
 
-  pub product-inf-some : magnitude a ≡ infinity → magnitude b < infinity → 0 < magnitude b
-      → sign-weight (unlike (negative a) (negative b)) + infinity ≡ product-pattern a b
-  product-inf-some h g k =
-      sym (ap (λ (x : Float). to_bits binary64 (mul binary64 x (of_bits binary64 b))) (inf-of a h)
-      ∙ ap (to_bits binary64) (inf-some (negative a) (negative b) (of_bits binary64 b) (units_of (magnitude b)) (2 ^ low binary64)
-      (pow_pos (low binary64)) (value_of b g) (units-some (magnitude b) g k)).0
+  pub product_inf_some : magnitude a ≡ infinity → magnitude b < infinity → 0 < magnitude b
+      → sign_weight (unlike (negative a) (negative b)) + infinity ≡ product_pattern a b
+  product_inf_some h g k =
+      sym (ap (λ (x : Float). to_bits binary64 (mul binary64 x (of_bits binary64 b))) (inf_of a h)
+      ∙ ap (to_bits binary64) (inf_some (negative a) (negative b) (of_bits binary64 b) (units_of (magnitude b)) (2 ^ low binary64)
+      (pow_pos (low binary64)) (value_of b g) (units_some (magnitude b) g k)).0
       ∙ to_bits_inf (unlike (negative a) (negative b)))
 
-  pub product-some-inf : magnitude b ≡ infinity → magnitude a < infinity → 0 < magnitude a
-      → sign-weight (unlike (negative a) (negative b)) + infinity ≡ product-pattern a b
-  product-some-inf h g k =
-      sym (ap (λ (x : Float). to_bits binary64 (mul binary64 (of_bits binary64 a) x)) (inf-of b h)
-      ∙ ap (to_bits binary64) (inf-some (negative b) (negative a) (of_bits binary64 a) (units_of (magnitude a)) (2 ^ low binary64)
-      (pow_pos (low binary64)) (value_of a g) (units-some (magnitude a) g k)).1
+  pub product_some_inf : magnitude b ≡ infinity → magnitude a < infinity → 0 < magnitude a
+      → sign_weight (unlike (negative a) (negative b)) + infinity ≡ product_pattern a b
+  product_some_inf h g k =
+      sym (ap (λ (x : Float). to_bits binary64 (mul binary64 (of_bits binary64 a) x)) (inf_of b h)
+      ∙ ap (to_bits binary64) (inf_some (negative b) (negative a) (of_bits binary64 a) (units_of (magnitude a)) (2 ^ low binary64)
+      (pow_pos (low binary64)) (value_of a g) (units_some (magnitude a) g k)).1
       ∙ to_bits_inf (unlike (negative a) (negative b)))
 
 -- ---- as the code has them
-module _ (a b w : ℕ) (is : w ≡ sign-weight (unlike (negative a) (negative b))) where
-  pub product-signed : (n : ℕ) → magnitude a < infinity → magnitude b < infinity
-      → n ≡ product-of-units (units_of (magnitude a)) (units_of (magnitude b)) → w + n ≡ product-pattern a b
-  product-signed n ha hb e =
-      ap (λ (x : ℕ). x + n) is ∙ ap (λ (x : ℕ). sign-weight (unlike (negative a) (negative b)) + x) e ∙ sym (product-finite a b ha hb)
+module _ (a b w : ℕ) (is : w ≡ sign_weight (unlike (negative a) (negative b))) where
+  pub product_signed : (n : ℕ) → magnitude a < infinity → magnitude b < infinity
+      → n ≡ product_of_units (units_of (magnitude a)) (units_of (magnitude b)) → w + n ≡ product_pattern a b
+  product_signed n ha hb e =
+      ap (λ (x : ℕ). x + n) is ∙ ap (λ (x : ℕ). sign_weight (unlike (negative a) (negative b)) + x) e ∙ sym (product_finite a b ha hb)
 
-  pub product-nothing : magnitude a < infinity → magnitude b < infinity
-      → product-of-units (units_of (magnitude a)) (units_of (magnitude b)) ≡ 0 → w ≡ product-pattern a b
-  product-nothing ha hb e = sym (add-zero w) ∙ product-signed 0 ha hb (sym e)
+  pub product_nothing : magnitude a < infinity → magnitude b < infinity
+      → product_of_units (units_of (magnitude a)) (units_of (magnitude b)) ≡ 0 → w ≡ product_pattern a b
+  product_nothing ha hb e = sym (add-zero w) ∙ product_signed 0 ha hb (sym e)
 
-  pub product-special : (magnitude a < infinity → infinity ≤ magnitude b) → magnitude a ≤ infinity → magnitude b ≤ infinity
-      → 0 < magnitude a → 0 < magnitude b → w + infinity ≡ product-pattern a b
-  product-special one pa pb sa sb = ap (λ (x : ℕ). x + infinity) is ∙ go (le-or-lt infinity (magnitude a)) (le-or-lt infinity (magnitude b))
+  pub product_special : (magnitude a < infinity → infinity ≤ magnitude b) → magnitude a ≤ infinity → magnitude b ≤ infinity
+      → 0 < magnitude a → 0 < magnitude b → w + infinity ≡ product_pattern a b
+  product_special one pa pb sa sb = ap (λ (x : ℕ). x + infinity) is ∙ go (le_or_lt infinity (magnitude a)) (le_or_lt infinity (magnitude b))
     where
       go : (infinity ≤ magnitude a) ⊎ (magnitude a < infinity) → (infinity ≤ magnitude b) ⊎ (magnitude b < infinity)
-          → sign-weight (unlike (negative a) (negative b)) + infinity ≡ product-pattern a b
-      go (inl x) (inl y) = product-infs a b (omega arith) (omega arith)
-      go (inl x) (inr y) = product-inf-some a b (omega arith) y sb
-      go (inr x) (inl y) = product-some-inf a b (omega arith) x sa
+          → sign_weight (unlike (negative a) (negative b)) + infinity ≡ product_pattern a b
+      go (inl x) (inl y) = product_infs a b (omega arith) (omega arith)
+      go (inl x) (inr y) = product_inf_some a b (omega arith) y sb
+      go (inr x) (inl y) = product_some_inf a b (omega arith) x sa
       go (inr x) (inr y) = let z = one x in absurd (let q : ⊥ = omega arith in q)
 
 pub at_zero : (p o : ℕ) → (p < infinity → infinity ≤ o) → o ≡ 0 → infinity ≤ p
-at_zero p o h e = go (le-or-lt infinity p)
+at_zero p o h e = go (le_or_lt infinity p)
   where
     go : (infinity ≤ p) ⊎ (p < infinity) → infinity ≤ p
     go (inl x) = x

@@ -21,7 +21,7 @@ use native.Mathlib.Omega.{arith}
 use lib.Dec.{lit<}
 use Rattle.doubles_patterns.specs.Patterns.{word}
 use Rattle.doubles_rounding.specs.Standing.{StandsFor}
-use Rattle.doubles_rounding.proofs.Placing.{odd-near}
+use Rattle.doubles_rounding.proofs.Placing.{odd_near}
 
 abbrev half : ℕ
 half = 4294967296
@@ -64,13 +64,13 @@ module _ (u v : ℕ) where
 
   -- none of the sums leaves its word
   module _ (hu : u < word) (hv : v < word) where
-    pub lowest-fits : lowest < word
-    lowest-fits = let h = half_product (u % half) (v % half) (omega arith) (omega arith) in omega arith
+    pub lowest_fits : lowest < word
+    lowest_fits = let h = half_product (u % half) (v % half) (omega arith) (omega arith) in omega arith
 
-    pub middle-fits : middle < word
-    middle-fits =
+    pub middle_fits : middle < word
+    middle_fits =
         let h = half_product (u / half) (v % half) (omega arith) (omega arith) in
-        let l = lowest-fits in
+        let l = lowest_fits in
         omega arith
 
     pub other_fits : other < word
@@ -104,23 +104,23 @@ module _ (u v : ℕ) where
       first : (a b : ℕ) → a + b < word → a < word
       first a b h = omega arith
 
-  pub product-exact : lowest % half + other % half ≡ 0 → StandsFor high (u * v) word
-  product-exact none = record { stands = inl (alone high (other % half) (lowest % half) (u * v) both_words none) }
+  pub product_exact : lowest % half + other % half ≡ 0 → StandsFor high (u * v) word
+  product_exact none = record { stands = inl (alone high (other % half) (lowest % half) (u * v) both_words none) }
     where
       alone : (h m l t : ℕ) → h * word + (m * half + l) ≡ t → l + m ≡ 0 → h * word ≡ t
       alone h m l t e z = omega arith
 
-  pub product-lost : (lowest % half + other % half ≡ 0 → ⊥) → StandsFor (high / 2 * 2 + 1) (u * v) word
-  product-lost some =
+  pub product_lost : (lowest % half + other % half ≡ 0 → ⊥) → StandsFor (high / 2 * 2 + 1) (u * v) word
+  product_lost some =
       let x = between high (other % half) (lowest % half) (u * v) both_words (mod-lt other (lit< tt)) (mod-lt lowest (lit< tt)) some in
-      record { stands = inr (odd-near high (u * v) word x.0 x.1) }
+      record { stands = inr (odd_near high (u * v) word x.0 x.1) }
     where
       between : (h m l t : ℕ) → h * word + (m * half + l) ≡ t → m < half → l < half → (l + m ≡ 0 → ⊥)
           → (h * word < t) × (t < h * word + word)
       between h m l t e f g z = (omega arith, omega arith)
 
-pub even-fits : (h : ℕ) → h < word → h / 2 * 2 < word
-even-fits h l = omega arith
+pub even_fits : (h : ℕ) → h < word → h / 2 * 2 < word
+even_fits h l = omega arith
 
-pub odd-fits : (h : ℕ) → h < word → h / 2 * 2 + 1 < word
-odd-fits h l = omega arith
+pub odd_fits : (h : ℕ) → h < word → h / 2 * 2 + 1 < word
+odd_fits h l = omega arith

@@ -1,8 +1,8 @@
 // The product of two doubles by their bit patterns, in whole numbers: the upper word of the digits' product, with the lower one kept as its
 // last place. Nothing here knows a float.
 ghost use Rattle.std.specs.Prelude.{◌≡◌, true, ◌*◌, ◌<◌, ◌≤◌};
-ghost use Rattle.doubles_patterns.specs.Doubles.{product-pattern};
-ghost use Rattle.doubles_patterns.specs.Patterns.{word, leading, infinity, magnitude, units_of, product-of-units};
+ghost use Rattle.doubles_patterns.specs.Doubles.{product_pattern};
+ghost use Rattle.doubles_patterns.specs.Patterns.{word, leading, infinity, magnitude, units_of, product_of_units};
 ghost use Rattle.doubles_rounding.specs.Standing.{StandsFor};
 
 use doubles_patterns::{parts_of, sign_of};
@@ -30,7 +30,7 @@ fn upper_product(u: u64, v: u64) -> u64
 // The pattern of the product of two finite magnitudes, neither of them zero.
 fn magnitudes_multiplied(p: u64, o: u64) -> u64
     requires { (0 < p) × (0 < o) × (p < infinity) × (o < infinity) }
-    ensures { (result ≡ product-of-units (units_of p) (units_of o)) × (result ≤ infinity) }
+    ensures { (result ≡ product_of_units (units_of p) (units_of o)) × (result ≤ infinity) }
 {
     let first = parts_of(p);
     let second = parts_of(o);
@@ -44,7 +44,7 @@ fn magnitudes_multiplied(p: u64, o: u64) -> u64
 // The same of two normal magnitudes, whose digits stand where they are wanted. The product of most is normal too, and is rounded at once.
 fn normals_multiplied(p: u64, o: u64) -> u64
     requires { (leading ≤ p) × (p < infinity) × (leading ≤ o) × (o < infinity) }
-    ensures { (result ≡ product-of-units (units_of p) (units_of o)) × (result ≤ infinity) }
+    ensures { (result ≡ product_of_units (units_of p) (units_of o)) × (result ≤ infinity) }
 {
     let upper = upper_product(
         (p % 0x10000000000000 + 0x10000000000000) * 2048,
@@ -76,7 +76,7 @@ fn both_normal(p: u64, o: u64) -> bool
 // The product of two finite doubles.
 fn finite_product(a: u64, b: u64) -> u64
     requires { (magnitude a < infinity) × (magnitude b < infinity) }
-    ensures { result ≡ product-pattern a b }
+    ensures { result ≡ product_pattern a b }
 {
     let p = a % 0x8000000000000000;
     let o = b % 0x8000000000000000;
@@ -92,7 +92,7 @@ fn finite_product(a: u64, b: u64) -> u64
 // The product of two doubles of which one at least is not finite: NaN with a NaN, and for an infinity and zero.
 fn infinite_product(a: u64, b: u64) -> u64
     requires { magnitude a < infinity → infinity ≤ magnitude b }
-    ensures { result ≡ product-pattern a b }
+    ensures { result ≡ product_pattern a b }
 {
     let p = a % 0x8000000000000000;
     let o = b % 0x8000000000000000;
@@ -111,7 +111,7 @@ fn infinite_product(a: u64, b: u64) -> u64
 
 // The product of two doubles by their patterns; `product` comes here where one of them is not a normal number.
 fn other_product(a: u64, b: u64) -> u64
-    ensures { result ≡ product-pattern a b }
+    ensures { result ≡ product_pattern a b }
 {
     if a % 0x8000000000000000 < 0x7FF0000000000000 {
         if b % 0x8000000000000000 < 0x7FF0000000000000 {
@@ -126,7 +126,7 @@ fn other_product(a: u64, b: u64) -> u64
 
 // The pattern of the product of two doubles by their patterns, whatever they are. Normal numbers, which most are, go first.
 pub fn product(a: u64, b: u64) -> u64
-    ensures { result ≡ product-pattern a b }
+    ensures { result ≡ product_pattern a b }
 {
     let p = a % 0x8000000000000000;
     let o = b % 0x8000000000000000;

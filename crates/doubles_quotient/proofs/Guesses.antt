@@ -13,8 +13,8 @@ module _ (n rest g : ℕ) (guided : g ≡ n / 137438953472 + 1) (long : leading 
   abbrev q : ℕ
   q = guess rest g
 
-  pub guess-fits : q * n ≤ rest * 2048
-  guess-fits =
+  pub guess_fits : q * n ≤ rest * 2048
+  guess_fits =
       let a : q * n ≤ q * (g * 137438953472) = mul-le-mul_left q (omega arith) in
       let b : q * g * 137438953472 ≡ q * (g * 137438953472) = mul_assoc q g 137438953472 in
       let d : q * g ≤ rest / 67108864 = div-mul-le_self (rest / 67108864) g in
@@ -23,11 +23,11 @@ module _ (n rest g : ℕ) (guided : g ≡ n / 137438953472 + 1) (long : leading 
   pub guess_small : q < 4096
   guess_small =
       let a : q * leading ≤ q * n = mul-le-mul_left q long in
-      let b = guess-fits in
+      let b = guess_fits in
       lt_of_mul-lt-mul_right leading (omega arith)
 
-  pub guess-near : rest * 2048 < q * n + 2 * n
-  guess-near =
+  pub guess_near : rest * 2048 < q * n + 2 * n
+  guess_near =
       let a : q * (g * 137438953472) ≤ q * (n + 137438953472) = mul-le-mul_left q (omega arith) in
       let b : q * g * 137438953472 ≡ q * (g * 137438953472) = mul_assoc q g 137438953472 in
       let d : q * (n + 137438953472) ≡ q * n + q * 137438953472 = mul-add q n 137438953472 in

@@ -1,8 +1,8 @@
 // The quotient of two doubles by their bit patterns, in whole numbers: a long division of the digits, with the remainder kept as the last
 // place. Nothing here knows a float.
 ghost use Rattle.std.specs.Prelude.{◌≡◌, ◌*◌, ◌<◌, ◌≤◌};
-ghost use Rattle.doubles_patterns.specs.Doubles.{quotient-pattern};
-ghost use Rattle.doubles_patterns.specs.Patterns.{leading, infinity, magnitude, units_of, quotient-of-units};
+ghost use Rattle.doubles_patterns.specs.Doubles.{quotient_pattern};
+ghost use Rattle.doubles_patterns.specs.Patterns.{leading, infinity, magnitude, units_of, quotient_of_units};
 ghost use Rattle.doubles_rounding.specs.Standing.{StandsFor};
 
 use doubles_patterns::{parts_of, sign_of};
@@ -40,7 +40,7 @@ fn long_division(m: u64, n: u64) -> u64
 // The pattern of the quotient of two finite magnitudes, neither of them zero.
 fn magnitudes_divided(p: u64, o: u64) -> u64
     requires { (0 < p) × (0 < o) × (p < infinity) × (o < infinity) }
-    ensures { (result ≡ quotient-of-units (units_of p) (units_of o)) × (result ≤ infinity) }
+    ensures { (result ≡ quotient_of_units (units_of p) (units_of o)) × (result ≤ infinity) }
 {
     let first = parts_of(p);
     let second = parts_of(o);
@@ -54,7 +54,7 @@ fn magnitudes_divided(p: u64, o: u64) -> u64
 // The quotient of two finite doubles: NaN for two zeros, an infinity for any other number by zero.
 fn finite_quotient(a: u64, b: u64) -> u64
     requires { (magnitude a < infinity) × (magnitude b < infinity) }
-    ensures { result ≡ quotient-pattern a b }
+    ensures { result ≡ quotient_pattern a b }
 {
     let p = a % 0x8000000000000000;
     let o = b % 0x8000000000000000;
@@ -74,7 +74,7 @@ fn finite_quotient(a: u64, b: u64) -> u64
 // The quotient of two doubles of which one at least is not finite: NaN with a NaN, and for two infinities.
 fn infinite_quotient(a: u64, b: u64) -> u64
     requires { magnitude a < infinity → infinity ≤ magnitude b }
-    ensures { result ≡ quotient-pattern a b }
+    ensures { result ≡ quotient_pattern a b }
 {
     let p = a % 0x8000000000000000;
     let o = b % 0x8000000000000000;
@@ -93,7 +93,7 @@ fn infinite_quotient(a: u64, b: u64) -> u64
 
 // The pattern of the quotient of two doubles by their patterns, whatever they are.
 pub fn quotient(a: u64, b: u64) -> u64
-    ensures { result ≡ quotient-pattern a b }
+    ensures { result ≡ quotient_pattern a b }
 {
     if a % 0x8000000000000000 < 0x7FF0000000000000 {
         if b % 0x8000000000000000 < 0x7FF0000000000000 {

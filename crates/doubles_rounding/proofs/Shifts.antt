@@ -27,14 +27,14 @@ use lib.Ieee.{Format, binary64, prec, hid, size}
 use lib.Ieee.Digits.{size-le}
 use lib.Ieee.Nearest.{closest, closest_same}
 use lib.Ieee.Order.{drop, kept}
-use Rattle.doubles_patterns.specs.Patterns.{word, top-place, second-place, leading, infinity, capped, pattern}
+use Rattle.doubles_patterns.specs.Patterns.{word, top_place, second_place, leading, infinity, capped, pattern}
 use Rattle.doubles_rounding.specs.Shifted.{Shifted}
-use Rattle.doubles_patterns.proofs.Sizes.{le-or-lt, digits_between}
-use Rattle.doubles_rounding.proofs.Nearness.{compare-lt, compare-eq, compare-gt, closest-at}
+use Rattle.doubles_patterns.proofs.Sizes.{le_or_lt, digits_between}
+use Rattle.doubles_rounding.proofs.Nearness.{compare_lt, compare_eq, compare_gt, closest_at}
 
 -- ---- eleven places rounded off
 pub eleven : (t : ℕ) → t / 2048 + (t % 2048 + t / 2048 % 2 + 1023) / 2048 ≡ closest t 2048
-eleven t = go (t / 2048) (t % 2048) refl refl (le-or-lt 1024 (t % 2048))
+eleven t = go (t / 2048) (t % 2048) refl refl (le_or_lt 1024 (t % 2048))
   where
     tie : (q : ℕ) → q + (1024 + q % 2 + 1023) / 2048 ≡ q + q % 2
     tie q = omega arith
@@ -46,14 +46,14 @@ eleven t = go (t / 2048) (t % 2048) refl refl (le-or-lt 1024 (t % 2048))
     upper q r g h = omega arith
 
     go : (q r : ℕ) → t / 2048 ≡ q → t % 2048 ≡ r → (1024 ≤ r) ⊎ (r < 1024) → q + (r + q % 2 + 1023) / 2048 ≡ closest t 2048
-    go q r d m (inr h) = lower q r h ∙ sym (closest-at t 2048 q r _ d m (compare-lt (r * 2) 2048 (omega arith)))
+    go q r d m (inr h) = lower q r h ∙ sym (closest_at t 2048 q r _ d m (compare_lt (r * 2) 2048 (omega arith)))
     go q r d m (inl h) = over (eq-or-lt_of_le h)
       where
         over : (1024 ≡ r) ⊎ (1024 < r) → q + (r + q % 2 + 1023) / 2048 ≡ closest t 2048
         over (inl e) =
             ap (λ (x : ℕ). q + (x + q % 2 + 1023) / 2048) (sym e) ∙ tie q
-            ∙ sym (closest-at t 2048 q r _ d m (compare-eq (r * 2) 2048 (omega arith)))
-        over (inr g) = upper q r (omega arith) g ∙ sym (closest-at t 2048 q r _ d m (compare-gt (r * 2) 2048 (omega arith)))
+            ∙ sym (closest_at t 2048 q r _ d m (compare_eq (r * 2) 2048 (omega arith)))
+        over (inr g) = upper q r (omega arith) g ∙ sym (closest_at t 2048 q r _ d m (compare_gt (r * 2) 2048 (omega arith)))
 
 -- ---- how many digits are dropped of a fraction over 1024, and its pattern then
 drop_of : (p x a e : ℕ) → 10 ≤ a + e → 2 ^ a * 2 ^ e ≤ x → x < 2 ^ suc a * 2 ^ e → drop p x 1024 ≡ suc (a + e - 10) - p
@@ -65,10 +65,10 @@ drop_of p x a e g l h =
     powers : (x y : ℕ) → y + 10 ≡ x + e → 2 ^ y * 1024 ≡ 2 ^ x * 2 ^ e
     powers x y s = sym (pow-add 2 y 10) ∙ ap (λ (z : ℕ). 2 ^ z) s ∙ pow-add 2 x e
 
-pattern-at : (f : Format) (x k q : ℕ) → drop (prec f) x 1024 ≡ k → closest x (1024 * 2 ^ k) ≡ q
+pattern_at : (f : Format) (x k q : ℕ) → drop (prec f) x 1024 ≡ k → closest x (1024 * 2 ^ k) ≡ q
     → pattern f x 1024 ≡ capped f (k * hid f + q)
 unfolding pattern
-pattern-at f x k q d e =
+pattern_at f x k q d e =
     ap (λ (z : ℕ). capped f (z * hid f + closest x (1024 * 2 ^ z))) d ∙ ap (λ (z : ℕ). capped f (k * hid f + z)) e
 
 -- ---- moved up by r places
@@ -78,7 +78,7 @@ moved s e r h =
     let k = e + 1 - r in
     let power : 2 ^ e * 2 ^ 11 ≡ 2 ^ r * (2 ^ 10 * 2 ^ k) =
     sym (pow-add 2 e 11) ∙ ap (λ (x : ℕ). 2 ^ x) (sums e r h.most) ∙ pow-add 2 r (10 + k) ∙ ap (λ (x : ℕ). 2 ^ r * x) (pow-add 2 10 k) in
-    pattern-at binary64 (s * 2 ^ e) k (closest (s * 2 ^ r) 2048) h.dropped
+    pattern_at binary64 (s * 2 ^ e) k (closest (s * 2 ^ r) 2048) h.dropped
     (closest_same (s * 2 ^ e) (1024 * 2 ^ k) (s * 2 ^ r) 2048 (mul-pos (lit< tt) (pow_pos k)) (lit< tt)
     (mul_assoc s (2 ^ e) 2048 ∙ ap (λ (x : ℕ). s * x) power ∙ sym (mul_assoc s (2 ^ r) (1024 * 2 ^ k))))
   where
@@ -86,8 +86,8 @@ moved s e r h =
     sums e r h = omega arith
 
 -- ---- the count of places
-pub shifted-high : (s e z : ℕ) → 0 < s → s < 2 ^ 64 → count_leading_zeros 64 s ≡ z → z ≤ e + 1 → Shifted s e z
-shifted-high s e z some small count h =
+pub shifted_high : (s e z : ℕ) → 0 < s → s < 2 ^ 64 → count_leading_zeros 64 s ≡ z → z ≤ e + 1 → Shifted s e z
+shifted_high s e z some small count h =
     let t = leading_top 64 s some small in
     let j = t.0 in
     let sum : z + suc j ≡ 64 = subst (λ (x : ℕ). x + suc j ≡ 64) count t.1 in
@@ -99,7 +99,7 @@ shifted-high s e z some small count h =
           (le_of_eq (sym (pow-add 2 (suc j) z) ∙ ap (λ (x : ℕ). 2 ^ x) (turn z j sum)));
       dropped =
           drop_of 53 (s * 2 ^ e) j e (deep z j e sum h) (mul-le-mul_right (2 ^ e) t.2) (mul-lt-mul_of_pos_right t.3 (pow_pos e))
-          ∙ count-is z j e sum h;
+          ∙ count_is z j e sum h;
     }
   where
     turn : (z j : ℕ) → z + suc j ≡ 64 → suc j + z ≡ 64
@@ -108,11 +108,11 @@ shifted-high s e z some small count h =
     deep : (z j e : ℕ) → z + suc j ≡ 64 → z ≤ e + 1 → 10 ≤ j + e
     deep z j e s h = omega arith
 
-    count-is : (z j e : ℕ) → z + suc j ≡ 64 → z ≤ e + 1 → suc (j + e - 10) - 53 ≡ e + 1 - z
-    count-is z j e s h = omega arith
+    count_is : (z j e : ℕ) → z + suc j ≡ 64 → z ≤ e + 1 → suc (j + e - 10) - 53 ≡ e + 1 - z
+    count_is z j e s h = omega arith
 
-pub shifted-low : (s e z : ℕ) → 0 < s → s < 2 ^ 64 → count_leading_zeros 64 s ≡ z → e + 1 < z → Shifted s e (e + 1)
-shifted-low s e z some small count h =
+pub shifted_low : (s e z : ℕ) → 0 < s → s < 2 ^ 64 → count_leading_zeros 64 s ≡ z → e + 1 < z → Shifted s e (e + 1)
+shifted_low s e z some small count h =
     let t = leading_top 64 s some small in
     let j = t.0 in
     let sum : z + suc j ≡ 64 = subst (λ (x : ℕ). x + suc j ≡ 64) count t.1 in
@@ -145,10 +145,10 @@ module _ (s e r q : ℕ) (h : Shifted s e r) (is : q ≡ closest (s * 2 ^ r % wo
       (ap (λ (x : ℕ). closest x 2048) (sym (mod-eq_of_lt h.fits)) ∙ sym is)
 
 -- ---- a sum of like signs: its highest digit is one of the two top places, or the exponent is 0
-pub shifted_none : (s e : ℕ) → top-place ≤ s → s < word → Shifted s e 0
-shifted_none s e l h = shifted-high s e 0 (omega arith) h (sym (leading_unique 64 s 0 64 refl h (omega arith))) (omega arith)
+pub shifted_none : (s e : ℕ) → top_place ≤ s → s < word → Shifted s e 0
+shifted_none s e l h = shifted_high s e 0 (omega arith) h (sym (leading_unique 64 s 0 64 refl h (omega arith))) (omega arith)
 
-pub shifted_one : (s e : ℕ) → s < top-place → (0 < e → second-place ≤ s) → Shifted s e 1
+pub shifted_one : (s e : ℕ) → s < top_place → (0 < e → second_place ≤ s) → Shifted s e 1
 shifted_one s zero h l = record {
   most = omega arith;
   narrow = omega arith;
@@ -161,18 +161,18 @@ shifted_one s zero h l = record {
     none : (x : ℕ) → x ≤ 53 → x - 53 ≡ 0 + 1 - 1
     none x h = omega arith
 shifted_one s (suc e) h l =
-    let g : second-place ≤ s = l (zero-lt-suc e) in
-    shifted-high s (suc e) 1 (omega arith) (omega arith) (sym (leading_unique 64 s 1 63 refl h (omega arith))) (omega arith)
+    let g : second_place ≤ s = l (zero-lt-suc e) in
+    shifted_high s (suc e) 1 (omega arith) (omega arith) (sym (leading_unique 64 s 1 63 refl h (omega arith))) (omega arith)
 
 -- the code's packing
 module _ (k q c : ℕ) (is : q ≡ c) where
-  pub packed-under : k * leading + q < infinity → k * leading + q ≡ capped binary64 (k * leading + c)
-  packed-under l =
+  pub packed_under : k * leading + q < infinity → k * leading + q ≡ capped binary64 (k * leading + c)
+  packed_under l =
       sym (ap (λ (x : ℕ). capped binary64 (k * leading + x)) (sym is)
       ∙ ap (λ (b : Bool). cond b (k * leading + q) infinity) (lt-ltb (k * leading + q) infinity l))
 
-  pub packed-over : infinity ≤ k * leading + q → infinity ≡ capped binary64 (k * leading + c)
-  packed-over l =
+  pub packed_over : infinity ≤ k * leading + q → infinity ≡ capped binary64 (k * leading + c)
+  packed_over l =
       sym (ap (λ (x : ℕ). capped binary64 (k * leading + x)) (sym is)
       ∙ ap (λ (b : Bool). cond b (k * leading + q) infinity) (le-ltb (k * leading + q) infinity l))
 
@@ -184,8 +184,8 @@ packed_none s e h =
     back : (x : ℕ) → x - 0 ≡ x
     back x = omega arith
 
-pub packed-one : (s e : ℕ) → Shifted s e 1 → capped binary64 (e * leading + closest (s * 2) 2048) ≡ pattern binary64 (s * 2 ^ e) 1024
-packed-one s e h = sym (moved s e 1 h ∙ ap (λ (x : ℕ). capped binary64 (x * leading + closest (s * 2) 2048)) (back e))
+pub packed_one : (s e : ℕ) → Shifted s e 1 → capped binary64 (e * leading + closest (s * 2) 2048) ≡ pattern binary64 (s * 2 ^ e) 1024
+packed_one s e h = sym (moved s e 1 h ∙ ap (λ (x : ℕ). capped binary64 (x * leading + closest (s * 2) 2048)) (back e))
   where
     back : (e : ℕ) → e + 1 - 1 ≡ e
     back e = omega arith

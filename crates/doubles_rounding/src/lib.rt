@@ -2,7 +2,7 @@
 ghost use Rattle.std.specs.Prelude.{◌≡◌, ◌+◌, ◌*◌, ◌^◌, ◌<◌, ◌≤◌};
 ghost use Rattle.std.specs.Float.{binary64};
 ghost use Rattle.std.specs.Float.Ieee.Nearest.{closest};
-ghost use Rattle.doubles_patterns.specs.Patterns.{leading, infinity, second-place, capped, pattern};
+ghost use Rattle.doubles_patterns.specs.Patterns.{leading, infinity, second_place, capped, pattern};
 ghost use Rattle.doubles_rounding.specs.Standing.{StandsFor};
 ghost use Rattle.doubles_rounding.specs.Shifted.{Shifted};
 
@@ -47,7 +47,7 @@ pub fn rounded(s: u64, e: u64) -> u64
 
 // The same of a number that has its highest digit in one of the two top places of its word, unless the exponent is 0.
 pub fn top_rounded(s: u64, e: u64) -> u64
-    requires { (0 < e → second-place ≤ s) × (e < 4000) }
+    requires { (0 < e → second_place ≤ s) × (e < 4000) }
     ensures { (result ≡ pattern binary64 (s * 2 ^ e) 1024) × (result ≤ infinity) }
 {
     if s < 0x8000000000000000 {
@@ -77,7 +77,7 @@ pub fn moved_down(x: u64, d: u64) -> u64
 
 // The pattern of r * 2 ^ up / (1024 * 2 ^ down) units, rounded; r has its highest digit in one of the two top places.
 pub fn placed(r: u64, up: u64, down: u64) -> u64
-    requires { (second-place ≤ r) × (up < 4000 + down) }
+    requires { (second_place ≤ r) × (up < 4000 + down) }
     ensures { (result ≡ pattern binary64 (r * 2 ^ up) (1024 * 2 ^ down)) × (result ≤ infinity) }
 {
     if down <= up {

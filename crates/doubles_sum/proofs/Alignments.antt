@@ -7,7 +7,7 @@ use native.Mathlib.Nat.{le_trans, le_of_eq, lt_of_lt_of_le, mul-one, mul_assoc, 
 use native.Mathlib.Omega.{arith}
 use lib.Pow.{pow-add, pow_pos, pow_mono}
 use Rattle.doubles_patterns.specs.Patterns.{leading}
-use Rattle.doubles_patterns.proofs.Sizes.{le-or-lt}
+use Rattle.doubles_patterns.proofs.Sizes.{le_or_lt}
 use Rattle.doubles_rounding.specs.Standing.{Near, StandsFor}
 use Rattle.doubles_sum.specs.Aligned.{Aligned}
 
@@ -18,8 +18,8 @@ under r k v h =
     omega arith
 
 module _ (n d r : ℕ) (short : n < 2 * leading) where
-  least-power : n * 1024 ≤ n * 1024 * 2 ^ d
-  least-power = le_trans (le_of_eq (sym (mul-one (n * 1024)))) (mul-le-mul_left (n * 1024) (pow_pos d))
+  least_power : n * 1024 ≤ n * 1024 * 2 ^ d
+  least_power = le_trans (le_of_eq (sym (mul-one (n * 1024)))) (mul-le-mul_left (n * 1024) (pow_pos d))
 
   exact : r * 2 ^ d ≡ n * 1024 → Aligned n d r
   exact e = record {
@@ -28,8 +28,8 @@ module _ (n d r : ℕ) (short : n < 2 * leading) where
   }
 
   -- by ten places or fewer it is a whole number, and what is near to it is that number
-  near-whole : Near r (n * 1024) (2 ^ d) → d ≤ 10 → r * 2 ^ d ≡ n * 1024
-  near-whole near few =
+  near_whole : Near r (n * 1024) (2 ^ d) → d ≤ 10 → r * 2 ^ d ≡ n * 1024
+  near_whole near few =
       let v = 2 ^ d in
       let k = n * 2 ^ (10 - d) in
       let whole : n * 1024 ≡ k * v =
@@ -49,16 +49,16 @@ module _ (n d r : ℕ) (short : n < 2 * leading) where
       let v = 2 ^ d in
       let deep : leading * 2048 ≤ leading * v = mul-le-mul_left leading (pow_mono {i = 11} {j = d} far) in
       let above = near.above in
-      let least = least-power in
+      let least = least_power in
       record {
         stands = inr (record { near = near; far = far; small = under r leading v (omega arith) });
         most = under r (n * 1024) v (omega arith);
       }
 
   pub aligned : StandsFor r (n * 1024) (2 ^ d) → Aligned n d r
-  aligned standing = go standing.stands (le-or-lt d 10)
+  aligned standing = go standing.stands (le_or_lt d 10)
     where
       go : (r * 2 ^ d ≡ n * 1024) ⊎ Near r (n * 1024) (2 ^ d) → (d ≤ 10) ⊎ (10 < d) → Aligned n d r
       go (inl e) places = exact e
-      go (inr near) (inl few) = exact (near-whole near few)
+      go (inr near) (inl few) = exact (near_whole near few)
       go (inr near) (inr far) = lost near far

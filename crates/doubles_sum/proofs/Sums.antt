@@ -12,18 +12,18 @@ use lib.Ieee.{Float, nan, inf, fin, Format, binary64, low, up, down, size, round
 use lib.Ieee.Fits.{down_pos}
 use lib.Ieee.Exact.{HasValue}
 use lib.Ieee.Scale.{round_same}
-use Rattle.base_floats.proofs.Operations.{difference-of-same}
-use Rattle.doubles_patterns.specs.Patterns.{word, infinity, not-a-number, magnitude, negative, sign-weight, pattern, units_of}
-use Rattle.doubles_patterns.proofs.Packing.{round-pattern}
+use Rattle.base_floats.proofs.Operations.{difference_of_same}
+use Rattle.doubles_patterns.specs.Patterns.{word, infinity, not_a_number, magnitude, negative, sign_weight, pattern, units_of}
+use Rattle.doubles_patterns.proofs.Packing.{round_pattern}
 use Rattle.doubles_patterns.proofs.Values.{less, sums, differences}
-use Rattle.doubles_patterns.proofs.Specials.{value_of, nan-of, to_bits_nan, inf-of, to_bits_inf, whole}
+use Rattle.doubles_patterns.proofs.Specials.{value_of, nan_of, to_bits_nan, inf_of, to_bits_inf, whole}
 use Rattle.doubles_sum.specs.BothOrders.{BothOrders}
 
 -- ---- a sum on another scale
-sum-scale : (f : Format) (s : Bool) (A : ℕ) (t : Bool) (B c X Y L : ℕ) → 0 < c → 0 < L → A * L ≡ X * c → B * L ≡ Y * c
+sum_scale : (f : Format) (s : Bool) (A : ℕ) (t : Bool) (B c X Y L : ℕ) → 0 < c → 0 < L → A * L ≡ X * c → B * L ≡ Y * c
     → sum f s A t B c ≡ sum f s X t Y L
 unfolding sum
-sum-scale f s A t B c X Y L C l x y =
+sum_scale f s A t B c X Y L C l x y =
     ap (λ (v : Float). cond (beq s t) v (cond (ltb A B) (round f t (B - A) c) (round f (s && ltb B A) (A - B) c)))
     (round_same f s (A + B) c (X + Y) L C l (sums A B c X Y L C l x y))
     ∙ ap (λ (v : Float). cond (beq s t) (round f s (X + Y) L) (cond (ltb A B) v (round f (s && ltb B A) (A - B) c)))
@@ -40,17 +40,17 @@ opened : (f : Format) (u : Bool) (m : ℕ) (e : ℤ) (v : Bool) (n : ℕ) (d : �
 unfolding add
 opened f u m e v n d = refl
 
-add-values : (f : Format) (x y : Float) (s : Bool) (X : ℕ) (t : Bool) (Y L : ℕ) → 0 < L → HasValue x s X L → HasValue y t Y L
+add_values : (f : Format) (x y : Float) (s : Bool) (X : ℕ) (t : Bool) (Y L : ℕ) → 0 < L → HasValue x s X L → HasValue y t Y L
     → add f x y ≡ sum f s X t Y L
-add-values f nan y s X t Y L l h k = absurd h
-add-values f (inf u) y s X t Y L l h k = absurd h
-add-values f (fin u m e) nan s X t Y L l h k = absurd k
-add-values f (fin u m e) (inf v) s X t Y L l h k = absurd k
-add-values f (fin u m e) (fin v n d) s X t Y L l h k =
+add_values f nan y s X t Y L l h k = absurd h
+add_values f (inf u) y s X t Y L l h k = absurd h
+add_values f (fin u m e) nan s X t Y L l h k = absurd k
+add_values f (fin u m e) (inf v) s X t Y L l h k = absurd k
+add_values f (fin u m e) (fin v n d) s X t Y L l h k =
     opened f u m e v n d
     ∙ ap (λ (b : Bool). sum f b (m * up e * down d) v (n * up d * down e) (down e * down d)) h.0
     ∙ ap (λ (b : Bool). sum f s (m * up e * down d) b (n * up d * down e) (down e * down d)) k.0
-    ∙ sum-scale f s (m * up e * down d) t (n * up d * down e) (down e * down d) X Y L (mul-pos (down_pos e) (down_pos d)) l
+    ∙ sum_scale f s (m * up e * down d) t (n * up d * down e) (down e * down d) X Y L (mul-pos (down_pos e) (down_pos d)) l
     (mul_right_comm (m * up e) (down d) L ∙ ap (λ (z : ℕ). z * down d) h.1 ∙ mul_assoc X (down e) (down d))
     (mul_right_comm (n * up d) (down e) L ∙ ap (λ (z : ℕ). z * down e) k.1 ∙ mul_assoc Y (down d) (down e)
     ∙ ap (λ (z : ℕ). Y * z) (mul_comm (down d) (down e)))
@@ -68,54 +68,54 @@ sum_over f true x y l h =
     ∙ ap (λ (b : Bool). round f b (x - y) l) (lt-ltb y x h)
 sum_over f false x y l h = ap (λ (b : Bool). cond b (round f true (y - x) l) (round f false (x - y) l)) (le-ltb x y (omega arith))
 
-sum-under : (f : Format) (s : Bool) (x y l : ℕ) → y < x → sum f (not s) y s x l ≡ round f s (x - y) l
+sum_under : (f : Format) (s : Bool) (x y l : ℕ) → y < x → sum f (not s) y s x l ≡ round f s (x - y) l
 unfolding sum
-sum-under f true x y l h = ap (λ (b : Bool). cond b (round f true (x - y) l) (round f false (y - x) l)) (lt-ltb y x h)
-sum-under f false x y l h = ap (λ (b : Bool). cond b (round f false (x - y) l) (round f (true && ltb x y) (y - x) l)) (lt-ltb y x h)
+sum_under f true x y l h = ap (λ (b : Bool). cond b (round f true (x - y) l) (round f false (y - x) l)) (lt-ltb y x h)
+sum_under f false x y l h = ap (λ (b : Bool). cond b (round f false (x - y) l) (round f (true && ltb x y) (y - x) l)) (lt-ltb y x h)
 
 nothing : pattern binary64 0 1 ≡ 0
 unfolding pattern size
 nothing = refl
 
 -- ---- finite patterns
-unlike-is : (s t : Bool) → (s ≡ t → ⊥) → t ≡ not s
-unlike-is true true h = absurd (h refl)
-unlike-is true false h = refl
-unlike-is false true h = refl
-unlike-is false false h = absurd (h refl)
+unlike_is : (s t : Bool) → (s ≡ t → ⊥) → t ≡ not s
+unlike_is true true h = absurd (h refl)
+unlike_is true false h = refl
+unlike_is false true h = refl
+unlike_is false false h = absurd (h refl)
 
 module _ (x y : Float) (s t : Bool) (X Y : ℕ) (h : HasValue x s X (2 ^ low binary64)) (k : HasValue y t Y (2 ^ low binary64)) where
   add_is : add binary64 x y ≡ sum binary64 s X t Y (2 ^ low binary64)
-  add_is = add-values binary64 x y s X t Y (2 ^ low binary64) (pow_pos (low binary64)) h k
+  add_is = add_values binary64 x y s X t Y (2 ^ low binary64) (pow_pos (low binary64)) h k
 
-  alike : s ≡ t → to_bits binary64 (add binary64 x y) ≡ sign-weight s + pattern binary64 (X + Y) 1
+  alike : s ≡ t → to_bits binary64 (add binary64 x y) ≡ sign_weight s + pattern binary64 (X + Y) 1
   alike e =
       ap (to_bits binary64) (add_is ∙ ap (λ (b : Bool). sum binary64 s X b Y (2 ^ low binary64)) (sym e)
-      ∙ sum_alike binary64 s X Y (2 ^ low binary64)) ∙ round-pattern binary64 s (X + Y)
+      ∙ sum_alike binary64 s X Y (2 ^ low binary64)) ∙ round_pattern binary64 s (X + Y)
 
-  over : (s ≡ t → ⊥) → Y < X → to_bits binary64 (add binary64 x y) ≡ sign-weight s + pattern binary64 (X - Y) 1
+  over : (s ≡ t → ⊥) → Y < X → to_bits binary64 (add binary64 x y) ≡ sign_weight s + pattern binary64 (X - Y) 1
   over e l =
-      ap (to_bits binary64) (add_is ∙ ap (λ (b : Bool). sum binary64 s X b Y (2 ^ low binary64)) (unlike-is s t e)
-      ∙ sum_over binary64 s X Y (2 ^ low binary64) l) ∙ round-pattern binary64 s (X - Y)
+      ap (to_bits binary64) (add_is ∙ ap (λ (b : Bool). sum binary64 s X b Y (2 ^ low binary64)) (unlike_is s t e)
+      ∙ sum_over binary64 s X Y (2 ^ low binary64) l) ∙ round_pattern binary64 s (X - Y)
 
-  under : (s ≡ t → ⊥) → X < Y → to_bits binary64 (add binary64 x y) ≡ sign-weight t + pattern binary64 (Y - X) 1
+  under : (s ≡ t → ⊥) → X < Y → to_bits binary64 (add binary64 x y) ≡ sign_weight t + pattern binary64 (Y - X) 1
   under e l =
-      ap (to_bits binary64) (add_is ∙ ap (λ (b : Bool). sum binary64 b X t Y (2 ^ low binary64)) (unlike-is t s (λ (g : t ≡ s). e (sym g)))
-      ∙ sum-under binary64 t Y X (2 ^ low binary64) l) ∙ round-pattern binary64 t (Y - X)
+      ap (to_bits binary64) (add_is ∙ ap (λ (b : Bool). sum binary64 b X t Y (2 ^ low binary64)) (unlike_is t s (λ (g : t ≡ s). e (sym g)))
+      ∙ sum_under binary64 t Y X (2 ^ low binary64) l) ∙ round_pattern binary64 t (Y - X)
 
   equal : (s ≡ t → ⊥) → X ≡ Y → to_bits binary64 (add binary64 x y) ≡ 0
   equal e l =
       ap (to_bits binary64)
-      (add_is ∙ ap (λ (b : Bool). sum binary64 s X b Y (2 ^ low binary64)) (unlike-is s t e)
+      (add_is ∙ ap (λ (b : Bool). sum binary64 s X b Y (2 ^ low binary64)) (unlike_is s t e)
       ∙ ap (λ (z : ℕ). sum binary64 s X (not s) z (2 ^ low binary64)) (sym l)
-      ∙ difference-of-same binary64 s X (2 ^ low binary64))
-      ∙ round-pattern binary64 false 0 ∙ ap (λ (z : ℕ). 0 + z) nothing
+      ∙ difference_of_same binary64 s X (2 ^ low binary64))
+      ∙ round_pattern binary64 false 0 ∙ ap (λ (z : ℕ). 0 + z) nothing
 
 -- ---- the answers at finite patterns
 module _ (a b r : ℕ) (ha : magnitude a < infinity) (hb : magnitude b < infinity) where
-  pub sum-of-alike : negative a ≡ negative b
-      → r ≡ sign-weight (negative a) + pattern binary64 (units_of (magnitude a) + units_of (magnitude b)) 1 → BothOrders a b r
-  sum-of-alike e h =
+  pub sum_of_alike : negative a ≡ negative b
+      → r ≡ sign_weight (negative a) + pattern binary64 (units_of (magnitude a) + units_of (magnitude b)) 1 → BothOrders a b r
+  sum_of_alike e h =
       let s = negative a in
       let t = negative b in
       let X = units_of (magnitude a) in
@@ -123,14 +123,14 @@ module _ (a b r : ℕ) (ha : magnitude a < infinity) (hb : magnitude b < infinit
       record {
         forward = h ∙ sym (alike (of_bits binary64 a) (of_bits binary64 b) s t X Y (value_of a ha) (value_of b hb) e);
         backward =
-            h ∙ ap (λ (z : ℕ). sign-weight s + pattern binary64 z 1) (add_comm X Y)
-            ∙ ap (λ (z : Bool). sign-weight z + pattern binary64 (Y + X) 1) e
+            h ∙ ap (λ (z : ℕ). sign_weight s + pattern binary64 z 1) (add_comm X Y)
+            ∙ ap (λ (z : Bool). sign_weight z + pattern binary64 (Y + X) 1) e
             ∙ sym (alike (of_bits binary64 b) (of_bits binary64 a) t s Y X (value_of b hb) (value_of a ha) (sym e));
       }
 
-  pub sum-of-unlike : (negative a ≡ negative b → ⊥) → units_of (magnitude b) < units_of (magnitude a)
-      → r ≡ sign-weight (negative a) + pattern binary64 (units_of (magnitude a) - units_of (magnitude b)) 1 → BothOrders a b r
-  sum-of-unlike e l h =
+  pub sum_of_unlike : (negative a ≡ negative b → ⊥) → units_of (magnitude b) < units_of (magnitude a)
+      → r ≡ sign_weight (negative a) + pattern binary64 (units_of (magnitude a) - units_of (magnitude b)) 1 → BothOrders a b r
+  sum_of_unlike e l h =
       let s = negative a in
       let t = negative b in
       let X = units_of (magnitude a) in
@@ -141,8 +141,8 @@ module _ (a b r : ℕ) (ha : magnitude a < infinity) (hb : magnitude b < infinit
             h ∙ sym (under (of_bits binary64 b) (of_bits binary64 a) t s Y X (value_of b hb) (value_of a ha) (λ (g : t ≡ s). e (sym g)) l);
       }
 
-  pub sum-of-equal : (negative a ≡ negative b → ⊥) → magnitude a ≡ magnitude b → r ≡ 0 → BothOrders a b r
-  sum-of-equal e l h =
+  pub sum_of_equal : (negative a ≡ negative b → ⊥) → magnitude a ≡ magnitude b → r ≡ 0 → BothOrders a b r
+  sum_of_equal e l h =
       let s = negative a in
       let t = negative b in
       let X = units_of (magnitude a) in
@@ -155,89 +155,89 @@ module _ (a b r : ℕ) (ha : magnitude a < infinity) (hb : magnitude b < infinit
       }
 
 -- ---- NaN
-add-nan : (y : Float) → add binary64 nan y ≡ nan
+add_nan : (y : Float) → add binary64 nan y ≡ nan
 unfolding add
-add-nan y = refl
+add_nan y = refl
 
-add-nan-back : (y : Float) → add binary64 y nan ≡ nan
+add_nan_back : (y : Float) → add binary64 y nan ≡ nan
 unfolding add
-add-nan-back nan = refl
-add-nan-back (inf s) = refl
-add-nan-back (fin s m e) = refl
+add_nan_back nan = refl
+add_nan_back (inf s) = refl
+add_nan_back (fin s m e) = refl
 
-pub sum-of-nan : (a b r : ℕ) → infinity < magnitude a → r ≡ not-a-number → BothOrders a b r
-sum-of-nan a b r h e =
-    let n = nan-of a h in
+pub sum_of_nan : (a b r : ℕ) → infinity < magnitude a → r ≡ not_a_number → BothOrders a b r
+sum_of_nan a b r h e =
+    let n = nan_of a h in
     record {
       forward =
           e ∙ sym (ap (λ (x : Float). to_bits binary64 (add binary64 x (of_bits binary64 b))) n
-          ∙ ap (to_bits binary64) (add-nan (of_bits binary64 b)) ∙ to_bits_nan);
+          ∙ ap (to_bits binary64) (add_nan (of_bits binary64 b)) ∙ to_bits_nan);
       backward =
           e ∙ sym (ap (λ (x : Float). to_bits binary64 (add binary64 (of_bits binary64 b) x)) n
-          ∙ ap (to_bits binary64) (add-nan-back (of_bits binary64 b)) ∙ to_bits_nan);
+          ∙ ap (to_bits binary64) (add_nan_back (of_bits binary64 b)) ∙ to_bits_nan);
     }
 
 -- ---- infinity
-add-inf-finite : (s t : Bool) (y : Float) (Y l : ℕ) → HasValue y t Y l → (add binary64 (inf s) y ≡ inf s) × (add binary64 y (inf s) ≡ inf s)
+add_inf_finite : (s t : Bool) (y : Float) (Y l : ℕ) → HasValue y t Y l → (add binary64 (inf s) y ≡ inf s) × (add binary64 y (inf s) ≡ inf s)
 unfolding add
-add-inf-finite s t nan Y l h = absurd h
-add-inf-finite s t (inf u) Y l h = absurd h
-add-inf-finite s t (fin u m e) Y l h = (refl, refl)
+add_inf_finite s t nan Y l h = absurd h
+add_inf_finite s t (inf u) Y l h = absurd h
+add_inf_finite s t (fin u m e) Y l h = (refl, refl)
 
-add-inf-alike : (s : Bool) → add binary64 (inf s) (inf s) ≡ inf s
+add_inf_alike : (s : Bool) → add binary64 (inf s) (inf s) ≡ inf s
 unfolding add
-add-inf-alike true = refl
-add-inf-alike false = refl
+add_inf_alike true = refl
+add_inf_alike false = refl
 
-add-inf-unlike : (s t : Bool) → (s ≡ t → ⊥) → add binary64 (inf s) (inf t) ≡ nan
+add_inf_unlike : (s t : Bool) → (s ≡ t → ⊥) → add binary64 (inf s) (inf t) ≡ nan
 unfolding add
-add-inf-unlike true true h = absurd (h refl)
-add-inf-unlike true false h = refl
-add-inf-unlike false true h = refl
-add-inf-unlike false false h = absurd (h refl)
+add_inf_unlike true true h = absurd (h refl)
+add_inf_unlike true false h = refl
+add_inf_unlike false true h = refl
+add_inf_unlike false false h = absurd (h refl)
 
 module _ (a b r : ℕ) (small : a < word) (ia : magnitude a ≡ infinity) where
   inf_bits : to_bits binary64 (inf (negative a)) ≡ a
   inf_bits = to_bits_inf (negative a) ∙ whole a small ia
 
-  pub sum-of-inf : magnitude b < infinity → r ≡ a → BothOrders a b r
-  sum-of-inf hb e =
+  pub sum_of_inf : magnitude b < infinity → r ≡ a → BothOrders a b r
+  sum_of_inf hb e =
       let s = negative a in
       let y = of_bits binary64 b in
-      let both = add-inf-finite s (negative b) y (units_of (magnitude b)) (2 ^ low binary64) (value_of b hb) in
+      let both = add_inf_finite s (negative b) y (units_of (magnitude b)) (2 ^ low binary64) (value_of b hb) in
       record {
         forward =
-            e ∙ sym (ap (λ (x : Float). to_bits binary64 (add binary64 x y)) (inf-of a ia) ∙ ap (to_bits binary64) both.0 ∙ inf_bits);
+            e ∙ sym (ap (λ (x : Float). to_bits binary64 (add binary64 x y)) (inf_of a ia) ∙ ap (to_bits binary64) both.0 ∙ inf_bits);
         backward =
-            e ∙ sym (ap (λ (x : Float). to_bits binary64 (add binary64 y x)) (inf-of a ia) ∙ ap (to_bits binary64) both.1 ∙ inf_bits);
+            e ∙ sym (ap (λ (x : Float). to_bits binary64 (add binary64 y x)) (inf_of a ia) ∙ ap (to_bits binary64) both.1 ∙ inf_bits);
       }
 
-  pub sum-of-infs : magnitude b ≡ infinity → negative a ≡ negative b → r ≡ a → BothOrders a b r
-  sum-of-infs ib g e =
+  pub sum_of_infs : magnitude b ≡ infinity → negative a ≡ negative b → r ≡ a → BothOrders a b r
+  sum_of_infs ib g e =
       let s = negative a in
-      let ib' : of_bits binary64 b ≡ inf s = inf-of b ib ∙ ap inf (sym g) in
+      let ib' : of_bits binary64 b ≡ inf s = inf_of b ib ∙ ap inf (sym g) in
       record {
         forward =
-            e ∙ sym (ap (λ (x : Float). to_bits binary64 (add binary64 x (of_bits binary64 b))) (inf-of a ia)
-            ∙ ap (λ (y : Float). to_bits binary64 (add binary64 (inf s) y)) ib' ∙ ap (to_bits binary64) (add-inf-alike s) ∙ inf_bits);
+            e ∙ sym (ap (λ (x : Float). to_bits binary64 (add binary64 x (of_bits binary64 b))) (inf_of a ia)
+            ∙ ap (λ (y : Float). to_bits binary64 (add binary64 (inf s) y)) ib' ∙ ap (to_bits binary64) (add_inf_alike s) ∙ inf_bits);
         backward =
-            e ∙ sym (ap (λ (x : Float). to_bits binary64 (add binary64 (of_bits binary64 b) x)) (inf-of a ia)
-            ∙ ap (λ (y : Float). to_bits binary64 (add binary64 y (inf s))) ib' ∙ ap (to_bits binary64) (add-inf-alike s) ∙ inf_bits);
+            e ∙ sym (ap (λ (x : Float). to_bits binary64 (add binary64 (of_bits binary64 b) x)) (inf_of a ia)
+            ∙ ap (λ (y : Float). to_bits binary64 (add binary64 y (inf s))) ib' ∙ ap (to_bits binary64) (add_inf_alike s) ∙ inf_bits);
       }
 
-  pub sum-of-infs-unlike : magnitude b ≡ infinity → (negative a ≡ negative b → ⊥) → r ≡ not-a-number → BothOrders a b r
-  sum-of-infs-unlike ib g e =
+  pub sum_of_infs_unlike : magnitude b ≡ infinity → (negative a ≡ negative b → ⊥) → r ≡ not_a_number → BothOrders a b r
+  sum_of_infs_unlike ib g e =
       let s = negative a in
       let t = negative b in
       record {
         forward =
-            e ∙ sym (ap (λ (x : Float). to_bits binary64 (add binary64 x (of_bits binary64 b))) (inf-of a ia)
-            ∙ ap (λ (y : Float). to_bits binary64 (add binary64 (inf s) y)) (inf-of b ib) ∙ ap (to_bits binary64) (add-inf-unlike s t g)
+            e ∙ sym (ap (λ (x : Float). to_bits binary64 (add binary64 x (of_bits binary64 b))) (inf_of a ia)
+            ∙ ap (λ (y : Float). to_bits binary64 (add binary64 (inf s) y)) (inf_of b ib) ∙ ap (to_bits binary64) (add_inf_unlike s t g)
             ∙ to_bits_nan);
         backward =
-            e ∙ sym (ap (λ (x : Float). to_bits binary64 (add binary64 (of_bits binary64 b) x)) (inf-of a ia)
-            ∙ ap (λ (y : Float). to_bits binary64 (add binary64 y (inf s))) (inf-of b ib)
-            ∙ ap (to_bits binary64) (add-inf-unlike t s (λ (q : t ≡ s). g (sym q))) ∙ to_bits_nan);
+            e ∙ sym (ap (λ (x : Float). to_bits binary64 (add binary64 (of_bits binary64 b) x)) (inf_of a ia)
+            ∙ ap (λ (y : Float). to_bits binary64 (add binary64 y (inf s))) (inf_of b ib)
+            ∙ ap (to_bits binary64) (add_inf_unlike t s (λ (q : t ≡ s). g (sym q))) ∙ to_bits_nan);
       }
 
 -- ---- a difference is the sum with the opposite number

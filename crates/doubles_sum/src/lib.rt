@@ -2,7 +2,7 @@
 // moved down to its scale. Nothing here knows a float.
 ghost use Rattle.std.specs.Prelude.{◌≡◌, ◌+◌, ◌-◌, ◌<◌, ◌≤◌};
 ghost use Rattle.std.specs.Float.{binary64};
-ghost use Rattle.doubles_patterns.specs.Doubles.{sum-pattern, difference-pattern};
+ghost use Rattle.doubles_patterns.specs.Doubles.{sum_pattern, difference_pattern};
 ghost use Rattle.doubles_patterns.specs.Patterns.{infinity, magnitude, pattern, units_of};
 ghost use Rattle.doubles_sum.specs.BothOrders.{BothOrders};
 
@@ -76,7 +76,7 @@ fn larger_first(a: u64, b: u64) -> u64
 
 // The pattern of the sum of two doubles by their patterns, whatever they are.
 pub fn sum(a: u64, b: u64) -> u64
-    ensures { result ≡ sum-pattern a b }
+    ensures { result ≡ sum_pattern a b }
 {
     if a % 0x8000000000000000 < b % 0x8000000000000000 {
         larger_first(b, a)
@@ -87,7 +87,7 @@ pub fn sum(a: u64, b: u64) -> u64
 
 // The pattern of the difference of two doubles by their patterns, whatever they are.
 pub fn difference(a: u64, b: u64) -> u64
-    ensures { result ≡ difference-pattern a b }
+    ensures { result ≡ difference_pattern a b }
 {
     sum(a, opposite(b))
 }

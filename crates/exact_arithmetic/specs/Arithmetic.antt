@@ -20,25 +20,25 @@ pub record Arithmetic : Type 1 where
 pub record IsField (A : Arithmetic) : Type 0 where
   pub plus_assoc : (a b c : A.Number) → A.plus (A.plus a b) c ≡ A.plus a (A.plus b c)
   pub plus_comm : (a b : A.Number) → A.plus a b ≡ A.plus b a
-  pub plus-nought : (a : A.Number) → A.plus a A.nought ≡ a
-  pub plus-negative : (a : A.Number) → A.plus a (A.negative a) ≡ A.nought
-  pub times-assoc : (a b c : A.Number) → A.times (A.times a b) c ≡ A.times a (A.times b c)
-  pub times-comm : (a b : A.Number) → A.times a b ≡ A.times b a
-  pub times-one : (a : A.Number) → A.times a A.one ≡ a
-  pub times-plus : (a b c : A.Number) → A.times a (A.plus b c) ≡ A.plus (A.times a b) (A.times a c)
+  pub plus_nought : (a : A.Number) → A.plus a A.nought ≡ a
+  pub plus_negative : (a : A.Number) → A.plus a (A.negative a) ≡ A.nought
+  pub times_assoc : (a b c : A.Number) → A.times (A.times a b) c ≡ A.times a (A.times b c)
+  pub times_comm : (a b : A.Number) → A.times a b ≡ A.times b a
+  pub times_one : (a : A.Number) → A.times a A.one ≡ a
+  pub times_plus : (a b c : A.Number) → A.times a (A.plus b c) ≡ A.plus (A.times a b) (A.times a c)
   pub minus_is : (a b : A.Number) → A.minus a b ≡ A.plus a (A.negative b)
   pub two_is : A.two ≡ A.plus A.one A.one
-  pub three-is : A.three ≡ A.plus A.two A.one
-  pub six-is : A.six ≡ A.plus A.three A.three
-  pub over-times : (a b : A.Number) → ¬ (b ≡ A.nought) → A.times (A.over a b) b ≡ a
-  pub one-not-nought : ¬ (A.one ≡ A.nought)
-  pub six-not-nought : ¬ (A.six ≡ A.nought)
+  pub three_is : A.three ≡ A.plus A.two A.one
+  pub six_is : A.six ≡ A.plus A.three A.three
+  pub over_times : (a b : A.Number) → ¬ (b ≡ A.nought) → A.times (A.over a b) b ≡ a
+  pub one_not_nought : ¬ (A.one ≡ A.nought)
+  pub six_not_nought : ¬ (A.six ≡ A.nought)
 
 -- which numbers are positive: one is, sums, products and quotients of such are, and nought is not
 pub record IsOrdered (A : Arithmetic) : Type 1 where
   pub Positive : A.Number → Type 0
-  pub positive-one : Positive A.one
-  pub positive-plus : (a b : A.Number) → Positive a → Positive b → Positive (A.plus a b)
-  pub positive-times : (a b : A.Number) → Positive a → Positive b → Positive (A.times a b)
-  pub positive-over : (a b : A.Number) → Positive a → Positive b → Positive (A.over a b)
-  pub positive-not-nought : (a : A.Number) → Positive a → ¬ (a ≡ A.nought)
+  pub positive_one : Positive A.one
+  pub positive_plus : (a b : A.Number) → Positive a → Positive b → Positive (A.plus a b)
+  pub positive_times : (a b : A.Number) → Positive a → Positive b → Positive (A.times a b)
+  pub positive_over : (a b : A.Number) → Positive a → Positive b → Positive (A.over a b)
+  pub positive_not_nought : (a : A.Number) → Positive a → ¬ (a ≡ A.nought)

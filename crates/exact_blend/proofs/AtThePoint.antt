@@ -14,25 +14,25 @@ use lib.Ieee.Scale.{finite}
 use Rattle.rules.specs.Numbers.{◌⊖◌, ◌⊘◌}
 use Rattle.rules.specs.Query as Rules
 use Rattle.base_floats.specs.Place.{place_in}
-use Rattle.base_floats.proofs.Places.{no_nan, le-places}
+use Rattle.base_floats.proofs.Places.{no_nan, le_places}
 use Rattle.exact_solver.specs.Expressions.{Term, var, t0, t1, t2, t3, add, sub, mul, neg, terms, divides, same, meaning}
 use Rattle.exact_rationals.specs.Rationals.{ℚ, Least, Positive, number, plus, minus, times, over, negative, rationals}
 use Rattle.exact_rationals.specs.Values.{value}
-use Rattle.exact_rationals.proofs.Order.{least-plus, least-times, least-number, least-both, positive-least, ring}
-use Rattle.exact_rationals.proofs.Comparisons.{less-is-less, not-less, at_most}
+use Rattle.exact_rationals.proofs.Order.{least_plus, least_times, least_number, least_both, positive_least, ring}
+use Rattle.exact_rationals.proofs.Comparisons.{less_is_less, not_less, at_most}
 use Rattle.exact_spline.specs.Query as Exact
 use Rattle.exact_rounding.specs.Near.{Near, Within, size}
-use Rattle.exact_rounding.proofs.Operations.{sub-bound, div-nought}
-use Rattle.exact_rounding.proofs.Approx.{u, v, within-times, within-plus, within-negative, within-size, off, on, near-through}
+use Rattle.exact_rounding.proofs.Operations.{sub_bound, div_nought}
+use Rattle.exact_rounding.proofs.Approx.{u, v, within_times, within_plus, within_negative, within_size, off, on, near_through}
 use Rattle.exact_blend.specs.BlendErrors.{q00, q10, q11, w10, w11, moved_by}
-use Rattle.exact_blend.proofs.Weights.{amount, within-self}
-use Rattle.exact_blend.proofs.AnyAxes.{k, j, hermite-near}
-use Rattle.exact_blend.proofs.Fraction.{least-over, one-or-less, fraction-near}
-use Rattle.exact_blend.proofs.InCell.{fraction-at-most-one, fraction-at-least-nought}
+use Rattle.exact_blend.proofs.Weights.{amount, within_self}
+use Rattle.exact_blend.proofs.AnyAxes.{k, j, hermite_near}
+use Rattle.exact_blend.proofs.Fraction.{least_over, one_or_less, fraction_near}
+use Rattle.exact_blend.proofs.InCell.{fraction_at_most_one, fraction_at_least_nought}
 
 -- how fast the weights change between two fractions, and how large two of them are
 module _
-    (t s : ℚ) (t-low : Least t) (t-high : Least (minus (number 1) t)) (s-low : Least s) (s-high : Least (minus (number 1) s)) where
+    (t s : ℚ) (t_low : Least t) (t_high : Least (minus (number 1) t)) (s_low : Least s) (s_high : Least (minus (number 1) s)) where
   by : (a b : Term) → T (divides 0 a) → T (divides 0 b) → T (same a b) → Least (meaning rationals (t ∷ s ∷ []) a)
       → Least (meaning rationals (t ∷ s ∷ []) b)
   by a b p q e l = subst Least (ring (t ∷ s ∷ []) a b p q e) l
@@ -50,61 +50,61 @@ module _
   y' = sub t1 (var 1)
 
   both : (a b : ℚ) → Least a → Least b → Least (plus a b)
-  both = least-plus
+  both = least_plus
 
   product : (a b : ℚ) → Least a → Least b → Least (times a b)
-  product = least-times
+  product = least_times
 
-  within-q00 : Within (q00 rationals t s) (number 3)
-  within-q00 =
+  within_q00 : Within (q00 rationals t s) (number 3)
+  within_q00 =
       record {
         under =
             by (add t3 (add (add (mul t2 (mul x x')) (mul t2 (mul y y'))) (add (mul x y') (mul y x')))) (sub t3 (q00 terms x y)) tt tt tt
-            (both _ _ (least-number 3) (both _ _
-            (both _ _ (product _ _ (least-number 2) (product _ _ t-low t-high)) (product _ _ (least-number 2) (product _ _ s-low s-high)))
-            (both _ _ (product _ _ t-low s-high) (product _ _ s-low t-high))));
+            (both _ _ (least_number 3) (both _ _
+            (both _ _ (product _ _ (least_number 2) (product _ _ t_low t_high)) (product _ _ (least_number 2) (product _ _ s_low s_high)))
+            (both _ _ (product _ _ t_low s_high) (product _ _ s_low t_high))));
         above =
             by (add (add (add (mul x x) (mul x' x')) (add (mul y y) (mul y' y'))) (add (mul x y) (mul x' y')))
             (add t3 (q00 terms x y)) tt tt tt
-            (both _ _ (both _ _ (both _ _ (product _ _ t-low t-low) (product _ _ t-high t-high))
-            (both _ _ (product _ _ s-low s-low) (product _ _ s-high s-high)))
-            (both _ _ (product _ _ t-low s-low) (product _ _ t-high s-high)));
+            (both _ _ (both _ _ (both _ _ (product _ _ t_low t_low) (product _ _ t_high t_high))
+            (both _ _ (product _ _ s_low s_low) (product _ _ s_high s_high)))
+            (both _ _ (product _ _ t_low s_low) (product _ _ t_high s_high)));
       }
 
-  within-q10 : Within (q10 rationals t s) (number 1)
-  within-q10 =
+  within_q10 : Within (q10 rationals t s) (number 1)
+  within_q10 =
       record {
         under = by (add (add (mul x x') (mul y y')) (add (mul x y') y)) (sub t1 (q10 terms x y)) tt tt tt
-            (both _ _ (both _ _ (product _ _ t-low t-high) (product _ _ s-low s-high)) (both _ _ (product _ _ t-low s-high) s-low));
+            (both _ _ (both _ _ (product _ _ t_low t_high) (product _ _ s_low s_high)) (both _ _ (product _ _ t_low s_high) s_low));
         above = by (add (add (mul x' x') (mul y' y')) (mul x y)) (add t1 (q10 terms x y)) tt tt tt
-            (both _ _ (both _ _ (product _ _ t-high t-high) (product _ _ s-high s-high)) (product _ _ t-low s-low));
+            (both _ _ (both _ _ (product _ _ t_high t_high) (product _ _ s_high s_high)) (product _ _ t_low s_low));
       }
 
-  within-q11 : Within (q11 rationals t s) (number 1)
-  within-q11 =
+  within_q11 : Within (q11 rationals t s) (number 1)
+  within_q11 =
       record {
         under = by (add (add (mul x x') (mul y y')) (add x' (mul x y'))) (sub t1 (q11 terms x y)) tt tt tt
-            (both _ _ (both _ _ (product _ _ t-low t-high) (product _ _ s-low s-high)) (both _ _ t-high (product _ _ t-low s-high)));
+            (both _ _ (both _ _ (product _ _ t_low t_high) (product _ _ s_low s_high)) (both _ _ t_high (product _ _ t_low s_high)));
         above = by (add (add (mul x x) (mul y y)) (mul x' y')) (add t1 (q11 terms x y)) tt tt tt
-            (both _ _ (both _ _ (product _ _ t-low t-low) (product _ _ s-low s-low)) (product _ _ t-high s-high));
+            (both _ _ (both _ _ (product _ _ t_low t_low) (product _ _ s_low s_low)) (product _ _ t_high s_high));
       }
 
-  pub within-w10 : Within (w10 rationals s) (number 1)
-  within-w10 =
+  pub within_w10 : Within (w10 rationals s) (number 1)
+  within_w10 =
       record {
         under = by (add y' (mul (mul y y) (add t1 y'))) (sub t1 (w10 terms y)) tt tt tt
-            (both _ _ s-high (product _ _ (product _ _ s-low s-low) (both _ _ (least-number 1) s-high)));
+            (both _ _ s_high (product _ _ (product _ _ s_low s_low) (both _ _ (least_number 1) s_high)));
         above = by (add t1 (mul y (mul y' y'))) (add t1 (w10 terms y)) tt tt tt
-            (both _ _ (least-number 1) (product _ _ s-low (product _ _ s-high s-high)));
+            (both _ _ (least_number 1) (product _ _ s_low (product _ _ s_high s_high)));
       }
 
-  pub within-w11 : Within (w11 rationals s) (number 1)
-  within-w11 =
+  pub within_w11 : Within (w11 rationals s) (number 1)
+  within_w11 =
       record {
         under = by (add t1 (mul (mul y y) y')) (sub t1 (w11 terms y)) tt tt tt
-            (both _ _ (least-number 1) (product _ _ (product _ _ s-low s-low) s-high));
+            (both _ _ (least_number 1) (product _ _ (product _ _ s_low s_low) s_high));
         above = by (add y' (mul y (add y' (mul y y)))) (add t1 (w11 terms y)) tt tt tt
-            (both _ _ s-high (product _ _ s-low (both _ _ s-high (product _ _ s-low s-low))));
+            (both _ _ s_high (product _ _ s_low (both _ _ s_high (product _ _ s_low s_low))));
       }
 
   -- the exact blend at two fractions and two widths: t and W, s and U
@@ -119,39 +119,39 @@ module _
     unfolding Exact.hermite
     change =
         ring (t ∷ s ∷ W ∷ U ∷ P0 ∷ M0 ∷ P1 ∷ M1 ∷ [])
-        (sub (blend-term (var 3) y) (blend-term (var 2) x))
+        (sub (blend_term (var 3) y) (blend_term (var 2) x))
         (add (add (add (mul (mul (sub y x) (q00 terms x y)) (var 4))
         (mul (add (mul (w10 terms y) (sub (var 3) (var 2))) (mul (var 2) (mul (sub y x) (q10 terms x y)))) (var 5)))
         (mul (neg (mul (sub y x) (q00 terms x y))) (var 6)))
         (mul (add (mul (w11 terms y) (sub (var 3) (var 2))) (mul (var 2) (mul (sub y x) (q11 terms x y)))) (var 7)))
         tt tt tt
       where
-        blend-term : Term → Term → Term
-        blend-term w r = Exact.hermite terms (var 4) (var 5) (var 6) (var 7) w r
+        blend_term : Term → Term → Term
+        blend_term w r = Exact.hermite terms (var 4) (var 5) (var 6) (var 7) w r
 
-    pub moved-near : Near (Exact.hermite rationals P0 M0 P1 M1 U s) (Exact.hermite rationals P0 M0 P1 M1 W t)
+    pub moved_near : Near (Exact.hermite rationals P0 M0 P1 M1 U s) (Exact.hermite rationals P0 M0 P1 M1 W t)
         (moved_by rationals d e W A0 B0 A1 B1)
-    moved-near =
+    moved_near =
         let step = off s t d fraction in
         let stretch = off U W e width in
         on _ _ _
         (subst (λ z. Within z (moved_by rationals d e W A0 B0 A1 B1)) (sym change)
-        (within-plus _ _ _ _
-        (within-plus _ _ _ _
-        (within-plus _ _ _ _
-        (within-times _ _ _ _ (within-times _ _ _ _ step within-q00) p0)
-        (within-times _ _ _ _
-        (within-plus _ _ _ _ (within-times _ _ _ _ within-w10 stretch) (within-times _ _ _ _ wide (within-times _ _ _ _ step within-q10)))
+        (within_plus _ _ _ _
+        (within_plus _ _ _ _
+        (within_plus _ _ _ _
+        (within_times _ _ _ _ (within_times _ _ _ _ step within_q00) p0)
+        (within_times _ _ _ _
+        (within_plus _ _ _ _ (within_times _ _ _ _ within_w10 stretch) (within_times _ _ _ _ wide (within_times _ _ _ _ step within_q10)))
         m0))
-        (within-times _ _ _ _ (within-negative _ _ (within-times _ _ _ _ step within-q00)) p1))
-        (within-times _ _ _ _
-        (within-plus _ _ _ _ (within-times _ _ _ _ within-w11 stretch) (within-times _ _ _ _ wide (within-times _ _ _ _ step within-q11)))
+        (within_times _ _ _ _ (within_negative _ _ (within_times _ _ _ _ step within_q00)) p1))
+        (within_times _ _ _ _
+        (within_plus _ _ _ _ (within_times _ _ _ _ within_w11 stretch) (within_times _ _ _ _ wide (within_times _ _ _ _ step within_q11)))
         m1)))
 
 -- the rules' value in a cell of one axis, between its knots x and y at a point p from x on: values p0, p1 and slopes m0, m1 at the knots
 module _
-    (x p y : Float) (x_Fits : T (fits binary64 x)) (p-fits : T (fits binary64 p)) (y-fits : T (fits binary64 y))
-    (x-finite : finite x ≡ true) (p-finite : finite p ≡ true) (y-finite : finite y ≡ true)
+    (x p y : Float) (x_Fits : T (fits binary64 x)) (p_fits : T (fits binary64 p)) (y_fits : T (fits binary64 y))
+    (x_finite : finite x ≡ true) (p_finite : finite p ≡ true) (y_finite : finite y ≡ true)
     (above : le x p ≡ true) (wide : lt x y ≡ true) (under : le p y ≡ true)
     (first : finite (p ⊖ x) ≡ true) (second : finite (y ⊖ x) ≡ true) (whole : finite ((p ⊖ x) ⊘ (y ⊖ x)) ≡ true) where
   abbrev pub D : ℚ
@@ -161,88 +161,88 @@ module _
   H = minus (value y) (value x)
 
   pub rising : Positive H
-  rising = less-is-less x y x-finite y-finite wide
+  rising = less_is_less x y x_finite y_finite wide
 
   low : Least D
-  low = at_most x p x-finite p-finite above
+  low = at_most x p x_finite p_finite above
 
   high : Least (minus H D)
   high =
       subst Least
       (ring (value x ∷ value p ∷ value y ∷ []) (sub (var 2) (var 1)) (sub (sub (var 2) (var 0)) (sub (var 1) (var 0))) tt tt tt)
-      (at_most p y p-finite y-finite under)
+      (at_most p y p_finite y_finite under)
 
   places : place_in binary64 p ≤ place_in binary64 y
   places =
       leb-true (place_in binary64 p) (place_in binary64 y)
-      (sym (le-places binary64 p y p-fits y-fits (no_nan p p-finite) (no_nan y y-finite)) ∙ under)
+      (sym (le_places binary64 p y p_fits y_fits (no_nan p p_finite) (no_nan y y_finite)) ∙ under)
 
-  pub fraction-off : Near (value ((p ⊖ x) ⊘ (y ⊖ x))) (over D H) (amount 3074)
-  fraction-off =
-      fraction-near p x y p-fits x_Fits y-fits (passes _ p-finite) (passes _ x-finite) (passes _ y-finite) low high rising
+  pub fraction_off : Near (value ((p ⊖ x) ⊘ (y ⊖ x))) (over D H) (amount 3074)
+  fraction_off =
+      fraction_near p x y p_fits x_Fits y_fits (passes _ p_finite) (passes _ x_finite) (passes _ y_finite) low high rising
       (passes _ first) (passes _ second) (passes _ whole)
 
-  pub width-off : Near (value (y ⊖ x)) H (times u H)
-  width-off =
-      sub-bound binary64 y x y-fits x_Fits (passes _ y-finite) (passes _ x-finite) (passes _ second) H
-      (within-self H (positive-least _ rising))
+  pub width_off : Near (value (y ⊖ x)) H (times u H)
+  width_off =
+      sub_bound binary64 y x y_fits x_Fits (passes _ y_finite) (passes _ x_finite) (passes _ second) H
+      (within_self H (positive_least _ rising))
 
   -- at the lower knot itself the fraction is nought, and exact
-  module _ (at-knot : lt x p ≡ false) where
+  module _ (at_knot : lt x p ≡ false) where
     none : D ≡ number 0
     none =
-        least-both D low
+        least_both D low
         (subst Least (ring (value x ∷ value p ∷ []) (sub (var 0) (var 1)) (neg (sub (var 1) (var 0))) tt tt tt)
-        (not-less x p x-finite p-finite at-knot))
+        (not_less x p x_finite p_finite at_knot))
 
-    from-knot : Near (value (p ⊖ x)) (number 0) (times u (number 0))
-    from-knot =
+    from_knot : Near (value (p ⊖ x)) (number 0) (times u (number 0))
+    from_knot =
         subst (λ z. Near (value (p ⊖ x)) z (times u z)) none
-        (sub-bound binary64 p x p-fits x_Fits (passes _ p-finite) (passes _ x-finite) (passes _ first) D (within-self D low))
+        (sub_bound binary64 p x p_fits x_Fits (passes _ p_finite) (passes _ x_finite) (passes _ first) D (within_self D low))
 
-    difference-nought : value (p ⊖ x) ≡ number 0
-    difference-nought =
-        least-both _
-        (subst Least (ring (value (p ⊖ x) ∷ u ∷ []) (sub (add (var 0) (mul (var 1) t0)) t0) (var 0) tt tt tt) from-knot.above)
-        (subst Least (ring (value (p ⊖ x) ∷ u ∷ []) (sub (add t0 (mul (var 1) t0)) (var 0)) (neg (var 0)) tt tt tt) from-knot.under)
+    difference_nought : value (p ⊖ x) ≡ number 0
+    difference_nought =
+        least_both _
+        (subst Least (ring (value (p ⊖ x) ∷ u ∷ []) (sub (add (var 0) (mul (var 1) t0)) t0) (var 0) tt tt tt) from_knot.above)
+        (subst Least (ring (value (p ⊖ x) ∷ u ∷ []) (sub (add t0 (mul (var 1) t0)) (var 0)) (neg (var 0)) tt tt tt) from_knot.under)
 
-    fraction-nought : value ((p ⊖ x) ⊘ (y ⊖ x)) ≡ number 0
-    fraction-nought =
-        div-nought binary64 (p ⊖ x) (y ⊖ x) (passes _ first) (passes _ second) (passes _ whole) difference-nought
+    fraction_nought : value ((p ⊖ x) ⊘ (y ⊖ x)) ≡ number 0
+    fraction_nought =
+        div_nought binary64 (p ⊖ x) (y ⊖ x) (passes _ first) (passes _ second) (passes _ whole) difference_nought
 
-  pub s-low : Least (value ((p ⊖ x) ⊘ (y ⊖ x)))
-  s-low = go (lt x p) refl
+  pub s_low : Least (value ((p ⊖ x) ⊘ (y ⊖ x)))
+  s_low = go (lt x p) refl
     where
       go : (b : Bool) → lt x p ≡ b → Least (value ((p ⊖ x) ⊘ (y ⊖ x)))
-      go true e = fraction-at-least-nought x p y x_Fits p-fits y-fits x-finite p-finite y-finite e wide places first second whole
-      go false e = subst Least (sym (fraction-nought e)) (least-number 0)
+      go true e = fraction_at_least_nought x p y x_Fits p_fits y_fits x_finite p_finite y_finite e wide places first second whole
+      go false e = subst Least (sym (fraction_nought e)) (least_number 0)
 
-  pub s-high : Least (minus (number 1) (value ((p ⊖ x) ⊘ (y ⊖ x))))
-  s-high = go (lt x p) refl
+  pub s_high : Least (minus (number 1) (value ((p ⊖ x) ⊘ (y ⊖ x))))
+  s_high = go (lt x p) refl
     where
       go : (b : Bool) → lt x p ≡ b → Least (minus (number 1) (value ((p ⊖ x) ⊘ (y ⊖ x))))
-      go true e = fraction-at-most-one x p y x_Fits p-fits y-fits x-finite p-finite y-finite e wide places first second whole
+      go true e = fraction_at_most_one x p y x_Fits p_fits y_fits x_finite p_finite y_finite e wide places first second whole
       go false e =
-          subst (λ z. Least (minus (number 1) z)) (sym (fraction-nought e)) (subst Least (ring [] t1 (sub t1 t0) tt tt tt) (least-number 1))
+          subst (λ z. Least (minus (number 1) z)) (sym (fraction_nought e)) (subst Least (ring [] t1 (sub t1 t0) tt tt tt) (least_number 1))
 
-  pub t-low : Least (over D H)
-  t-low = least-over _ _ low rising
+  pub t_low : Least (over D H)
+  t_low = least_over _ _ low rising
 
-  pub t-high : Least (minus (number 1) (over D H))
-  t-high =
-      one-or-less p x y p-fits x_Fits y-fits (passes _ p-finite) (passes _ x-finite) (passes _ y-finite) low high rising
+  pub t_high : Least (minus (number 1) (over D H))
+  t_high =
+      one_or_less p x y p_fits x_Fits y_fits (passes _ p_finite) (passes _ x_finite) (passes _ y_finite) low high rising
 
-  pub value-near : (p0 m0 p1 m1 : Float) → T (fits binary64 p0) → T (fits binary64 m0) → T (fits binary64 p1) → T (fits binary64 m1)
+  pub value_near : (p0 m0 p1 m1 : Float) → T (fits binary64 p0) → T (fits binary64 m0) → T (fits binary64 p1) → T (fits binary64 m1)
       → T (finite (Rules.hermite p0 m0 p1 m1 (y ⊖ x) ((p ⊖ x) ⊘ (y ⊖ x))))
       → Near (value (Rules.hermite p0 m0 p1 m1 (y ⊖ x) ((p ⊖ x) ⊘ (y ⊖ x))))
       (Exact.hermite rationals (value p0) (value m0) (value p1) (value m1) H (over D H))
       (plus (moved_by rationals (amount 3074) (times u H) H (size p0) (size m0) (size p1) (size m1))
       (plus (times k (plus (plus (size p0) (size p1)) (times (size (y ⊖ x)) (plus (size m0) (size m1)))))
       (times (times j v) (plus (plus (number 1) (size m0)) (size m1)))))
-  value-near p0 m0 p1 m1 a b c d good =
-      near-through _ _ _ _ _
-      (hermite-near p0 m0 p1 m1 (y ⊖ x) ((p ⊖ x) ⊘ (y ⊖ x)) a b c d (sub-fits binary64 y x)
-      (div-fits binary64 (p ⊖ x) (y ⊖ x)) s-low s-high good)
-      (moved-near (over D H) (value ((p ⊖ x) ⊘ (y ⊖ x))) t-low t-high s-low s-high H (value (y ⊖ x)) (amount 3074) (times u H)
-      (value p0) (value m0) (value p1) (value m1) (size p0) (size m0) (size p1) (size m1) fraction-off width-off
-      (within-self H (positive-least _ rising)) (within-size p0) (within-size m0) (within-size p1) (within-size m1))
+  value_near p0 m0 p1 m1 a b c d good =
+      near_through _ _ _ _ _
+      (hermite_near p0 m0 p1 m1 (y ⊖ x) ((p ⊖ x) ⊘ (y ⊖ x)) a b c d (sub-fits binary64 y x)
+      (div-fits binary64 (p ⊖ x) (y ⊖ x)) s_low s_high good)
+      (moved_near (over D H) (value ((p ⊖ x) ⊘ (y ⊖ x))) t_low t_high s_low s_high H (value (y ⊖ x)) (amount 3074) (times u H)
+      (value p0) (value m0) (value p1) (value m1) (size p0) (size m0) (size p1) (size m1) fraction_off width_off
+      (within_self H (positive_least _ rising)) (within_size p0) (within_size m0) (within_size p1) (within_size m1))

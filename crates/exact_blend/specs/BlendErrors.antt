@@ -10,11 +10,11 @@ module _ (A : Arithmetic) (u v e00 e10 e01 e11 P0 M0 P1 M1 W : A.Number) where
 
   -- of a weight within one times an exact number within b
   abbrev pub first : Number → Number → Number
-  first e b = Errors.product-error A u v (one ⊗ b) (Errors.cross A one e b nought)
+  first e b = Errors.product_error A u v (one ⊗ b) (Errors.cross A one e b nought)
 
   -- of a weight times the width times a slope within b
   abbrev pub second : Number → Number → Number
-  second e b = Errors.product-error A u v (one ⊗ W ⊗ b) (Errors.cross A (one ⊗ W) (first e W) b nought)
+  second e b = Errors.product_error A u v (one ⊗ W ⊗ b) (Errors.cross A (one ⊗ W) (first e W) b nought)
 
   abbrev pub size1 : Number
   size1 = one ⊗ P0 ⊕ one ⊗ W ⊗ M0
@@ -26,13 +26,13 @@ module _ (A : Arithmetic) (u v e00 e10 e01 e11 P0 M0 P1 M1 W : A.Number) where
   size3 = size2 ⊕ one ⊗ W ⊗ M1
 
   abbrev pub sum1 : Number
-  sum1 = Errors.sum-error A u size1 (first e00 P0) (second e10 M0)
+  sum1 = Errors.sum_error A u size1 (first e00 P0) (second e10 M0)
 
   abbrev pub sum2 : Number
-  sum2 = Errors.sum-error A u size2 sum1 (first e01 P1)
+  sum2 = Errors.sum_error A u size2 sum1 (first e01 P1)
 
   abbrev pub total : Number
-  total = Errors.sum-error A u size3 sum2 (second e11 M1)
+  total = Errors.sum_error A u size3 sum2 (second e11 M1)
 
 module _ (A : Arithmetic) where
   infixl 60 ◌⊕◌
@@ -133,10 +133,10 @@ module _ (A : Arithmetic) where
 
   -- of several axes: how far what is left of a cell moves when so many are removed, where fractions are off by d and widths W, in place of
   -- which stand U, by e, and the numbers of the cell, within B, by E
-  unfoldable pub moved-errors : ℕ → ℕ → (d e W U B E : ℕ → Number) → Number
-  moved-errors zero lowest d e W U B E = E 0
-  moved-errors (suc axes) lowest d e W U B E =
-      moved-errors axes (suc lowest) d e W U
+  unfoldable pub moved_errors : ℕ → ℕ → (d e W U B E : ℕ → Number) → Number
+  moved_errors zero lowest d e W U B E = E 0
+  moved_errors (suc axes) lowest d e W U B E =
+      moved_errors axes (suc lowest) d e W U
       (λ k. blended A (W lowest) (B (2 * k)) (B (2 * k + 1)) (B (2 * 4 ^ axes + 2 * k)) (B (2 * 4 ^ axes + 2 * k + 1)))
       (λ k.
       moved_by (d lowest) (e lowest) (W lowest) (B (2 * k)) (B (2 * k + 1)) (B (2 * 4 ^ axes + 2 * k)) (B (2 * 4 ^ axes + 2 * k + 1))

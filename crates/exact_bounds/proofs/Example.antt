@@ -6,7 +6,7 @@ use mathlib.Core.List.{[], ◌∷◌}
 use Prim.Native.Nat.{◌*◌}
 use native.Mathlib.Decide.{dec_lt}
 use lib.Ieee as Ieee
-use Rattle.rules.specs.Numbers.{plus-zero, one, two}
+use Rattle.rules.specs.Numbers.{plus_zero, one, two}
 use Rattle.rules.specs.declared.End.TheVariants.{SecondDerivative}
 use Rattle.rules.specs.declared.Condition.{Condition}
 use Rattle.rules.specs.declared.Condition.TheVariants.{Endpoints}
@@ -21,12 +21,12 @@ use Rattle.exact_rationals.specs.Rationals.{
   reciprocal,
   inverted,
   Positive,
-  decide-positive,
+  decide_positive,
 }
 use Rattle.exact_spline.specs.Steps as Steps
 use Rattle.exact_spline.specs.Solve as Solve
 use Rattle.exact_spline.specs.Moments.{moment}
-use Rattle.exact_bounds.specs.Bounds.{Bound, unknown, within, u, moment-bound}
+use Rattle.exact_bounds.specs.Bounds.{Bound, unknown, within, u, moment_bound}
 
 -- whether a bound is there, and below a number
 positive : (x : ℚ) → Dec (Positive x) → Bool
@@ -35,12 +35,12 @@ positive x (no h) = false
 
 below : Bound → ℚ → Bool
 below unknown b = false
-below (within e) b = positive (minus b e) (decide-positive (minus b e))
+below (within e) b = positive (minus b e) (decide_positive (minus b e))
 
 natural : Condition
-natural = Endpoints (SecondDerivative plus-zero) (SecondDerivative plus-zero)
+natural = Endpoints (SecondDerivative plus_zero) (SecondDerivative plus_zero)
 
-middle-bound : below (moment-bound (plus-zero ∷ one ∷ two ∷ []) (plus-zero ∷ one ∷ plus-zero ∷ []) 2 natural 1) (times (number 37) u) ≡ true
+middle_bound : below (moment_bound (plus_zero ∷ one ∷ two ∷ []) (plus_zero ∷ one ∷ plus_zero ∷ []) 2 natural 1) (times (number 37) u) ≡ true
 unfolding moment Solve.thomas Steps.h Steps.s Steps.u below positive natural number negative plus minus times over reciprocal inverted dec_lt
-    decide-positive Ieee.of_bits Ieee.add Ieee.sub Ieee.mul Ieee.div
-middle-bound = refl
+    decide_positive Ieee.of_bits Ieee.add Ieee.sub Ieee.mul Ieee.div
+middle_bound = refl

@@ -12,16 +12,16 @@ use lib.Ieee.{Float, nan, binary64, fits}
 use lib.Ieee.Bits.{of_bits-fits}
 use lib.Ieee.Fits.{add-fits, sub-fits, mul-fits, div-fits}
 use lib.Ieee.Scale.{finite}
-use Rattle.rules.specs.Numbers.{◌⊕◌, ◌⊖◌, ◌⊗◌, ◌⊘◌, plus-zero, one, two, three, six}
+use Rattle.rules.specs.Numbers.{◌⊕◌, ◌⊖◌, ◌⊗◌, ◌⊘◌, plus_zero, one, two, three, six}
 use Rattle.exact_solver.specs.Expressions.{var, sub, neg}
-use Rattle.exact_rationals.specs.Rationals.{ℚ, number, minus, negative, rationals, Positive, decide-positive}
+use Rattle.exact_rationals.specs.Rationals.{ℚ, number, minus, negative, rationals, Positive, decide_positive}
 use Rattle.exact_rationals.specs.Values.{value}
-use Rattle.exact_rationals.proofs.Order.{least-number, ring}
+use Rattle.exact_rationals.proofs.Order.{least_number, ring}
 use Rattle.exact_rounding.specs.Near.{Near, Within, size}
-use Rattle.exact_rounding.proofs.Operations.{value-neg, finite-neg, fits_neg}
-use Rattle.exact_rounding.proofs.Approx.{near_same, off, on, within-negative}
-use Rattle.exact_blend.proofs.Weights.{value-one, value-two, value-three}
-use Rattle.exact_blend.proofs.TheQuery.{value-nought}
+use Rattle.exact_rounding.proofs.Operations.{value_neg, finite_neg, fits_neg}
+use Rattle.exact_rounding.proofs.Approx.{near_same, off, on, within_negative}
+use Rattle.exact_blend.proofs.Weights.{value_one, value_two, value_three}
+use Rattle.exact_blend.proofs.TheQuery.{value_nought}
 use Rattle.exact_bounds.specs.Bounds.{
   Bound,
   unknown,
@@ -29,12 +29,12 @@ use Rattle.exact_bounds.specs.Bounds.{
   Bounded,
   given,
   bounded,
-  from-both,
-  where-finite,
-  where-positive,
+  from_both,
+  where_finite,
+  where_positive,
 }
 use Rattle.exact_bounds.proofs.Relations.{Respected}
-use Rattle.exact_bounds.proofs.Results.{sum_near, difference-near, product-near, quotient-near}
+use Rattle.exact_bounds.proofs.Results.{sum_near, difference_near, product_near, quotient_near}
 
 -- a float within a bound of a number
 abbrev pub Under : Float → Bound → ℚ → Type 0
@@ -46,88 +46,88 @@ pub record Stands (a : Bounded) (Y : ℚ) : Type 0 where
   pub fits : T (fits binary64 a.float)
   pub under : Under a.float a.bound Y
 
-under-finite : (x : Float) (e Y : ℚ) → (T (finite x) → Near (value x) Y e) → Under x (where-finite x e) Y
-under-finite x e Y near = go (finite x) refl
+under_finite : (x : Float) (e Y : ℚ) → (T (finite x) → Near (value x) Y e) → Under x (where_finite x e) Y
+under_finite x e Y near = go (finite x) refl
   where
     go : (b : Bool) → finite x ≡ b → Under x (cond b (within e) unknown) Y
     go true f = (passes _ f, near (passes _ f))
     go false f = tt
 
-under-both : (r : Float) (f : ℚ → ℚ → Bound) (x y : Float) (b c : Bound) (X Y Z : ℚ) → Under x b X → Under y c Y
+under_both : (r : Float) (f : ℚ → ℚ → Bound) (x y : Float) (b c : Bound) (X Y Z : ℚ) → Under x b X → Under y c Y
     → ((e d : ℚ) → T (finite x) × Near (value x) X e → T (finite y) × Near (value y) Y d → Under r (f e d) Z)
-    → Under r (from-both b c f) Z
-under-both r f x y unknown c X Y Z p q h = tt
-under-both r f x y (within e) unknown X Y Z p q h = tt
-under-both r f x y (within e) (within d) X Y Z p q h = h e d p q
+    → Under r (from_both b c f) Z
+under_both r f x y unknown c X Y Z p q h = tt
+under_both r f x y (within e) unknown X Y Z p q h = tt
+under_both r f x y (within e) (within d) X Y Z p q h = h e d p q
 
-under-positive : (r : Float) (z : ℚ) (t : Dec (Positive z)) (b : Bound) (Z : ℚ) → (Positive z → Under r b Z)
-    → Under r (where-positive z t b) Z
-under-positive r z (yes p) b Z h = h p
-under-positive r z (no p) b Z h = tt
+under_positive : (r : Float) (z : ℚ) (t : Dec (Positive z)) (b : Bound) (Z : ℚ) → (Positive z → Under r b Z)
+    → Under r (where_positive z t b) Z
+under_positive r z (yes p) b Z h = h p
+under_positive r z (no p) b Z h = tt
 
 -- a number that is given
-pub given-stands : (x : Float) → T (fits binary64 x) → Stands (given x) (value x)
-given-stands x f = record { fits = f; under = under-finite x (number 0) (value x) (λ h. near_same _ _ (least-number 0)) }
+pub given_stands : (x : Float) → T (fits binary64 x) → Stands (given x) (value x)
+given_stands x f = record { fits = f; under = under_finite x (number 0) (value x) (λ h. near_same _ _ (least_number 0)) }
 
 constant : (n : ℕ) (x : Float) → T (fits binary64 x) → value x ≡ number n → Stands (given x) (number n)
-constant n x f e = subst (Stands (given x)) e (given-stands x f)
+constant n x f e = subst (Stands (given x)) e (given_stands x f)
 
-value-six : value six ≡ number 6
+value_six : value six ≡ number 6
 unfolding Ieee.of_bits number
-value-six = sound refl
+value_six = sound refl
 
-nan-fits : T (fits binary64 nan)
+nan_fits : T (fits binary64 nan)
 unfolding fits
-nan-fits = tt
+nan_fits = tt
 
-under-negative : (x : Float) (b : Bound) (Y : ℚ) → Under x b Y → Under (Ieee.neg x) b (negative Y)
-under-negative x unknown Y p = tt
-under-negative x (within e) Y p = (
-  finite-neg x p.0,
+under_negative : (x : Float) (b : Bound) (Y : ℚ) → Under x b Y → Under (Ieee.neg x) b (negative Y)
+under_negative x unknown Y p = tt
+under_negative x (within e) Y p = (
+  finite_neg x p.0,
   on _ _ _ (subst (λ z. Within z e)
       (ring (value x ∷ Y ∷ []) (neg (sub (var 0) (var 1))) (sub (neg (var 0)) (neg (var 1))) tt tt tt
-      ∙ ap (λ z. minus z (negative Y)) (sym (value-neg x)))
-      (within-negative _ _ (off _ _ _ p.1))),
+      ∙ ap (λ z. minus z (negative Y)) (sym (value_neg x)))
+      (within_negative _ _ (off _ _ _ p.1))),
 )
 
-pub operations-keep-bounds : Respected bounded rationals Stands
-operations-keep-bounds =
+pub operations_keep_bounds : Respected bounded rationals Stands
+operations_keep_bounds =
     record {
-      absent = record { fits = nan-fits; under = tt };
-      nought = constant 0 plus-zero (of_bits-fits binary64 _) value-nought;
-      one = constant 1 one (of_bits-fits binary64 _) value-one;
-      two = constant 2 two (of_bits-fits binary64 _) value-two;
-      three = constant 3 three (of_bits-fits binary64 _) value-three;
-      six = constant 6 six (of_bits-fits binary64 _) value-six;
+      absent = record { fits = nan_fits; under = tt };
+      nought = constant 0 plus_zero (of_bits-fits binary64 _) value_nought;
+      one = constant 1 one (of_bits-fits binary64 _) value_one;
+      two = constant 2 two (of_bits-fits binary64 _) value_two;
+      three = constant 3 three (of_bits-fits binary64 _) value_three;
+      six = constant 6 six (of_bits-fits binary64 _) value_six;
       plus = λ a b X Y p q.
           record {
             fits = add-fits binary64 a.float b.float;
-            under = under-both _ _ a.float b.float a.bound b.bound X Y _ p.under q.under
-                (λ e d i j. under-finite (a.float ⊕ b.float) _ _
+            under = under_both _ _ a.float b.float a.bound b.bound X Y _ p.under q.under
+                (λ e d i j. under_finite (a.float ⊕ b.float) _ _
                 (sum_near a.float b.float X Y e d p.fits q.fits i.0 j.0 i.1 j.1));
           };
       minus = λ a b X Y p q.
           record {
             fits = sub-fits binary64 a.float b.float;
-            under = under-both _ _ a.float b.float a.bound b.bound X Y _ p.under q.under
-                (λ e d i j. under-finite (a.float ⊖ b.float) _ _
-                (difference-near a.float b.float X Y e d p.fits q.fits i.0 j.0 i.1 j.1));
+            under = under_both _ _ a.float b.float a.bound b.bound X Y _ p.under q.under
+                (λ e d i j. under_finite (a.float ⊖ b.float) _ _
+                (difference_near a.float b.float X Y e d p.fits q.fits i.0 j.0 i.1 j.1));
           };
       times = λ a b X Y p q.
           record {
             fits = mul-fits binary64 a.float b.float;
-            under = under-both _ _ a.float b.float a.bound b.bound X Y _ p.under q.under
-                (λ e d i j. under-finite (a.float ⊗ b.float) _ _
-                (product-near a.float b.float X Y e d p.fits q.fits i.0 j.0 i.1 j.1));
+            under = under_both _ _ a.float b.float a.bound b.bound X Y _ p.under q.under
+                (λ e d i j. under_finite (a.float ⊗ b.float) _ _
+                (product_near a.float b.float X Y e d p.fits q.fits i.0 j.0 i.1 j.1));
           };
       over = λ a b X Y p q.
           record {
             fits = div-fits binary64 a.float b.float;
-            under = under-both _ _ a.float b.float a.bound b.bound X Y _ p.under q.under
-                (λ e d i j. under-positive _ (minus (size b.float) d) (decide-positive (minus (size b.float) d)) _ _
-                (λ clear. under-finite (a.float ⊘ b.float) _ _
-                (quotient-near a.float b.float X Y e d p.fits q.fits i.0 j.0 i.1 j.1 clear)));
+            under = under_both _ _ a.float b.float a.bound b.bound X Y _ p.under q.under
+                (λ e d i j. under_positive _ (minus (size b.float) d) (decide_positive (minus (size b.float) d)) _ _
+                (λ clear. under_finite (a.float ⊘ b.float) _ _
+                (quotient_near a.float b.float X Y e d p.fits q.fits i.0 j.0 i.1 j.1 clear)));
           };
       negative = λ a Y p.
-          record { fits = fits_neg binary64 a.float p.fits; under = under-negative a.float a.bound Y p.under };
+          record { fits = fits_neg binary64 a.float p.fits; under = under_negative a.float a.bound Y p.under };
     }

@@ -18,6 +18,6 @@ hat (suc (suc k)) = number 0
 natural : Condition ℚ
 natural = Endpoints (SecondDerivative (number 0)) (SecondDerivative (number 0))
 
-middle-moment : moment rationals number hat 2 natural 1 ≡ negative (number 3)
+middle_moment : moment rationals number hat 2 natural 1 ≡ negative (number 3)
 unfolding moment Solve.thomas Steps.h Steps.s Steps.u hat natural number negative plus minus times over reciprocal inverted dec_lt
-middle-moment = sound refl
+middle_moment = sound refl

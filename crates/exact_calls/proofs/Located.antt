@@ -10,25 +10,25 @@ use native.Mathlib.Omega.{arith}
 use lib.Ieee.{Float, lt, le, eq}
 use lib.Ieee.Scale.{finite}
 use Rattle.rules.specs.Numbers.{at}
-use Rattle.rules.specs.Locate.{first-at-or-above, locate}
+use Rattle.rules.specs.Locate.{first_at_or_above, locate}
 use Rattle.base_numbers.proofs.Scan.{neither}
 use Rattle.exact_rationals.specs.Rationals.{rationals, Positive, Least, minus}
 use Rattle.exact_rationals.specs.Values.{value}
-use Rattle.exact_rationals.proofs.Order.{positive-least, least-number, least-through, ring}
+use Rattle.exact_rationals.proofs.Order.{positive_least, least_number, least_through, ring}
 use Rattle.exact_solver.specs.Expressions.{var, t0, sub}
-use Rattle.exact_rationals.proofs.Comparisons.{not-less, at_most}
+use Rattle.exact_rationals.proofs.Comparisons.{not_less, at_most}
 use Rattle.exact_spline.specs.Steps.{h}
 use Rattle.exact_calls.specs.Exactly.{exact, HoldsPoint}
 
 -- not at most, so not less
-not-at-most : (a b : Float) → le a b ≡ false → lt a b ≡ false
+not_at_most : (a b : Float) → le a b ≡ false → lt a b ≡ false
 unfolding le
-not-at-most a b e = (neither (lt a b) (eq a b) e).0
+not_at_most a b e = (neither (lt a b) (eq a b) e).0
 
 -- less, so at most
-less-at-most : (a b : Float) → lt a b ≡ true → le a b ≡ true
+less_at_most : (a b : Float) → lt a b ≡ true → le a b ≡ true
 unfolding le
-less-at-most a b e = rw e refl
+less_at_most a b e = rw e refl
 
 -- the first of the knots k, .., k + d that is at or above the point
 record First (x : List Float) (p : Float) (d k r : ℕ) : Type 0 where
@@ -37,8 +37,8 @@ record First (x : List Float) (p : Float) (d k r : ℕ) : Type 0 where
   here : r < k + d → le p (at x r) ≡ true
   before : k < r → le p (at x (r - 1)) ≡ false
 
-first_found : (x : List Float) (p : Float) (d k : ℕ) → First x p d k (first-at-or-above x p d k)
-unfolding first-at-or-above
+first_found : (x : List Float) (p : Float) (d k : ℕ) → First x p d k (first_at_or_above x p d k)
+unfolding first_at_or_above
 first_found x p zero k =
     record {
       from = omega arith;
@@ -48,8 +48,8 @@ first_found x p zero k =
     }
 first_found x p (suc d) k = go (le p (at x k)) refl (first_found x p d (suc k))
   where
-    go : (t : Bool) → le p (at x k) ≡ t → First x p d (suc k) (first-at-or-above x p d (suc k))
-        → First x p (suc d) k (elim t [ true ↦ k | false ↦ first-at-or-above x p d (suc k) ])
+    go : (t : Bool) → le p (at x k) ≡ t → First x p d (suc k) (first_at_or_above x p d (suc k))
+        → First x p (suc d) k (elim t [ true ↦ k | false ↦ first_at_or_above x p d (suc k) ])
     go true e later =
         record { from = omega arith; to = omega arith; here = λ l. e; before = λ l. let z : ⊥ = omega arith in absurd z }
     go false e later =
@@ -58,7 +58,7 @@ first_found x p (suc d) k = go (le p (at x k)) refl (first_found x p d (suc k))
           to = omega (arith, later.to);
           here = λ l. later.here (omega (arith, l));
           before =
-              λ l. back (first-at-or-above x p d (suc k)) later.from later.before (dec_lt (suc k) (first-at-or-above x p d (suc k)));
+              λ l. back (first_at_or_above x p d (suc k)) later.from later.before (dec_lt (suc k) (first_at_or_above x p d (suc k)));
         }
       where
         back : (r : ℕ) → suc k ≤ r → (suc k < r → le p (at x (r - 1)) ≡ false) → Dec (suc k < r) → le p (at x (r - 1)) ≡ false
@@ -71,23 +71,23 @@ module _
     (rising : (k : ℕ) → k < n → Positive (h rationals (exact x) k)) (point : finite p ≡ true) where
   step : (k : ℕ) → k < n → Least (minus (exact x (k + 1)) (exact x k))
   unfolding h
-  step k inside = positive-least _ (rising k inside)
+  step k inside = positive_least _ (rising k inside)
 
   -- below the first knot it is the first cell, from the last knot on the last
-  pub locate-below : lt p (at x 0) ≡ true → locate x n p ≡ 0
+  pub locate_below : lt p (at x 0) ≡ true → locate x n p ≡ 0
   unfolding locate
-  locate-below below = rw below refl
+  locate_below below = rw below refl
 
-  pub locate-above : lt p (at x 0) ≡ false → le (at x n) p ≡ true → locate x n p ≡ n - 1
+  pub locate_above : lt p (at x 0) ≡ false → le (at x n) p ≡ true → locate x n p ≡ n - 1
   unfolding locate
-  locate-above not-below above = rw (not-below, above) refl
+  locate_above not_below above = rw (not_below, above) refl
 
   -- it is always a cell
-  pub locate-inside : locate x n p + 1 < n + 1
+  pub locate_inside : locate x n p + 1 < n + 1
   unfolding locate
-  locate-inside = go (lt p (at x 0)) (le (at x n) p)
+  locate_inside = go (lt p (at x 0)) (le (at x n) p)
     where
-      go : (t u : Bool) → cond t 0 (cond u (n - 1) (first-at-or-above x p n 0 - 1)) + 1 < n + 1
+      go : (t u : Bool) → cond t 0 (cond u (n - 1) (first_at_or_above x p n 0 - 1)) + 1 < n + 1
       go true u = omega arith
       go false true = omega arith
       go false false = omega (arith, (first_found x p n 0).to)
@@ -95,41 +95,41 @@ module _
   -- between them the cell holds the point
   pub located : lt p (at x 0) ≡ false → lt (at x n) p ≡ false → HoldsPoint (exact x) (locate x n p) (value p)
   unfolding locate
-  located not-below not-above = go (lt p (at x 0)) not-below (le (at x n) p) refl
+  located not_below not_above = go (lt p (at x 0)) not_below (le (at x n) p) refl
     where
       upmost : Least (minus (exact x n) (value p))
-      upmost = not-less (at x n) p (knots n (omega arith)) point not-above
+      upmost = not_less (at x n) p (knots n (omega arith)) point not_above
 
       lowest : Least (minus (value p) (exact x 0))
-      lowest = not-less p (at x 0) point (knots 0 (omega arith)) not-below
+      lowest = not_less p (at x 0) point (knots 0 (omega arith)) not_below
 
       last : le (at x n) p ≡ true → HoldsPoint (exact x) (n - 1) (value p)
       last above =
           let e : n ≡ n - 1 + 1 = omega arith in
           record {
-            from-lower =
-                least-through (exact x (n - 1)) (exact x (n - 1 + 1)) (value p) (step (n - 1) (omega arith))
+            from_lower =
+                least_through (exact x (n - 1)) (exact x (n - 1 + 1)) (value p) (step (n - 1) (omega arith))
                 (subst (λ k. Least (minus (value p) (exact x k))) e (at_most (at x n) p (knots n (omega arith)) point above));
-            to-upper = subst (λ k. Least (minus (exact x k) (value p))) e upmost;
+            to_upper = subst (λ k. Least (minus (exact x k) (value p))) e upmost;
           }
 
       among : (r : ℕ) → First x p n 0 r → HoldsPoint (exact x) (r - 1) (value p)
       among zero first =
           record {
-            from-lower = lowest;
-            to-upper =
-                least-through (value p) (exact x 0) (exact x 1)
+            from_lower = lowest;
+            to_upper =
+                least_through (value p) (exact x 0) (exact x 1)
                 (at_most p (at x 0) point (knots 0 (omega arith)) (first.here (omega arith))) (step 0 some);
           }
       among (suc r) first =
           let e : r ≡ suc r - 1 = omega arith in
           let f : suc r ≡ suc r - 1 + 1 = omega arith in
           record {
-            from-lower =
+            from_lower =
                 subst (λ k. Least (minus (value p) (exact x k))) e
-                (not-less p (at x r) point (knots r (omega (arith, first.to)))
-                (not-at-most p (at x r) (subst (λ k. le p (at x k) ≡ false) (sym e) (first.before (omega arith)))));
-            to-upper = subst (λ k. Least (minus (exact x k) (value p))) f (upper (dec_lt (suc r) n));
+                (not_less p (at x r) point (knots r (omega (arith, first.to)))
+                (not_at_most p (at x r) (subst (λ k. le p (at x k) ≡ false) (sym e) (first.before (omega arith)))));
+            to_upper = subst (λ k. Least (minus (exact x k) (value p))) f (upper (dec_lt (suc r) n));
           }
         where
           upper : Dec (suc r < n) → Least (minus (exact x (suc r)) (value p))
@@ -139,27 +139,27 @@ module _
               subst (λ k. Least (minus (exact x k) (value p))) same upmost
 
       go : (t : Bool) → t ≡ false → (u : Bool) → le (at x n) p ≡ u
-          → HoldsPoint (exact x) (cond t 0 (cond u (n - 1) (first-at-or-above x p n 0 - 1))) (value p)
+          → HoldsPoint (exact x) (cond t 0 (cond u (n - 1) (first_at_or_above x p n 0 - 1))) (value p)
       go t e true above = rw e (last above)
-      go t e false below = rw e (among (first-at-or-above x p n 0) (first_found x p n 0))
+      go t e false below = rw e (among (first_at_or_above x p n 0) (first_found x p n 0))
 
   -- so the point that hold puts in its place always lies in the cell: outside it is the end knot of that cell
   pub held : HoldsPoint (exact x) (locate x n p) (value (cond (lt p (at x 0)) (at x 0) (cond (lt (at x n) p) (at x n) p)))
   held = go (lt p (at x 0)) refl (lt (at x n) p) refl
     where
-      at-a-knot : (k : ℕ) → Least (minus (exact x k) (exact x k))
-      at-a-knot k = subst Least (ring (exact x k ∷ []) t0 (sub (var 0) (var 0)) tt tt tt) (least-number 0)
+      at_a_knot : (k : ℕ) → Least (minus (exact x k) (exact x k))
+      at_a_knot k = subst Least (ring (exact x k ∷ []) t0 (sub (var 0) (var 0)) tt tt tt) (least_number 0)
 
       go : (t : Bool) → lt p (at x 0) ≡ t → (u : Bool) → lt (at x n) p ≡ u
           → HoldsPoint (exact x) (locate x n p) (value (cond t (at x 0) (cond u (at x n) p)))
       go true e u f =
-          subst (λ l. HoldsPoint (exact x) l (exact x 0)) (sym (locate-below e))
-          (record { from-lower = at-a-knot 0; to-upper = step 0 some })
+          subst (λ l. HoldsPoint (exact x) l (exact x 0)) (sym (locate_below e))
+          (record { from_lower = at_a_knot 0; to_upper = step 0 some })
       go false e true f =
           let same : n ≡ n - 1 + 1 = omega arith in
-          subst (λ l. HoldsPoint (exact x) l (exact x n)) (sym (locate-above e (less-at-most (at x n) p f)))
+          subst (λ l. HoldsPoint (exact x) l (exact x n)) (sym (locate_above e (less_at_most (at x n) p f)))
           (record {
-            from-lower = subst (λ k. Least (minus (exact x k) (exact x (n - 1)))) (sym same) (step (n - 1) (omega arith));
-            to-upper = subst (λ k. Least (minus (exact x k) (exact x n))) same (at-a-knot n);
+            from_lower = subst (λ k. Least (minus (exact x k) (exact x (n - 1)))) (sym same) (step (n - 1) (omega arith));
+            to_upper = subst (λ k. Least (minus (exact x k) (exact x n))) same (at_a_knot n);
           })
       go false e false f = located e f

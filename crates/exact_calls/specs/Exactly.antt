@@ -19,26 +19,26 @@ abbrev pub values : List Float → List ℚ
 values l = map value l
 
 -- an end and a condition with the exact values of their numbers
-abbrev pub exact-end : Declared.End → Exact.End ℚ
-exact-end End.NotAKnot = Exact.NotAKnot
-exact-end (End.FirstDerivative v) = Exact.FirstDerivative (value v)
-exact-end (End.SecondDerivative v) = Exact.SecondDerivative (value v)
+abbrev pub exact_end : Declared.End → Exact.End ℚ
+exact_end End.NotAKnot = Exact.NotAKnot
+exact_end (End.FirstDerivative v) = Exact.FirstDerivative (value v)
+exact_end (End.SecondDerivative v) = Exact.SecondDerivative (value v)
 
-abbrev pub exact-condition : DeclaredCondition.Condition → Exact.Condition ℚ
-exact-condition (Condition.Endpoints lower upper) = Exact.Endpoints (exact-end lower) (exact-end upper)
-exact-condition Condition.Periodic = Exact.Periodic
+abbrev pub exact_condition : DeclaredCondition.Condition → Exact.Condition ℚ
+exact_condition (Condition.Endpoints lower upper) = Exact.Endpoints (exact_end lower) (exact_end upper)
+exact_condition Condition.Periodic = Exact.Periodic
 
 -- a grid with the exact values of its knots and ends
-abbrev pub exact-grid : Sizes.Grid → Grid rationals
-exact-grid g =
+abbrev pub exact_grid : Sizes.Grid → Grid rationals
+exact_grid g =
     record {
       axes = g.axes;
       points = Sizes.points g;
       knots = λ i. exact (Sizes.knots g i);
-      condition = λ i. exact-condition (Sizes.condition g i);
+      condition = λ i. exact_condition (Sizes.condition g i);
     }
 
 -- the point lies between the knots of cell l, ends included
 pub record HoldsPoint (x : ℕ → ℚ) (l : ℕ) (point : ℚ) : Type 0 where
-  pub from-lower : Least (minus point (x l))
-  pub to-upper : Least (minus (x (l + 1)) point)
+  pub from_lower : Least (minus point (x l))
+  pub to_upper : Least (minus (x (l + 1)) point)

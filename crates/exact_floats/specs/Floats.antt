@@ -3,7 +3,7 @@ use Rattle.std.specs.Prelude.{Float}
 use Rattle.std.specs.Float.{nan}
 use Rattle.std.specs.Float.Ieee.{neg}
 use Rattle.exact_arithmetic.specs.Arithmetic.{Arithmetic}
-use Rattle.rules.specs.Numbers.{◌⊕◌, ◌⊖◌, ◌⊗◌, ◌⊘◌, plus-zero, one, two, three, six, at}
+use Rattle.rules.specs.Numbers.{◌⊕◌, ◌⊖◌, ◌⊗◌, ◌⊘◌, plus_zero, one, two, three, six, at}
 use Rattle.rules.specs.declared.End.{End}
 use Rattle.rules.specs.declared.End.TheVariants.{NotAKnot, FirstDerivative, SecondDerivative}
 use Rattle.rules.specs.declared.Condition.{Condition}
@@ -18,7 +18,7 @@ floats =
     record {
       Number = Float;
       absent = nan;
-      nought = plus-zero;
+      nought = plus_zero;
       one = one;
       two = two;
       three = three;

@@ -4,43 +4,43 @@ use Rattle.exact_arithmetic.specs.Arithmetic.{IsField, IsOrdered}
 use Rattle.exact_rationals.proofs.RationalLaws as Q
 use Rattle.exact_rationals.specs.Rationals.{rationals, number, Positive}
 
-positive-six : Positive (number 6)
-positive-six =
-    subst Positive (sym Q.six-is) (Q.positive-plus (number 3) (number 3) positive-three positive-three)
+positive_six : Positive (number 6)
+positive_six =
+    subst Positive (sym Q.six_is) (Q.positive_plus (number 3) (number 3) positive_three positive_three)
   where
-    positive-two : Positive (number 2)
-    positive-two = subst Positive (sym Q.two_is) (Q.positive-plus (number 1) (number 1) Q.positive-one Q.positive-one)
+    positive_two : Positive (number 2)
+    positive_two = subst Positive (sym Q.two_is) (Q.positive_plus (number 1) (number 1) Q.positive_one Q.positive_one)
 
-    positive-three : Positive (number 3)
-    positive-three = subst Positive (sym Q.three-is) (Q.positive-plus (number 2) (number 1) positive-two Q.positive-one)
+    positive_three : Positive (number 3)
+    positive_three = subst Positive (sym Q.three_is) (Q.positive_plus (number 2) (number 1) positive_two Q.positive_one)
 
-pub rationals-are-a-field : IsField rationals
-rationals-are-a-field =
+pub rationals_are_a_field : IsField rationals
+rationals_are_a_field =
     record {
       plus_assoc = Q.plus_assoc;
       plus_comm = Q.plus_comm;
-      plus-nought = Q.plus-nought;
-      plus-negative = Q.plus-negative;
-      times-assoc = Q.times-assoc;
-      times-comm = Q.times-comm;
-      times-one = Q.times-one;
-      times-plus = Q.times-plus;
+      plus_nought = Q.plus_nought;
+      plus_negative = Q.plus_negative;
+      times_assoc = Q.times_assoc;
+      times_comm = Q.times_comm;
+      times_one = Q.times_one;
+      times_plus = Q.times_plus;
       minus_is = Q.minus_is;
       two_is = Q.two_is;
-      three-is = Q.three-is;
-      six-is = Q.six-is;
-      over-times = Q.over-times;
-      one-not-nought = Q.positive-not-nought (number 1) Q.positive-one;
-      six-not-nought = Q.positive-not-nought (number 6) positive-six;
+      three_is = Q.three_is;
+      six_is = Q.six_is;
+      over_times = Q.over_times;
+      one_not_nought = Q.positive_not_nought (number 1) Q.positive_one;
+      six_not_nought = Q.positive_not_nought (number 6) positive_six;
     }
 
-abbrev pub rationals-are-ordered : IsOrdered rationals
-rationals-are-ordered =
+abbrev pub rationals_are_ordered : IsOrdered rationals
+rationals_are_ordered =
     record {
       Positive = Positive;
-      positive-one = Q.positive-one;
-      positive-plus = Q.positive-plus;
-      positive-times = Q.positive-times;
-      positive-over = Q.positive-over;
-      positive-not-nought = Q.positive-not-nought;
+      positive_one = Q.positive_one;
+      positive_plus = Q.positive_plus;
+      positive_times = Q.positive_times;
+      positive_over = Q.positive_over;
+      positive_not_nought = Q.positive_not_nought;
     }

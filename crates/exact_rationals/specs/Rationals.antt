@@ -23,8 +23,8 @@ Same a b = a.p * b.d + b.n * a.d ≡ b.p * a.d + a.n * b.d
 abbrev pub ℚ : Type 0
 ℚ = Quot Same
 
-pub positive-product : (a b : ℕ) → 0 < a → 0 < b → 0 < a * b
-positive-product a b h k = omega (arith, mul-le-mul_right b h)
+pub positive_product : (a b : ℕ) → 0 < a → 0 < b → 0 < a * b
+positive_product a b h k = omega (arith, mul-le-mul_right b h)
 
 -- sum, product and opposite of fractions
 abbrev pub sum : Ratio → Ratio → Ratio
@@ -33,7 +33,7 @@ sum a b =
       p = a.p * b.d + b.p * a.d;
       n = a.n * b.d + b.n * a.d;
       d = a.d * b.d;
-      below = positive-product a.d b.d
+      below = positive_product a.d b.d
           a.below b.below;
     }
 
@@ -43,7 +43,7 @@ product a b =
       p = a.p * b.p + a.n * b.n;
       n = a.p * b.n + a.n * b.p;
       d = a.d * b.d;
-      below = positive-product a.d b.d
+      below = positive_product a.d b.d
           a.below b.below;
     }
 
@@ -73,20 +73,20 @@ inverse a = inverted a (dec_lt a.n a.p) (dec_lt a.p a.n)
 pub sum_left : (a b c : Ratio) → Same a b → Same (sum a c) (sum b c)
 sum_left a b c h = omega (arith, ap (λ z. z * (c.d * c.d)) h)
 
-pub sum-right : (a b c : Ratio) → Same a b → Same (sum c a) (sum c b)
-sum-right a b c h = omega (arith, ap (λ z. z * (c.d * c.d)) h)
+pub sum_right : (a b c : Ratio) → Same a b → Same (sum c a) (sum c b)
+sum_right a b c h = omega (arith, ap (λ z. z * (c.d * c.d)) h)
 
-pub product-left : (a b c : Ratio) → Same a b → Same (product a c) (product b c)
-product-left a b c h = omega (arith, ap (λ z. z * (c.p * c.d)) h, ap (λ z. z * (c.n * c.d)) h)
+pub product_left : (a b c : Ratio) → Same a b → Same (product a c) (product b c)
+product_left a b c h = omega (arith, ap (λ z. z * (c.p * c.d)) h, ap (λ z. z * (c.n * c.d)) h)
 
-pub product-right : (a b c : Ratio) → Same a b → Same (product c a) (product c b)
-product-right a b c h = omega (arith, ap (λ z. z * (c.p * c.d)) h, ap (λ z. z * (c.n * c.d)) h)
+pub product_right : (a b c : Ratio) → Same a b → Same (product c a) (product c b)
+product_right a b c h = omega (arith, ap (λ z. z * (c.p * c.d)) h, ap (λ z. z * (c.n * c.d)) h)
 
-pub opposite-same : (a b : Ratio) → Same a b → Same (opposite a) (opposite b)
-opposite-same a b h = omega arith
+pub opposite_same : (a b : Ratio) → Same a b → Same (opposite a) (opposite b)
+opposite_same a b h = omega arith
 
-pub positive-same : (a b : Ratio) → Same a b → a.n < a.p → b.n < b.p
-positive-same a b h k = go (dec_lt b.n b.p)
+pub positive_same : (a b : Ratio) → Same a b → a.n < a.p → b.n < b.p
+positive_same a b h k = go (dec_lt b.n b.p)
   where
     go : Dec (b.n < b.p) → b.n < b.p
     go (yes i) = i
@@ -96,68 +96,68 @@ positive-same a b h k = go (dec_lt b.n b.p)
         absurd z
 
 -- and inverses
-inverse-value : (p n d p' n' d' : ℕ) → n < p → n' < p' → p * d' + n' * d ≡ p' * d + n * d'
+inverse_value : (p n d p' n' d' : ℕ) → n < p → n' < p' → p * d' + n' * d ≡ p' * d + n * d'
     → d * (p' - n') + 0 * (p - n) ≡ d' * (p - n) + 0 * (p' - n')
-inverse-value p n d p' n' d' h k e = go (p - n) (p' - n') (omega arith) (omega arith)
+inverse_value p n d p' n' d' h k e = go (p - n) (p' - n') (omega arith) (omega arith)
   where
     go : (i j : ℕ) → p ≡ n + i → p' ≡ n' + j → d * j + 0 * i ≡ d' * i + 0 * j
     go i j f g =
         let e' : (n + i) * d' + n' * d ≡ (n' + j) * d + n * d' = ap (λ z. z * d' + n' * d) (sym f) ∙ e ∙ ap (λ z. z * d + n * d') g in
         omega arith
 
-pub inverted-same : (a b : Ratio) → Same a b
+pub inverted_same : (a b : Ratio) → Same a b
     → (i : Dec (a.n < a.p)) (j : Dec (a.p < a.n)) (k : Dec (b.n < b.p)) (l : Dec (b.p < b.n))
     → Same (inverted a i j) (inverted b k l)
 unfolding inverted
-inverted-same a b h (yes i) j (yes k) l = inverse-value a.p a.n a.d b.p b.n b.d i k h
-inverted-same a b h (yes i) j (no k) l = absurd (k (positive-same a b h i))
-inverted-same a b h (no i) j (yes k) l = absurd (i (positive-same b a (sym h) k))
-inverted-same a b h (no i) (yes j) (no k) (yes l) =
+inverted_same a b h (yes i) j (yes k) l = inverse_value a.p a.n a.d b.p b.n b.d i k h
+inverted_same a b h (yes i) j (no k) l = absurd (k (positive_same a b h i))
+inverted_same a b h (no i) j (yes k) l = absurd (i (positive_same b a (sym h) k))
+inverted_same a b h (no i) (yes j) (no k) (yes l) =
     let e : a.n * b.d + b.p * a.d ≡ b.n * a.d + a.p * b.d = omega arith in
     let v : a.d * (b.n - b.p) + 0 * (a.n - a.p)
-    ≡ b.d * (a.n - a.p) + 0 * (b.n - b.p) = inverse-value a.n a.p a.d b.n b.p b.d j l e in
+    ≡ b.d * (a.n - a.p) + 0 * (b.n - b.p) = inverse_value a.n a.p a.d b.n b.p b.d j l e in
     turned a.d b.d (b.n - b.p) (a.n - a.p) v
   where
     turned : (x y i j : ℕ) → x * i + 0 * j ≡ y * j + 0 * i → 0 * i + y * j ≡ 0 * j + x * i
     turned x y i j e = omega arith
-inverted-same a b h (no i) (yes j) (no k) (no l) = absurd (l (positive-same (opposite a) (opposite b) (opposite-same a b h) j))
-inverted-same a b h (no i) (no j) (no k) (yes l) = absurd (j (positive-same (opposite b) (opposite a) (opposite-same b a (sym h)) l))
-inverted-same a b h (no i) (no j) (no k) (no l) = refl
+inverted_same a b h (no i) (yes j) (no k) (no l) = absurd (l (positive_same (opposite a) (opposite b) (opposite_same a b h) j))
+inverted_same a b h (no i) (no j) (no k) (yes l) = absurd (j (positive_same (opposite b) (opposite a) (opposite_same b a (sym h)) l))
+inverted_same a b h (no i) (no j) (no k) (no l) = refl
 
 -- so the operations are those of the rational numbers
-pub ℚ-set : IsSet ℚ
-ℚ-set = Quot-set
+pub ℚ_set : IsSet ℚ
+ℚ_set = Quot-set
 
 abbrev pub mk : Ratio → ℚ
 mk a = Quot.mk a
 
-abbrev pub with-left : (f : Ratio → Ratio → Ratio) → ((a b c : Ratio) → Same a b → Same (f c a) (f c b)) → Ratio → ℚ → ℚ
-with-left f right a y = lift ℚ-set (λ b. mk (f a b)) (λ b c h. sound (right b c a h)) y
+abbrev pub with_left : (f : Ratio → Ratio → Ratio) → ((a b c : Ratio) → Same a b → Same (f c a) (f c b)) → Ratio → ℚ → ℚ
+with_left f right a y = lift ℚ_set (λ b. mk (f a b)) (λ b c h. sound (right b c a h)) y
 
 abbrev pub binary : (f : Ratio → Ratio → Ratio) → ((a b c : Ratio) → Same a b → Same (f a c) (f b c))
     → ((a b c : Ratio) → Same a b → Same (f c a) (f c b)) → ℚ → ℚ → ℚ
 binary f left right x y =
-    lift ℚ-set
-    (λ a. with-left f right a y)
-    (λ a c h. ind {0, 0, 0} {β = λ y. with-left f right a y ≡ with-left f right c y}
-    (λ y. ℚ-set (with-left f right a y) (with-left f right c y)) (λ b. sound (left a c b h)) y)
+    lift ℚ_set
+    (λ a. with_left f right a y)
+    (λ a c h. ind {0, 0, 0} {β = λ y. with_left f right a y ≡ with_left f right c y}
+    (λ y. ℚ_set (with_left f right a y) (with_left f right c y)) (λ b. sound (left a c b h)) y)
     x
 
 abbrev pub unary : (f : Ratio → Ratio) → ((a b : Ratio) → Same a b → Same (f a) (f b)) → ℚ → ℚ
-unary f same x = lift ℚ-set (λ a. mk (f a)) (λ a b h. sound (same a b h)) x
+unary f same x = lift ℚ_set (λ a. mk (f a)) (λ a b h. sound (same a b h)) x
 
 unfoldable pub plus : ℚ → ℚ → ℚ
-plus = binary sum sum_left sum-right
+plus = binary sum sum_left sum_right
 
 unfoldable pub times : ℚ → ℚ → ℚ
-times = binary product product-left product-right
+times = binary product product_left product_right
 
 unfoldable pub negative : ℚ → ℚ
-negative = unary opposite opposite-same
+negative = unary opposite opposite_same
 
 unfoldable pub reciprocal : ℚ → ℚ
 reciprocal =
-    unary inverse (λ a b h. inverted-same a b h (dec_lt a.n a.p) (dec_lt a.p a.n) (dec_lt b.n b.p) (dec_lt b.p b.n))
+    unary inverse (λ a b h. inverted_same a b h (dec_lt a.n a.p) (dec_lt a.p a.n) (dec_lt b.n b.p) (dec_lt b.p b.n))
 
 unfoldable pub number : ℕ → ℚ
 number k = Quot.mk (whole k)
@@ -187,20 +187,20 @@ rationals =
 
 -- above nought
 unfoldable pub Positive : ℚ → Type 0
-Positive x = (lift_prop {0, 0, 0} (λ a. (a.n < a.p, le_prop)) (λ a b h. (positive-same a b h, positive-same b a (sym h))) x).0
+Positive x = (lift_prop {0, 0, 0} (λ a. (a.n < a.p, le_prop)) (λ a b h. (positive_same a b h, positive_same b a (sym h))) x).0
 
-pub positive-prop : (x : ℚ) → IsProp (Positive x)
+pub positive_prop : (x : ℚ) → IsProp (Positive x)
 unfolding Positive
-positive-prop x = lift_prop_prop {0, 0, 0} (λ a. (a.n < a.p, le_prop)) (λ a b h. (positive-same a b h, positive-same b a (sym h))) x
+positive_prop x = lift_prop_prop {0, 0, 0} (λ a. (a.n < a.p, le_prop)) (λ a b h. (positive_same a b h, positive_same b a (sym h))) x
 
 -- which is decided
-unfoldable pub decide-positive : (x : ℚ) → Dec (Positive x)
+unfoldable pub decide_positive : (x : ℚ) → Dec (Positive x)
 unfolding Positive
-decide-positive = ind {0, 0, 0} {β = λ x. Dec (Positive x)} (λ x. Dec-prop (positive-prop x)) (λ a. dec_lt a.n a.p)
+decide_positive = ind {0, 0, 0} {β = λ x. Dec (Positive x)} (λ x. Dec-prop (positive_prop x)) (λ a. dec_lt a.n a.p)
 
 -- nought or more
-pub least-same : (a b : Ratio) → Same a b → a.n ≤ a.p → b.n ≤ b.p
-least-same a b h k = go (dec_lt b.p b.n)
+pub least_same : (a b : Ratio) → Same a b → a.n ≤ a.p → b.n ≤ b.p
+least_same a b h k = go (dec_lt b.p b.n)
   where
     go : Dec (b.p < b.n) → b.n ≤ b.p
     go (no i) = omega arith
@@ -209,8 +209,8 @@ least-same a b h k = go (dec_lt b.p b.n)
         absurd z
 
 unfoldable pub Least : ℚ → Type 0
-Least x = (lift_prop {0, 0, 0} (λ a. (a.n ≤ a.p, le_prop)) (λ a b h. (least-same a b h, least-same b a (sym h))) x).0
+Least x = (lift_prop {0, 0, 0} (λ a. (a.n ≤ a.p, le_prop)) (λ a b h. (least_same a b h, least_same b a (sym h))) x).0
 
-pub least-prop : (x : ℚ) → IsProp (Least x)
+pub least_prop : (x : ℚ) → IsProp (Least x)
 unfolding Least
-least-prop x = lift_prop_prop {0, 0, 0} (λ a. (a.n ≤ a.p, le_prop)) (λ a b h. (least-same a b h, least-same b a (sym h))) x
+least_prop x = lift_prop_prop {0, 0, 0} (λ a. (a.n ≤ a.p, le_prop)) (λ a b h. (least_same a b h, least_same b a (sym h))) x

@@ -9,7 +9,7 @@ use lib.Pow.{pow-add, pow_pos}
 use lib.Ieee.Digits.{size_reaches}
 use lib.Ieee.Nearest.{closest}
 use lib.Ieee.Order.{drop, kept}
-use Rattle.base_floats.proofs.Near.{Half, closest-near}
+use Rattle.base_floats.proofs.Near.{Half, closest_near}
 
 -- x and y are no further apart than e
 pub record Apart (x y e : ℕ) : Type 0 where
@@ -17,8 +17,8 @@ pub record Apart (x y e : ℕ) : Type 0 where
   pub above : y ≤ x + e
 
 -- a whole number of units u to the nearest is half a unit off at most
-closest-apart : (n u : ℕ) → 0 < u → Apart (2 * (closest n u * u)) (2 * n) u
-closest-apart n u h = let near : Half (closest n u * u) n u = closest-near n u h in record { under = near.over; above = near.under }
+closest_apart : (n u : ℕ) → 0 < u → Apart (2 * (closest n u * u)) (2 * n) u
+closest_apart n u h = let near : Half (closest n u * u) n u = closest_near n u h in record { under = near.over; above = near.under }
 
 -- where digits are dropped, the fraction is 2 ^ (p - 1) of what is counted in, or more
 full : (p n c : ℕ) → 0 < p → 0 < c → 0 < drop p n c → c * 2 ^ drop p n c * 2 ^ (p - 1) ≤ n
@@ -37,35 +37,35 @@ module _ (p n c : ℕ) (P : 0 < p) (C : 0 < c) where
   abbrev half : ℕ
   half = 2 ^ (p - 1)
 
-  in-steps : Apart (2 * (units * c)) (2 * n) (c * 2 ^ drop p n c)
-  in-steps =
+  in_steps : Apart (2 * (units * c)) (2 * n) (c * 2 ^ drop p n c)
+  in_steps =
       subst (λ z. Apart (2 * z) (2 * n) (c * 2 ^ drop p n c))
       (ap (λ z. kept p n c * z) (mul_comm c (2 ^ drop p n c)) ∙ sym (mul_assoc (kept p n c) (2 ^ drop p n c) c))
-      (closest-apart n (c * 2 ^ drop p n c) (mul-pos C (pow_pos (drop p n c))))
+      (closest_apart n (c * 2 ^ drop p n c) (mul-pos C (pow_pos (drop p n c))))
 
   -- in the normal range the error is a share of the fraction
-  pub normal-apart : 0 < drop p n c → Apart (2 * half * (units * c)) (2 * half * n) n
-  normal-apart K = go (c * 2 ^ drop p n c) (units * c) half in-steps (full p n c P C K)
+  pub normal_apart : 0 < drop p n c → Apart (2 * half * (units * c)) (2 * half * n) n
+  normal_apart K = go (c * 2 ^ drop p n c) (units * c) half in_steps (full p n c P C K)
     where
       go : (u g H : ℕ) → Apart (2 * g) (2 * n) u → u * H ≤ n → Apart (2 * H * g) (2 * H * n) n
       go u g H a b = record { under = omega (arith, mul-le-mul_right H a.under); above = omega (arith, mul-le-mul_right H a.above) }
 
   -- below it, half a unit
-  pub low-apart : drop p n c ≡ 0 → Apart (2 * half * (units * c)) (2 * half * n) (half * c)
-  low-apart K = go (units * c) half (subst (λ k. Apart (2 * (units * c)) (2 * n) (c * 2 ^ k)) K in-steps)
+  pub low_apart : drop p n c ≡ 0 → Apart (2 * half * (units * c)) (2 * half * n) (half * c)
+  low_apart K = go (units * c) half (subst (λ k. Apart (2 * (units * c)) (2 * n) (c * 2 ^ k)) K in_steps)
     where
       go : (g H : ℕ) → Apart (2 * g) (2 * n) (c * 1) → Apart (2 * H * g) (2 * H * n) (H * c)
       go g H a = record { under = omega (arith, mul-le-mul_right H a.under); above = omega (arith, mul-le-mul_right H a.above) }
 
-  pub any-apart : Apart (2 * half * (units * c)) (2 * half * n) (n + half * c)
-  any-apart = go (dec_lt 0 (drop p n c))
+  pub any_apart : Apart (2 * half * (units * c)) (2 * half * n) (n + half * c)
+  any_apart = go (dec_lt 0 (drop p n c))
     where
       wider : (x y e d : ℕ) → e ≤ d → Apart x y e → Apart x y d
       wider x y e d h a = record { under = omega (arith, a.under); above = omega (arith, a.above) }
 
       go : Dec (0 < drop p n c) → Apart (2 * half * (units * c)) (2 * half * n) (n + half * c)
-      go (yes h) = wider _ _ n (n + half * c) (omega arith) (normal-apart h)
-      go (no h) = wider _ _ (half * c) (n + half * c) (omega arith) (low-apart (omega arith))
+      go (yes h) = wider _ _ n (n + half * c) (omega arith) (normal_apart h)
+      go (no h) = wider _ _ (half * c) (n + half * c) (omega arith) (low_apart (omega arith))
 
   -- a whole number of units is a share off at most, and none below the normal range
   pub whole_apart : (N : ℕ) → n ≡ N * c → Apart (2 * half * (units * c)) (2 * half * n) n
@@ -85,7 +85,7 @@ module _ (p n c : ℕ) (P : 0 < p) (C : 0 < c) where
           rw l (record { under = omega arith; above = omega arith })
 
       go : Dec (0 < drop p n c) → Apart (2 * half * (units * c)) (2 * half * n) n
-      go (yes h) = normal-apart h
+      go (yes h) = normal_apart h
       go (no h) =
           let K : drop p n c ≡ 0 = omega arith in
-          exact units half (subst (λ k. Apart (2 * (units * c)) (2 * n) (c * 2 ^ k)) K in-steps)
+          exact units half (subst (λ k. Apart (2 * (units * c)) (2 * n) (c * 2 ^ k)) K in_steps)

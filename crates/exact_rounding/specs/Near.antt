@@ -4,7 +4,7 @@ use Rattle.std.proofs.Common.{mul-pos, arith, pow_pos}
 use Rattle.std.specs.Float.{nan, inf, fin, Format}
 use Rattle.std.specs.Float.Ieee.{up, down, prec, low}
 use Rattle.exact_rationals.specs.Rationals.{ℚ, Least, mk, number, plus, minus}
-use Rattle.exact_rationals.specs.Values.{down-positive}
+use Rattle.exact_rationals.specs.Values.{down_positive}
 
 -- x is y to within e
 pub record Near (x y e : ℚ) : Type 0 where
@@ -20,18 +20,18 @@ pub record Within (y b : ℚ) : Type 0 where
 abbrev pub size : Float → ℚ
 size nan = number 0
 size (inf s) = number 0
-size (fin s m e) = mk (record { p = m * up e; n = 0; d = down e; below = down-positive e })
+size (fin s m e) = mk (record { p = m * up e; n = 0; d = down e; below = down_positive e })
 
-pub share-below : (f : Format) → 0 < 2 * 2 ^ (prec f - 1)
-share-below f = mul-pos (omega arith) (pow_pos (prec f - 1))
+pub share_below : (f : Format) → 0 < 2 * 2 ^ (prec f - 1)
+share_below f = mul-pos (omega arith) (pow_pos (prec f - 1))
 
-pub tiny-below : (f : Format) → 0 < 2 * 2 ^ low f
-tiny-below f = mul-pos (omega arith) (pow_pos (low f))
+pub tiny_below : (f : Format) → 0 < 2 * 2 ^ low f
+tiny_below f = mul-pos (omega arith) (pow_pos (low f))
 
 -- the share that one rounding may be off, for binary64 2 to the -53
 abbrev pub share : Format → ℚ
-share f = mk (record { p = 1; n = 0; d = 2 * 2 ^ (prec f - 1); below = share-below f })
+share f = mk (record { p = 1; n = 0; d = 2 * 2 ^ (prec f - 1); below = share_below f })
 
 -- and the tiny number beside it for products and quotients, 2 to the -1075
 abbrev pub tiny : Format → ℚ
-tiny f = mk (record { p = 1; n = 0; d = 2 * 2 ^ low f; below = tiny-below f })
+tiny f = mk (record { p = 1; n = 0; d = 2 * 2 ^ low f; below = tiny_below f })

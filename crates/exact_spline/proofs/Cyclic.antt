@@ -13,7 +13,7 @@ use Rattle.exact_solver.proofs.Solver.{solve}
 use Rattle.exact_arithmetic.proofs.FieldLaws as Laws
 use Rattle.exact_spline.specs.Solve as Solve
 use Rattle.exact_spline.specs.Rows.{Solves, SolvesCyclic}
-use Rattle.exact_spline.proofs.Tests.{cond-true, cond-false}
+use Rattle.exact_spline.proofs.Tests.{cond_true, cond_false}
 
 module _ (A : Arithmetic) (F : IsField A) where
   infixl 60 ◌⊕◌
@@ -23,11 +23,11 @@ module _ (A : Arithmetic) (F : IsField A) where
   open A use {Number, nought, one, two, six, plus as ◌⊕◌, minus as ◌⊖◌, times as ◌⊗◌, over as ◌⊘◌, negative as ~}
 
   -- rows of both solves, y0 y1 y2 of the first and z0 z1 z2 of the second, and a factor f of it taken away
-  first-row : (g d s c r y0 y1 y2 z0 z1 z2 f : Number) → ¬ (g ≡ nought)
+  first_row : (g d s c r y0 y1 y2 z0 z1 z2 f : Number) → ¬ (g ≡ nought)
       → (d ⊖ g) ⊗ y0 ⊕ s ⊗ y1 ≡ r → (d ⊖ g) ⊗ z0 ⊕ s ⊗ z1 ≡ g
       → f ⊗ (one ⊕ (z0 ⊕ c ⊘ g ⊗ z2)) ≡ y0 ⊕ c ⊘ g ⊗ y2
       → d ⊗ (y0 ⊖ f ⊗ z0) ⊕ s ⊗ (y1 ⊖ f ⊗ z1) ⊕ c ⊗ (y2 ⊖ f ⊗ z2) ≡ r
-  first-row g d s c r y0 y1 y2 z0 z1 z2 f h ey ez ef =
+  first_row g d s c r y0 y1 y2 z0 z1 z2 f h ey ez ef =
       solve A F 1 (g ∷ d ∷ s ∷ c ∷ y0 ∷ y1 ∷ y2 ∷ z0 ∷ z1 ∷ z2 ∷ f ∷ []) (h, tt)
       (add (add (mul (var 1) (sub (var 4) (mul (var 10) (var 7)))) (mul (var 2) (sub (var 5) (mul (var 10) (var 8)))))
       (mul (var 3) (sub (var 6) (mul (var 10) (var 9)))))
@@ -45,10 +45,10 @@ module _ (A : Arithmetic) (F : IsField A) where
       (var 1)
       tt tt tt
 
-  middle-row : (a d s r y0 y1 y2 z0 z1 z2 f : Number)
+  middle_row : (a d s r y0 y1 y2 z0 z1 z2 f : Number)
       → a ⊗ y0 ⊕ d ⊗ y1 ⊕ s ⊗ y2 ≡ r → a ⊗ z0 ⊕ d ⊗ z1 ⊕ s ⊗ z2 ≡ nought
       → a ⊗ (y0 ⊖ f ⊗ z0) ⊕ d ⊗ (y1 ⊖ f ⊗ z1) ⊕ s ⊗ (y2 ⊖ f ⊗ z2) ≡ r
-  middle-row a d s r y0 y1 y2 z0 z1 z2 f ey ez =
+  middle_row a d s r y0 y1 y2 z0 z1 z2 f ey ez =
       solve A F 0 (a ∷ d ∷ s ∷ y0 ∷ y1 ∷ y2 ∷ z0 ∷ z1 ∷ z2 ∷ f ∷ []) tt
       (add (add (mul (var 0) (sub (var 3) (mul (var 9) (var 6)))) (mul (var 1) (sub (var 4) (mul (var 9) (var 7)))))
       (mul (var 2) (sub (var 5) (mul (var 9) (var 8)))))
@@ -83,11 +83,11 @@ module _ (A : Arithmetic) (F : IsField A) where
     abbrev gamma : Number
     gamma = ~ (diag 0)
 
-    abbrev diag-mod : ℕ → Number
-    diag-mod = Solve.diag-mod A sub diag sup rhs corner (suc l)
+    abbrev diag_mod : ℕ → Number
+    diag_mod = Solve.diag_mod A sub diag sup rhs corner (suc l)
 
-    abbrev u-vec : ℕ → Number
-    u-vec = Solve.u-vec A sub diag sup rhs corner (suc l)
+    abbrev u_vec : ℕ → Number
+    u_vec = Solve.u_vec A sub diag sup rhs corner (suc l)
 
     abbrev y : ℕ → Number
     y = Solve.y A sub diag sup rhs corner (suc l)
@@ -101,60 +101,60 @@ module _ (A : Arithmetic) (F : IsField A) where
     abbrev divisor : Number
     divisor = one ⊕ (z 0 ⊕ corner ⊘ gamma ⊗ z (suc l))
 
-    pub diag-mod-first : diag-mod 0 ≡ diag 0 ⊖ gamma
-    unfolding Solve.diag-mod
-    diag-mod-first = refl
+    pub diag_mod_first : diag_mod 0 ≡ diag 0 ⊖ gamma
+    unfolding Solve.diag_mod
+    diag_mod_first = refl
 
-    pub diag-mod-middle : (k : ℕ) → k < l → diag-mod (suc k) ≡ diag (suc k)
-    unfolding Solve.diag-mod
-    diag-mod-middle k h =
-        cond-false (eqb (suc k) 0) _ _ (ne_eqb (suc k) 0 (λ e. omega arith))
-        ∙ cond-false (eqb (suc k) (suc l)) _ _ (ne_eqb (suc k) (suc l) (λ e. omega arith))
+    pub diag_mod_middle : (k : ℕ) → k < l → diag_mod (suc k) ≡ diag (suc k)
+    unfolding Solve.diag_mod
+    diag_mod_middle k h =
+        cond_false (eqb (suc k) 0) _ _ (ne_eqb (suc k) 0 (λ e. omega arith))
+        ∙ cond_false (eqb (suc k) (suc l)) _ _ (ne_eqb (suc k) (suc l) (λ e. omega arith))
 
-    pub diag-mod-last : diag-mod (suc l) ≡ diag (suc l) ⊖ corner ⊗ corner ⊘ gamma
-    unfolding Solve.diag-mod
-    diag-mod-last =
-        cond-false (eqb (suc l) 0) _ _ (ne_eqb (suc l) 0 (λ e. omega arith))
-        ∙ cond-true (eqb (suc l) (suc l)) _ _ (eq-eqb (suc l) (suc l) refl)
+    pub diag_mod_last : diag_mod (suc l) ≡ diag (suc l) ⊖ corner ⊗ corner ⊘ gamma
+    unfolding Solve.diag_mod
+    diag_mod_last =
+        cond_false (eqb (suc l) 0) _ _ (ne_eqb (suc l) 0 (λ e. omega arith))
+        ∙ cond_true (eqb (suc l) (suc l)) _ _ (eq-eqb (suc l) (suc l) refl)
 
-    pub u-vec-first : u-vec 0 ≡ gamma
-    unfolding Solve.u-vec
-    u-vec-first = refl
+    pub u_vec_first : u_vec 0 ≡ gamma
+    unfolding Solve.u_vec
+    u_vec_first = refl
 
-    pub u-vec-middle : (k : ℕ) → k < l → u-vec (suc k) ≡ nought
-    unfolding Solve.u-vec
-    u-vec-middle k h =
-        cond-false (eqb (suc k) 0) _ _ (ne_eqb (suc k) 0 (λ e. omega arith))
-        ∙ cond-false (eqb (suc k) (suc l)) _ _ (ne_eqb (suc k) (suc l) (λ e. omega arith))
+    pub u_vec_middle : (k : ℕ) → k < l → u_vec (suc k) ≡ nought
+    unfolding Solve.u_vec
+    u_vec_middle k h =
+        cond_false (eqb (suc k) 0) _ _ (ne_eqb (suc k) 0 (λ e. omega arith))
+        ∙ cond_false (eqb (suc k) (suc l)) _ _ (ne_eqb (suc k) (suc l) (λ e. omega arith))
 
-    pub u-vec-last : u-vec (suc l) ≡ corner
-    unfolding Solve.u-vec
-    u-vec-last =
-        cond-false (eqb (suc l) 0) _ _ (ne_eqb (suc l) 0 (λ e. omega arith))
-        ∙ cond-true (eqb (suc l) (suc l)) _ _ (eq-eqb (suc l) (suc l) refl)
+    pub u_vec_last : u_vec (suc l) ≡ corner
+    unfolding Solve.u_vec
+    u_vec_last =
+        cond_false (eqb (suc l) 0) _ _ (ne_eqb (suc l) 0 (λ e. omega arith))
+        ∙ cond_true (eqb (suc l) (suc l)) _ _ (eq-eqb (suc l) (suc l) refl)
 
-    module _ (h : ¬ (gamma ≡ nought)) (q : ¬ (divisor ≡ nought)) (ys : Solves A sub diag-mod sup rhs l y)
-        (zs : Solves A sub diag-mod sup u-vec l z) where
-      factor-is : factor ⊗ divisor ≡ y 0 ⊕ corner ⊘ gamma ⊗ y (suc l)
+    module _ (h : ¬ (gamma ≡ nought)) (q : ¬ (divisor ≡ nought)) (ys : Solves A sub diag_mod sup rhs l y)
+        (zs : Solves A sub diag_mod sup u_vec l z) where
+      factor_is : factor ⊗ divisor ≡ y 0 ⊕ corner ⊘ gamma ⊗ y (suc l)
       unfolding Solve.factor
-      factor-is = F.over-times _ _ q
+      factor_is = F.over_times _ _ q
 
-      pub cyclic-solves : SolvesCyclic A sub diag sup rhs corner l (Solve.cyclic-thomas A sub diag sup rhs corner (suc l))
-      unfolding Solve.cyclic-thomas
-      cyclic-solves =
+      pub cyclic_solves : SolvesCyclic A sub diag sup rhs corner l (Solve.cyclic_thomas A sub diag sup rhs corner (suc l))
+      unfolding Solve.cyclic_thomas
+      cyclic_solves =
           record {
             first =
-                first-row gamma (diag 0) (sup 0) corner (rhs 0) (y 0) (y 1) (y (suc l)) (z 0) (z 1) (z (suc l)) factor h ys.first
-                zs.first factor-is;
+                first_row gamma (diag 0) (sup 0) corner (rhs 0) (y 0) (y 1) (y (suc l)) (z 0) (z 1) (z (suc l)) factor h ys.first
+                zs.first factor_is;
             middle = λ k b.
-                middle-row (sub k) (diag (suc k)) (sup (suc k)) (rhs (suc k)) (y k) (y (suc k)) (y (suc (suc k))) (z k) (z (suc k))
+                middle_row (sub k) (diag (suc k)) (sup (suc k)) (rhs (suc k)) (y k) (y (suc k)) (y (suc (suc k))) (z k) (z (suc k))
                 (z (suc (suc k))) factor
-                (ap (λ d. sub k ⊗ y k ⊕ d ⊗ y (suc k) ⊕ sup (suc k) ⊗ y (suc (suc k))) (sym (diag-mod-middle k b)) ∙ ys.middle k b)
+                (ap (λ d. sub k ⊗ y k ⊕ d ⊗ y (suc k) ⊕ sup (suc k) ⊗ y (suc (suc k))) (sym (diag_mod_middle k b)) ∙ ys.middle k b)
                 (ap (λ d. sub k ⊗ z k ⊕ d ⊗ z (suc k) ⊕ sup (suc k) ⊗ z (suc (suc k)))
-                (sym (diag-mod-middle k b)) ∙ zs.middle k b ∙ u-vec-middle k b);
+                (sym (diag_mod_middle k b)) ∙ zs.middle k b ∙ u_vec_middle k b);
             last =
                 last_row gamma (sub l) (diag (suc l)) corner (rhs (suc l)) (y 0) (y l) (y (suc l)) (z 0) (z l) (z (suc l)) factor h
-                (ap (λ d. sub l ⊗ y l ⊕ d ⊗ y (suc l)) (sym diag-mod-last) ∙ ys.last)
-                (ap (λ d. sub l ⊗ z l ⊕ d ⊗ z (suc l)) (sym diag-mod-last) ∙ zs.last ∙ u-vec-last)
-                factor-is;
+                (ap (λ d. sub l ⊗ y l ⊕ d ⊗ y (suc l)) (sym diag_mod_last) ∙ ys.last)
+                (ap (λ d. sub l ⊗ z l ⊕ d ⊗ z (suc l)) (sym diag_mod_last) ∙ zs.last ∙ u_vec_last)
+                factor_is;
           }

@@ -22,26 +22,26 @@ use Rattle.exact_spline.specs.Ends.{
   Condition,
   Endpoints,
   Periodic,
-  zero-valued,
+  zero_valued,
   crossed,
   dropped,
-  fewest-points,
+  fewest_points,
 }
 use Rattle.exact_spline.specs.Steps as Steps
 use Rattle.exact_spline.specs.Moments.{moment, moments}
 use Rattle.exact_spline.specs.Sizes.{Grid}
-use Rattle.exact_spline.specs.Curve.{curve-in-cell, lane-slope}
+use Rattle.exact_spline.specs.Curve.{curve_in_cell, lane_slope}
 use Rattle.exact_spline.specs.Query.{fraction}
-use Rattle.exact_spline.specs.Nested.{on-axes, other-axes, along-lowest, nested-splines, exchanged, exchanged-grid}
-use Rattle.exact_spline.specs.Derivatives.{slope, bend, twist, slope-in-cell, second-in-cell, third-in-cell}
+use Rattle.exact_spline.specs.Nested.{on_axes, other_axes, along_lowest, nested_splines, exchanged, exchanged_grid}
+use Rattle.exact_spline.specs.Derivatives.{slope, bend, twist, slope_in_cell, second_in_cell, third_in_cell}
 use Rattle.exact_spline.specs.Spline.{IsSplineUnder, LowerEnd, UpperEnd, EndsHold}
 use Rattle.exact_spline.proofs.Knots as Knots
-use Rattle.exact_spline.proofs.Mixtures.{mix, mix-ap, lane-mix, fewest-same, s0, s1, s2, s3, slope-mix, bend-mix, twist-mix}
-use Rattle.exact_spline.proofs.TheSpline.{moments-are-a-spline, moments-are-the-only-spline}
+use Rattle.exact_spline.proofs.Mixtures.{mix, mix_ap, lane_mix, fewest_same, s0, s1, s2, s3, slope_mix, bend_mix, twist_mix}
+use Rattle.exact_spline.proofs.TheSpline.{moments_are_a_spline, moments_are_the_only_spline}
 use Rattle.exact_spline.proofs.OnALine as OnALine
 use Rattle.exact_spline.proofs.LowestAxis.{w0, w1, w2, w3, unity}
 use Rattle.exact_spline.proofs.Smooth as Smooth
-use Rattle.exact_spline.proofs.MixedDerivatives.{slope-at-knot}
+use Rattle.exact_spline.proofs.MixedDerivatives.{slope_at_knot}
 
 module _ (A : Arithmetic) (F : IsField A) (O : IsOrdered A) where
   infixl 60 ◌⊕◌
@@ -50,45 +50,45 @@ module _ (A : Arithmetic) (F : IsField A) (O : IsOrdered A) where
   infixl 70 ◌⊘◌
   open A use {Number, nought, one, two, six, plus as ◌⊕◌, minus as ◌⊖◌, times as ◌⊗◌, over as ◌⊘◌, negative as ~}
 
-  abbrev mix-term : Term → Term → Term → Term → Term → Term → Term → Term → Term
-  mix-term a b c d p q r s = add (add (add (mul a p) (mul b q)) (mul c r)) (mul d s)
+  abbrev mix_term : Term → Term → Term → Term → Term → Term → Term → Term → Term
+  mix_term a b c d p q r s = add (add (add (mul a p) (mul b q)) (mul c r)) (mul d s)
 
   -- ---- a flat cell
 
   module _ (w v dx : Number) (wide : ¬ (w ≡ nought)) where
-    flat-slope : slope A w v v nought nought dx ≡ nought
-    flat-slope = solve A F 1 (w ∷ v ∷ dx ∷ []) (wide, tt) (slope terms (var 0) (var 1) (var 1) t0 t0 (var 2)) t0 tt tt tt
+    flat_slope : slope A w v v nought nought dx ≡ nought
+    flat_slope = solve A F 1 (w ∷ v ∷ dx ∷ []) (wide, tt) (slope terms (var 0) (var 1) (var 1) t0 t0 (var 2)) t0 tt tt tt
 
-    flat-bend : bend A w nought nought dx ≡ nought
-    flat-bend = solve A F 1 (w ∷ v ∷ dx ∷ []) (wide, tt) (bend terms (var 0) t0 t0 (var 2)) t0 tt tt tt
+    flat_bend : bend A w nought nought dx ≡ nought
+    flat_bend = solve A F 1 (w ∷ v ∷ dx ∷ []) (wide, tt) (bend terms (var 0) t0 t0 (var 2)) t0 tt tt tt
 
-    flat-twist : twist A w nought nought ≡ nought
-    flat-twist = solve A F 1 (w ∷ v ∷ dx ∷ []) (wide, tt) (twist terms (var 0) t0 t0) t0 tt tt tt
+    flat_twist : twist A w nought nought ≡ nought
+    flat_twist = solve A F 1 (w ∷ v ∷ dx ∷ []) (wide, tt) (twist terms (var 0) t0 t0) t0 tt tt tt
 
   -- ---- the slope of a lane at a knot, as a function of what the lane holds
 
   module _ (x : ℕ → Number) (n size : ℕ) (full : size ≡ n + 1) (some : 1 ≤ n)
       (rising : (i : ℕ) → i < n → O.Positive (Steps.h A x i))
-      (e : Condition Number) (enough : fewest-points e ≤ n + 1) (i : ℕ) (within : i ≤ n) where
+      (e : Condition Number) (enough : fewest_points e ≤ n + 1) (i : ℕ) (within : i ≤ n) where
     -- under the condition itself, and under the crossed one
     abbrev own : (ℕ → Number) → Number
-    own f = lane-slope A x n e (table size f) i
+    own f = lane_slope A x n e (table size f) i
 
     abbrev linear : (ℕ → Number) → Number
-    linear f = lane-slope A x n (crossed A e) (table size f) i
+    linear f = lane_slope A x n (crossed A e) (table size f) i
 
-    unit-whole : one ⊕ nought ≡ one
-    unit-whole = solve A F 0 [] tt (add t1 t0) t1 tt tt tt
+    unit_whole : one ⊕ nought ≡ one
+    unit_whole = solve A F 0 [] tt (add t1 t0) t1 tt tt tt
 
     -- where the shares of samples sum to nought
-    linear-of : (a b c d : Number) → a ⊕ b ≡ nought → (f0 f1 g0 g1 : ℕ → Number)
+    linear_of : (a b c d : Number) → a ⊕ b ≡ nought → (f0 f1 g0 g1 : ℕ → Number)
         → linear (λ k. mix A F a b c d (f0 k) (f1 k) (g0 k) (g1 k)) ≡ mix A F a b c d (own f0) (own f1) (linear g0) (linear g1)
-    linear-of a b c d none f0 f1 g0 g1 =
+    linear_of a b c d none f0 f1 g0 g1 =
         alone (own f0) (linear H)
         ∙ ap (λ z. z ⊖ own f0)
-        (sym (lane-mix A F O x n rising one one nought nought unit-whole e enough size full some f0 H f0 H i within)
+        (sym (lane_mix A F O x n rising one one nought nought unit_whole e enough size full some f0 H f0 H i within)
         ∙ ap (λ f. own f) (fun_ext (λ k. regrouped (f0 k) (f1 k) (g0 k) (g1 k)))
-        ∙ lane-mix A F O x n rising (one ⊕ a) c b d whole e enough size full some f0 g0 f1 g1 i within)
+        ∙ lane_mix A F O x n rising (one ⊕ a) c b d whole e enough size full some f0 g0 f1 g1 i within)
         ∙ left (own f0) (own f1) (linear g0) (linear g1)
       where
         H : ℕ → Number
@@ -98,57 +98,57 @@ module _ (A : Arithmetic) (F : IsField A) (O : IsOrdered A) where
         whole =
             solve A F 0 (a ∷ b ∷ []) tt (add (add t1 (var 0)) (var 1)) (add t1 (add (var 0) (var 1))) tt tt tt
             ∙ ap (λ z. one ⊕ z) none
-            ∙ unit-whole
+            ∙ unit_whole
 
         alone : (p l : Number) → l ≡ mix A F one one nought nought p l p l ⊖ p
         alone p l =
             solve A F 0 (p ∷ l ∷ []) tt (var 1)
-            (sub (mix-term t1 t1 t0 t0 (var 0) (var 1) (var 0) (var 1)) (var 0)) tt tt tt
+            (sub (mix_term t1 t1 t0 t0 (var 0) (var 1) (var 0) (var 1)) (var 0)) tt tt tt
 
         regrouped : (p r q s : Number)
             → mix A F one one nought nought p (mix A F a b c d p r q s) p (mix A F a b c d p r q s) ≡ mix A F (one ⊕ a) c b d p q r s
         regrouped p r q s =
             solve A F 0 (a ∷ b ∷ c ∷ d ∷ p ∷ q ∷ r ∷ s ∷ []) tt
-            (mix-term t1 t1 t0 t0 (var 4) inner (var 4) inner)
-            (mix-term (add t1 (var 0)) (var 2) (var 1) (var 3) (var 4) (var 5) (var 6) (var 7)) tt tt tt
+            (mix_term t1 t1 t0 t0 (var 4) inner (var 4) inner)
+            (mix_term (add t1 (var 0)) (var 2) (var 1) (var 3) (var 4) (var 5) (var 6) (var 7)) tt tt tt
           where
             inner : Term
-            inner = mix-term (var 0) (var 1) (var 2) (var 3) (var 4) (var 6) (var 5) (var 7)
+            inner = mix_term (var 0) (var 1) (var 2) (var 3) (var 4) (var 6) (var 5) (var 7)
 
         left : (p r q s : Number) → mix A F (one ⊕ a) c b d p q r s ⊖ p ≡ mix A F a b c d p r q s
         left p r q s =
             solve A F 0 (a ∷ b ∷ c ∷ d ∷ p ∷ q ∷ r ∷ s ∷ []) tt
-            (sub (mix-term (add t1 (var 0)) (var 2) (var 1) (var 3) (var 4) (var 5) (var 6) (var 7)) (var 4))
-            (mix-term (var 0) (var 1) (var 2) (var 3) (var 4) (var 6) (var 5) (var 7)) tt tt tt
+            (sub (mix_term (add t1 (var 0)) (var 2) (var 1) (var 3) (var 4) (var 5) (var 6) (var 7)) (var 4))
+            (mix_term (var 0) (var 1) (var 2) (var 3) (var 4) (var 6) (var 5) (var 7)) tt tt tt
 
     wide : (k : ℕ) → k < n → ¬ (Steps.h A x k ≡ nought)
-    wide k h = O.positive-not-nought _ (rising k h)
+    wide k h = O.positive_not_nought _ (rising k h)
 
-    few : fewest-points (crossed A e) ≤ n + 1
-    few = omega (arith, enough, fewest-same A F e)
+    few : fewest_points (crossed A e) ≤ n + 1
+    few = omega (arith, enough, fewest_same A F e)
 
     -- a cell at one of whose knots i stands
     abbrev Beside : ℕ → Type 0
     Beside c = (c < n) × ((i ≡ c) ⊎ (i ≡ c + 1))
 
-    cell-beside : (c : ℕ) × Beside c
-    cell-beside = go (dec_lt i n)
+    cell_beside : (c : ℕ) × Beside c
+    cell_beside = go (dec_lt i n)
       where
         go : Dec (i < n) → (c : ℕ) × Beside c
         go (yes h) = (i, (h, inl refl))
         go (no h) = (n - 1, (omega arith, inr (omega arith)))
 
     -- the slope, from the cell beside it, by any moments that are the rules'
-    slope-from : (c : ℕ) → Beside c → (condition : Condition Number) → fewest-points condition ≤ n + 1 → (y : List Number) (m : ℕ → Number)
+    slope_from : (c : ℕ) → Beside c → (condition : Condition Number) → fewest_points condition ≤ n + 1 → (y : List Number) (m : ℕ → Number)
         → ((k : ℕ) → k ≤ n → m k ≡ moment A x (at A y) n condition k)
-        → slope-in-cell A x (at A y) m c (x i) ≡ lane-slope A x n condition y i
-    unfolding slope-in-cell
-    slope-from c beside condition ok y m are =
+        → slope_in_cell A x (at A y) m c (x i) ≡ lane_slope A x n condition y i
+    unfolding slope_in_cell
+    slope_from c beside condition ok y m are =
         ap₂ (λ p q. slope A (Steps.h A x c) (at A y c) (at A y (c + 1)) p q (x i ⊖ x c))
-        (are c (omega (arith, beside.0)) ∙ sym (OnALine.moment-at A F O x y n rising condition ok c (omega (arith, beside.0))))
+        (are c (omega (arith, beside.0)) ∙ sym (OnALine.moment_at A F O x y n rising condition ok c (omega (arith, beside.0))))
         (are (c + 1) (omega (arith, beside.0)) ∙ sym
-        (OnALine.moment-at A F O x y n rising condition ok (c + 1) (omega (arith, beside.0))))
-        ∙ slope-at-knot A F O x y n rising condition ok c beside.0 i beside.1
+        (OnALine.moment_at A F O x y n rising condition ok (c + 1) (omega (arith, beside.0))))
+        ∙ slope_at_knot A F O x y n rising condition ok c beside.0 i beside.1
 
     -- a lane of one number has no slope under the crossed condition
     module _ (v : Number) where
@@ -161,38 +161,38 @@ module _ (A : Arithmetic) (F : IsField A) (O : IsOrdered A) where
       read : (k : ℕ) → k ≤ n → at A lane k ≡ v
       read k h = at_table size (λ j. v) k A.absent (omega arith)
 
-      no-slope : (k : ℕ) → k < n → (t : Number) → slope-in-cell A x (at A lane) none k t ≡ nought
-      unfolding slope-in-cell
-      no-slope k h t =
+      no_slope : (k : ℕ) → k < n → (t : Number) → slope_in_cell A x (at A lane) none k t ≡ nought
+      unfolding slope_in_cell
+      no_slope k h t =
           ap₂ (λ p q. slope A (Steps.h A x k) p q nought nought (t ⊖ x k)) (read k (omega arith)) (read (k + 1) (omega arith))
-          ∙ flat-slope (Steps.h A x k) v (t ⊖ x k) (wide k h)
+          ∙ flat_slope (Steps.h A x k) v (t ⊖ x k) (wide k h)
 
-      no_second : (k : ℕ) → k < n → (t : Number) → second-in-cell A x (at A lane) none k t ≡ nought
-      unfolding second-in-cell
-      no_second k h t = flat-bend (Steps.h A x k) v (t ⊖ x k) (wide k h)
+      no_second : (k : ℕ) → k < n → (t : Number) → second_in_cell A x (at A lane) none k t ≡ nought
+      unfolding second_in_cell
+      no_second k h t = flat_bend (Steps.h A x k) v (t ⊖ x k) (wide k h)
 
-      no_third : (k : ℕ) → k < n → third-in-cell A x (at A lane) none k ≡ nought
-      unfolding third-in-cell
-      no_third k h = flat-twist (Steps.h A x k) v v (wide k h)
+      no_third : (k : ℕ) → k < n → third_in_cell A x (at A lane) none k ≡ nought
+      unfolding third_in_cell
+      no_third k h = flat_twist (Steps.h A x k) v v (wide k h)
 
-      flat-lower : (end : End Number) → 2 + dropped end ≤ n + 1
-          → LowerEnd A x (at A lane) n none (zero-valued A end)
-      flat-lower NotAKnot h = no_third 0 (omega arith) ∙ sym (no_third 1 (omega arith))
-      flat-lower (FirstDerivative u) h = no-slope 0 (omega arith) (x 0)
-      flat-lower (SecondDerivative u) h = no_second 0 (omega arith) (x 0)
+      flat_lower : (end : End Number) → 2 + dropped end ≤ n + 1
+          → LowerEnd A x (at A lane) n none (zero_valued A end)
+      flat_lower NotAKnot h = no_third 0 (omega arith) ∙ sym (no_third 1 (omega arith))
+      flat_lower (FirstDerivative u) h = no_slope 0 (omega arith) (x 0)
+      flat_lower (SecondDerivative u) h = no_second 0 (omega arith) (x 0)
 
-      flat-upper : (end : End Number) → 2 + dropped end ≤ n + 1
-          → UpperEnd A x (at A lane) n none (zero-valued A end)
-      flat-upper NotAKnot h = no_third (n - 2) (omega arith) ∙ sym (no_third (n - 1) (omega arith))
-      flat-upper (FirstDerivative u) h = no-slope (n - 1) (omega arith) (x n)
-      flat-upper (SecondDerivative u) h = no_second (n - 1) (omega arith) (x n)
+      flat_upper : (end : End Number) → 2 + dropped end ≤ n + 1
+          → UpperEnd A x (at A lane) n none (zero_valued A end)
+      flat_upper NotAKnot h = no_third (n - 2) (omega arith) ∙ sym (no_third (n - 1) (omega arith))
+      flat_upper (FirstDerivative u) h = no_slope (n - 1) (omega arith) (x n)
+      flat_upper (SecondDerivative u) h = no_second (n - 1) (omega arith) (x n)
 
-      flat-ends : (condition : Condition Number) → fewest-points condition ≤ n + 1 → EndsHold A x (at A lane) n none (crossed A condition)
-      flat-ends (Endpoints lower upper) h = (flat-lower lower (omega arith), flat-upper upper (omega arith))
-      flat-ends Periodic h =
+      flat_ends : (condition : Condition Number) → fewest_points condition ≤ n + 1 → EndsHold A x (at A lane) n none (crossed A condition)
+      flat_ends (Endpoints lower upper) h = (flat_lower lower (omega arith), flat_upper upper (omega arith))
+      flat_ends Periodic h =
           record {
-            slopes-close = no-slope (n - 1) (omega arith) (x n) ∙ sym (no-slope 0 (omega arith) (x 0));
-            seconds-close = no_second (n - 1) (omega arith) (x n) ∙ sym (no_second 0 (omega arith) (x 0));
+            slopes_close = no_slope (n - 1) (omega arith) (x n) ∙ sym (no_slope 0 (omega arith) (x 0));
+            seconds_close = no_second (n - 1) (omega arith) (x n) ∙ sym (no_second 0 (omega arith) (x 0));
           }
 
       flat : IsSplineUnder A x (at A lane) n none (crossed A e)
@@ -200,26 +200,26 @@ module _ (A : Arithmetic) (F : IsField A) (O : IsOrdered A) where
           record {
             spline =
                 record {
-                  lower-sample = λ k h. Knots.at-lower-knot A F x (at A lane) none k (wide k h);
-                  upper-sample = λ k h. Knots.at-upper-knot A F x (at A lane) none k (wide k h);
-                  slopes-meet = λ k h. no-slope k (omega arith) (x (k + 1)) ∙ sym (no-slope (k + 1) h (x (k + 1)));
-                  seconds-meet = λ k h. no_second k (omega arith) (x (k + 1)) ∙ sym (no_second (k + 1) h (x (k + 1)));
+                  lower_sample = λ k h. Knots.at_lower_knot A F x (at A lane) none k (wide k h);
+                  upper_sample = λ k h. Knots.at_upper_knot A F x (at A lane) none k (wide k h);
+                  slopes_meet = λ k h. no_slope k (omega arith) (x (k + 1)) ∙ sym (no_slope (k + 1) h (x (k + 1)));
+                  seconds_meet = λ k h. no_second k (omega arith) (x (k + 1)) ∙ sym (no_second (k + 1) h (x (k + 1)));
                 };
-            ends = flat-ends e enough;
+            ends = flat_ends e enough;
           }
 
-      linear-constant : linear (λ k. v) ≡ nought
-      linear-constant =
-          let c : (c : ℕ) × Beside c = cell-beside in
-          sym (slope-from c.0 c.1 (crossed A e) few lane none
-          (moments-are-the-only-spline A F O x (at A lane) n rising (crossed A e) few none flat))
-          ∙ no-slope c.0 c.1.0 (x i)
+      linear_constant : linear (λ k. v) ≡ nought
+      linear_constant =
+          let c : (c : ℕ) × Beside c = cell_beside in
+          sym (slope_from c.0 c.1 (crossed A e) few lane none
+          (moments_are_the_only_spline A F O x (at A lane) n rising (crossed A e) few none flat))
+          ∙ no_slope c.0 c.1.0 (x i)
 
     -- ---- lanes of another axis, and the slopes across them
 
     module _ (x1 : ℕ → Number) (n1 size1 : ℕ) (full1 : size1 ≡ n1 + 1) (some1 : 1 ≤ n1)
         (rising1 : (i : ℕ) → i < n1 → O.Positive (Steps.h A x1 i))
-        (e1 : Condition Number) (enough1 : fewest-points e1 ≤ n1 + 1) (Y : ℕ → ℕ → Number) where
+        (e1 : Condition Number) (enough1 : fewest_points e1 ≤ n1 + 1) (Y : ℕ → ℕ → Number) where
       abbrev row : ℕ → List Number
       row j = table size1 (λ k. Y j k)
 
@@ -232,38 +232,38 @@ module _ (A : Arithmetic) (F : IsField A) (O : IsOrdered A) where
       abbrev α : ℕ → Number
       α k = linear (λ j. N j k)
 
-      row-spline : (j : ℕ) → IsSplineUnder A x1 (at A (row j)) n1 (N j) e1
-      row-spline j = moments-are-a-spline A F O x1 (at A (row j)) n1 rising1 e1 enough1
+      row_spline : (j : ℕ) → IsSplineUnder A x1 (at A (row j)) n1 (N j) e1
+      row_spline j = moments_are_a_spline A F O x1 (at A (row j)) n1 rising1 e1 enough1
 
-      read-row : (j k : ℕ) → k ≤ n1 → at A (row j) k ≡ Y j k
-      read-row j k h = at_table size1 (λ k. Y j k) k A.absent (omega arith)
+      read_row : (j k : ℕ) → k ≤ n1 → at A (row j) k ≡ Y j k
+      read_row j k h = at_table size1 (λ k. Y j k) k A.absent (omega arith)
 
-      read-across : (k : ℕ) → k ≤ n1 → at A across k ≡ own (λ j. Y j k)
-      read-across k h = at_table size1 (λ k. own (λ j. Y j k)) k A.absent (omega arith)
+      read_across : (k : ℕ) → k ≤ n1 → at A across k ≡ own (λ j. Y j k)
+      read_across k h = at_table size1 (λ k. own (λ j. Y j k)) k A.absent (omega arith)
 
       wide1 : (k : ℕ) → k < n1 → ¬ (Steps.h A x1 k ≡ nought)
-      wide1 k h = O.positive-not-nought _ (rising1 k h)
+      wide1 k h = O.positive_not_nought _ (rising1 k h)
 
-      few1 : fewest-points (crossed A e1) ≤ n1 + 1
-      few1 = omega (arith, enough1, fewest-same A F e1)
+      few1 : fewest_points (crossed A e1) ≤ n1 + 1
+      few1 = omega (arith, enough1, fewest_same A F e1)
 
       -- a derivative of the lane across, by these moments, is the slope across the derivatives of the rows
       take : (a b c d : Number) → a ⊕ b ≡ nought → (k : ℕ) → k < n1
           → mix A F a b c d (at A across k) (at A across (k + 1)) (α k) (α (k + 1))
           ≡ linear (λ j. mix A F a b c d (at A (row j) k) (at A (row j) (k + 1)) (N j k) (N j (k + 1)))
       take a b c d balanced k h =
-          mix-ap A F a b c d (read-across k (omega arith)) (read-across (k + 1) (omega arith)) refl refl
-          ∙ sym (linear-of a b c d balanced (λ j. Y j k) (λ j. Y j (k + 1)) (λ j. N j k) (λ j. N j (k + 1)))
+          mix_ap A F a b c d (read_across k (omega arith)) (read_across (k + 1) (omega arith)) refl refl
+          ∙ sym (linear_of a b c d balanced (λ j. Y j k) (λ j. Y j (k + 1)) (λ j. N j k) (λ j. N j (k + 1)))
           ∙ ap (λ f. linear f)
-          (fun_ext (λ j. mix-ap A F a b c d (sym (read-row j k (omega arith))) (sym (read-row j (k + 1) (omega arith))) refl refl))
+          (fun_ext (λ j. mix_ap A F a b c d (sym (read_row j k (omega arith))) (sym (read_row j (k + 1) (omega arith))) refl refl))
 
-      take-slope : (k : ℕ) → k < n1 → (t : Number)
-          → slope-in-cell A x1 (at A across) α k t ≡ linear (λ j. slope-in-cell A x1 (at A (row j)) (N j) k t)
-      unfolding slope-in-cell
-      take-slope k h t =
-          slope-mix A F w dx (wide1 k h) _ _ _ _
+      take_slope : (k : ℕ) → k < n1 → (t : Number)
+          → slope_in_cell A x1 (at A across) α k t ≡ linear (λ j. slope_in_cell A x1 (at A (row j)) (N j) k t)
+      unfolding slope_in_cell
+      take_slope k h t =
+          slope_mix A F w dx (wide1 k h) _ _ _ _
           ∙ take (s0 A F w dx (wide1 k h)) (s1 A F w dx (wide1 k h)) (s2 A F w dx (wide1 k h)) (s3 A F w dx (wide1 k h)) balanced k h
-          ∙ ap (λ f. linear f) (fun_ext (λ j. sym (slope-mix A F w dx (wide1 k h) _ _ _ _)))
+          ∙ ap (λ f. linear f) (fun_ext (λ j. sym (slope_mix A F w dx (wide1 k h) _ _ _ _)))
         where
           w : Number
           w = Steps.h A x1 k
@@ -279,99 +279,99 @@ module _ (A : Arithmetic) (F : IsField A) (O : IsOrdered A) where
       nothing = solve A F 0 [] tt (add t0 t0) t0 tt tt tt
 
       take_second : (k : ℕ) → k < n1 → (t : Number)
-          → second-in-cell A x1 (at A across) α k t ≡ linear (λ j. second-in-cell A x1 (at A (row j)) (N j) k t)
-      unfolding second-in-cell
+          → second_in_cell A x1 (at A across) α k t ≡ linear (λ j. second_in_cell A x1 (at A (row j)) (N j) k t)
+      unfolding second_in_cell
       take_second k h t =
-          bend-mix A F (Steps.h A x1 k) (t ⊖ x1 k) (wide1 k h) (at A across k) (at A across (k + 1)) _ _
+          bend_mix A F (Steps.h A x1 k) (t ⊖ x1 k) (wide1 k h) (at A across k) (at A across (k + 1)) _ _
           ∙ take nought nought _ _ nothing k h
           ∙ ap (λ f. linear f)
-          (fun_ext (λ j. sym (bend-mix A F (Steps.h A x1 k) (t ⊖ x1 k) (wide1 k h) (at A (row j) k) (at A (row j) (k + 1)) _ _)))
+          (fun_ext (λ j. sym (bend_mix A F (Steps.h A x1 k) (t ⊖ x1 k) (wide1 k h) (at A (row j) k) (at A (row j) (k + 1)) _ _)))
 
-      take-third : (k : ℕ) → k < n1
-          → third-in-cell A x1 (at A across) α k ≡ linear (λ j. third-in-cell A x1 (at A (row j)) (N j) k)
-      unfolding third-in-cell
-      take-third k h =
-          twist-mix A F (Steps.h A x1 k) nought (wide1 k h) (at A across k) (at A across (k + 1)) _ _
+      take_third : (k : ℕ) → k < n1
+          → third_in_cell A x1 (at A across) α k ≡ linear (λ j. third_in_cell A x1 (at A (row j)) (N j) k)
+      unfolding third_in_cell
+      take_third k h =
+          twist_mix A F (Steps.h A x1 k) nought (wide1 k h) (at A across k) (at A across (k + 1)) _ _
           ∙ take nought nought _ _ nothing k h
           ∙ ap (λ f. linear f)
-          (fun_ext (λ j. sym (twist-mix A F (Steps.h A x1 k) nought (wide1 k h) (at A (row j) k) (at A (row j) (k + 1)) _ _)))
+          (fun_ext (λ j. sym (twist_mix A F (Steps.h A x1 k) nought (wide1 k h) (at A (row j) k) (at A (row j) (k + 1)) _ _)))
 
       -- so its ends are as the crossed condition has them
-      lower-across : (end : End Number) → 2 + dropped end ≤ n1 + 1 → ((j : ℕ) → LowerEnd A x1 (at A (row j)) n1 (N j) end)
-          → LowerEnd A x1 (at A across) n1 α (zero-valued A end)
-      lower-across NotAKnot h holds =
-          take-third 0 (omega arith) ∙ ap (λ f. linear f) (fun_ext holds) ∙ sym (take-third 1 (omega arith))
-      lower-across (FirstDerivative v) h holds =
-          take-slope 0 (omega arith) (x1 0) ∙ ap (λ f. linear f) (fun_ext holds) ∙ linear-constant v
-      lower-across (SecondDerivative v) h holds =
-          take_second 0 (omega arith) (x1 0) ∙ ap (λ f. linear f) (fun_ext holds) ∙ linear-constant v
+      lower_across : (end : End Number) → 2 + dropped end ≤ n1 + 1 → ((j : ℕ) → LowerEnd A x1 (at A (row j)) n1 (N j) end)
+          → LowerEnd A x1 (at A across) n1 α (zero_valued A end)
+      lower_across NotAKnot h holds =
+          take_third 0 (omega arith) ∙ ap (λ f. linear f) (fun_ext holds) ∙ sym (take_third 1 (omega arith))
+      lower_across (FirstDerivative v) h holds =
+          take_slope 0 (omega arith) (x1 0) ∙ ap (λ f. linear f) (fun_ext holds) ∙ linear_constant v
+      lower_across (SecondDerivative v) h holds =
+          take_second 0 (omega arith) (x1 0) ∙ ap (λ f. linear f) (fun_ext holds) ∙ linear_constant v
 
-      upper-across : (end : End Number) → 2 + dropped end ≤ n1 + 1 → ((j : ℕ) → UpperEnd A x1 (at A (row j)) n1 (N j) end)
-          → UpperEnd A x1 (at A across) n1 α (zero-valued A end)
-      upper-across NotAKnot h holds =
-          take-third (n1 - 2) (omega arith) ∙ ap (λ f. linear f) (fun_ext holds) ∙ sym (take-third (n1 - 1) (omega arith))
-      upper-across (FirstDerivative v) h holds =
-          take-slope (n1 - 1) (omega arith) (x1 n1) ∙ ap (λ f. linear f) (fun_ext holds) ∙ linear-constant v
-      upper-across (SecondDerivative v) h holds =
-          take_second (n1 - 1) (omega arith) (x1 n1) ∙ ap (λ f. linear f) (fun_ext holds) ∙ linear-constant v
+      upper_across : (end : End Number) → 2 + dropped end ≤ n1 + 1 → ((j : ℕ) → UpperEnd A x1 (at A (row j)) n1 (N j) end)
+          → UpperEnd A x1 (at A across) n1 α (zero_valued A end)
+      upper_across NotAKnot h holds =
+          take_third (n1 - 2) (omega arith) ∙ ap (λ f. linear f) (fun_ext holds) ∙ sym (take_third (n1 - 1) (omega arith))
+      upper_across (FirstDerivative v) h holds =
+          take_slope (n1 - 1) (omega arith) (x1 n1) ∙ ap (λ f. linear f) (fun_ext holds) ∙ linear_constant v
+      upper_across (SecondDerivative v) h holds =
+          take_second (n1 - 1) (omega arith) (x1 n1) ∙ ap (λ f. linear f) (fun_ext holds) ∙ linear_constant v
 
-      ends-across : (condition : Condition Number) → fewest-points condition ≤ n1 + 1
+      ends_across : (condition : Condition Number) → fewest_points condition ≤ n1 + 1
           → ((j : ℕ) → EndsHold A x1 (at A (row j)) n1 (N j) condition) → EndsHold A x1 (at A across) n1 α (crossed A condition)
-      ends-across (Endpoints lower upper) h holds =
-          (lower-across lower (omega arith) (λ j. (holds j).0), upper-across upper (omega arith) (λ j. (holds j).1))
-      ends-across Periodic h holds =
+      ends_across (Endpoints lower upper) h holds =
+          (lower_across lower (omega arith) (λ j. (holds j).0), upper_across upper (omega arith) (λ j. (holds j).1))
+      ends_across Periodic h holds =
           record {
-            slopes-close =
-                take-slope (n1 - 1) (omega arith) (x1 n1)
-                ∙ ap (λ f. linear f) (fun_ext (λ j. (holds j).slopes-close))
-                ∙ sym (take-slope 0 (omega arith) (x1 0));
-            seconds-close =
+            slopes_close =
+                take_slope (n1 - 1) (omega arith) (x1 n1)
+                ∙ ap (λ f. linear f) (fun_ext (λ j. (holds j).slopes_close))
+                ∙ sym (take_slope 0 (omega arith) (x1 0));
+            seconds_close =
                 take_second (n1 - 1) (omega arith) (x1 n1)
-                ∙ ap (λ f. linear f) (fun_ext (λ j. (holds j).seconds-close))
+                ∙ ap (λ f. linear f) (fun_ext (λ j. (holds j).seconds_close))
                 ∙ sym (take_second 0 (omega arith) (x1 0));
           }
 
-      across-spline : IsSplineUnder A x1 (at A across) n1 α (crossed A e1)
-      across-spline =
+      across_spline : IsSplineUnder A x1 (at A across) n1 α (crossed A e1)
+      across_spline =
           record {
             spline =
                 record {
-                  lower-sample = λ k h. Knots.at-lower-knot A F x1 (at A across) α k (wide1 k h);
-                  upper-sample = λ k h. Knots.at-upper-knot A F x1 (at A across) α k (wide1 k h);
-                  slopes-meet =
+                  lower_sample = λ k h. Knots.at_lower_knot A F x1 (at A across) α k (wide1 k h);
+                  upper_sample = λ k h. Knots.at_upper_knot A F x1 (at A across) α k (wide1 k h);
+                  slopes_meet =
                       λ k h.
-                      take-slope k (omega arith) (x1 (k + 1))
-                      ∙ ap (λ f. linear f) (fun_ext (λ j. (row-spline j).spline.slopes-meet k h))
-                      ∙ sym (take-slope (k + 1) h (x1 (k + 1)));
-                  seconds-meet =
-                      λ k h. Knots.seconds-always-meet A F x1 (at A across) α k (wide1 k (omega arith)) (wide1 (k + 1) h);
+                      take_slope k (omega arith) (x1 (k + 1))
+                      ∙ ap (λ f. linear f) (fun_ext (λ j. (row_spline j).spline.slopes_meet k h))
+                      ∙ sym (take_slope (k + 1) h (x1 (k + 1)));
+                  seconds_meet =
+                      λ k h. Knots.seconds_always_meet A F x1 (at A across) α k (wide1 k (omega arith)) (wide1 (k + 1) h);
                 };
-            ends = ends-across e1 enough1 (λ j. (row-spline j).ends);
+            ends = ends_across e1 enough1 (λ j. (row_spline j).ends);
           }
 
   -- slopes along one axis of slopes along the other, either way
-  slopes-commute : (x : ℕ → Number) (n size : ℕ) (full : size ≡ n + 1) (some : 1 ≤ n)
-      (rising : (i : ℕ) → i < n → O.Positive (Steps.h A x i)) (e : Condition Number) (enough : fewest-points e ≤ n + 1)
+  slopes_commute : (x : ℕ → Number) (n size : ℕ) (full : size ≡ n + 1) (some : 1 ≤ n)
+      (rising : (i : ℕ) → i < n → O.Positive (Steps.h A x i)) (e : Condition Number) (enough : fewest_points e ≤ n + 1)
       (i : ℕ) (within : i ≤ n)
       (x1 : ℕ → Number) (n1 size1 : ℕ) (full1 : size1 ≡ n1 + 1) (some1 : 1 ≤ n1)
-      (rising1 : (i : ℕ) → i < n1 → O.Positive (Steps.h A x1 i)) (e1 : Condition Number) (enough1 : fewest-points e1 ≤ n1 + 1)
+      (rising1 : (i : ℕ) → i < n1 → O.Positive (Steps.h A x1 i)) (e1 : Condition Number) (enough1 : fewest_points e1 ≤ n1 + 1)
       (Y : ℕ → ℕ → Number) (d : ℕ) (within1 : d ≤ n1)
-      → lane-slope A x1 n1 (crossed A e1) (table size1 (λ k. lane-slope A x n e (table size (λ j. Y j k)) i)) d
-      ≡ lane-slope A x n (crossed A e) (table size (λ j. lane-slope A x1 n1 e1 (table size1 (λ k. Y j k)) d)) i
-  slopes-commute x n size full some rising e enough i within x1 n1 size1 full1 some1 rising1 e1 enough1 Y d within1 =
+      → lane_slope A x1 n1 (crossed A e1) (table size1 (λ k. lane_slope A x n e (table size (λ j. Y j k)) i)) d
+      ≡ lane_slope A x n (crossed A e) (table size (λ j. lane_slope A x1 n1 e1 (table size1 (λ k. Y j k)) d)) i
+  slopes_commute x n size full some rising e enough i within x1 n1 size1 full1 some1 rising1 e1 enough1 Y d within1 =
       let c : (c : ℕ) × Beside x1 n1 size1 full1 some1 rising1 e1 enough1 d within1 c =
-      cell-beside x1 n1 size1 full1 some1 rising1 e1 enough1 d within1 in
+      cell_beside x1 n1 size1 full1 some1 rising1 e1 enough1 d within1 in
       sym
-      (slope-from x1 n1 size1 full1 some1 rising1 e1 enough1 d within1 c.0 c.1 (crossed A e1)
+      (slope_from x1 n1 size1 full1 some1 rising1 e1 enough1 d within1 c.0 c.1 (crossed A e1)
       (few x1 n1 size1 full1 some1 rising1 e1 enough1 d within1)
-      (table size1 (λ k. lane-slope A x n e (table size (λ j. Y j k)) i))
+      (table size1 (λ k. lane_slope A x n e (table size (λ j. Y j k)) i))
       (α x n size full some rising e enough i within x1 n1 size1 full1 some1 rising1 e1 enough1 Y)
-      (moments-are-the-only-spline A F O x1 _ n1 rising1 (crossed A e1) (few x1 n1 size1 full1 some1 rising1 e1 enough1 d within1) _
-      (across-spline x n size full some rising e enough i within x1 n1 size1 full1 some1 rising1 e1 enough1 Y)))
-      ∙ take-slope x n size full some rising e enough i within x1 n1 size1 full1 some1 rising1 e1 enough1 Y c.0 c.1.0 (x1 d)
-      ∙ ap (λ f. lane-slope A x n (crossed A e) (table size f) i)
+      (moments_are_the_only_spline A F O x1 _ n1 rising1 (crossed A e1) (few x1 n1 size1 full1 some1 rising1 e1 enough1 d within1) _
+      (across_spline x n size full some rising e enough i within x1 n1 size1 full1 some1 rising1 e1 enough1 Y)))
+      ∙ take_slope x n size full some rising e enough i within x1 n1 size1 full1 some1 rising1 e1 enough1 Y c.0 c.1.0 (x1 d)
+      ∙ ap (λ f. lane_slope A x n (crossed A e) (table size f) i)
       (fun_ext (λ j.
-      slope-from x1 n1 size1 full1 some1 rising1 e1 enough1 d within1 c.0 c.1 e1 enough1 (table size1 (λ k. Y j k))
+      slope_from x1 n1 size1 full1 some1 rising1 e1 enough1 d within1 c.0 c.1 e1 enough1 (table size1 (λ k. Y j k))
       (moment A x1 (at A (table size1 (λ k. Y j k))) n1 e1) (λ k h. refl)))
 
   -- ---- values
@@ -385,7 +385,7 @@ module _ (A : Arithmetic) (F : IsField A) (O : IsOrdered A) where
     some : 1 ≤ n
     rising : (i : ℕ) → i < n → O.Positive (Steps.h A x i)
     e : Condition Number
-    enough : fewest-points e ≤ n + 1
+    enough : fewest_points e ≤ n + 1
     cell : ℕ
     inside : cell < n
     coordinate : Number
@@ -393,10 +393,10 @@ module _ (A : Arithmetic) (F : IsField A) (O : IsOrdered A) where
   -- the value there of the spline through what a lane holds, and its slope at a knot
   abbrev value_on : Lane → Condition Number → (ℕ → Number) → Number
   value_on L c f =
-      curve-in-cell A L.x (at A (table L.size f)) (at A (moments A L.x L.n c (table L.size f))) L.cell L.coordinate
+      curve_in_cell A L.x (at A (table L.size f)) (at A (moments A L.x L.n c (table L.size f))) L.cell L.coordinate
 
-  abbrev slope-on : Lane → Condition Number → ℕ → (ℕ → Number) → Number
-  slope-on L c i f = lane-slope A L.x L.n c (table L.size f) i
+  abbrev slope_on : Lane → Condition Number → ℕ → (ℕ → Number) → Number
+  slope_on L c i f = lane_slope A L.x L.n c (table L.size f) i
 
   module _ (L : Lane) where
     abbrev width : Number
@@ -408,46 +408,46 @@ module _ (A : Arithmetic) (F : IsField A) (O : IsOrdered A) where
     abbrev weighted : Number → Number → Number → Number → Number
     weighted = mix A F (w0 A F width part) (w1 A F width part) (w2 A F width part) (w3 A F width part)
 
-    blended-on : (c : Condition Number) → fewest-points c ≤ L.n + 1 → (f : ℕ → Number)
-        → weighted (f L.cell) (slope-on L c L.cell f) (f (L.cell + 1)) (slope-on L c (L.cell + 1) f) ≡ value_on L c f
-    blended-on =
+    blended_on : (c : Condition Number) → fewest_points c ≤ L.n + 1 → (f : ℕ → Number)
+        → weighted (f L.cell) (slope_on L c L.cell f) (f (L.cell + 1)) (slope_on L c (L.cell + 1) f) ≡ value_on L c f
+    blended_on =
         Smooth.blended A F O L.x L.n L.size L.full L.some L.rising L.e L.enough L.cell L.inside
         L.coordinate
 
-    fewer : fewest-points (crossed A L.e) ≤ L.n + 1
-    fewer = omega (arith, L.enough, fewest-same A F L.e)
+    fewer : fewest_points (crossed A L.e) ≤ L.n + 1
+    fewer = omega (arith, L.enough, fewest_same A F L.e)
 
   module _ (L K : Lane) (Y : ℕ → ℕ → Number) where
     -- a slope along one axis of values along the other
-    slope-of-values : (i : ℕ) → i ≤ L.n
-        → value_on K (crossed A K.e) (λ k. slope-on L L.e i (λ j. Y j k)) ≡ slope-on L L.e i (λ j. value_on K K.e (λ k. Y j k))
-    slope-of-values i within =
-        sym (blended-on K (crossed A K.e) (fewer K) (λ k. slope-on L L.e i (λ j. Y j k)))
-        ∙ mix-ap A F _ _ _ _ refl (either K.cell (omega (arith, K.inside))) refl (either (K.cell + 1) (omega (arith, K.inside)))
+    slope_of_values : (i : ℕ) → i ≤ L.n
+        → value_on K (crossed A K.e) (λ k. slope_on L L.e i (λ j. Y j k)) ≡ slope_on L L.e i (λ j. value_on K K.e (λ k. Y j k))
+    slope_of_values i within =
+        sym (blended_on K (crossed A K.e) (fewer K) (λ k. slope_on L L.e i (λ j. Y j k)))
+        ∙ mix_ap A F _ _ _ _ refl (either K.cell (omega (arith, K.inside))) refl (either (K.cell + 1) (omega (arith, K.inside)))
         ∙ sym
-        (lane-mix A F O L.x L.n L.rising _ _ _ _ (unity A F (width K) (part K)) L.e L.enough L.size L.full L.some
-        (λ j. Y j K.cell) (λ j. slope-on K K.e K.cell (λ k. Y j k))
-        (λ j. Y j (K.cell + 1)) (λ j. slope-on K K.e (K.cell + 1) (λ k. Y j k)) i within)
-        ∙ ap (λ f. slope-on L L.e i f) (fun_ext (λ j. blended-on K K.e K.enough (λ k. Y j k)))
+        (lane_mix A F O L.x L.n L.rising _ _ _ _ (unity A F (width K) (part K)) L.e L.enough L.size L.full L.some
+        (λ j. Y j K.cell) (λ j. slope_on K K.e K.cell (λ k. Y j k))
+        (λ j. Y j (K.cell + 1)) (λ j. slope_on K K.e (K.cell + 1) (λ k. Y j k)) i within)
+        ∙ ap (λ f. slope_on L L.e i f) (fun_ext (λ j. blended_on K K.e K.enough (λ k. Y j k)))
       where
         either : (d : ℕ) → d ≤ K.n
-            → slope-on K (crossed A K.e) d (λ k. slope-on L L.e i (λ j. Y j k))
-            ≡ slope-on L (crossed A L.e) i (λ j. slope-on K K.e d (λ k. Y j k))
+            → slope_on K (crossed A K.e) d (λ k. slope_on L L.e i (λ j. Y j k))
+            ≡ slope_on L (crossed A L.e) i (λ j. slope_on K K.e d (λ k. Y j k))
         either d within1 =
-            slopes-commute L.x L.n L.size L.full L.some L.rising L.e L.enough i within
+            slopes_commute L.x L.n L.size L.full L.some L.rising L.e L.enough i within
             K.x K.n K.size K.full K.some K.rising K.e K.enough Y d within1
 
     -- values along one axis of values along the other, either way
-    values-commute : value_on K K.e (λ k. value_on L L.e (λ j. Y j k)) ≡ value_on L L.e (λ j. value_on K K.e (λ k. Y j k))
-    values-commute =
-        ap (λ f. value_on K K.e f) (fun_ext (λ k. sym (blended-on L L.e L.enough (λ j. Y j k))))
-        ∙ Smooth.value-mix A F O K.x K.n K.size K.full K.some K.rising K.e K.enough K.cell K.inside
+    values_commute : value_on K K.e (λ k. value_on L L.e (λ j. Y j k)) ≡ value_on L L.e (λ j. value_on K K.e (λ k. Y j k))
+    values_commute =
+        ap (λ f. value_on K K.e f) (fun_ext (λ k. sym (blended_on L L.e L.enough (λ j. Y j k))))
+        ∙ Smooth.value_mix A F O K.x K.n K.size K.full K.some K.rising K.e K.enough K.cell K.inside
         K.coordinate _ _ _ _ (unity A F (width L) (part L))
-        (λ k. Y L.cell k) (λ k. slope-on L L.e L.cell (λ j. Y j k))
-        (λ k. Y (L.cell + 1) k) (λ k. slope-on L L.e (L.cell + 1) (λ j. Y j k))
-        ∙ mix-ap A F _ _ _ _ refl (slope-of-values L.cell (omega (arith, L.inside))) refl
-        (slope-of-values (L.cell + 1) (omega (arith, L.inside)))
-        ∙ blended-on L L.e L.enough (λ j. value_on K K.e (λ k. Y j k))
+        (λ k. Y L.cell k) (λ k. slope_on L L.e L.cell (λ j. Y j k))
+        (λ k. Y (L.cell + 1) k) (λ k. slope_on L L.e (L.cell + 1) (λ j. Y j k))
+        ∙ mix_ap A F _ _ _ _ refl (slope_of_values L.cell (omega (arith, L.inside))) refl
+        (slope_of_values (L.cell + 1) (omega (arith, L.inside)))
+        ∙ blended_on L L.e L.enough (λ j. value_on K K.e (λ k. Y j k))
 
   -- ---- two neighbouring axes of a grid
 
@@ -468,39 +468,39 @@ module _ (A : Arithmetic) (F : IsField A) (O : IsOrdered A) where
       }
 
   -- the spline of splines is the same with any two neighbouring axes exchanged, and so in any order of the axes
-  pub axes-in-either-order : (d axes : ℕ) → d + 1 < axes → (g : Grid A) (samples : Place → Number) (cells : Place)
+  pub axes_in_either_order : (d axes : ℕ) → d + 1 < axes → (g : Grid A) (samples : Place → Number) (cells : Place)
       → Smooth.On A F O axes g cells → (point : ℕ → Number)
-      → nested-splines A axes g samples cells point
-      ≡ nested-splines A axes (exchanged-grid A d g) (λ p. samples (exchanged d p)) (exchanged d cells) (exchanged d point)
-  unfolding nested-splines along-lowest lane_of
-  axes-in-either-order d zero h g samples cells on point = let z : ⊥ = omega arith in absurd z
-  axes-in-either-order zero (suc zero) h g samples cells on point = let z : ⊥ = omega arith in absurd z
-  axes-in-either-order zero (suc (suc axes)) h g samples cells on point =
-      ap (λ s. nested-splines A axes (other-axes A (other-axes A g (suc axes)) axes) s (λ i. cells (suc (suc i)))
+      → nested_splines A axes g samples cells point
+      ≡ nested_splines A axes (exchanged_grid A d g) (λ p. samples (exchanged d p)) (exchanged d cells) (exchanged d point)
+  unfolding nested_splines along_lowest lane_of
+  axes_in_either_order d zero h g samples cells on point = let z : ⊥ = omega arith in absurd z
+  axes_in_either_order zero (suc zero) h g samples cells on point = let z : ⊥ = omega arith in absurd z
+  axes_in_either_order zero (suc (suc axes)) h g samples cells on point =
+      ap (λ s. nested_splines A axes (other_axes A (other_axes A g (suc axes)) axes) s (λ i. cells (suc (suc i)))
       (λ i. point (suc (suc i))))
       (fun_ext (λ q.
-      values-commute (lane_of 0 (suc (suc axes)) (omega arith) g cells on point) (lane_of 1 (suc (suc axes)) (omega arith) g cells on point)
-      (λ j k. samples (on-axes j (on-axes k q)))
+      values_commute (lane_of 0 (suc (suc axes)) (omega arith) g cells on point) (lane_of 1 (suc (suc axes)) (omega arith) g cells on point)
+      (λ j k. samples (on_axes j (on_axes k q)))
       ∙ ap (λ (Y : ℕ → ℕ → Number).
       value_on (lane_of 0 (suc (suc axes)) (omega arith) g cells on point) (g.condition 0)
       (λ j. value_on (lane_of 1 (suc (suc axes)) (omega arith) g cells on point) (g.condition 1) (λ k. Y j k)))
       (fun_ext (λ j. fun_ext (λ k. ap samples (fun_ext (places j k q)))))))
     where
-      places : (j k : ℕ) (q : Place) (i : ℕ) → on-axes j (on-axes k q) i ≡ exchanged 0 (on-axes k (on-axes j q)) i
+      places : (j k : ℕ) (q : Place) (i : ℕ) → on_axes j (on_axes k q) i ≡ exchanged 0 (on_axes k (on_axes j q)) i
       places j k q zero = refl
       places j k q (suc zero) = refl
       places j k q (suc (suc i)) = refl
-  axes-in-either-order (suc d) (suc axes) h g samples cells on point =
-      axes-in-either-order d axes (omega arith) (other-axes A g axes) (along-lowest A g samples (cells 0) (point 0)) (λ i. cells (suc i))
+  axes_in_either_order (suc d) (suc axes) h g samples cells on point =
+      axes_in_either_order d axes (omega arith) (other_axes A g axes) (along_lowest A g samples (cells 0) (point 0)) (λ i. cells (suc i))
       (Smooth.others A F O axes g cells on) (λ i. point (suc i))
-      ∙ ap (λ s. nested-splines A axes (exchanged-grid A d (other-axes A g axes)) s (exchanged d (λ i. cells (suc i)))
+      ∙ ap (λ s. nested_splines A axes (exchanged_grid A d (other_axes A g axes)) s (exchanged d (λ i. cells (suc i)))
       (exchanged d (λ i. point (suc i))))
       (fun_ext (λ q.
       ap (λ (f : ℕ → Number).
-      curve-in-cell A (g.knots 0) (at A (table (g.points 0) f))
+      curve_in_cell A (g.knots 0) (at A (table (g.points 0) f))
       (at A (moments A (g.knots 0) (g.points 0 - 1) (g.condition 0) (table (g.points 0) f))) (cells 0) (point 0))
       (fun_ext (λ k. ap samples (fun_ext (places k q))))))
     where
-      places : (k : ℕ) (q : Place) (i : ℕ) → on-axes k (exchanged d q) i ≡ exchanged (suc d) (on-axes k q) i
+      places : (k : ℕ) (q : Place) (i : ℕ) → on_axes k (exchanged d q) i ≡ exchanged (suc d) (on_axes k q) i
       places k q zero = refl
       places k q (suc i) = refl

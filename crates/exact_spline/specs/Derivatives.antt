@@ -23,11 +23,11 @@ module _ (A : Arithmetic) where
 
   -- the first, the second and the third derivative of cell i at a point
   module _ (x y m : ℕ → Number) where
-    unfoldable pub slope-in-cell : ℕ → Number → Number
-    slope-in-cell i point = slope (Steps.h A x i) (y i) (y (i + 1)) (m i) (m (i + 1)) (point ⊖ x i)
+    unfoldable pub slope_in_cell : ℕ → Number → Number
+    slope_in_cell i point = slope (Steps.h A x i) (y i) (y (i + 1)) (m i) (m (i + 1)) (point ⊖ x i)
 
-    unfoldable pub second-in-cell : ℕ → Number → Number
-    second-in-cell i point = bend (Steps.h A x i) (m i) (m (i + 1)) (point ⊖ x i)
+    unfoldable pub second_in_cell : ℕ → Number → Number
+    second_in_cell i point = bend (Steps.h A x i) (m i) (m (i + 1)) (point ⊖ x i)
 
-    unfoldable pub third-in-cell : ℕ → Number
-    third-in-cell i = twist (Steps.h A x i) (m i) (m (i + 1))
+    unfoldable pub third_in_cell : ℕ → Number
+    third_in_cell i = twist (Steps.h A x i) (m i) (m (i + 1))

@@ -21,25 +21,25 @@ module _ {N : Type 0} where
   dropped (SecondDerivative value) = 0
 
   -- the fewest points
-  abbrev pub fewest-points : Condition N → ℕ
-  fewest-points (Endpoints lower upper) = 2 + dropped lower + dropped upper
-  fewest-points Periodic = 2
+  abbrev pub fewest_points : Condition N → ℕ
+  fewest_points (Endpoints lower upper) = 2 + dropped lower + dropped upper
+  fewest_points Periodic = 2
 
 module _ (A : Arithmetic) where
   open A use {Number, nought}
 
   -- an end without its number: its kind stays, and nought stands for the number
-  abbrev pub zero-valued : End Number → End Number
-  zero-valued NotAKnot = NotAKnot
-  zero-valued (FirstDerivative value) = FirstDerivative nought
-  zero-valued (SecondDerivative value) = SecondDerivative nought
+  abbrev pub zero_valued : End Number → End Number
+  zero_valued NotAKnot = NotAKnot
+  zero_valued (FirstDerivative value) = FirstDerivative nought
+  zero_valued (SecondDerivative value) = SecondDerivative nought
 
   -- a condition whose two ends are so
   abbrev pub crossed : Condition Number → Condition Number
-  crossed (Endpoints lower upper) = Endpoints (zero-valued lower) (zero-valued upper)
+  crossed (Endpoints lower upper) = Endpoints (zero_valued lower) (zero_valued upper)
   crossed Periodic = Periodic
 
   -- what a spline through the numbers at a mask takes: at mask 0 the condition itself, else the crossed one
-  abbrev pub condition-at : ℕ → Condition Number → Condition Number
-  condition-at zero condition = condition
-  condition-at (suc mask) condition = crossed condition
+  abbrev pub condition_at : ℕ → Condition Number → Condition Number
+  condition_at zero condition = condition
+  condition_at (suc mask) condition = crossed condition

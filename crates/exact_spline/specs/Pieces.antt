@@ -14,11 +14,11 @@ module _ (A : Arithmetic) where
   abbrev pub polynomial : Number → Number → Number → Number → Number → Number
   polynomial c0 c1 c2 c3 t = c0 ⊕ c1 ⊗ t ⊕ c2 ⊗ t ⊗ t ⊕ c3 ⊗ t ⊗ t ⊗ t
 
-  abbrev pub first-derivative : Number → Number → Number → Number → Number
-  first-derivative c1 c2 c3 t = c1 ⊕ two ⊗ c2 ⊗ t ⊕ three ⊗ c3 ⊗ t ⊗ t
+  abbrev pub first_derivative : Number → Number → Number → Number → Number
+  first_derivative c1 c2 c3 t = c1 ⊕ two ⊗ c2 ⊗ t ⊕ three ⊗ c3 ⊗ t ⊗ t
 
-  abbrev pub second-derivative : Number → Number → Number → Number
-  second-derivative c2 c3 t = two ⊗ c2 ⊕ six ⊗ c3 ⊗ t
+  abbrev pub second_derivative : Number → Number → Number → Number
+  second_derivative c2 c3 t = two ⊗ c2 ⊕ six ⊗ c3 ⊗ t
 
   -- the coefficients of each cell, around its lower knot
   module _ (x y : ℕ → Number) (n : ℕ) (c0 c1 c2 c3 : ℕ → Number) where
@@ -27,10 +27,10 @@ module _ (A : Arithmetic) where
     value i point = polynomial (c0 i) (c1 i) (c2 i) (c3 i) (point ⊖ x i)
 
     abbrev pub slope : ℕ → Number → Number
-    slope i point = first-derivative (c1 i) (c2 i) (c3 i) (point ⊖ x i)
+    slope i point = first_derivative (c1 i) (c2 i) (c3 i) (point ⊖ x i)
 
     abbrev pub second : ℕ → Number → Number
-    second i point = second-derivative (c2 i) (c3 i) (point ⊖ x i)
+    second i point = second_derivative (c2 i) (c3 i) (point ⊖ x i)
 
     abbrev pub third : ℕ → Number
     third i = six ⊗ c3 i
@@ -51,8 +51,8 @@ module _ (A : Arithmetic) where
 
     -- through the samples, with two continuous derivatives, and the ends as the condition has them
     pub record IsCubicSpline (condition : Condition Number) : Type 0 where
-      pub lower-sample : (i : ℕ) → i < n → value i (x i) ≡ y i
-      pub upper-sample : (i : ℕ) → i < n → value i (x (i + 1)) ≡ y (i + 1)
-      pub slopes-meet : (i : ℕ) → i + 1 < n → slope i (x (i + 1)) ≡ slope (i + 1) (x (i + 1))
-      pub seconds-meet : (i : ℕ) → i + 1 < n → second i (x (i + 1)) ≡ second (i + 1) (x (i + 1))
+      pub lower_sample : (i : ℕ) → i < n → value i (x i) ≡ y i
+      pub upper_sample : (i : ℕ) → i < n → value i (x (i + 1)) ≡ y (i + 1)
+      pub slopes_meet : (i : ℕ) → i + 1 < n → slope i (x (i + 1)) ≡ slope (i + 1) (x (i + 1))
+      pub seconds_meet : (i : ℕ) → i + 1 < n → second i (x (i + 1)) ≡ second (i + 1) (x (i + 1))
       pub ends : Holds condition

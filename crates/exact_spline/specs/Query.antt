@@ -28,17 +28,17 @@ module _ (A : Arithmetic) where
       h00 ⊗ p0 ⊕ h10 ⊗ width ⊗ m0 ⊕ h01 ⊗ p1 ⊕ h11 ⊗ width ⊗ m1
 
   -- a cell without its lowest axis
-  unfoldable pub without-lowest : ℕ → Number → Number → (ℕ → Number) → ℕ → Number
+  unfoldable pub without_lowest : ℕ → Number → Number → (ℕ → Number) → ℕ → Number
   unfolding hermite
-  without-lowest size width t cell e =
+  without_lowest size width t cell e =
       hermite (cell (2 * e)) (cell (2 * e + 1)) (cell (2 * size + 2 * e)) (cell (2 * size + 2 * e + 1)) width t
 
   -- what is left of a cell when its axes, so many from `lowest` on, are removed one after the other, the lowest first
   unfoldable pub blend : ℕ → ℕ → (ℕ → Number) → (ℕ → Number) → (ℕ → Number) → Number
-  unfolding without-lowest
+  unfolding without_lowest
   blend zero lowest widths ts cell = cell 0
   blend (suc axes) lowest widths ts cell =
-      blend axes (suc lowest) widths ts (without-lowest (4 ^ axes) (widths lowest) (ts lowest) cell)
+      blend axes (suc lowest) widths ts (without_lowest (4 ^ axes) (widths lowest) (ts lowest) cell)
 
   -- where the point lies in cell l, counted from its lower knot in widths
   unfoldable pub fraction : (ℕ → Number) → ℕ → Number → Number
@@ -54,5 +54,5 @@ module _ (A : Arithmetic) where
       (λ e. numbers (corner g.axes cells (e / 2 ^ g.axes)) (e % 2 ^ g.axes))
 
   -- the same from the tensor of the samples, a list as the rules have it
-  abbrev pub value-from : Grid A → (Place → Number) → Place → (ℕ → Number) → Number
-  value-from g samples cells point = value_in g (λ p mask. at A (tensor A g samples) (spot A g p mask)) cells point
+  abbrev pub value_from : Grid A → (Place → Number) → Place → (ℕ → Number) → Number
+  value_from g samples cells point = value_in g (λ p mask. at A (tensor A g samples) (spot A g p mask)) cells point

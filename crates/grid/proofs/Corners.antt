@@ -7,8 +7,8 @@ use native.Mathlib.Nat.{pow-succ', div-div-eq-div-mul}
 use Rattle.rules.specs.Sizes.{Place, flat}
 use Rattle.rules.specs.Query.{corner}
 use Rattle.rules.specs.declared.Axis.{Axis}
-use Rattle.rules.proofs.Places.{OnGrid, flat-ext}
-use Rattle.grid.specs.GridOfCall.{points-of, CellInside}
+use Rattle.rules.proofs.Places.{OnGrid, flat_ext}
+use Rattle.grid.specs.GridOfCall.{points_of, CellInside}
 
 -- ---- two corners side by side
 
@@ -19,9 +19,9 @@ same_half bits k even =
     rw (pow-succ' 2 k, ← div-div-eq-div-mul (bits + 1) 2 (2 ^ k), ← div-div-eq-div-mul bits 2 (2 ^ k), half) refl
 
 module _ (lower : Place) (bits : ℕ) (even : bits % 2 ≡ 0) where
-  same-before : (d j : ℕ) → j < d → corner (suc d) lower (bits + 1) j ≡ corner (suc d) lower bits j
+  same_before : (d j : ℕ) → j < d → corner (suc d) lower (bits + 1) j ≡ corner (suc d) lower bits j
   unfolding corner
-  same-before d j h =
+  same_before d j h =
       let e : suc d - 1 - j ≡ suc (d - 1 - j) = omega arith in
       rw e (ap (λ (b : ℕ). lower j + b % 2) (same_half bits (d - 1 - j) even))
 
@@ -35,11 +35,11 @@ module _ (lower : Place) (bits : ℕ) (even : bits % 2 ≡ 0) where
   unfolding flat
   side_by_side n zero h = absurd (omega arith)
   side_by_side n (suc d) h =
-      rw (flat-ext n d (corner (suc d) lower (bits + 1)) (corner (suc d) lower bits) (same-before d), one_further d) (omega arith)
+      rw (flat_ext n d (corner (suc d) lower (bits + 1)) (corner (suc d) lower bits) (same_before d), one_further d) (omega arith)
 
 -- ---- all of them
 
-pub corner-on-grid : (axes : ℕ) (all : List Axis) (lower : Place) (bits : ℕ) → CellInside axes all lower
-    → OnGrid (points-of all) axes (corner axes lower bits)
+pub corner_on_grid : (axes : ℕ) (all : List Axis) (lower : Place) (bits : ℕ) → CellInside axes all lower
+    → OnGrid (points_of all) axes (corner axes lower bits)
 unfolding corner
-corner-on-grid axes all lower bits given i h = omega (arith, given.upper i h)
+corner_on_grid axes all lower bits given i h = omega (arith, given.upper i h)

@@ -6,20 +6,20 @@ use native.Mathlib.Omega.{arith}
 use lib.ListN.{length}
 use Rattle.rules.specs.Sizes.{place_of}
 use Rattle.rules.specs.declared.Axis.{Axis}
-use Rattle.grid.specs.GridOfCall.{points-of}
+use Rattle.grid.specs.GridOfCall.{points_of}
 
-pub points-taken : (all : List Axis) → length all ≡ 4
-    → place_of (points-of all 0 ∷ points-of all 1 ∷ points-of all 2 ∷ points-of all 3 ∷ []) ≡ points-of all
-points-taken [] e = absurd (omega arith)
-points-taken (a ∷ []) e = absurd (omega arith)
-points-taken (a ∷ b ∷ []) e = absurd (omega arith)
-points-taken (a ∷ b ∷ c ∷ []) e = absurd (omega arith)
-points-taken (a ∷ b ∷ c ∷ d ∷ []) e = fun_ext same
+pub points_taken : (all : List Axis) → length all ≡ 4
+    → place_of (points_of all 0 ∷ points_of all 1 ∷ points_of all 2 ∷ points_of all 3 ∷ []) ≡ points_of all
+points_taken [] e = absurd (omega arith)
+points_taken (a ∷ []) e = absurd (omega arith)
+points_taken (a ∷ b ∷ []) e = absurd (omega arith)
+points_taken (a ∷ b ∷ c ∷ []) e = absurd (omega arith)
+points_taken (a ∷ b ∷ c ∷ d ∷ []) e = fun_ext same
   where
-    same : (i : ℕ) → place_of (a.points ∷ b.points ∷ c.points ∷ d.points ∷ []) i ≡ points-of (a ∷ b ∷ c ∷ d ∷ []) i
+    same : (i : ℕ) → place_of (a.points ∷ b.points ∷ c.points ∷ d.points ∷ []) i ≡ points_of (a ∷ b ∷ c ∷ d ∷ []) i
     same zero = refl
     same (suc zero) = refl
     same (suc (suc zero)) = refl
     same (suc (suc (suc zero))) = refl
     same (suc (suc (suc (suc i)))) = refl
-points-taken (a ∷ b ∷ c ∷ d ∷ f ∷ all) e = absurd (omega arith)
+points_taken (a ∷ b ∷ c ∷ d ∷ f ∷ all) e = absurd (omega arith)

@@ -12,33 +12,33 @@ use borrow.Author.Tests.{ltb-false, leb-false, not-false}
 use Rattle.rules.specs.Numbers.{at}
 use Rattle.rules.specs.Steps.{h}
 use Rattle.rules.specs.Sizes.{
-  most-in-a-tensor,
-  scratch-of-rows,
+  most_in_a_tensor,
+  scratch_of_rows,
   Grid,
   points,
   condition,
   knots,
-  knots-length,
-  samples-length,
-  tensor-length,
-  scratch-length,
+  knots_length,
+  samples_length,
+  tensor_length,
+  scratch_length,
   Place,
 }
 use Rattle.rules.specs.Refusals.{
-  axes-refused,
-  points-refused,
-  some-points-refused,
-  tensor-refused,
-  scratch-refused,
-  number-refused,
-  some-number-refused,
-  ends-refused,
-  some-ends-refused,
-  step-refused,
-  knots-refused,
-  some-knots-refused,
-  fewness-refused,
-  some-fewness-refused,
+  axes_refused,
+  points_refused,
+  some_points_refused,
+  tensor_refused,
+  scratch_refused,
+  number_refused,
+  some_number_refused,
+  ends_refused,
+  some_ends_refused,
+  step_refused,
+  knots_refused,
+  some_knots_refused,
+  fewness_refused,
+  some_fewness_refused,
 }
 use Rattle.rules.specs.declared.Condition.{Condition}
 use Rattle.base_numbers.proofs.Scan.{neither, any_at}
@@ -53,148 +53,148 @@ use Rattle.grid_checks.specs.Checked.{
   ChangeGiven,
 }
 use Rattle.grid_checks.specs.Check.{
-  moments-rows,
-  curve-rows,
-  slopes-rows,
-  build-rows,
-  change-rows,
-  moments-check,
-  curve-check,
-  slopes-check,
-  build-check,
-  change-check,
+  moments_rows,
+  curve_rows,
+  slopes_rows,
+  build_rows,
+  change_rows,
+  moments_check,
+  curve_check,
+  slopes_check,
+  build_check,
+  change_check,
 }
-use Rattle.grid_checks.proofs.Rows.{none-applies, axes-few, in-range, exact-2, exact-3, exact-4}
+use Rattle.grid_checks.proofs.Rows.{none_applies, axes_few, in_range, exact_2, exact_3, exact_4}
 
-neither-3 : (a b c : Bool) → (a || b || c) ≡ false → (a ≡ false) × (b ≡ false) × (c ≡ false)
-neither-3 a b c e = let three = neither (a || b) c e in let two = neither a b three.0 in (two.0, two.1, three.1)
+neither_3 : (a b c : Bool) → (a || b || c) ≡ false → (a ≡ false) × (b ≡ false) × (c ≡ false)
+neither_3 a b c e = let three = neither (a || b) c e in let two = neither a b three.0 in (two.0, two.1, three.1)
 
 -- ---- the calls on one axis
 
 module _ (n : ℕ) (x y : List Float) where
-  axis-given : points-refused n ≡ false → length x ≡ n → length y ≡ n → some-number-refused x ≡ false → some-number-refused y ≡ false
-      → knots-refused x n ≡ false → AxisGiven n x y
-  axis-given range knots-exact samples-exact knots-finite samples-finite knots-rise =
+  axis_given : points_refused n ≡ false → length x ≡ n → length y ≡ n → some_number_refused x ≡ false → some_number_refused y ≡ false
+      → knots_refused x n ≡ false → AxisGiven n x y
+  axis_given range knots_exact samples_exact knots_finite samples_finite knots_rise =
       let two = neither _ _ range in
       record {
-        some-points = ltb-false _ _ two.0;
-        few-points = ltb-false _ _ two.1;
-        knots-exact = knots-exact;
-        samples-exact = samples-exact;
-        knots-finite = knots-finite;
-        samples-finite = samples-finite;
-        knots-rise = knots-rise;
+        some_points = ltb-false _ _ two.0;
+        few_points = ltb-false _ _ two.1;
+        knots_exact = knots_exact;
+        samples_exact = samples_exact;
+        knots_finite = knots_finite;
+        samples_finite = samples_finite;
+        knots_rise = knots_rise;
       }
 
-  pub moments-given : (ends : Condition) (moments-length scratch-given : ℕ) → moments-check n x y ends moments-length scratch-given ≡ 0
-      → MomentsGiven n x y ends moments-length scratch-given
-  unfolding moments-check
-  moments-given ends moments-length scratch-given e =
-      let none = none-applies (moments-rows n x y ends moments-length scratch-given) tt e in
-      let lengths = exact-3 (length x) n (length y) n moments-length n none.1.0 in
-      let numbers = neither-3 (some-number-refused x) (ends-refused ends) (some-number-refused y) none.1.1.1.0 in
+  pub moments_given : (ends : Condition) (moments_length scratch_given : ℕ) → moments_check n x y ends moments_length scratch_given ≡ 0
+      → MomentsGiven n x y ends moments_length scratch_given
+  unfolding moments_check
+  moments_given ends moments_length scratch_given e =
+      let none = none_applies (moments_rows n x y ends moments_length scratch_given) tt e in
+      let lengths = exact_3 (length x) n (length y) n moments_length n none.1.0 in
+      let numbers = neither_3 (some_number_refused x) (ends_refused ends) (some_number_refused y) none.1.1.1.0 in
       record {
-        axis = axis-given none.0 lengths.0 lengths.1 numbers.0 numbers.2 none.1.1.1.1.0;
-        moments-exact = lengths.2;
-        scratch-enough = ltb-false scratch-given scratch-of-rows none.1.1.0;
-        ends-finite = numbers.1;
-        enough-points = none.1.1.1.1.1.0;
+        axis = axis_given none.0 lengths.0 lengths.1 numbers.0 numbers.2 none.1.1.1.1.0;
+        moments_exact = lengths.2;
+        scratch_enough = ltb-false scratch_given scratch_of_rows none.1.1.0;
+        ends_finite = numbers.1;
+        enough_points = none.1.1.1.1.1.0;
       }
 
-  pub curve-given : (moments-length : ℕ) (point : Float) → curve-check n x y moments-length point ≡ 0
-      → CurveGiven n x y moments-length point
-  unfolding curve-check
-  curve-given moments-length point e =
-      let none = none-applies (curve-rows n x y moments-length point) tt e in
-      let lengths = exact-3 (length x) n (length y) n moments-length n none.1.0 in
-      let numbers = neither-3 (some-number-refused x) (some-number-refused y) (number-refused point) none.1.1.0 in
+  pub curve_given : (moments_length : ℕ) (point : Float) → curve_check n x y moments_length point ≡ 0
+      → CurveGiven n x y moments_length point
+  unfolding curve_check
+  curve_given moments_length point e =
+      let none = none_applies (curve_rows n x y moments_length point) tt e in
+      let lengths = exact_3 (length x) n (length y) n moments_length n none.1.0 in
+      let numbers = neither_3 (some_number_refused x) (some_number_refused y) (number_refused point) none.1.1.0 in
       record {
-        axis = axis-given none.0 lengths.0 lengths.1 numbers.0 numbers.1 none.1.1.1.0;
-        moments-exact = lengths.2;
-        point-finite = numbers.2;
+        axis = axis_given none.0 lengths.0 lengths.1 numbers.0 numbers.1 none.1.1.1.0;
+        moments_exact = lengths.2;
+        point_finite = numbers.2;
       }
 
-  pub slopes-given : (moments-length slopes-length : ℕ) → slopes-check n x y moments-length slopes-length ≡ 0
-      → SlopesGiven n x y moments-length slopes-length
-  unfolding slopes-check
-  slopes-given moments-length slopes-length e =
-      let none = none-applies (slopes-rows n x y moments-length slopes-length) tt e in
-      let lengths = exact-4 (length x) n (length y) n moments-length n slopes-length n none.1.0 in
-      let numbers = neither (some-number-refused x) (some-number-refused y) none.1.1.0 in
+  pub slopes_given : (moments_length slopes_length : ℕ) → slopes_check n x y moments_length slopes_length ≡ 0
+      → SlopesGiven n x y moments_length slopes_length
+  unfolding slopes_check
+  slopes_given moments_length slopes_length e =
+      let none = none_applies (slopes_rows n x y moments_length slopes_length) tt e in
+      let lengths = exact_4 (length x) n (length y) n moments_length n slopes_length n none.1.0 in
+      let numbers = neither (some_number_refused x) (some_number_refused y) none.1.1.0 in
       record {
-        axis = axis-given none.0 lengths.0 lengths.1 numbers.0 numbers.1 none.1.1.1.0;
-        moments-exact = lengths.2;
-        slopes-exact = lengths.3;
+        axis = axis_given none.0 lengths.0 lengths.1 numbers.0 numbers.1 none.1.1.1.0;
+        moments_exact = lengths.2;
+        slopes_exact = lengths.3;
       }
 
 -- ---- the calls on a grid
 
 module _ (g : Grid) where
-  pub grid-known : (tensor-given : ℕ) → axes-refused g ≡ false → some-points-refused g ≡ false → tensor-refused g ≡ false
-      → length g.flat-knots ≡ knots-length g → tensor-given ≡ tensor-length g → some-number-refused g.flat-knots ≡ false
-      → some-knots-refused g ≡ false → GridGiven g tensor-given
-  grid-known tensor-given few fine small knots-exact tensor-exact knots-finite rise =
-      let count = axes-few {axes = g.axes} few in
+  pub grid_known : (tensor_given : ℕ) → axes_refused g ≡ false → some_points_refused g ≡ false → tensor_refused g ≡ false
+      → length g.flat_knots ≡ knots_length g → tensor_given ≡ tensor_length g → some_number_refused g.flat_knots ≡ false
+      → some_knots_refused g ≡ false → GridGiven g tensor_given
+  grid_known tensor_given few fine small knots_exact tensor_exact knots_finite rise =
+      let count = axes_few {axes = g.axes} few in
       record {
-        in-range = in-range count.0 count.1 fine;
-        small = ltb-false most-in-a-tensor (tensor-length g) small;
-        knots-exact = knots-exact;
-        tensor-exact = tensor-exact;
-        knots-finite = knots-finite;
-        knots-rise = any_at (λ i. knots-refused (knots g i) (points g i)) g.axes rise;
+        in_range = in_range count.0 count.1 fine;
+        small = ltb-false most_in_a_tensor (tensor_length g) small;
+        knots_exact = knots_exact;
+        tensor_exact = tensor_exact;
+        knots_finite = knots_finite;
+        knots_rise = any_at (λ i. knots_refused (knots g i) (points g i)) g.axes rise;
       }
 
-  solve-known : (scratch-given : ℕ) → scratch-refused scratch-given (scratch-length g) ≡ false → some-ends-refused g ≡ false
-      → some-fewness-refused g ≡ false → SolveGiven g scratch-given
-  solve-known scratch-given scratch ends fewness = record {
-    scratch-enough = ltb-false scratch-given (scratch-length g) scratch;
-    ends-finite = any_at (λ i. ends-refused (condition g i)) g.axes ends;
-    enough-points = any_at (λ i. fewness-refused (condition g i) (points g i)) g.axes fewness;
+  solve_known : (scratch_given : ℕ) → scratch_refused scratch_given (scratch_length g) ≡ false → some_ends_refused g ≡ false
+      → some_fewness_refused g ≡ false → SolveGiven g scratch_given
+  solve_known scratch_given scratch ends fewness = record {
+    scratch_enough = ltb-false scratch_given (scratch_length g) scratch;
+    ends_finite = any_at (λ i. ends_refused (condition g i)) g.axes ends;
+    enough_points = any_at (λ i. fewness_refused (condition g i) (points g i)) g.axes fewness;
   }
 
-  pub build-given : (samples : List Float) (tensor-given scratch-given : ℕ) → build-check g samples tensor-given scratch-given ≡ 0
-      → BuildGiven g samples tensor-given scratch-given
-  unfolding build-check
-  build-given samples tensor-given scratch-given e =
-      let none = none-applies (build-rows g samples tensor-given scratch-given) tt e in
+  pub build_given : (samples : List Float) (tensor_given scratch_given : ℕ) → build_check g samples tensor_given scratch_given ≡ 0
+      → BuildGiven g samples tensor_given scratch_given
+  unfolding build_check
+  build_given samples tensor_given scratch_given e =
+      let none = none_applies (build_rows g samples tensor_given scratch_given) tt e in
       let later = none.1.1.1 in
       let lengths =
-      exact-3 (length g.flat-knots) (knots-length g) (length samples) (samples-length g) tensor-given (tensor-length g) later.0 in
-      let numbers = neither-3 (some-number-refused g.flat-knots) (some-ends-refused g) (some-number-refused samples) later.1.1.0 in
+      exact_3 (length g.flat_knots) (knots_length g) (length samples) (samples_length g) tensor_given (tensor_length g) later.0 in
+      let numbers = neither_3 (some_number_refused g.flat_knots) (some_ends_refused g) (some_number_refused samples) later.1.1.0 in
       record {
-        grid-given =
-            grid-known tensor-given none.0 none.1.0 none.1.1.0 lengths.0 lengths.2 numbers.0 later.1.1.1.0;
-        solve-given = solve-known scratch-given later.1.0 numbers.1 later.1.1.1.1.0;
-        samples-exact = lengths.1;
-        samples-finite = numbers.2;
+        grid_given =
+            grid_known tensor_given none.0 none.1.0 none.1.1.0 lengths.0 lengths.2 numbers.0 later.1.1.1.0;
+        solve_given = solve_known scratch_given later.1.0 numbers.1 later.1.1.1.1.0;
+        samples_exact = lengths.1;
+        samples_finite = numbers.2;
       }
 
-  pub change-given : (tensor : List Float) (scratch-given : ℕ) (changed : Place) (v : Float)
-      → change-check g tensor scratch-given changed v ≡ 0 → ChangeGiven g tensor scratch-given changed v
-  unfolding change-check
-  change-given tensor scratch-given changed v e =
-      let none = none-applies (change-rows g tensor scratch-given changed v) tt e in
+  pub change_given : (tensor : List Float) (scratch_given : ℕ) (changed : Place) (v : Float)
+      → change_check g tensor scratch_given changed v ≡ 0 → ChangeGiven g tensor scratch_given changed v
+  unfolding change_check
+  change_given tensor scratch_given changed v e =
+      let none = none_applies (change_rows g tensor scratch_given changed v) tt e in
       let later = none.1.1.1 in
-      let lengths = exact-2 (length g.flat-knots) (knots-length g) (length tensor) (tensor-length g) later.0 in
+      let lengths = exact_2 (length g.flat_knots) (knots_length g) (length tensor) (tensor_length g) later.0 in
       let four =
-      neither (some-number-refused g.flat-knots || some-ends-refused g || number-refused v) (some-number-refused tensor)
+      neither (some_number_refused g.flat_knots || some_ends_refused g || number_refused v) (some_number_refused tensor)
       later.1.1.1.0 in
-      let numbers = neither-3 (some-number-refused g.flat-knots) (some-ends-refused g) (number-refused v) four.0 in
+      let numbers = neither_3 (some_number_refused g.flat_knots) (some_ends_refused g) (number_refused v) four.0 in
       record {
-        grid-given =
-            grid-known (length tensor) none.0 none.1.0 none.1.1.0 lengths.0 lengths.1 numbers.0 later.1.1.1.1.0;
-        solve-given = solve-known scratch-given later.1.0 numbers.1 later.1.1.1.1.1.0;
-        on-the-grid = λ i l. leb-false (points g i) (changed i) (any_at (λ j. leb (points g j) (changed j)) g.axes later.1.1.0 i l);
-        sample-finite = numbers.2;
-        tensor-finite = four.1;
+        grid_given =
+            grid_known (length tensor) none.0 none.1.0 none.1.1.0 lengths.0 lengths.1 numbers.0 later.1.1.1.1.0;
+        solve_given = solve_known scratch_given later.1.0 numbers.1 later.1.1.1.1.1.0;
+        on_the_grid = λ i l. leb-false (points g i) (changed i) (any_at (λ j. leb (points g j) (changed j)) g.axes later.1.1.0 i l);
+        sample_finite = numbers.2;
+        tensor_finite = four.1;
       }
 
 -- ---- what the knots of an axis then have
 
 -- every knot lies below the next, and the step between them is finite
-pub knots-step : (x : List Float) (n : ℕ) → knots-refused x n ≡ false → (k : ℕ) → k + 1 < n
+pub knots_step : (x : List Float) (n : ℕ) → knots_refused x n ≡ false → (k : ℕ) → k + 1 < n
     → (lt (at x k) (at x (k + 1)) ≡ true) × (finite (h x k) ≡ true)
-unfolding step-refused
-knots-step x n e k l =
-    let two = neither (not (lt (at x k) (at x (k + 1)))) (not (finite (h x k))) (any_at (step-refused x) (n - 1) e k (omega arith)) in
+unfolding step_refused
+knots_step x n e k l =
+    let two = neither (not (lt (at x k) (at x (k + 1)))) (not (finite (h x k))) (any_at (step_refused x) (n - 1) e k (omega arith)) in
     (not-false _ two.0, not-false _ two.1)

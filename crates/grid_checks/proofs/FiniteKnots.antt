@@ -14,40 +14,40 @@ use lib.Ieee.Scale.{finite}
 use borrow.Author.Tests.{ltb-true, ltb-false}
 use Rattle.rules.specs.Numbers.{at}
 use Rattle.rules.specs.Steps.{h}
-use Rattle.rules.specs.Sizes.{sum_below, knots-length}
-use Rattle.rules.specs.Refusals.{points-refused, number-refused, some-number-refused, knots-refused, some-knots-refused}
+use Rattle.rules.specs.Sizes.{sum_below, knots_length}
+use Rattle.rules.specs.Refusals.{points_refused, number_refused, some_number_refused, knots_refused, some_knots_refused}
 use Rattle.rules.specs.declared.Axis.{Axis}
-use Rattle.base_numbers.proofs.Scan.{neither, any_at, any-never}
-use Rattle.base_numbers.proofs.Finite.{finite-difference}
+use Rattle.base_numbers.proofs.Scan.{neither, any_at, any_never}
+use Rattle.base_numbers.proofs.Finite.{finite_difference}
 use Rattle.grid_checks.specs.Checked.{FiniteUnless}
-use Rattle.grid_checks.specs.Check.{knots-of-points-refused}
-use Rattle.grid.specs.GridOfCall.{grid, sizes-of, points-of, InRange}
-use Rattle.grid_checks.proofs.Accepted.{knots-step}
+use Rattle.grid_checks.specs.Check.{knots_of_points_refused}
+use Rattle.grid.specs.GridOfCall.{grid, sizes_of, points_of, InRange}
+use Rattle.grid_checks.proofs.Accepted.{knots_step}
 
 -- each knot has a neighbour, and the step between them is finite
-knot-finite : (x : List Float) (n : ℕ) → 2 ≤ n → knots-refused x n ≡ false → (k : ℕ) → k < n → finite (at x k) ≡ true
+knot_finite : (x : List Float) (n : ℕ) → 2 ≤ n → knots_refused x n ≡ false → (k : ℕ) → k < n → finite (at x k) ≡ true
 unfolding h
-knot-finite x n two e zero l = (finite-difference binary64 (at x 1) (at x 0) (knots-step x n e 0 (omega arith)).1).1
-knot-finite x n two e (suc k) l =
+knot_finite x n two e zero l = (finite_difference binary64 (at x 1) (at x 0) (knots_step x n e 0 (omega arith)).1).1
+knot_finite x n two e (suc k) l =
     subst (λ (j : ℕ). finite (at x j) ≡ true) (add-one k)
-    (finite-difference binary64 (at x (k + 1)) (at x k) (knots-step x n e k (omega arith)).1).0
+    (finite_difference binary64 (at x (k + 1)) (at x k) (knots_step x n e k (omega arith)).1).0
 
-none-refused : (x : List Float) → ((k : ℕ) → k < length x → finite (at x k) ≡ true) → some-number-refused x ≡ false
-none-refused x each = any-never (λ k. number-refused (at x k)) (length x) (λ k l. ap not (each k l))
+none_refused : (x : List Float) → ((k : ℕ) → k < length x → finite (at x k) ≡ true) → some_number_refused x ≡ false
+none_refused x each = any_never (λ k. number_refused (at x k)) (length x) (λ k l. ap not (each k l))
 
 -- the knots of one axis
-pub axis-finite : (x : List Float) (n : ℕ) {refused : Bool} → points-refused n ≡ false → length x ≡ n → refused ≡ knots-refused x (length x)
+pub axis_finite : (x : List Float) (n : ℕ) {refused : Bool} → points_refused n ≡ false → length x ≡ n → refused ≡ knots_refused x (length x)
     → FiniteUnless refused x
-axis-finite x n range exact is e =
+axis_finite x n range exact is e =
     let two : 2 ≤ length x = omega (arith, ltb-false n 2 (neither (ltb n 2) (ltb 256 n) range).0) in
-    none-refused x (knot-finite x (length x) two (sym is ∙ e))
+    none_refused x (knot_finite x (length x) two (sym is ∙ e))
 
 -- the knots of axes with n i points on axis i
 module _ (axes : ℕ) (n : ℕ → ℕ) (x : List Float) (range : InRange axes n) where
-  below-finite : knots-of-points-refused axes n x ≡ false → (i : ℕ) → i ≤ axes → (k : ℕ) → k < sum_below n i → finite (at x k) ≡ true
+  below_finite : knots_of_points_refused axes n x ≡ false → (i : ℕ) → i ≤ axes → (k : ℕ) → k < sum_below n i → finite (at x k) ≡ true
   unfolding sum_below
-  below-finite rise zero l k h = absurd (not-suc-le-zero h)
-  below-finite rise (suc i) l k h = go (ltb k (sum_below n i)) refl (below-finite rise i (omega arith) k)
+  below_finite rise zero l k h = absurd (not-suc-le-zero h)
+  below_finite rise (suc i) l k h = go (ltb k (sum_below n i)) refl (below_finite rise i (omega arith) k)
     where
       go : (b : Bool) → ltb k (sum_below n i) ≡ b → (k < sum_below n i → finite (at x k) ≡ true) → finite (at x k) ≡ true
       go true e before = before (ltb-true k (sum_below n i) e)
@@ -56,8 +56,8 @@ module _ (axes : ℕ) (n : ℕ → ℕ) (x : List Float) (range : InRange axes n
           let from : start ≤ k = ltb-false k start e in
           let j : ℕ = k - start in
           let fine =
-          knot-finite (take (n i) (drop start x)) (n i) (range.some-points i (omega arith))
-          (any_at (λ a. knots-refused (take (n a) (drop (sum_below n a) x)) (n a)) axes rise i (omega arith)) j (omega arith) in
+          knot_finite (take (n i) (drop start x)) (n i) (range.some_points i (omega arith))
+          (any_at (λ a. knots_refused (take (n a) (drop (sum_below n a) x)) (n a)) axes rise i (omega arith)) j (omega arith) in
           let here : start + j ≡ k = omega arith in
           subst (λ (v : Float). finite v ≡ true)
           (get_or-take (n i) (drop start x) j nan (omega arith)
@@ -65,10 +65,10 @@ module _ (axes : ℕ) (n : ℕ → ℕ) (x : List Float) (range : InRange axes n
           ∙ ap (at x) here)
           fine
 
-  pub points-finite : {refused : Bool} → length x ≡ sum_below n axes → refused ≡ knots-of-points-refused axes n x → FiniteUnless refused x
-  points-finite exact is e = none-refused x (λ k l. below-finite (sym is ∙ e) axes (le_refl axes) k (omega (arith, exact)))
+  pub points_finite : {refused : Bool} → length x ≡ sum_below n axes → refused ≡ knots_of_points_refused axes n x → FiniteUnless refused x
+  points_finite exact is e = none_refused x (λ k l. below_finite (sym is ∙ e) axes (le_refl axes) k (omega (arith, exact)))
 
 -- the knots of a grid
-pub grid-finite : (axes : ℕ) (entries : List Axis) (x : List Float) {refused : Bool} → InRange axes (points-of entries)
-    → length x ≡ knots-length (sizes-of axes entries) → refused ≡ some-knots-refused (grid axes entries x) → FiniteUnless refused x
-grid-finite axes entries x range = points-finite axes (points-of entries) x range
+pub grid_finite : (axes : ℕ) (entries : List Axis) (x : List Float) {refused : Bool} → InRange axes (points_of entries)
+    → length x ≡ knots_length (sizes_of axes entries) → refused ≡ some_knots_refused (grid axes entries x) → FiniteUnless refused x
+grid_finite axes entries x range = points_finite axes (points_of entries) x range

@@ -10,14 +10,14 @@ use lib.Dec.{T, ltb, ltb→lt}
 use lib.Ieee.{Float}
 use borrow.Author.Tests.{ltb-false, eqb-true, eq-eqb, not-false}
 use Rattle.rules.specs.Numbers.{any}
-use Rattle.rules.specs.Sizes.{most-axes}
-use Rattle.rules.specs.Refusals.{points-refused, length-refused, knots-refused}
+use Rattle.rules.specs.Sizes.{most_axes}
+use Rattle.rules.specs.Refusals.{points_refused, length_refused, knots_refused}
 use Rattle.rules.specs.Calls.{or_else}
-use Rattle.rules.proofs.Refused.{or-else-met}
+use Rattle.rules.proofs.Refused.{or_else_met}
 use Rattle.rules.specs.declared.Axis.{Axis}
 use Rattle.base_numbers.proofs.Scan.{neither, any_at}
-use Rattle.grid.specs.GridOfCall.{sizes-of, points-of, InRange}
-use Rattle.grid_checks.specs.Check.{sizes-rows, sizes-check}
+use Rattle.grid.specs.GridOfCall.{sizes_of, points_of, InRange}
+use Rattle.grid_checks.specs.Check.{sizes_rows, sizes_check}
 use Rattle.grid_checks.specs.Tables.{Refusal, lowest}
 
 -- ---- a row of two tests, asked one after the other
@@ -50,17 +50,17 @@ numbered [] = true
 numbered (refusal ∷ rows) = ltb 0 refusal.number && numbered rows
 
 -- whether none has the number of an outcome, or one above it
-abbrev pub below-outcome : List Refusal → Bool
-below-outcome [] = true
-below-outcome (refusal ∷ rows) = ltb refusal.number 10 && below-outcome rows
+abbrev pub below_outcome : List Refusal → Bool
+below_outcome [] = true
+below_outcome (refusal ∷ rows) = ltb refusal.number 10 && below_outcome rows
 
 both : (a b : Bool) → T (a && b) → T a × T b
 both true b t = (tt, t)
 both false b t = absurd t
 
 module _ (refusal : Refusal) (rows : List Refusal) (n : T (numbered (refusal ∷ rows))) where
-  above-0 : 0 < refusal.number
-  above-0 = ltb→lt 0 refusal.number (both (ltb 0 refusal.number) (numbered rows) n).0
+  above_0 : 0 < refusal.number
+  above_0 = ltb→lt 0 refusal.number (both (ltb 0 refusal.number) (numbered rows) n).0
 
   rest : T (numbered rows)
   rest = (both (ltb 0 refusal.number) (numbered rows) n).1
@@ -69,104 +69,104 @@ module _ (refusal : Refusal) (rows : List Refusal) (n : T (numbered (refusal ∷
 pub rows_then : (rows : List Refusal) (later : ℕ) → T (numbered rows) → lowest rows later ≡ or_else (lowest rows 0) later
 rows_then [] later n = refl
 rows_then (refusal ∷ rows) later n =
-    in-front refusal.applies (above-0 refusal rows n) (rows_then rows later (rest refusal rows n))
+    in_front refusal.applies (above_0 refusal rows n) (rows_then rows later (rest refusal rows n))
   where
-    in-front : (b : Bool) → 0 < refusal.number → lowest rows later ≡ or_else (lowest rows 0) later
+    in_front : (b : Bool) → 0 < refusal.number → lowest rows later ≡ or_else (lowest rows 0) later
         → cond b refusal.number (lowest rows later) ≡ or_else (cond b refusal.number (lowest rows 0)) later
-    in-front true h e = sym (or-else-met refusal.number later (λ z. omega arith))
-    in-front false h e = e
+    in_front true h e = sym (or_else_met refusal.number later (λ z. omega arith))
+    in_front false h e = e
 
 -- rows that a function of its own asks
 module _ (rows : List Refusal) (n : T (numbered rows)) {number : ℕ} (e : number ≡ lowest rows 0) where
   -- a number that they give is the answer
-  pub rows-stop : (later : ℕ) → (number ≡ 0 → ⊥) → number ≡ lowest rows later
-  rows-stop later h = sym (or-else-met number later h) ∙ rw e (sym (rows_then rows later n))
+  pub rows_stop : (later : ℕ) → (number ≡ 0 → ⊥) → number ≡ lowest rows later
+  rows_stop later h = sym (or_else_met number later h) ∙ rw e (sym (rows_then rows later n))
 
   -- where they give none, the rows below answer
   pub rows_pass : {answer : ℕ} (later : ℕ) → number ≡ 0 → answer ≡ later → answer ≡ lowest rows later
   rows_pass later z below = below ∙ sym (rows_then rows later n ∙ rw (sym e ∙ z))
 
 -- no row has the number of an outcome
-pub rows-below-10 : (rows : List Refusal) → T (below-outcome rows) → lowest rows 0 < 10
-rows-below-10 [] b = omega arith
-rows-below-10 (refusal ∷ rows) b =
-    let low = both (ltb refusal.number 10) (below-outcome rows) b in
-    in-front refusal.applies (ltb→lt refusal.number 10 low.0) (rows-below-10 rows low.1)
+pub rows_below_10 : (rows : List Refusal) → T (below_outcome rows) → lowest rows 0 < 10
+rows_below_10 [] b = omega arith
+rows_below_10 (refusal ∷ rows) b =
+    let low = both (ltb refusal.number 10) (below_outcome rows) b in
+    in_front refusal.applies (ltb→lt refusal.number 10 low.0) (rows_below_10 rows low.1)
   where
-    in-front : (b : Bool) → refusal.number < 10 → lowest rows 0 < 10 → cond b refusal.number (lowest rows 0) < 10
-    in-front true h e = h
-    in-front false h e = e
+    in_front : (b : Bool) → refusal.number < 10 → lowest rows 0 < 10 → cond b refusal.number (lowest rows 0) < 10
+    in_front true h e = h
+    in_front false h e = e
 
 -- no row applies
 abbrev pub NoneApplies : List Refusal → Type 0
 NoneApplies [] = Unit {0}
 NoneApplies (refusal ∷ rows) = (refusal.applies ≡ false) × NoneApplies rows
 
-pub none-applies : (rows : List Refusal) → T (numbered rows) → lowest rows 0 ≡ 0 → NoneApplies rows
-none-applies [] n e = tt
-none-applies (refusal ∷ rows) n e =
-    let passed = in-front refusal.applies (above-0 refusal rows n) e in
-    (passed.0, none-applies rows (rest refusal rows n) passed.1)
+pub none_applies : (rows : List Refusal) → T (numbered rows) → lowest rows 0 ≡ 0 → NoneApplies rows
+none_applies [] n e = tt
+none_applies (refusal ∷ rows) n e =
+    let passed = in_front refusal.applies (above_0 refusal rows n) e in
+    (passed.0, none_applies rows (rest refusal rows n) passed.1)
   where
-    in-front : (b : Bool) → 0 < refusal.number → cond b refusal.number (lowest rows 0) ≡ 0 → (b ≡ false) × (lowest rows 0 ≡ 0)
-    in-front true h e = let z : ⊥ = omega arith in absurd z
-    in-front false h e = (refl, e)
+    in_front : (b : Bool) → 0 < refusal.number → cond b refusal.number (lowest rows 0) ≡ 0 → (b ≡ false) × (lowest rows 0 ≡ 0)
+    in_front true h e = let z : ⊥ = omega arith in absurd z
+    in_front false h e = (refl, e)
 
 -- ---- the rows 1 to 3
 
-pub axes-few : {axes : ℕ} → (ltb axes 1 || ltb most-axes axes) ≡ false → (1 ≤ axes) × (axes ≤ most-axes)
-axes-few {axes} e = let n = neither (ltb axes 1) (ltb 4 axes) e in (ltb-false axes 1 n.0, ltb-false 4 axes n.1)
+pub axes_few : {axes : ℕ} → (ltb axes 1 || ltb most_axes axes) ≡ false → (1 ≤ axes) × (axes ≤ most_axes)
+axes_few {axes} e = let n = neither (ltb axes 1) (ltb 4 axes) e in (ltb-false axes 1 n.0, ltb-false 4 axes n.1)
 
-pub in-range : {axes : ℕ} {n : ℕ → ℕ} → 1 ≤ axes → axes ≤ most-axes → any (λ i. points-refused (n i)) axes ≡ false → InRange axes n
-in-range {axes} {n} some few fine = record {
-  some-axes = some;
-  few-axes = few;
-  some-points = λ i l. ltb-false (n i) 2 (neither (ltb (n i) 2) (ltb 256 (n i)) (any_at (λ j. points-refused (n j)) axes fine i l)).0;
-  few-points = λ i l. ltb-false 256 (n i) (neither (ltb (n i) 2) (ltb 256 (n i)) (any_at (λ j. points-refused (n j)) axes fine i l)).1;
+pub in_range : {axes : ℕ} {n : ℕ → ℕ} → 1 ≤ axes → axes ≤ most_axes → any (λ i. points_refused (n i)) axes ≡ false → InRange axes n
+in_range {axes} {n} some few fine = record {
+  some_axes = some;
+  few_axes = few;
+  some_points = λ i l. ltb-false (n i) 2 (neither (ltb (n i) 2) (ltb 256 (n i)) (any_at (λ j. points_refused (n j)) axes fine i l)).0;
+  few_points = λ i l. ltb-false 256 (n i) (neither (ltb (n i) 2) (ltb 256 (n i)) (any_at (λ j. points_refused (n j)) axes fine i l)).1;
 }
 
-module _ (axes : ℕ) (entries : List Axis) {number : ℕ} (e : number ≡ sizes-check axes entries) where
-  pub sizes-passed : number ≡ 0 → InRange axes (points-of entries)
-  unfolding sizes-check
-  sizes-passed z =
-      let none = none-applies (sizes-rows (sizes-of axes entries)) tt (sym e ∙ z) in
-      let few = axes-few {axes = axes} none.0 in
-      in-range few.0 few.1 none.1.0
+module _ (axes : ℕ) (entries : List Axis) {number : ℕ} (e : number ≡ sizes_check axes entries) where
+  pub sizes_passed : number ≡ 0 → InRange axes (points_of entries)
+  unfolding sizes_check
+  sizes_passed z =
+      let none = none_applies (sizes_rows (sizes_of axes entries)) tt (sym e ∙ z) in
+      let few = axes_few {axes = axes} none.0 in
+      in_range few.0 few.1 none.1.0
 
-  pub sizes-stop : (later : ℕ) → (number ≡ 0 → ⊥) → number ≡ lowest (sizes-rows (sizes-of axes entries)) later
-  unfolding sizes-check
-  sizes-stop = rows-stop (sizes-rows (sizes-of axes entries)) tt e
+  pub sizes_stop : (later : ℕ) → (number ≡ 0 → ⊥) → number ≡ lowest (sizes_rows (sizes_of axes entries)) later
+  unfolding sizes_check
+  sizes_stop = rows_stop (sizes_rows (sizes_of axes entries)) tt e
 
-  pub sizes-pass : {answer : ℕ} (later : ℕ) → number ≡ 0 → answer ≡ later → answer ≡ lowest (sizes-rows (sizes-of axes entries)) later
-  unfolding sizes-check
-  sizes-pass = rows_pass (sizes-rows (sizes-of axes entries)) tt e
+  pub sizes_pass : {answer : ℕ} (later : ℕ) → number ≡ 0 → answer ≡ later → answer ≡ lowest (sizes_rows (sizes_of axes entries)) later
+  unfolding sizes_check
+  sizes_pass = rows_pass (sizes_rows (sizes_of axes entries)) tt e
 
 -- ---- row 4
 
 -- a length that is the size is not refused ..
-pub length-fits : (given size : ℕ) → given ≡ size → length-refused given size ≡ false
-length-fits given size e = ap not (eq-eqb given size e)
+pub length_fits : (given size : ℕ) → given ≡ size → length_refused given size ≡ false
+length_fits given size e = ap not (eq-eqb given size e)
 
 -- .. and one that is not refused is the size
-pub exact : (given size : ℕ) → length-refused given size ≡ false → given ≡ size
+pub exact : (given size : ℕ) → length_refused given size ≡ false → given ≡ size
 exact given size e = eqb-true given size (not-false _ e)
 
-pub exact-2 : (a m b n : ℕ) → (length-refused a m || length-refused b n) ≡ false → (a ≡ m) × (b ≡ n)
-exact-2 a m b n e =
-    let two = neither (length-refused a m) (length-refused b n) e in (exact a m two.0, exact b n two.1)
+pub exact_2 : (a m b n : ℕ) → (length_refused a m || length_refused b n) ≡ false → (a ≡ m) × (b ≡ n)
+exact_2 a m b n e =
+    let two = neither (length_refused a m) (length_refused b n) e in (exact a m two.0, exact b n two.1)
 
-pub exact-3 : (a m b n c k : ℕ) → (length-refused a m || length-refused b n || length-refused c k) ≡ false → (a ≡ m) × (b ≡ n) × (c ≡ k)
-exact-3 a m b n c k e =
-    let three = neither (length-refused a m || length-refused b n) (length-refused c k) e in
-    let two = exact-2 a m b n three.0 in (two.0, two.1, exact c k three.1)
+pub exact_3 : (a m b n c k : ℕ) → (length_refused a m || length_refused b n || length_refused c k) ≡ false → (a ≡ m) × (b ≡ n) × (c ≡ k)
+exact_3 a m b n c k e =
+    let three = neither (length_refused a m || length_refused b n) (length_refused c k) e in
+    let two = exact_2 a m b n three.0 in (two.0, two.1, exact c k three.1)
 
-pub exact-4 : (a m b n c k d l : ℕ) → (length-refused a m || length-refused b n || length-refused c k || length-refused d l) ≡ false
+pub exact_4 : (a m b n c k d l : ℕ) → (length_refused a m || length_refused b n || length_refused c k || length_refused d l) ≡ false
     → (a ≡ m) × (b ≡ n) × (c ≡ k) × (d ≡ l)
-exact-4 a m b n c k d l e =
-    let four = neither (length-refused a m || length-refused b n || length-refused c k) (length-refused d l) e in
-    let three = exact-3 a m b n c k four.0 in (three.0, three.1, three.2, exact d l four.1)
+exact_4 a m b n c k d l e =
+    let four = neither (length_refused a m || length_refused b n || length_refused c k) (length_refused d l) e in
+    let three = exact_3 a m b n c k four.0 in (three.0, three.1, three.2, exact d l four.1)
 
 -- ---- row 8 of one axis, whose knots are as many as its points
 
-pub knots-row : (x : List Float) (n : ℕ) {r : Bool} → length x ≡ n → r ≡ knots-refused x (length x) → r ≡ knots-refused x n
-knots-row x n exact e = e ∙ ap (knots-refused x) exact
+pub knots_row : (x : List Float) (n : ℕ) {r : Bool} → length x ≡ n → r ≡ knots_refused x (length x) → r ≡ knots_refused x n
+knots_row x n exact e = e ∙ ap (knots_refused x) exact

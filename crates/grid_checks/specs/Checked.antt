@@ -1,84 +1,84 @@
 -- What a call was given, and what is known of it once its check has found nothing to refuse.
 use Rattle.std.specs.Prelude.{◌≡◌, Bool, false, List, ℕ, ◌≤◌, ◌<◌, length, Float}
 use Rattle.rules.specs.Sizes.{
-  fewest-on-an-axis,
-  most-on-an-axis,
-  most-in-a-tensor,
-  scratch-of-rows,
+  fewest_on_an_axis,
+  most_on_an_axis,
+  most_in_a_tensor,
+  scratch_of_rows,
   Grid,
   points,
   condition,
-  knots-length,
+  knots_length,
   knots,
-  samples-length,
-  tensor-length,
-  scratch-length,
+  samples_length,
+  tensor_length,
+  scratch_length,
   Place,
 }
-use Rattle.rules.specs.Refusals.{number-refused, some-number-refused, ends-refused, knots-refused, fewness-refused}
+use Rattle.rules.specs.Refusals.{number_refused, some_number_refused, ends_refused, knots_refused, fewness_refused}
 use Rattle.rules.specs.declared.Condition.{Condition}
 use Rattle.grid.specs.GridOfCall.{InRange}
 
 -- what the pass over the knots for refusal 8 says of refusal 7: where it finds nothing, they are all finite
 abbrev pub FiniteUnless : Bool → List Float → Type 0
-FiniteUnless refused x = refused ≡ false → some-number-refused x ≡ false
+FiniteUnless refused x = refused ≡ false → some_number_refused x ≡ false
 
 -- ---- the calls on one axis of n points
 
 -- what each of them knows of its knots and samples
 pub record AxisGiven (n : ℕ) (x y : List Float) : Type 0 where
-  pub some-points : fewest-on-an-axis ≤ n
-  pub few-points : n ≤ most-on-an-axis
-  pub knots-exact : length x ≡ n
-  pub samples-exact : length y ≡ n
-  pub knots-finite : some-number-refused x ≡ false
-  pub samples-finite : some-number-refused y ≡ false
-  pub knots-rise : knots-refused x n ≡ false
+  pub some_points : fewest_on_an_axis ≤ n
+  pub few_points : n ≤ most_on_an_axis
+  pub knots_exact : length x ≡ n
+  pub samples_exact : length y ≡ n
+  pub knots_finite : some_number_refused x ≡ false
+  pub samples_finite : some_number_refused y ≡ false
+  pub knots_rise : knots_refused x n ≡ false
 
-pub record MomentsGiven (n : ℕ) (x y : List Float) (ends : Condition) (moments-given scratch-given : ℕ) : Type 0 where
+pub record MomentsGiven (n : ℕ) (x y : List Float) (ends : Condition) (moments_given scratch_given : ℕ) : Type 0 where
   pub axis : AxisGiven n x y
-  pub moments-exact : moments-given ≡ n
-  pub scratch-enough : scratch-of-rows ≤ scratch-given
-  pub ends-finite : ends-refused ends ≡ false
-  pub enough-points : fewness-refused ends n ≡ false
+  pub moments_exact : moments_given ≡ n
+  pub scratch_enough : scratch_of_rows ≤ scratch_given
+  pub ends_finite : ends_refused ends ≡ false
+  pub enough_points : fewness_refused ends n ≡ false
 
-pub record CurveGiven (n : ℕ) (x y : List Float) (moments-given : ℕ) (point : Float) : Type 0 where
+pub record CurveGiven (n : ℕ) (x y : List Float) (moments_given : ℕ) (point : Float) : Type 0 where
   pub axis : AxisGiven n x y
-  pub moments-exact : moments-given ≡ n
-  pub point-finite : number-refused point ≡ false
+  pub moments_exact : moments_given ≡ n
+  pub point_finite : number_refused point ≡ false
 
-pub record SlopesGiven (n : ℕ) (x y : List Float) (moments-given slopes-given : ℕ) : Type 0 where
+pub record SlopesGiven (n : ℕ) (x y : List Float) (moments_given slopes_given : ℕ) : Type 0 where
   pub axis : AxisGiven n x y
-  pub moments-exact : moments-given ≡ n
-  pub slopes-exact : slopes-given ≡ n
+  pub moments_exact : moments_given ≡ n
+  pub slopes_exact : slopes_given ≡ n
 
 -- ---- the calls on a grid
 
 -- what each of them knows of its grid and of the tensor's length: the record of an accepted grid. Others say less or more of one, and say
 -- how: WorkGiven of the passes, AxesGiven of steps, QueryFits of the answer, Surface at measured points, Sound of the third promise
-pub record GridGiven (g : Grid) (tensor-given : ℕ) : Type 0 where
-  pub in-range : InRange g.axes (points g)
-  pub small : tensor-length g ≤ most-in-a-tensor
-  pub knots-exact : length g.flat-knots ≡ knots-length g
-  pub tensor-exact : tensor-given ≡ tensor-length g
-  pub knots-finite : some-number-refused g.flat-knots ≡ false
-  pub knots-rise : (i : ℕ) → i < g.axes → knots-refused (knots g i) (points g i) ≡ false
+pub record GridGiven (g : Grid) (tensor_given : ℕ) : Type 0 where
+  pub in_range : InRange g.axes (points g)
+  pub small : tensor_length g ≤ most_in_a_tensor
+  pub knots_exact : length g.flat_knots ≡ knots_length g
+  pub tensor_exact : tensor_given ≡ tensor_length g
+  pub knots_finite : some_number_refused g.flat_knots ≡ false
+  pub knots_rise : (i : ℕ) → i < g.axes → knots_refused (knots g i) (points g i) ≡ false
 
 -- what a call that solves knows besides: of its scratch and of the ends
-pub record SolveGiven (g : Grid) (scratch-given : ℕ) : Type 0 where
-  pub scratch-enough : scratch-length g ≤ scratch-given
-  pub ends-finite : (i : ℕ) → i < g.axes → ends-refused (condition g i) ≡ false
-  pub enough-points : (i : ℕ) → i < g.axes → fewness-refused (condition g i) (points g i) ≡ false
+pub record SolveGiven (g : Grid) (scratch_given : ℕ) : Type 0 where
+  pub scratch_enough : scratch_length g ≤ scratch_given
+  pub ends_finite : (i : ℕ) → i < g.axes → ends_refused (condition g i) ≡ false
+  pub enough_points : (i : ℕ) → i < g.axes → fewness_refused (condition g i) (points g i) ≡ false
 
-pub record BuildGiven (g : Grid) (samples : List Float) (tensor-given scratch-given : ℕ) : Type 0 where
-  pub grid-given : GridGiven g tensor-given
-  pub solve-given : SolveGiven g scratch-given
-  pub samples-exact : length samples ≡ samples-length g
-  pub samples-finite : some-number-refused samples ≡ false
+pub record BuildGiven (g : Grid) (samples : List Float) (tensor_given scratch_given : ℕ) : Type 0 where
+  pub grid_given : GridGiven g tensor_given
+  pub solve_given : SolveGiven g scratch_given
+  pub samples_exact : length samples ≡ samples_length g
+  pub samples_finite : some_number_refused samples ≡ false
 
-pub record ChangeGiven (g : Grid) (tensor : List Float) (scratch-given : ℕ) (changed : Place) (v : Float) : Type 0 where
-  pub grid-given : GridGiven g (length tensor)
-  pub solve-given : SolveGiven g scratch-given
-  pub on-the-grid : (i : ℕ) → i < g.axes → changed i < points g i
-  pub sample-finite : number-refused v ≡ false
-  pub tensor-finite : some-number-refused tensor ≡ false
+pub record ChangeGiven (g : Grid) (tensor : List Float) (scratch_given : ℕ) (changed : Place) (v : Float) : Type 0 where
+  pub grid_given : GridGiven g (length tensor)
+  pub solve_given : SolveGiven g scratch_given
+  pub on_the_grid : (i : ℕ) → i < g.axes → changed i < points g i
+  pub sample_finite : number_refused v ≡ false
+  pub tensor_finite : some_number_refused tensor ≡ false

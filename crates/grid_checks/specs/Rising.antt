@@ -3,5 +3,5 @@ use Rattle.std.specs.Prelude.{Bool, not, List, ℕ, ◌+◌, Float}
 use Rattle.std.specs.Float.Ieee.{lt}
 use Rattle.rules.specs.Numbers.{at}
 
-abbrev pub not-rising : List Float → ℕ → Bool
-not-rising x k = not (lt (at x k) (at x (k + 1)))
+abbrev pub not_rising : List Float → ℕ → Bool
+not_rising x k = not (lt (at x k) (at x (k + 1)))

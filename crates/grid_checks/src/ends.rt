@@ -1,8 +1,8 @@
 // The ends' part of refusal 7, and refusal 9.
 ghost use Rattle.std.specs.Prelude.{◌≡◌, ◌≤◌};
-ghost use Rattle.rules.specs.Ends.{dropped, fewest-points};
-ghost use Rattle.rules.specs.Refusals.{end_refused, ends-refused, some-ends-refused, fewness-refused, some-fewness-refused};
-ghost use Rattle.grid.specs.GridOfCall.{sizes-of};
+ghost use Rattle.rules.specs.Ends.{dropped, fewest_points};
+ghost use Rattle.rules.specs.Refusals.{end_refused, ends_refused, some_ends_refused, fewness_refused, some_fewness_refused};
+ghost use Rattle.grid.specs.GridOfCall.{sizes_of};
 
 use rules::{Axis, Condition, End};
 
@@ -19,7 +19,7 @@ pub fn end_refused(end: End) -> bool
 
 // Whether an end of a condition has a number that is infinite or NaN.
 pub fn ends_refused(condition: Condition) -> bool
-    ensures { result ≡ ends-refused condition }
+    ensures { result ≡ ends_refused condition }
 {
     match condition {
         Condition::Endpoints(lower, upper) => {
@@ -36,7 +36,7 @@ pub fn ends_refused(condition: Condition) -> bool
 // Whether an end of an axis in use has. Not a public call: at most four axes are required.
 pub fn some_ends_refused(axes: usize, all: [Axis; 4]) -> bool
     requires { axes ≤ 4 }
-    ensures { result ≡ some-ends-refused (sizes-of axes all) }
+    ensures { result ≡ some_ends_refused (sizes_of axes all) }
 {
     let mut i = 0;
     while i < axes {
@@ -63,7 +63,7 @@ fn dropped(end: End) -> usize
 
 // The fewest points that an axis needs: 2, and one more for each end that is NotAKnot.
 pub fn fewest_points(condition: Condition) -> usize
-    ensures { result ≡ fewest-points condition }
+    ensures { result ≡ fewest_points condition }
 {
     match condition {
         Condition::Endpoints(lower, upper) => 2 + dropped(lower) + dropped(upper),
@@ -73,7 +73,7 @@ pub fn fewest_points(condition: Condition) -> usize
 
 // Whether an axis of so many points has too few for its condition.
 pub fn fewness_refused(condition: Condition, points: usize) -> bool
-    ensures { result ≡ fewness-refused condition points }
+    ensures { result ≡ fewness_refused condition points }
 {
     points < fewest_points(condition)
 }
@@ -81,7 +81,7 @@ pub fn fewness_refused(condition: Condition, points: usize) -> bool
 // Whether an axis in use has too few points for its condition. Not a public call: at most four axes are required.
 pub fn some_fewness_refused(axes: usize, all: [Axis; 4]) -> bool
     requires { axes ≤ 4 }
-    ensures { result ≡ some-fewness-refused (sizes-of axes all) }
+    ensures { result ≡ some_fewness_refused (sizes_of axes all) }
 {
     let mut i = 0;
     while i < axes {

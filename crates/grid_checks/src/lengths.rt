@@ -1,22 +1,22 @@
 // Refusals 4 and 5: each slice is given by its length alone.
 ghost use Rattle.std.specs.Prelude.{◌≡◌, ◌||◌};
-ghost use Rattle.rules.specs.Sizes.{knots-length, samples-length, tensor-length, scratch-length};
-ghost use Rattle.rules.specs.Refusals.{length-refused, scratch-refused};
-ghost use Rattle.grid.specs.GridOfCall.{sizes-of, points-of, InRange};
+ghost use Rattle.rules.specs.Sizes.{knots_length, samples_length, tensor_length, scratch_length};
+ghost use Rattle.rules.specs.Refusals.{length_refused, scratch_refused};
+ghost use Rattle.grid.specs.GridOfCall.{sizes_of, points_of, InRange};
 
 use crate::sizes::Sizes;
 use rules::Axis;
 
 // Whether a slice is not of the exact length.
 pub fn length_refused(given: usize, exact: usize) -> bool
-    ensures { result ≡ length-refused given exact }
+    ensures { result ≡ length_refused given exact }
 {
     given != exact
 }
 
 // Whether knots, samples or moments do not have one number for each point of an axis.
 pub fn axis_refused(points: usize, knots: usize, samples: usize, moments: usize) -> bool
-    ensures { result ≡ (length-refused knots points || length-refused samples points || length-refused moments points) }
+    ensures { result ≡ (length_refused knots points || length_refused samples points || length_refused moments points) }
 {
     if length_refused(knots, points) {
         return true;
@@ -36,7 +36,7 @@ pub fn slopes_refused(
     slopes: usize,
 ) -> bool
     ensures { result ≡
-        (length-refused knots points || length-refused samples points || length-refused moments points || length-refused slopes points) }
+        (length_refused knots points || length_refused samples points || length_refused moments points || length_refused slopes points) }
 {
     if axis_refused(points, knots, samples, moments) {
         return true;
@@ -52,10 +52,10 @@ pub fn build_refused(
     samples: usize,
     tensor: usize,
 ) -> bool
-    requires { InRange axes (points-of all) }
+    requires { InRange axes (points_of all) }
     ensures { result ≡
-        (length-refused knots (knots-length (sizes-of axes all)) || length-refused samples (samples-length (sizes-of axes all))
-        || length-refused tensor (tensor-length (sizes-of axes all))) }
+        (length_refused knots (knots_length (sizes_of axes all)) || length_refused samples (samples_length (sizes_of axes all))
+        || length_refused tensor (tensor_length (sizes_of axes all))) }
 {
     if length_refused(knots, grid::knots_length(axes, all)) {
         return true;
@@ -68,8 +68,8 @@ pub fn build_refused(
 
 // Whether knots or tensor are not as long as a change asks for. Not a public call: what refusals 1 and 2 leave is required.
 pub fn change_refused(axes: usize, all: [Axis; 4], knots: usize, tensor: usize) -> bool
-    requires { InRange axes (points-of all) }
-    ensures { result ≡ (length-refused knots (knots-length (sizes-of axes all)) || length-refused tensor (tensor-length (sizes-of axes all))) }
+    requires { InRange axes (points_of all) }
+    ensures { result ≡ (length_refused knots (knots_length (sizes_of axes all)) || length_refused tensor (tensor_length (sizes_of axes all))) }
 {
     if length_refused(knots, grid::knots_length(axes, all)) {
         return true;
@@ -85,7 +85,7 @@ pub fn query_lengths_refused(
     tensor: usize,
     coordinates: usize,
 ) -> bool
-    ensures { result ≡ (length-refused knots sizes.knots || length-refused tensor sizes.numbers || length-refused coordinates axes) }
+    ensures { result ≡ (length_refused knots sizes.knots || length_refused tensor sizes.numbers || length_refused coordinates axes) }
 {
     if length_refused(knots, sizes.knots) {
         return true;
@@ -98,8 +98,8 @@ pub fn query_lengths_refused(
 
 // Whether scratch is too short for the tensor and the rows. Not a public call: what refusals 1 and 2 leave is required.
 pub fn scratch_refused(axes: usize, all: [Axis; 4], scratch: usize) -> bool
-    requires { InRange axes (points-of all) }
-    ensures { result ≡ scratch-refused scratch (scratch-length (sizes-of axes all)) }
+    requires { InRange axes (points_of all) }
+    ensures { result ≡ scratch_refused scratch (scratch_length (sizes_of axes all)) }
 {
     scratch < grid::tensor_length(axes, all) + grid_scratch::ROWS
 }

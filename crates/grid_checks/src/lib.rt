@@ -5,13 +5,13 @@ ghost use Rattle.std.specs.Prelude.{◌≡◌, length};
 ghost use Rattle.rules.specs.Sizes.{place_of, sum_below};
 ghost use Rattle.grid.specs.GridOfCall.{grid, InRange};
 ghost use Rattle.grid_checks.specs.Check.{
-  moments-check,
-  curve-check,
-  slopes-check,
-  build-check,
-  change-check,
-  query-sizes-check,
-  knots-and-coordinates-check,
+  moments_check,
+  curve_check,
+  slopes_check,
+  build_check,
+  change_check,
+  query_sizes_check,
+  knots_and_coordinates_check,
 };
 
 use rules::{Axis, Condition};
@@ -31,7 +31,7 @@ pub fn moments_refusal(
     moments_length: usize,
     scratch_length: usize,
 ) -> usize
-    ensures { result ≡ moments-check points knots.now samples.now condition moments_length scratch_length }
+    ensures { result ≡ moments_check points knots.now samples.now condition moments_length scratch_length }
 {
     if sizes::points_refused(points) {
         return 2;
@@ -63,7 +63,7 @@ pub fn curve_refusal(
     moments_length: usize,
     point: f64,
 ) -> usize
-    ensures { result ≡ curve-check points knots.now samples.now moments_length point }
+    ensures { result ≡ curve_check points knots.now samples.now moments_length point }
 {
     if sizes::points_refused(points) {
         return 2;
@@ -89,7 +89,7 @@ pub fn slopes_refusal(
     moments_length: usize,
     slopes_length: usize,
 ) -> usize
-    ensures { result ≡ slopes-check points knots.now samples.now moments_length slopes_length }
+    ensures { result ≡ slopes_check points knots.now samples.now moments_length slopes_length }
 {
     if sizes::points_refused(points) {
         return 2;
@@ -122,7 +122,7 @@ pub fn build_refusal(
     tensor_length: usize,
     scratch_length: usize,
 ) -> usize
-    ensures { result ≡ build-check (grid axes all knots.now) samples.now tensor_length scratch_length }
+    ensures { result ≡ build_check (grid axes all knots.now) samples.now tensor_length scratch_length }
 {
     let refusal = sizes::sizes_refusal(axes, all);
     if refusal != 0 {
@@ -157,7 +157,7 @@ pub fn change_refusal(
     place: [usize; 4],
     sample: f64,
 ) -> usize
-    ensures { result ≡ change-check (grid axes all knots.now) tensor.now scratch_length (place_of place) sample }
+    ensures { result ≡ change_check (grid axes all knots.now) tensor.now scratch_length (place_of place) sample }
 {
     let refusal = sizes::sizes_refusal(axes, all);
     if refusal != 0 {
@@ -194,7 +194,7 @@ pub fn query_sizes_refusal(
     coordinates: usize,
 ) -> usize
     requires { length points.now ≡ 4 }
-    ensures { result ≡ query-sizes-check axes (place_of points.now) knots tensor coordinates }
+    ensures { result ≡ query_sizes_check axes (place_of points.now) knots tensor coordinates }
 {
     if sizes::axes_refused(axes) {
         return 1;
@@ -218,7 +218,7 @@ pub fn knots_and_coordinates_refusal(
 ) -> usize
     requires { InRange axes (place_of points.now) × (length points.now ≡ 4)
         × (length knots.now ≡ sum_below (place_of points.now) axes) }
-    ensures { result ≡ knots-and-coordinates-check axes (place_of points.now) knots.now coordinates.now }
+    ensures { result ≡ knots_and_coordinates_check axes (place_of points.now) knots.now coordinates.now }
 {
     let knots_refused = rising::knots_of_points_refused(axes, points, knots);
     if numbers::slices_refused(knots_refused, knots, coordinates) {

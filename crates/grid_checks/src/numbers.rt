@@ -1,16 +1,16 @@
 // Refusal 7: whether all that a call was given is finite. What looks at knots is told whether refusal 8 applies to them, and requires that
 // they are finite where it does not: the steps between them are finite then, and so are they. None of these is a public call.
 ghost use Rattle.std.specs.Prelude.{◌≡◌, ◌||◌, ◌≤◌};
-ghost use Rattle.rules.specs.Refusals.{number-refused, some-number-refused, ends-refused, some-ends-refused};
+ghost use Rattle.rules.specs.Refusals.{number_refused, some_number_refused, ends_refused, some_ends_refused};
 ghost use Rattle.grid_checks.specs.Checked.{FiniteUnless};
-ghost use Rattle.grid.specs.GridOfCall.{sizes-of};
+ghost use Rattle.grid.specs.GridOfCall.{sizes_of};
 
 use crate::ends;
 use rules::{Axis, Condition};
 
 // Whether a number is an infinity or NaN.
 pub fn number_refused(number: f64) -> bool
-    ensures { result ≡ number-refused number }
+    ensures { result ≡ number_refused number }
 {
     !base_numbers::is_finite(number)
 }
@@ -18,7 +18,7 @@ pub fn number_refused(number: f64) -> bool
 // Whether an infinity or NaN is among the knots.
 pub fn some_knot_refused(knots_refused: bool, knots: &[f64]) -> bool
     requires { FiniteUnless knots_refused knots.now }
-    ensures { result ≡ some-number-refused knots.now }
+    ensures { result ≡ some_number_refused knots.now }
 {
     if knots_refused {
         base_numbers::any_not_finite(knots)
@@ -30,7 +30,7 @@ pub fn some_knot_refused(knots_refused: bool, knots: &[f64]) -> bool
 // Whether an infinity or NaN is among the knots or the others, which are samples or coordinates.
 pub fn slices_refused(knots_refused: bool, knots: &[f64], others: &[f64]) -> bool
     requires { FiniteUnless knots_refused knots.now }
-    ensures { result ≡ (some-number-refused knots.now || some-number-refused others.now) }
+    ensures { result ≡ (some_number_refused knots.now || some_number_refused others.now) }
 {
     if some_knot_refused(knots_refused, knots) {
         return true;
@@ -41,7 +41,7 @@ pub fn slices_refused(knots_refused: bool, knots: &[f64], others: &[f64]) -> boo
 // Whether an infinity or NaN is among knots and samples, or is the point of a curve.
 pub fn curve_refused(knots_refused: bool, knots: &[f64], samples: &[f64], point: f64) -> bool
     requires { FiniteUnless knots_refused knots.now }
-    ensures { result ≡ (some-number-refused knots.now || some-number-refused samples.now || number-refused point) }
+    ensures { result ≡ (some_number_refused knots.now || some_number_refused samples.now || number_refused point) }
 {
     if slices_refused(knots_refused, knots, samples) {
         return true;
@@ -57,7 +57,7 @@ pub fn moments_refused(
     samples: &[f64],
 ) -> bool
     requires { FiniteUnless knots_refused knots.now }
-    ensures { result ≡ (some-number-refused knots.now || ends-refused condition || some-number-refused samples.now) }
+    ensures { result ≡ (some_number_refused knots.now || ends_refused condition || some_number_refused samples.now) }
 {
     if some_knot_refused(knots_refused, knots) {
         return true;
@@ -71,7 +71,7 @@ pub fn moments_refused(
 // Whether an infinity or NaN is among the knots and the ends of a grid. It requires at most four axes besides.
 fn grid_refused(axes: usize, all: [Axis; 4], knots_refused: bool, knots: &[f64]) -> bool
     requires { (axes ≤ 4) × FiniteUnless knots_refused knots.now }
-    ensures { result ≡ (some-number-refused knots.now || some-ends-refused (sizes-of axes all)) }
+    ensures { result ≡ (some_number_refused knots.now || some_ends_refused (sizes_of axes all)) }
 {
     if some_knot_refused(knots_refused, knots) {
         return true;
@@ -89,7 +89,7 @@ pub fn build_refused(
 ) -> bool
     requires { (axes ≤ 4) × FiniteUnless knots_refused knots.now }
     ensures { result ≡
-        (some-number-refused knots.now || some-ends-refused (sizes-of axes all) || some-number-refused samples.now) }
+        (some_number_refused knots.now || some_ends_refused (sizes_of axes all) || some_number_refused samples.now) }
 {
     if grid_refused(axes, all, knots_refused, knots) {
         return true;
@@ -109,8 +109,8 @@ pub fn change_refused(
 ) -> bool
     requires { (axes ≤ 4) × FiniteUnless knots_refused knots.now }
     ensures { result ≡
-        (some-number-refused knots.now || some-ends-refused (sizes-of axes all) || number-refused sample
-        || some-number-refused tensor.now) }
+        (some_number_refused knots.now || some_ends_refused (sizes_of axes all) || number_refused sample
+        || some_number_refused tensor.now) }
 {
     if grid_refused(axes, all, knots_refused, knots) {
         return true;

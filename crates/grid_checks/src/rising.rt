@@ -3,11 +3,11 @@ ghost use Rattle.std.specs.Prelude.{◌≡◌, not, ◌||◌, ◌-◌, ◌≤◌
 ghost use Rattle.std.specs.Float.Ieee.{lt};
 ghost use Rattle.std.specs.Float.Ieee.Scale.{finite};
 ghost use Rattle.rules.specs.Numbers.{◌⊖◌, any};
-ghost use Rattle.rules.specs.Sizes.{place_of, sum_below, knots-length};
-ghost use Rattle.rules.specs.Refusals.{knots-refused, some-knots-refused};
-ghost use Rattle.grid.specs.GridOfCall.{grid, sizes-of, points-of, InRange};
-ghost use Rattle.grid_checks.specs.Rising.{not-rising};
-ghost use Rattle.grid_checks.specs.Check.{knots-of-points-refused};
+ghost use Rattle.rules.specs.Sizes.{place_of, sum_below, knots_length};
+ghost use Rattle.rules.specs.Refusals.{knots_refused, some_knots_refused};
+ghost use Rattle.grid.specs.GridOfCall.{grid, sizes_of, points_of, InRange};
+ghost use Rattle.grid_checks.specs.Rising.{not_rising};
+ghost use Rattle.grid_checks.specs.Check.{knots_of_points_refused};
 
 use rules::Axis;
 
@@ -28,7 +28,7 @@ pub fn step_refused(knot: f64, next: f64) -> bool
 // public call: a knot is required.
 fn some_knot_not_rising(knots: &[f64]) -> bool
     requires { 1 ≤ length knots.now }
-    ensures { result ≡ any (not-rising knots.now) (length knots.now - 1) }
+    ensures { result ≡ any (not_rising knots.now) (length knots.now - 1) }
 {
     let last = knots.len() - 1;
     let mut found = false;
@@ -42,7 +42,7 @@ fn some_knot_not_rising(knots: &[f64]) -> bool
 
 // Whether a knot does not rise to the next or a step overflows, each step looked at.
 fn some_step_refused(knots: &[f64]) -> bool
-    ensures { result ≡ knots-refused knots.now (length knots.now) }
+    ensures { result ≡ knots_refused knots.now (length knots.now) }
 {
     let mut refused = false;
     let mut i = 0;
@@ -56,7 +56,7 @@ fn some_step_refused(knots: &[f64]) -> bool
 // Whether an axis's knots are refused: one does not rise to the next, or a step overflows. Where they rise and the whole axis is of finite
 // length, so is every step of it, and none is looked at.
 pub fn knots_refused(knots: &[f64]) -> bool
-    ensures { result ≡ knots-refused knots.now (length knots.now) }
+    ensures { result ≡ knots_refused knots.now (length knots.now) }
 {
     if knots.len() < 2 {
         return false;
@@ -74,7 +74,7 @@ pub fn knots_refused(knots: &[f64]) -> bool
 pub fn knots_of_points_refused(axes: usize, points: &[usize], knots: &[f64]) -> bool
     requires { InRange axes (place_of points.now) × (length points.now ≡ 4)
         × (length knots.now ≡ sum_below (place_of points.now) axes) }
-    ensures { result ≡ knots-of-points-refused axes (place_of points.now) knots.now }
+    ensures { result ≡ knots_of_points_refused axes (place_of points.now) knots.now }
 {
     let mut start = 0;
     let mut i = 0;
@@ -91,8 +91,8 @@ pub fn knots_of_points_refused(axes: usize, points: &[usize], knots: &[f64]) -> 
 
 // Whether the knots of an axis in use are. Not a public call: what refusals 1, 2 and 4 leave is required.
 pub fn some_knots_refused(axes: usize, all: [Axis; 4], knots: &[f64]) -> bool
-    requires { (InRange axes (points-of all)) × (length knots.now ≡ knots-length (sizes-of axes all)) }
-    ensures { result ≡ some-knots-refused (grid axes all knots.now) }
+    requires { (InRange axes (points_of all)) × (length knots.now ≡ knots_length (sizes_of axes all)) }
+    ensures { result ≡ some_knots_refused (grid axes all knots.now) }
 {
     let points = grid::points_of(all);
     knots_of_points_refused(axes, &points, knots)

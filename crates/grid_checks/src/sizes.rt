@@ -1,23 +1,23 @@
 // Refusals 1 to 3 and 6.
 ghost use Rattle.std.specs.Prelude.{◌≡◌, ◌||◌, ◌≤◌, ltb, length};
-ghost use Rattle.rules.specs.Sizes.{most-axes, place_of};
-ghost use Rattle.rules.specs.Refusals.{points-refused, place-refused};
-ghost use Rattle.grid.specs.GridOfCall.{sizes-of};
-ghost use Rattle.grid_checks.specs.Check.{points-check, sizes-check};
+ghost use Rattle.rules.specs.Sizes.{most_axes, place_of};
+ghost use Rattle.rules.specs.Refusals.{points_refused, place_refused};
+ghost use Rattle.grid.specs.GridOfCall.{sizes_of};
+ghost use Rattle.grid_checks.specs.Check.{points_check, sizes_check};
 ghost use Rattle.grid_checks.specs.SizesFound.{SizesFound};
 
 use rules::Axis;
 
 // Whether there is no axis, or more than four.
 pub fn axes_refused(axes: usize) -> bool
-    ensures { result ≡ (ltb axes 1 || ltb most-axes axes) }
+    ensures { result ≡ (ltb axes 1 || ltb most_axes axes) }
 {
     if axes < 1 { true } else { 4 < axes }
 }
 
 // Whether the points of an axis lie outside 2 to 256.
 pub fn points_refused(points: usize) -> bool
-    ensures { result ≡ points-refused points }
+    ensures { result ≡ points_refused points }
 {
     if points < 2 { true } else { 256 < points }
 }
@@ -68,7 +68,7 @@ pub fn sizes_of_points(axes: usize, points: &[usize]) -> Sizes
 // What axes of so many points meet: 2, 3, or 0. Not a public call: one to four axes and four points are required.
 pub fn points_refusal(axes: usize, points: &[usize]) -> usize
     requires { (1 ≤ axes) × (axes ≤ 4) × (length points.now ≡ 4) }
-    ensures { result ≡ points-check axes (place_of points.now) }
+    ensures { result ≡ points_check axes (place_of points.now) }
 {
     let found = sizes_of_points(axes, points);
     found.refusal
@@ -76,7 +76,7 @@ pub fn points_refusal(axes: usize, points: &[usize]) -> usize
 
 // What every call on a grid meets first: 1, 2, 3, or 0.
 pub fn sizes_refusal(axes: usize, all: [Axis; 4]) -> usize
-    ensures { result ≡ sizes-check axes all }
+    ensures { result ≡ sizes_check axes all }
 {
     if axes_refused(axes) {
         return 1;
@@ -88,7 +88,7 @@ pub fn sizes_refusal(axes: usize, all: [Axis; 4]) -> usize
 // Whether a place is off the grid on an axis in use. Not a public call: at most four axes are required.
 pub fn place_refused(axes: usize, all: [Axis; 4], place: [usize; 4]) -> bool
     requires { axes ≤ 4 }
-    ensures { result ≡ place-refused (sizes-of axes all) (place_of place) }
+    ensures { result ≡ place_refused (sizes_of axes all) (place_of place) }
 {
     let mut i = 0;
     while i < axes {

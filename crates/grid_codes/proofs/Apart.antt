@@ -13,11 +13,11 @@ place Building = 2
 place Writing = 3
 place Unknown = 4
 
-pub none-not-reading : None ≡ Reading → ⊥
-none-not-reading e = let places = ap place e in omega arith
+pub none_not_reading : None ≡ Reading → ⊥
+none_not_reading e = let places = ap place e in omega arith
 
-pub reading-not-building : Reading ≡ Building → ⊥
-reading-not-building e = let places = ap place e in omega arith
+pub reading_not_building : Reading ≡ Building → ⊥
+reading_not_building e = let places = ap place e in omega arith
 
-pub none-not-building : None ≡ Building → ⊥
-none-not-building e = let places = ap place e in omega arith
+pub none_not_building : None ≡ Building → ⊥
+none_not_building e = let places = ap place e in omega arith

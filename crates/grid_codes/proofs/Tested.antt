@@ -10,6 +10,6 @@ module _ (P : ℕ → Type 0) where
   tested false n l = l
 
   -- a row, and another after it
-  pub one-or-other : (first : ℕ) {later : ℕ} → P first → P later → P (or_else first later)
-  one-or-other zero f l = l
-  one-or-other (suc first) f l = f
+  pub one_or_other : (first : ℕ) {later : ℕ} → P first → P later → P (or_else first later)
+  one_or_other zero f l = l
+  one_or_other (suc first) f l = f

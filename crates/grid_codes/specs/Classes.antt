@@ -5,22 +5,22 @@ use Rattle.grid_codes.specs.declared.classes.Class.{Class}
 use Rattle.grid_codes.specs.declared.classes.Class.TheVariants.{None, Reading, Building, Writing, Unknown}
 
 -- the sheet was not read: nothing of it shows
-abbrev pub of-reading : ℕ → Bool
-of-reading refusal = among 1 4 refusal || among 11 14 refusal || eqb refusal 22
+abbrev pub of_reading : ℕ → Bool
+of_reading refusal = among 1 4 refusal || among 11 14 refusal || eqb refusal 22
 
 -- the sheet was read, and its parts stand in the buffers; what it says is not built
-abbrev pub of-building : ℕ → Bool
-of-building refusal = among 5 10 refusal
+abbrev pub of_building : ℕ → Bool
+of_building refusal = among 5 10 refusal
 
 -- the parts are those of a sheet, which is not written: there is too little room for it, or its edition has no place for a mode
-abbrev pub of-writing : ℕ → Bool
-of-writing refusal = eqb refusal 15 || eqb refusal 23
+abbrev pub of_writing : ℕ → Bool
+of_writing refusal = eqb refusal 15 || eqb refusal 23
 
 -- the class of a refusal's number: 0 is no refusal, and a number of no class is Unknown
 unfoldable pub class : ℕ → Class
 class refusal =
     cond (eqb refusal 0) None
-    (cond (of-reading refusal) Reading (cond (of-building refusal) Building (cond (of-writing refusal) Writing Unknown)))
+    (cond (of_reading refusal) Reading (cond (of_building refusal) Building (cond (of_writing refusal) Writing Unknown)))
 
 -- the class of a sheet that was read and built
 abbrev pub built : Class → Bool
@@ -39,5 +39,5 @@ unread Writing = false
 unread Unknown = false
 
 -- whether a sheet of this refusal has no fault before its tail: then its length is known
-abbrev pub length-known : ℕ → Bool
-length-known refusal = eqb refusal 0 || eqb refusal 14
+abbrev pub length_known : ℕ → Bool
+length_known refusal = eqb refusal 0 || eqb refusal 14

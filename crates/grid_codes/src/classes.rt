@@ -1,7 +1,7 @@
 // The classes of refusals, decided by their numbers: what a refusal of the reader, of the build or of the writer means for the sheet at
 // hand.
 ghost use Rattle.std.specs.Prelude.{◌≡◌};
-ghost use Rattle.grid_codes.specs.Classes.{class, built, unread, length-known};
+ghost use Rattle.grid_codes.specs.Classes.{class, built, unread, length_known};
 
 // None: the sheet was read and built.
 // Reading: it was not read. Nothing of it shows, and its length is known after 14 alone.
@@ -52,7 +52,7 @@ pub fn is_unread(refusal: usize) -> bool
 
 // Whether the length of a sheet that the reader refuses by this number, or does not refuse, is known: it refuses nothing.
 pub fn is_length_known(refusal: usize) -> bool
-    ensures { result ≡ length-known refusal }
+    ensures { result ≡ length_known refusal }
 {
     match refusal {
         0 | 14 => true,

@@ -1,18 +1,18 @@
 // The kinds of the ends of an axis: from their numbers to a condition, and back.
 ghost use Rattle.std.specs.Prelude.{◌≡◌};
 ghost use Rattle.grid_codes.specs.Kinds.{
-  unknown-kind,
-  values-of-kind,
-  end-of-kind,
-  condition-of-kind,
-  periodic-at-one-end,
-  kinds-refused,
-  kind-of-end,
-  value-of-end,
-  lower-kind-of,
-  upper-kind-of,
-  lower-value-of,
-  upper-value-of,
+  unknown_kind,
+  values_of_kind,
+  end_of_kind,
+  condition_of_kind,
+  periodic_at_one_end,
+  kinds_refused,
+  kind_of_end,
+  value_of_end,
+  lower_kind_of,
+  upper_kind_of,
+  lower_value_of,
+  upper_value_of,
 };
 
 use rules::{Condition, End};
@@ -26,7 +26,7 @@ pub fn wide(kind: u8) -> u64
 
 // Whether there is no such kind.
 fn is_unknown(kind: u64) -> bool
-    ensures { result ≡ unknown-kind kind }
+    ensures { result ≡ unknown_kind kind }
 {
     match kind {
         0..=3 => false,
@@ -36,7 +36,7 @@ fn is_unknown(kind: u64) -> bool
 
 // How many patterns an end of a kind has: it refuses nothing.
 pub fn values_of_kind(kind: u64) -> usize
-    ensures { result ≡ values-of-kind kind }
+    ensures { result ≡ values_of_kind kind }
 {
     match kind {
         1..=2 => 1,
@@ -46,7 +46,7 @@ pub fn values_of_kind(kind: u64) -> usize
 
 // The end of a kind, with its number where the kind has one: it refuses nothing, and takes any other kind for NotAKnot.
 pub fn end_of_kind(kind: u64, value: f64) -> End
-    ensures { result ≡ end-of-kind kind value }
+    ensures { result ≡ end_of_kind kind value }
 {
     match kind {
         1 => End::FirstDerivative(value),
@@ -57,7 +57,7 @@ pub fn end_of_kind(kind: u64, value: f64) -> End
 
 // The condition of two ends, where `kind` is that of the lower one: it refuses nothing.
 pub fn condition_of_kind(kind: u64, lower: End, upper: End) -> Condition
-    ensures { result ≡ condition-of-kind kind lower upper }
+    ensures { result ≡ condition_of_kind kind lower upper }
 {
     match kind {
         3 => Condition::Periodic,
@@ -67,7 +67,7 @@ pub fn condition_of_kind(kind: u64, lower: End, upper: End) -> Condition
 
 // Whether kind 3 stands at one end only: it refuses nothing.
 pub fn is_periodic_at_one_end(lower: u64, upper: u64) -> bool
-    ensures { result ≡ periodic-at-one-end lower upper }
+    ensures { result ≡ periodic_at_one_end lower upper }
 {
     match lower {
         3 => upper != 3,
@@ -77,7 +77,7 @@ pub fn is_periodic_at_one_end(lower: u64, upper: u64) -> bool
 
 // Whether the kinds of an axis are refused by 13.
 pub fn kinds_refused(lower: u64, upper: u64) -> bool
-    ensures { result ≡ kinds-refused lower upper }
+    ensures { result ≡ kinds_refused lower upper }
 {
     if is_unknown(lower) {
         return true;
@@ -90,7 +90,7 @@ pub fn kinds_refused(lower: u64, upper: u64) -> bool
 
 // The number of an end's kind.
 fn kind_of_end(end: End) -> u8
-    ensures { result ≡ kind-of-end end }
+    ensures { result ≡ kind_of_end end }
 {
     match end {
         End::NotAKnot => 0,
@@ -101,7 +101,7 @@ fn kind_of_end(end: End) -> u8
 
 // The value of an end, +0.0 where its kind has none.
 fn value_of_end(end: End) -> f64
-    ensures { result ≡ value-of-end end }
+    ensures { result ≡ value_of_end end }
 {
     match end {
         End::NotAKnot => 0.0,
@@ -112,7 +112,7 @@ fn value_of_end(end: End) -> f64
 
 // The kinds and the values of the two ends of a condition: none of these refuses anything.
 pub fn lower_kind(condition: Condition) -> u8
-    ensures { result ≡ lower-kind-of condition }
+    ensures { result ≡ lower_kind_of condition }
 {
     match condition {
         Condition::Endpoints(lower, _) => kind_of_end(lower),
@@ -121,7 +121,7 @@ pub fn lower_kind(condition: Condition) -> u8
 }
 
 pub fn upper_kind(condition: Condition) -> u8
-    ensures { result ≡ upper-kind-of condition }
+    ensures { result ≡ upper_kind_of condition }
 {
     match condition {
         Condition::Endpoints(_, upper) => kind_of_end(upper),
@@ -130,7 +130,7 @@ pub fn upper_kind(condition: Condition) -> u8
 }
 
 pub fn lower_value(condition: Condition) -> f64
-    ensures { result ≡ lower-value-of condition }
+    ensures { result ≡ lower_value_of condition }
 {
     match condition {
         Condition::Endpoints(lower, _) => value_of_end(lower),
@@ -139,7 +139,7 @@ pub fn lower_value(condition: Condition) -> f64
 }
 
 pub fn upper_value(condition: Condition) -> f64
-    ensures { result ≡ upper-value-of condition }
+    ensures { result ≡ upper_value_of condition }
 {
     match condition {
         Condition::Endpoints(_, upper) => value_of_end(upper),

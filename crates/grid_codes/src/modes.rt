@@ -1,14 +1,14 @@
 // The modes of the axes, by their numbers.
 ghost use Rattle.std.specs.Prelude.{◌≡◌, eqb};
-ghost use Rattle.rules.specs.Outside.{mode-number};
+ghost use Rattle.rules.specs.Outside.{mode_number};
 ghost use Rattle.rules.specs.declared.Mode.TheVariants.{Hold, Refuse};
-ghost use Rattle.grid_codes.specs.Modes.{unknown-mode, mode-of-number};
+ghost use Rattle.grid_codes.specs.Modes.{unknown_mode, mode_of_number};
 
 use rules::Mode;
 
 // Whether there is no such mode: it refuses nothing.
 pub fn is_unknown_mode(number: u64) -> bool
-    ensures { result ≡ unknown-mode number }
+    ensures { result ≡ unknown_mode number }
 {
     match number {
         0..=2 => false,
@@ -18,7 +18,7 @@ pub fn is_unknown_mode(number: u64) -> bool
 
 // The mode of a number: it refuses nothing, and takes any other number for Extend.
 pub fn mode_of_number(number: u64) -> Mode
-    ensures { result ≡ mode-of-number number }
+    ensures { result ≡ mode_of_number number }
 {
     match number {
         1 => Mode::Hold,
@@ -29,7 +29,7 @@ pub fn mode_of_number(number: u64) -> Mode
 
 // Whether a number is that of Hold: it refuses nothing. A query asks this and the next in place of the mode, which would cost it more.
 pub fn is_hold(number: u8) -> bool
-    ensures { result ≡ eqb number (mode-number Hold) }
+    ensures { result ≡ eqb number (mode_number Hold) }
 {
     match number {
         1 => true,
@@ -39,7 +39,7 @@ pub fn is_hold(number: u8) -> bool
 
 // Whether a number is that of Refuse: it refuses nothing.
 pub fn is_refuse(number: u8) -> bool
-    ensures { result ≡ eqb number (mode-number Refuse) }
+    ensures { result ≡ eqb number (mode_number Refuse) }
 {
     match number {
         2 => true,
@@ -49,7 +49,7 @@ pub fn is_refuse(number: u8) -> bool
 
 // The number of a mode: it refuses nothing.
 pub fn mode_number(mode: Mode) -> u8
-    ensures { result ≡ mode-number mode }
+    ensures { result ≡ mode_number mode }
 {
     match mode {
         Mode::Extend => 0,

@@ -6,11 +6,11 @@ use Prim.Native.Nat.{ℕ, ◌*◌, ◌/◌, ◌%◌, ◌+◌, ◌≤◌}
 use native.Mathlib.Nat.{mul_comm, mul-div_cancel_left, div-add-mod'}
 use lib.Dec.{eqb}
 use borrow.Author.Tests.{eqb-true, eqb-false, eq-eqb, ne_eqb}
-use Rattle.rules.specs.Refusals.{length-refused}
+use Rattle.rules.specs.Refusals.{length_refused}
 
 module _ (given size count : ℕ) (some : 1 ≤ size) where
-  pub other-quotient : (given / size ≡ count → ⊥) → true ≡ length-refused given (size * count)
-  other-quotient other =
+  pub other_quotient : (given / size ≡ count → ⊥) → true ≡ length_refused given (size * count)
+  other_quotient other =
       sym (ap not (ne_eqb given (size * count) (λ e. other (ap (λ (n : ℕ). n / size) e ∙ mul-div_cancel_left count some))))
 
   module _ (quotient : given / size ≡ count) where
@@ -22,5 +22,5 @@ module _ (given size count : ℕ) (some : 1 ≤ size) where
     remainder false e =
         sym (ne_eqb given (size * count) (λ z. eqb-false (given % size) 0 e (omega (arith, split, z))))
 
-    pub same-quotient : not (eqb (given % size) 0) ≡ length-refused given (size * count)
-    same-quotient = ap not (remainder (eqb (given % size) 0) refl)
+    pub same_quotient : not (eqb (given % size) 0) ≡ length_refused given (size * count)
+    same_quotient = ap not (remainder (eqb (given % size) 0) refl)

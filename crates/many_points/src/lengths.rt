@@ -1,7 +1,7 @@
 // What is lent of many points, looked at by lengths alone.
 ghost use Rattle.std.specs.Prelude.{◌≡◌, ◌*◌, ◌≤◌};
-ghost use Rattle.rules.specs.Refusals.{length-refused};
-ghost use Rattle.many_points.specs.ManyPoints.{points-lengths-refused};
+ghost use Rattle.rules.specs.Refusals.{length_refused};
+ghost use Rattle.many_points.specs.ManyPoints.{points_lengths_refused};
 
 use grid_checks::lengths;
 
@@ -9,7 +9,7 @@ use grid_checks::lengths;
 // call: a part is not empty.
 pub fn parts_refused(given: usize, size: usize, count: usize) -> bool
     requires { 1 ≤ size }
-    ensures { result ≡ length-refused given (size * count) }
+    ensures { result ≡ length_refused given (size * count) }
 {
     if given / size != count {
         return true;
@@ -26,7 +26,7 @@ pub fn points_lengths_refused(
     count: usize,
 ) -> bool
     requires { 1 ≤ axes }
-    ensures { result ≡ points-lengths-refused axes coordinates values labels count }
+    ensures { result ≡ points_lengths_refused axes coordinates values labels count }
 {
     if parts_refused(coordinates, axes, count) {
         return true;

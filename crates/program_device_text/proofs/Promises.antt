@@ -7,24 +7,24 @@ use native.Mathlib.Omega.{arith}
 use lib.ListN.{length}
 use borrow.Author.Tests.{lt-ltb, le-ltb}
 use Rattle.rules.specs.Calls.{counted}
-use Rattle.base_text.specs.Lines.{refused-line}
+use Rattle.base_text.specs.Lines.{refused_line}
 use Rattle.base_text.specs.PutBytes.{Put}
 use Rattle.base_text.proofs.Puts.{put_written}
-use Rattle.base_text.proofs.Decimals.{decimal-length, length-word-line}
-use Rattle.device_cursor.specs.DeviceCurve.{whole_cells, all-in-range, cells, curve-refusal, curve-numbers}
-use Rattle.device_cursor.proofs.Judged.{Whole, length-known}
-use Rattle.rules.proofs.Refused.{counted-most}
+use Rattle.base_text.proofs.Decimals.{decimal_length, length_word_line}
+use Rattle.device_cursor.specs.DeviceCurve.{whole_cells, all_in_range, cells, curve_refusal, curve_numbers}
+use Rattle.device_cursor.proofs.Judged.{Whole, length_known}
+use Rattle.rules.proofs.Refused.{counted_most}
 use Rattle.program_device_text.specs.DeviceText.{
   signed_lines,
-  curve-text-of,
-  device-text,
-  device-text-length,
-  device-text-refusal,
-  device-text-answer,
+  curve_text_of,
+  device_text,
+  device_text_length,
+  device_text_refusal,
+  device_text_answer,
   DeviceTextPromise,
 }
 use Rattle.program_device_text.specs.declared.CurveTextAnswer.{CurveTextAnswer}
-use Rattle.program_device_text.proofs.Lines.{lines-length}
+use Rattle.program_device_text.proofs.Lines.{lines_length}
 
 -- ---- how long the text is
 
@@ -33,67 +33,67 @@ few true true = omega arith
 few true false = omega arith
 few false b = omega arith
 
-few-refusals : (curve : List ℕ) → curve-refusal curve ≤ 20
-unfolding curve-refusal
-few-refusals curve = few (whole_cells (length curve)) (all-in-range curve (cells curve))
+few_refusals : (curve : List ℕ) → curve_refusal curve ≤ 20
+unfolding curve_refusal
+few_refusals curve = few (whole_cells (length curve)) (all_in_range curve (cells curve))
 
-refused-line-length : (r : ℕ) → r ≤ 20 → length (refused-line r) ≤ 11
-unfolding refused-line
-refused-line-length r h =
-    let digits = decimal-length 1 r (omega arith) (omega arith) in rw (length-word-line _ r) (omega arith)
+refused_line_length : (r : ℕ) → r ≤ 20 → length (refused_line r) ≤ 11
+unfolding refused_line
+refused_line_length r h =
+    let digits = decimal_length 1 r (omega arith) (omega arith) in rw (length_word_line _ r) (omega arith)
 
 -- the line of the curve's refusal has room
-pub refused-line-fits : (curve text : List ℕ) → device-text-length ≤ length text
-    → 0 + length (refused-line (curve-refusal curve)) ≤ length text
-refused-line-fits curve text h = let l = refused-line-length (curve-refusal curve) (few-refusals curve) in omega arith
+pub refused_line_fits : (curve text : List ℕ) → device_text_length ≤ length text
+    → 0 + length (refused_line (curve_refusal curve)) ≤ length text
+refused_line_fits curve text h = let l = refused_line_length (curve_refusal curve) (few_refusals curve) in omega arith
 
-pub text-fits : (curve : List ℕ) → length (device-text curve) ≤ device-text-length
-unfolding device-text
-text-fits curve = go (curve-refusal curve) refl
+pub text_fits : (curve : List ℕ) → length (device_text curve) ≤ device_text_length
+unfolding device_text
+text_fits curve = go (curve_refusal curve) refl
   where
-    go : (r : ℕ) → curve-refusal curve ≡ r → length (curve-text-of (curve-refusal curve) (curve-numbers curve)) ≤ device-text-length
+    go : (r : ℕ) → curve_refusal curve ≡ r → length (curve_text_of (curve_refusal curve) (curve_numbers curve)) ≤ device_text_length
     go zero e =
-        let w : Whole (length curve) = length-known curve e in
-        rw e (omega (arith, lines-length curve e))
+        let w : Whole (length curve) = length_known curve e in
+        rw e (omega (arith, lines_length curve e))
     go (suc r) e =
-        rw e (let l = refused-line-length (suc r) (omega (arith, e, few-refusals curve)) in omega arith)
+        rw e (let l = refused_line_length (suc r) (omega (arith, e, few_refusals curve)) in omega arith)
 
 -- ---- what is put is the curve's text
 
-pub numbers-told : (curve : List ℕ) → curve-refusal curve ≡ 0 → signed_lines (curve-numbers curve) ≡ device-text curve
-unfolding device-text
-numbers-told curve e = rw e
+pub numbers_told : (curve : List ℕ) → curve_refusal curve ≡ 0 → signed_lines (curve_numbers curve) ≡ device_text curve
+unfolding device_text
+numbers_told curve e = rw e
 
-pub refused-told : (curve : List ℕ) (r : ℕ) → r ≡ curve-refusal curve → (r ≡ 0 → ⊥) → refused-line r ≡ device-text curve
-unfolding device-text
-refused-told curve r e some = rw (← e) (told r some)
+pub refused_told : (curve : List ℕ) (r : ℕ) → r ≡ curve_refusal curve → (r ≡ 0 → ⊥) → refused_line r ≡ device_text curve
+unfolding device_text
+refused_told curve r e some = rw (← e) (told r some)
   where
-    told : (r : ℕ) → (r ≡ 0 → ⊥) → refused-line r ≡ curve-text-of r (curve-numbers curve)
+    told : (r : ℕ) → (r ≡ 0 → ⊥) → refused_line r ≡ curve_text_of r (curve_numbers curve)
     told zero some = absurd (some refl)
     told (suc r) some = refl
 
 -- ---- the two ways to end
 
 module _ (curve text : List ℕ) where
-  pub text-refused : length text < device-text-length → DeviceTextPromise curve text (record { refusal = 15; length = 0 }) text
-  unfolding device-text-answer
-  text-refused h =
-      let e = lt-ltb (length text) device-text-length h in
+  pub text_refused : length text < device_text_length → DeviceTextPromise curve text (record { refusal = 15; length = 0 }) text
+  unfolding device_text_answer
+  text_refused h =
+      let e = lt-ltb (length text) device_text_length h in
       record { answer = rw e; text = rw e }
 
-  pub text-written : {later : List ℕ} {end : ℕ} → device-text-length ≤ length text → Put (device-text curve) text 0 later end
+  pub text_written : {later : List ℕ} {end : ℕ} → device_text_length ≤ length text → Put (device_text curve) text 0 later end
       → DeviceTextPromise curve text (record { refusal = 0; length = end }) later
-  unfolding device-text-answer
-  text-written h put =
-      let e = le-ltb (length text) device-text-length h in
-      let done = put_written put (omega (arith, text-fits curve)) in
+  unfolding device_text_answer
+  text_written h put =
+      let e = le-ltb (length text) device_text_length h in
+      let done = put_written put (omega (arith, text_fits curve)) in
       record { answer = rw (e, done.1); text = rw e done.0 }
 
 -- ---- what a caller knows of the answer
 
 -- the text has no more bytes than the length that is asked for
 pub length_most : (curve text : List ℕ) (given : CurveTextAnswer) (later : List ℕ) → DeviceTextPromise curve text given later
-    → given.length ≤ device-text-length
-unfolding device-text-answer
+    → given.length ≤ device_text_length
+unfolding device_text_answer
 length_most curve text given later p =
-    rw p.answer (counted-most (device-text-refusal (length text)) (text-fits curve))
+    rw p.answer (counted_most (device_text_refusal (length text)) (text_fits curve))

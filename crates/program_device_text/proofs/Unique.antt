@@ -5,7 +5,7 @@ use Prim.Native.Nat.{ℕ}
 use Rattle.program_device_text.specs.DeviceText.{DeviceTextPromise}
 use Rattle.program_device_text.specs.declared.CurveTextAnswer.{CurveTextAnswer}
 
-pub text-unique : (curve text : List ℕ) (a a' : CurveTextAnswer) (x x' : List ℕ) → DeviceTextPromise curve text a x
+pub text_unique : (curve text : List ℕ) (a a' : CurveTextAnswer) (x x' : List ℕ) → DeviceTextPromise curve text a x
     → DeviceTextPromise curve text a' x'
     → (a ≡ a') × (x ≡ x')
-text-unique curve text a a' x x' p q = (p.answer ∙ sym q.answer, p.text ∙ sym q.text)
+text_unique curve text a a' x x' p q = (p.answer ∙ sym q.answer, p.text ∙ sym q.text)

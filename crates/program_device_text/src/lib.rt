@@ -1,8 +1,8 @@
 // All that the device's program prints of a curve, written to a text that the caller lends.
 ghost use Rattle.std.specs.Prelude.{◌≡◌, ◌+◌, ◌≤◌, length};
 ghost use Rattle.base_text.specs.PutBytes.{Put};
-ghost use Rattle.device_cursor.specs.DeviceCurve.{curve-refusal, curve-numbers};
-ghost use Rattle.program_device_text.specs.DeviceText.{signed-line, signed_lines, device-text, device-text-length, DeviceTextPromise};
+ghost use Rattle.device_cursor.specs.DeviceCurve.{curve_refusal, curve_numbers};
+ghost use Rattle.program_device_text.specs.DeviceText.{signed_line, signed_lines, device_text, device_text_length, DeviceTextPromise};
 
 // A refusal's number, 0 for none, and how many bytes of the text are the curve's.
 #[derive(Drop)]
@@ -13,8 +13,8 @@ pub struct CurveTextAnswer {
 
 // The line of a number. It requires that there is room.
 fn put_signed_line(number: i32, text: &mut [u8], at: usize) -> usize
-    requires { at + length (signed-line number) ≤ length text.old }
-    ensures { Put (signed-line number) text.old at text.new result }
+    requires { at + length (signed_line number) ≤ length text.old }
+    ensures { Put (signed_line number) text.old at text.new result }
 {
     let digits = base_integers::magnitude(number);
     if number < 0 {
@@ -25,8 +25,8 @@ fn put_signed_line(number: i32, text: &mut [u8], at: usize) -> usize
 
 // A line for each number of a curve that has been judged. It requires that the curve is not refused, and room for the longest text.
 fn put_numbers(curve: &[u8], text: &mut [u8]) -> usize
-    requires { (curve-refusal curve.now ≡ 0) × (device-text-length ≤ length text.old) }
-    ensures { Put (signed_lines (curve-numbers curve.now)) text.old 0 text.new result }
+    requires { (curve_refusal curve.now ≡ 0) × (device_text_length ≤ length text.old) }
+    ensures { Put (signed_lines (curve_numbers curve.now)) text.old 0 text.new result }
 {
     let count = 256 * (curve.len() / 16) + 1;
     let mut end = 0;
@@ -41,8 +41,8 @@ fn put_numbers(curve: &[u8], text: &mut [u8]) -> usize
 
 // The text of a curve, which is judged once. It requires room for the longest.
 fn put_text(curve: &[u8], text: &mut [u8]) -> usize
-    requires { device-text-length ≤ length text.old }
-    ensures { Put (device-text curve.now) text.old 0 text.new result }
+    requires { device_text_length ≤ length text.old }
+    ensures { Put (device_text curve.now) text.old 0 text.new result }
 {
     let refusal = device_cursor::curve_refusal(curve);
     if refusal != 0 {

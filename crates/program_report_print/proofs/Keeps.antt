@@ -15,12 +15,12 @@ module _ (from : ℕ) (before : List ℕ) where
     pub moved : (j : ℕ) → j < i → get_or now j 0 ≡ get_or before (from + j) 0
     pub left : (j : ℕ) → i ≤ j → get_or now j 0 ≡ get_or before j 0
 
-  pub turn-first : Turn before 0
-  turn-first = record { long = refl; most = omega arith; moved = λ j l. absurd (omega arith); left = λ j l. refl }
+  pub turn_first : Turn before 0
+  turn_first = record { long = refl; most = omega arith; moved = λ j l. absurd (omega arith); left = λ j l. refl }
 
   module _ (now : List ℕ) (i : ℕ) (t : Turn now i) where
-    pub turn-next : i < length before - from → Turn (set now i (get_or now (from + i) 0)) (i + 1)
-    turn-next h =
+    pub turn_next : i < length before - from → Turn (set now i (get_or now (from + i) 0)) (i + 1)
+    turn_next h =
         let byte = get_or now (from + i) 0 in
         record {
           long = length-set now i byte ∙ t.long;

@@ -6,15 +6,15 @@ use Prim.Native.Nat.{ℕ, ◌+◌, ◌-◌, ◌*◌, ◌<◌, ◌≤◌}
 use native.Mathlib.Omega.{arith}
 use lib.ListN.{length, take, drop, length-append, length-take, length-drop}
 use lib.Seq.{take-add, take_all, take_at, take-take, take-append-le, drop-append-le, drop-drop}
-use Rattle.report_front.specs.Front.{enough-bytes}
-use Rattle.report_totals.specs.Totals.{totals-of, most-sheets}
+use Rattle.report_front.specs.Front.{enough_bytes}
+use Rattle.report_totals.specs.Totals.{totals_of, most_sheets}
 use Rattle.report_totals.specs.Counting.{Running}
 use Rattle.report_totals.specs.declared.Totals.{Totals}
-use Rattle.report_totals.proofs.Sheets.{running_none, sheets-most}
+use Rattle.report_totals.proofs.Sheets.{running_none, sheets_most}
 use Rattle.program_streams.specs.declared.Input.{Input}
 use Rattle.report.specs.Feeding.{Stands, Fed}
 use Rattle.report.specs.declared.Progress.{Progress}
-use Rattle.report.proofs.Progressing.{stands-none, fed-last}
+use Rattle.report.proofs.Progressing.{stands_none, fed_last}
 use Rattle.program_report_print.specs.AroundReads.{said, Lent, Refilled, Whole, Told}
 use Rattle.program_report_print.specs.declared.Outcome.{Outcome}
 
@@ -46,8 +46,8 @@ module _ (before : List ℕ) (first : ℕ) where
     pub inside : filled ≤ brought
     pub ends : drop (brought - filled) input ≡ take filled buffer
 
-  pub turn-first : (sum : Totals) → Lent before first → sum ≡ totals-of [] → Turn before sum first first
-  turn-first sum lent e =
+  pub turn_first : (sum : Totals) → Lent before first → sum ≡ totals_of [] → Turn before sum first first
+  turn_first sum lent e =
       let none : first - first ≡ 0 = omega arith in
       record {
         lent = lent;
@@ -56,7 +56,7 @@ module _ (before : List ℕ) (first : ℕ) where
         running = running_none sum e;
         few = omega (arith, lent.long, lent.most);
         input = take first before;
-        stands = λ more. stands-none sum (take first before ++ more) e;
+        stands = λ more. stands_none sum (take first before ++ more) e;
         long = let cut = length-take first before in let most = lent.most in omega arith;
         least = omega arith;
         begins = take-take first first before (omega arith);
@@ -67,9 +67,9 @@ module _ (before : List ℕ) (first : ℕ) where
 
   module _ (buffer : List ℕ) (sum : Totals) (filled brought : ℕ) (turn : Turn buffer sum filled brought) where
     -- the input has ended
-    pub turn-ends : (progress : Progress) → filled < length buffer → Fed sum (take (filled - 0) buffer) 1 progress
+    pub turn_ends : (progress : Progress) → filled < length buffer → Fed sum (take (filled - 0) buffer) 1 progress
         → Told before first buffer (said progress brought filled)
-    turn-ends progress l fed =
+    turn_ends progress l fed =
         let all : filled - 0 ≡ filled = omega arith in
         let stands = rw (append-nil, append-nil) at (turn.stands []) in
         record {
@@ -80,18 +80,18 @@ module _ (before : List ℕ) (first : ℕ) where
             begins = turn.begins;
             at_once = turn.at_once;
             ends = turn.ends;
-            ended = λ k. fed-last sum (take filled buffer) turn.input progress (rw all at fed) stands;
+            ended = λ k. fed_last sum (take filled buffer) turn.input progress (rw all at fed) stands;
             cut = λ k more. absurd (omega arith);
           };
         }
 
     -- the buffer is full
-    module _ (full : length buffer ≤ filled) (progress : Progress) (fed : Fed sum buffer enough-bytes progress) where
-      full-stands : (more : List ℕ) → Stands sum (buffer ++ more) (turn.input ++ more)
-      full-stands more = rw (take_all filled buffer full) at (turn.stands more)
+    module _ (full : length buffer ≤ filled) (progress : Progress) (fed : Fed sum buffer enough_bytes progress) where
+      full_stands : (more : List ℕ) → Stands sum (buffer ++ more) (turn.input ++ more)
+      full_stands more = rw (take_all filled buffer full) at (turn.stands more)
 
-      pub turn-stops : progress.stopped ≡ true → Told before first buffer (said progress brought filled)
-      turn-stops off = record {
+      pub turn_stops : progress.stopped ≡ true → Told before first buffer (said progress brought filled)
+      turn_stops off = record {
         read = λ short. refl;
         whole = λ ok. record {
           input = turn.input;
@@ -101,52 +101,52 @@ module _ (before : List ℕ) (first : ℕ) where
           ends = turn.ends;
           ended = λ k. absurd (omega arith);
           cut = λ k more.
-              let stands = full-stands more in
+              let stands = full_stands more in
               (off, rw off (fed.takes.stops off (turn.input ++ more) more (λ l. absurd (omega arith)) stands));
         };
       }
 
       -- a later read failed
-      pub turn-fails : (after : List ℕ) (outcome : Outcome) → outcome.failed ≡ true → Told before first after outcome
-      turn-fails after outcome failed = record {
+      pub turn_fails : (after : List ℕ) (outcome : Outcome) → outcome.failed ≡ true → Told before first after outcome
+      turn_fails after outcome failed = record {
         read = λ short. absurd (let once = turn.at_once short in let same = turn.same in omega arith);
         whole = λ ok. let z : ◌≡◌ {A = ℕ} 0 1 = cc in absurd (omega arith);
       }
 
-      pub turn-less : progress.stopped ≡ false → most-sheets - progress.totals.sheets < most-sheets - sum.sheets
-      turn-less on =
+      pub turn_less : progress.stopped ≡ false → most_sheets - progress.totals.sheets < most_sheets - sum.sheets
+      turn_less on =
           let lent = turn.lent.long in
           let same = turn.same in
           let more = fed.counts on (omega arith) in
-          let most = sheets-most progress.totals (fed.takes.running on) in omega arith
+          let most = sheets_most progress.totals (fed.takes.running on) in omega arith
 
       -- the bytes that were not taken are moved to the front, and more are read behind them
       module _ (on : progress.stopped ≡ false) (moved later : List ℕ) (read : Input)
-          (moved-long : length moved ≡ length buffer)
-          (kept-are : take (length buffer - progress.taken) moved ≡ drop progress.taken buffer)
-          (later-long : length later ≡ length moved) (refill : Refilled moved (length moved - progress.taken) later read) where
+          (moved_long : length moved ≡ length buffer)
+          (kept_are : take (length buffer - progress.taken) moved ≡ drop progress.taken buffer)
+          (later_long : length later ≡ length moved) (refill : Refilled moved (length moved - progress.taken) later read) where
         abbrev kept : ℕ
         kept = length moved - progress.taken
 
         abbrev came : List ℕ
         came = take read.length (drop kept later)
 
-        kept-is : kept ≡ length buffer - progress.taken
-        kept-is = omega arith
+        kept_is : kept ≡ length buffer - progress.taken
+        kept_is = omega arith
 
-        came-long : length came ≡ read.length
-        came-long =
+        came_long : length came ≡ read.length
+        came_long =
             let front = length-take read.length (drop kept later) in
             let rest = length-drop kept later in
             let most = refill.most in omega arith
 
-        in-front : take (kept + read.length) later ≡ drop progress.taken buffer ++ came
-        in-front =
-            let front : take kept later ≡ drop progress.taken buffer = refill.front ∙ (rw (← kept-is) at kept-are) in
+        in_front : take (kept + read.length) later ≡ drop progress.taken buffer ++ came
+        in_front =
+            let front : take kept later ≡ drop progress.taken buffer = refill.front ∙ (rw (← kept_is) at kept_are) in
             take-add kept read.length later ∙ rw front
 
-        brought-most : brought + read.length ≤ 524288 * (progress.totals.sheets + 1)
-        brought-most =
+        brought_most : brought + read.length ≤ 524288 * (progress.totals.sheets + 1)
+        brought_most =
             let lent = turn.lent.long in
             let same = turn.same in
             let more = fed.counts on (omega arith) in
@@ -154,38 +154,38 @@ module _ (before : List ℕ) (first : ℕ) where
             let most = refill.most in omega arith
 
         -- so their number fits: a report has at most 1,000,000 sheets
-        pub brought-fits : brought + read.length ≤ 524288 * (most-sheets + 1)
-        brought-fits =
-            let most = brought-most in
-            let sheets = sheets-most progress.totals (fed.takes.running on) in omega arith
+        pub brought_fits : brought + read.length ≤ 524288 * (most_sheets + 1)
+        brought_fits =
+            let most = brought_most in
+            let sheets = sheets_most progress.totals (fed.takes.running on) in omega arith
 
-        still-ends : drop ((brought + read.length) - (kept + read.length)) (turn.input ++ came) ≡ take (kept + read.length) later
-        still-ends =
+        still_ends : drop ((brought + read.length) - (kept + read.length)) (turn.input ++ came) ≡ take (kept + read.length) later
+        still_ends =
             let inside = turn.inside in
             let taken = fed.takes.inside in
             let most = turn.most in
             let long = turn.long in
             let start : (brought + read.length) - (kept + read.length) ≡ (brought - filled) + progress.taken = omega arith in
-            let kept-end : drop ((brought - filled) + progress.taken) turn.input ≡ drop progress.taken buffer =
+            let kept_end : drop ((brought - filled) + progress.taken) turn.input ≡ drop progress.taken buffer =
             sym (drop-drop progress.taken (brought - filled) turn.input) ∙ rw (turn.ends, take_all filled buffer full) in
-            rw (start, drop-append-le ((brought - filled) + progress.taken) turn.input came (omega arith), in-front, kept-end)
+            rw (start, drop-append-le ((brought - filled) + progress.taken) turn.input came (omega arith), in_front, kept_end)
 
-        pub turn-next : Turn later progress.totals (kept + read.length) (brought + read.length)
-        turn-next = record {
+        pub turn_next : Turn later progress.totals (kept + read.length) (brought + read.length)
+        turn_next = record {
           lent = turn.lent;
-          same = later-long ∙ moved-long ∙ turn.same;
+          same = later_long ∙ moved_long ∙ turn.same;
           most = refill.most;
           running = fed.takes.running on;
-          few = brought-most;
+          few = brought_most;
           input = turn.input ++ came;
           stands = λ more.
               let rest = came ++ more in
-              rw (in-front, append_assoc (drop progress.taken buffer) came more, append_assoc turn.input came more)
-              (fed.takes.goes_on on (turn.input ++ rest) rest (λ l. absurd (omega arith)) (full-stands rest));
-          long = length-append turn.input came ∙ (let a = turn.long in let b = came-long in omega arith);
+              rw (in_front, append_assoc (drop progress.taken buffer) came more, append_assoc turn.input came more)
+              (fed.takes.goes_on on (turn.input ++ rest) rest (λ l. absurd (omega arith)) (full_stands rest));
+          long = length-append turn.input came ∙ (let a = turn.long in let b = came_long in omega arith);
           least = let least = turn.least in omega arith;
           begins = take-append-le first turn.input came (omega (arith, turn.least, turn.long)) ∙ turn.begins;
           at_once = λ l. absurd (let once = turn.at_once l in let same = turn.same in omega arith);
           inside = let a = turn.inside in let b = turn.most in omega arith;
-          ends = still-ends;
+          ends = still_ends;
         }

@@ -1,7 +1,7 @@
 -- What is promised around reads. No contract says which bytes a read brings; but they stand in the buffer then, and it says how many.
 use Rattle.std.specs.Prelude.{◌≡◌, true, false, List, ◌++◌, ℕ, ◌+◌, ◌-◌, ◌<◌, ◌≤◌, length, take, drop}
 use Rattle.program_streams.specs.declared.Input.{Input}
-use Rattle.report.specs.Report.{report-of}
+use Rattle.report.specs.Report.{report_of}
 use Rattle.report.specs.declared.Progress.{Progress}
 use Rattle.program_report_print.specs.declared.Outcome.{Outcome}
 
@@ -33,10 +33,10 @@ pub record Whole (before : List ℕ) (first : ℕ) (after : List ℕ) (outcome :
   pub at_once : first < length before → (outcome.brought ≡ first) × (outcome.filled ≡ first)
   pub ends : drop (outcome.brought - outcome.filled) input ≡ take outcome.filled after
   -- the last read did not fill the buffer: nothing follows
-  pub ended : outcome.filled < length after → outcome.report ≡ report-of input
+  pub ended : outcome.filled < length after → outcome.report ≡ report_of input
   -- it did: the report stopped there, whatever follows
   pub cut : length after ≤ outcome.filled
-      → (more : List ℕ) → (outcome.report.stopped ≡ true) × (outcome.report ≡ report-of (input ++ more))
+      → (more : List ℕ) → (outcome.report.stopped ≡ true) × (outcome.report ≡ report_of (input ++ more))
 
 -- so it is where no read failed; and there was none to fail where the first did not fill the buffer
 pub record Told (before : List ℕ) (first : ℕ) (after : List ℕ) (outcome : Outcome) : Type 0 where

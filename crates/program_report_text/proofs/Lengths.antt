@@ -7,123 +7,123 @@ use native.Mathlib.Nat.{mul-suc}
 use native.Mathlib.Omega.{arith}
 use lib.Dec.{eqb}
 use lib.ListN.{length, get_or, length-append}
-use Rattle.base_text.specs.Lines.{line-end, hex-digits, decimal, word_line}
-use Rattle.base_text.proofs.Decimals.{decimal-most, decimal-length, length-word-line}
-use Rattle.base_text.proofs.HexDigits.{length-hex-digits}
+use Rattle.base_text.specs.Lines.{line_end, hex_digits, decimal, word_line}
+use Rattle.base_text.proofs.Decimals.{decimal_most, decimal_length, length_word_line}
+use Rattle.base_text.proofs.HexDigits.{length_hex_digits}
 use Rattle.report_totals.specs.declared.OrderTotals.{OrderTotals}
 use Rattle.report_totals.specs.declared.Totals.{Totals}
 use Rattle.report_totals.specs.declared.Report.{Report}
 use Rattle.program_report_text.specs.ReportText.{
   word_number,
   space,
-  refused-word,
-  sheets-line,
-  accepted-line,
-  occurred-line,
-  order-word,
-  order-counts,
-  order-line,
+  refused_word,
+  sheets_line,
+  accepted_line,
+  occurred_line,
+  order_word,
+  order_counts,
+  order_line,
   last_line,
-  lines-below,
-  refusal-lines,
-  order-lines,
-  sheets-lines,
-  report-text,
-  report-length,
+  lines_below,
+  refusal_lines,
+  order_lines,
+  sheets_lines,
+  report_text,
+  report_length,
 }
 
-length-word-number : (word : List ℕ) (number : ℕ) → length (word_number word number) ≡ length word + length (decimal number)
-length-word-number word number = length-append word (decimal number)
+length_word_number : (word : List ℕ) (number : ℕ) → length (word_number word number) ≡ length word + length (decimal number)
+length_word_number word number = length-append word (decimal number)
 
-pub line-most : (word : List ℕ) (number : ℕ) → length (word_line word number) ≤ length word + 21
-line-most word number = let digits = decimal-most number in omega (arith, length-word-line word number)
+pub line_most : (word : List ℕ) (number : ℕ) → length (word_line word number) ≤ length word + 21
+line_most word number = let digits = decimal_most number in omega (arith, length_word_line word number)
 
 -- the fronts of two lines, and a number after a space
-pub refused-front-most : (number : ℕ) → number < 24 → length (word_number refused-word number) ≤ 10
-refused-front-most number h =
-    let digits = decimal-length 1 number (omega arith) (omega arith) in
-    omega (arith, length-word-number refused-word number)
+pub refused_front_most : (number : ℕ) → number < 24 → length (word_number refused_word number) ≤ 10
+refused_front_most number h =
+    let digits = decimal_length 1 number (omega arith) (omega arith) in
+    omega (arith, length_word_number refused_word number)
 
-pub order-front-most : (k : ℕ) → k < 5 → length (word_number order-word k) ≤ 7
-order-front-most k h =
-    let digit = decimal-length 0 k (omega arith) (omega arith) in
-    omega (arith, length-word-number order-word k)
+pub order_front_most : (k : ℕ) → k < 5 → length (word_number order_word k) ≤ 7
+order_front_most k h =
+    let digit = decimal_length 0 k (omega arith) (omega arith) in
+    omega (arith, length_word_number order_word k)
 
-pub spaced-most : (number : ℕ) → length (word_number space number) ≤ 21
-spaced-most number = let digits = decimal-most number in omega (arith, length-word-number space number)
+pub spaced_most : (number : ℕ) → length (word_number space number) ≤ 21
+spaced_most number = let digits = decimal_most number in omega (arith, length_word_number space number)
 
-pub occurred-most : (number count : ℕ) → number < 24 → length (occurred-line number count) ≤ 32
-unfolding occurred-line
-occurred-most number count h = go (eqb count 0)
+pub occurred_most : (number count : ℕ) → number < 24 → length (occurred_line number count) ≤ 32
+unfolding occurred_line
+occurred_most number count h = go (eqb count 0)
   where
-    go : (b : Bool) → length (cond b [] (word_number refused-word number ++ word_line space count)) ≤ 32
+    go : (b : Bool) → length (cond b [] (word_number refused_word number ++ word_line space count)) ≤ 32
     go true = omega arith
     go false =
-        let front = refused-front-most number h in
-        let line = line-most space count in
-        omega (arith, length-append (word_number refused-word number) (word_line space count))
+        let front = refused_front_most number h in
+        let line = line_most space count in
+        omega (arith, length-append (word_number refused_word number) (word_line space count))
 
-pub counts-most : (k : ℕ) (order : OrderTotals) → k < 5 → length (order-counts k order) ≤ 49
-unfolding order-counts
-counts-most k order h =
-    let front = order-front-most k h in
-    let entries = spaced-most order.entries in
-    let nonzero = spaced-most order.nonzero in
-    rw (length-append (word_number order-word k) _, length-append (word_number space order.entries) (word_number space order.nonzero))
+pub counts_most : (k : ℕ) (order : OrderTotals) → k < 5 → length (order_counts k order) ≤ 49
+unfolding order_counts
+counts_most k order h =
+    let front = order_front_most k h in
+    let entries = spaced_most order.entries in
+    let nonzero = spaced_most order.nonzero in
+    rw (length-append (word_number order_word k) _, length-append (word_number space order.entries) (word_number space order.nonzero))
     (omega arith)
 
-pub order-most : (k : ℕ) (order : OrderTotals) → k < 5 → length (order-line k order) ≤ 67
-unfolding order-line
-order-most k order h =
-    let front = counts-most k order h in
-    let digits = length-hex-digits 16 order.largest in
+pub order_most : (k : ℕ) (order : OrderTotals) → k < 5 → length (order_line k order) ≤ 67
+unfolding order_line
+order_most k order h =
+    let front = counts_most k order h in
+    let digits = length_hex_digits 16 order.largest in
     simp (length-append) (omega arith)
 
-pub last-most : (stopped : Bool) → length (last_line stopped) ≤ 8
+pub last_most : (stopped : Bool) → length (last_line stopped) ≤ 8
 unfolding last_line
-last-most true = omega arith
-last-most false = omega arith
+last_most true = omega arith
+last_most false = omega arith
 
 -- lines that are no longer than a width
-pub lines-most : (line : ℕ → List ℕ) (width n : ℕ) → ((k : ℕ) → k < n → length (line k) ≤ width) → length (lines-below line n) ≤ width * n
-unfolding lines-below
-lines-most line width zero most = omega arith
-lines-most line width (suc n) most =
-    let before = lines-most line width n (λ k l. most k (omega arith)) in
+pub lines_most : (line : ℕ → List ℕ) (width n : ℕ) → ((k : ℕ) → k < n → length (line k) ≤ width) → length (lines_below line n) ≤ width * n
+unfolding lines_below
+lines_most line width zero most = omega arith
+lines_most line width (suc n) most =
+    let before = lines_most line width n (λ k l. most k (omega arith)) in
     let here = most n (omega arith) in
     rw (length-append, mul-suc) (omega arith)
 
-refusals-most : (refusals : List ℕ) → length (refusal-lines refusals) ≤ 736
-unfolding refusal-lines
-refusals-most refusals =
-    lines-most (λ i. occurred-line (suc i) (get_or refusals (suc i) 0)) 32 23 (λ i l. occurred-most (suc i) _ (omega arith))
+refusals_most : (refusals : List ℕ) → length (refusal_lines refusals) ≤ 736
+unfolding refusal_lines
+refusals_most refusals =
+    lines_most (λ i. occurred_line (suc i) (get_or refusals (suc i) 0)) 32 23 (λ i l. occurred_most (suc i) _ (omega arith))
 
-pub order-lines-most : (orders : List OrderTotals) → length (order-lines orders) ≤ 335
-unfolding order-lines
-order-lines-most orders =
-    lines-most (λ k. order-line k (get_or orders k (record { entries = 0; nonzero = 0; largest = 0 }))) 67 5 (λ k l. order-most k _ l)
+pub order_lines_most : (orders : List OrderTotals) → length (order_lines orders) ≤ 335
+unfolding order_lines
+order_lines_most orders =
+    lines_most (λ k. order_line k (get_or orders k (record { entries = 0; nonzero = 0; largest = 0 }))) 67 5 (λ k l. order_most k _ l)
 
-sheets-most : (count : ℕ) → length (sheets-line count) ≤ 28
-unfolding sheets-line
-sheets-most count = line-most _ count
+sheets_most : (count : ℕ) → length (sheets_line count) ≤ 28
+unfolding sheets_line
+sheets_most count = line_most _ count
 
-accepted-most : (count : ℕ) → length (accepted-line count) ≤ 30
-unfolding accepted-line
-accepted-most count = line-most _ count
+accepted_most : (count : ℕ) → length (accepted_line count) ≤ 30
+unfolding accepted_line
+accepted_most count = line_most _ count
 
-pub sheets-lines-most : (totals : Totals) → length (sheets-lines totals) ≤ 794
-unfolding sheets-lines
-sheets-lines-most totals =
-    let sheets = sheets-most totals.sheets in
-    let accepted = accepted-most (get_or totals.refusals 0 0) in
-    let refusals = refusals-most totals.refusals in
+pub sheets_lines_most : (totals : Totals) → length (sheets_lines totals) ≤ 794
+unfolding sheets_lines
+sheets_lines_most totals =
+    let sheets = sheets_most totals.sheets in
+    let accepted = accepted_most (get_or totals.refusals 0 0) in
+    let refusals = refusals_most totals.refusals in
     simp (length-append) (omega arith)
 
 -- no text is longer than the length that is asked for
-pub text-fits : (report : Report) → length (report-text report) ≤ report-length
-unfolding report-text
-text-fits report =
-    let sheets = sheets-lines-most report.totals in
-    let orders = order-lines-most report.totals.orders in
-    let last = last-most report.stopped in
+pub text_fits : (report : Report) → length (report_text report) ≤ report_length
+unfolding report_text
+text_fits report =
+    let sheets = sheets_lines_most report.totals in
+    let orders = order_lines_most report.totals.orders in
+    let last = last_most report.stopped in
     simp (length-append) (omega arith)

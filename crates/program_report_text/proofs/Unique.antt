@@ -6,6 +6,6 @@ use Rattle.report_totals.specs.declared.Report.{Report}
 use Rattle.program_report_text.specs.ReportText.{ReportTextPromise}
 use Rattle.program_report_text.specs.declared.ReportTextAnswer.{ReportTextAnswer}
 
-pub report-text-unique : (report : Report) (text : List ℕ) (a a' : ReportTextAnswer) (x x' : List ℕ)
+pub report_text_unique : (report : Report) (text : List ℕ) (a a' : ReportTextAnswer) (x x' : List ℕ)
     → ReportTextPromise report text a x → ReportTextPromise report text a' x' → (a ≡ a') × (x ≡ x')
-report-text-unique report text a a' x x' p q = (p.answer ∙ sym q.answer, p.text ∙ sym q.text)
+report_text_unique report text a a' x x' p q = (p.answer ∙ sym q.answer, p.text ∙ sym q.text)

@@ -3,15 +3,15 @@ ghost use Rattle.std.specs.Prelude.{◌≡◌, ◌+◌, ◌<◌, ◌≤◌, leng
 ghost use Rattle.base_text.specs.PutBytes.{Put};
 ghost use Rattle.program_report_text.specs.ReportText.{
   word_number,
-  occurred-line,
-  order-counts,
-  order-line,
-  refusal-lines,
-  order-lines,
+  occurred_line,
+  order_counts,
+  order_line,
+  refusal_lines,
+  order_lines,
   last_line,
-  sheets-lines,
-  report-text,
-  report-length,
+  sheets_lines,
+  report_text,
+  report_length,
   ReportTextPromise,
 };
 
@@ -38,7 +38,7 @@ fn put_word_number(word: &[u8], number: u64, text: &mut [u8], at: usize) -> usiz
 // The line of a refusal's number that occurred so often, if it occurred.
 fn put_occurred(number: usize, count: u64, text: &mut [u8], at: usize) -> usize
     requires { (number < 24) × (at + 32 ≤ length text.old) }
-    ensures { Put (occurred-line number count) text.old at text.new result }
+    ensures { Put (occurred_line number count) text.old at text.new result }
 {
     if count == 0 {
         return at;
@@ -50,7 +50,7 @@ fn put_occurred(number: usize, count: u64, text: &mut [u8], at: usize) -> usize
 // The lines of the refusals that occurred.
 fn put_refusals(refusals: [u64; 24], text: &mut [u8], at: usize) -> usize
     requires { at + 736 ≤ length text.old }
-    ensures { Put (refusal-lines refusals) text.old at text.new result }
+    ensures { Put (refusal_lines refusals) text.old at text.new result }
 {
     let mut end = at;
     let mut i = 0;
@@ -64,7 +64,7 @@ fn put_refusals(refusals: [u64; 24], text: &mut [u8], at: usize) -> usize
 // The front of an order's line: the order and its two counts.
 fn put_counts(k: usize, order: OrderTotals, text: &mut [u8], at: usize) -> usize
     requires { (k < 5) × (at + 49 ≤ length text.old) }
-    ensures { Put (order-counts k order) text.old at text.new result }
+    ensures { Put (order_counts k order) text.old at text.new result }
 {
     let order_end = put_word_number(b"order ", k as u64, text, at);
     let entries_end = put_word_number(b" ", order.entries, text, order_end);
@@ -74,7 +74,7 @@ fn put_counts(k: usize, order: OrderTotals, text: &mut [u8], at: usize) -> usize
 // The line of an order.
 fn put_order(k: usize, order: OrderTotals, text: &mut [u8], at: usize) -> usize
     requires { (k < 5) × (at + 67 ≤ length text.old) }
-    ensures { Put (order-line k order) text.old at text.new result }
+    ensures { Put (order_line k order) text.old at text.new result }
 {
     let counts_end = put_counts(k, order, text, at);
     let space_end = put_byte(32, text, counts_end);
@@ -85,7 +85,7 @@ fn put_order(k: usize, order: OrderTotals, text: &mut [u8], at: usize) -> usize
 // The lines of the five orders.
 fn put_orders(orders: [OrderTotals; 5], text: &mut [u8], at: usize) -> usize
     requires { at + 335 ≤ length text.old }
-    ensures { Put (order-lines orders) text.old at text.new result }
+    ensures { Put (order_lines orders) text.old at text.new result }
 {
     let mut end = at;
     let mut k = 0;
@@ -109,8 +109,8 @@ fn put_last(stopped: bool, text: &mut [u8], at: usize) -> usize
 
 // The counts of sheets: how many, how many accepted, how many refused by which number.
 fn put_sheets(totals: Totals, text: &mut [u8]) -> usize
-    requires { report-length ≤ length text.old }
-    ensures { Put (sheets-lines totals) text.old 0 text.new result }
+    requires { report_length ≤ length text.old }
+    ensures { Put (sheets_lines totals) text.old 0 text.new result }
 {
     let refusals = totals.refusals;
     let sheets_end = put_word_line(b"sheets ", totals.sheets, text, 0);
@@ -120,8 +120,8 @@ fn put_sheets(totals: Totals, text: &mut [u8]) -> usize
 
 // All of a report.
 fn put_report(report: Report, text: &mut [u8]) -> usize
-    requires { report-length ≤ length text.old }
-    ensures { Put (report-text report) text.old 0 text.new result }
+    requires { report_length ≤ length text.old }
+    ensures { Put (report_text report) text.old 0 text.new result }
 {
     let totals = report.totals;
     let orders = totals.orders;

@@ -7,13 +7,13 @@ use lib.Ieee.{Float}
 use Rattle.program_sheet_text.specs.SheetText.{TextPromise}
 use Rattle.program_sheet_text.specs.declared.TextAnswer.{TextAnswer}
 
-pub text-unique :
+pub text_unique :
     (bytes : List ℕ) (knots samples tensor scratch : List Float) (text : List ℕ) (a a' : TextAnswer) (k k' s s' t t' w w' : List Float)
     (x x' : List ℕ)
     → TextPromise bytes knots samples tensor scratch text a k s t w x
     → TextPromise bytes knots samples tensor scratch text a' k' s' t' w' x'
     → (a ≡ a') × (k ≡ k') × (s ≡ s') × (t ≡ t') × (w ≡ w') × (x ≡ x')
-text-unique bytes knots samples tensor scratch text a a' k k' s s' t t' w w' x x' p q = (
+text_unique bytes knots samples tensor scratch text a a' k k' s s' t t' w w' x x' p q = (
   p.answer ∙ sym q.answer,
   p.knots ∙ sym q.knots,
   p.samples ∙ sym q.samples,

@@ -1,7 +1,7 @@
 // All that the sheet program prints of a sheet, written to a text that the caller lends.
 ghost use Rattle.std.specs.Prelude.{◌≡◌, ◌≤◌, length};
 ghost use Rattle.base_text.specs.PutBytes.{Put};
-ghost use Rattle.program_sheet_text.specs.SheetText.{text-length, text_of, lent-refusal, TextPromise};
+ghost use Rattle.program_sheet_text.specs.SheetText.{text_length, text_of, lent_refusal, TextPromise};
 
 use grid_codes::classes::is_built;
 
@@ -15,7 +15,7 @@ pub struct TextAnswer {
 // The text of a refusal, 0 for none, and of the numbers of a tensor. Not a public call: at most 4,096 numbers are required, and room for
 // the longest text.
 fn put_text(refusal: usize, numbers: &[f64], text: &mut [u8]) -> usize
-    requires { (length numbers.now ≤ 4096) × (text-length ≤ length text.old) }
+    requires { (length numbers.now ≤ 4096) × (text_length ≤ length text.old) }
     ensures { Put (text_of refusal numbers.now) text.old 0 text.new result }
 {
     if is_built(refusal) {
@@ -26,7 +26,7 @@ fn put_text(refusal: usize, numbers: &[f64], text: &mut [u8]) -> usize
 
 // The refusal of what is lent, by the lengths.
 fn lent_refusal(knots: usize, samples: usize, tensor: usize, scratch: usize, text: usize) -> usize
-    ensures { result ≡ lent-refusal knots samples tensor scratch text }
+    ensures { result ≡ lent_refusal knots samples tensor scratch text }
 {
     if knots != 1024 {
         return 4;

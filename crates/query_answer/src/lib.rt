@@ -1,10 +1,10 @@
 // What every query answers once its sizes and lengths are in order: its cell found on the axes, and 7, 8, 18 and 10 in this order. None of
 // these is a public call: `answer_to` requires what refusals 1 to 4 leave, with four points, four modes and room for four labels.
 ghost use Rattle.std.specs.Prelude.{◌≡◌, length, replicate};
-ghost use Rattle.rules.specs.Sizes.{most-axes};
-ghost use Rattle.rules.specs.Outside.{mode-number};
+ghost use Rattle.rules.specs.Sizes.{most_axes};
+ghost use Rattle.rules.specs.Outside.{mode_number};
 ghost use Rattle.query_answer.specs.PointsAndModes.{ModesOf, QueryFits};
-ghost use Rattle.query_answer.specs.AnswerByWay.{refused-with, answer-in, with-labels, knots-refusal, refusal-found, AnswerAmong};
+ghost use Rattle.query_answer.specs.AnswerByWay.{refused_with, answer_in, with_labels, knots_refusal, refusal_found, AnswerAmong};
 
 use rules::{Axis, QueryAnswer};
 use searched::Refusals;
@@ -15,7 +15,7 @@ mod searched; // searched.rt: a point looked for on the axes
 
 // The number of an axis's mode.
 fn mode_of(axis: Axis) -> u8
-    ensures { result ≡ mode-number axis.mode }
+    ensures { result ≡ mode_number axis.mode }
 {
     let mode = axis.mode;
     grid_codes::modes::mode_number(mode)
@@ -35,7 +35,7 @@ pub fn modes_of(all: [Axis; 4]) -> [u8; 4]
 
 // A refusal: its number, +0.0, and labels 0.
 pub fn refused(refusal: usize) -> QueryAnswer
-    ensures { result ≡ refused-with refusal }
+    ensures { result ≡ refused_with refusal }
 {
     QueryAnswer {
         refusal,
@@ -46,7 +46,7 @@ pub fn refused(refusal: usize) -> QueryAnswer
 
 // Which number it is where knots are refused: a walk has passed over those that are infinite or NaN, which are 7.
 fn knots_refusal(way: Way, knots: &[f64]) -> usize
-    ensures { result ≡ knots-refusal way knots.now }
+    ensures { result ≡ knots_refusal way knots.now }
 {
     match way {
         Way::Walked => {
@@ -72,7 +72,7 @@ pub struct Outcome {
 // All four labels 0.
 fn clear_labels(labels: &mut [usize])
     requires { length labels.old ≡ 4 }
-    ensures { labels.new ≡ replicate most-axes 0 }
+    ensures { labels.new ≡ replicate most_axes 0 }
 {
     labels[0] = 0;
     labels[1] = 0;
@@ -83,7 +83,7 @@ fn clear_labels(labels: &mut [usize])
 // A refusal: its number, +0.0, and labels 0.
 fn refuse(labels: &mut [usize], refusal: usize) -> Outcome
     requires { length labels.old ≡ 4 }
-    ensures { with-labels result labels.new ≡ refused-with refusal }
+    ensures { with_labels result labels.new ≡ refused_with refusal }
 {
     clear_labels(labels);
     Outcome {
@@ -95,7 +95,7 @@ fn refuse(labels: &mut [usize], refusal: usize) -> Outcome
 // A value, where the labels are the cell that it was worked out in, or 10.
 fn outcome_of(labels: &mut [usize], value: f64) -> Outcome
     requires { length labels.old ≡ 4 }
-    ensures { with-labels result labels.new ≡ answer-in value labels.old }
+    ensures { with_labels result labels.new ≡ answer_in value labels.old }
 {
     if base_numbers::is_finite(value) {
         return Outcome { refusal: 0, value };
@@ -105,7 +105,7 @@ fn outcome_of(labels: &mut [usize], value: f64) -> Outcome
 
 // What the axes refuse, by what was found on them: 7, 8, 18, or 0.
 fn refusal_found(way: Way, knots: &[f64], refusals: Refusals) -> usize
-    ensures { result ≡ refusal-found way knots.now refusals }
+    ensures { result ≡ refusal_found way knots.now refusals }
 {
     if refusals.coordinates {
         return 7;
@@ -131,7 +131,7 @@ fn answer_on_one(
 ) -> Outcome
     requires { QueryFits 1 points.now modes.now knots.now tensor.now coordinates.now × (length labels.old ≡ 4) }
     ensures { AnswerAmong way 1 points.now modes.now knots.now tensor.now
-        coordinates.now (with-labels result labels.new) }
+        coordinates.now (with_labels result labels.new) }
 {
     clear_labels(labels);
     let mut weights = [0.0; 16];
@@ -164,7 +164,7 @@ fn answer_on_two(
 ) -> Outcome
     requires { QueryFits 2 points.now modes.now knots.now tensor.now coordinates.now × (length labels.old ≡ 4) }
     ensures { AnswerAmong way 2 points.now modes.now knots.now tensor.now
-        coordinates.now (with-labels result labels.new) }
+        coordinates.now (with_labels result labels.new) }
 {
     clear_labels(labels);
     let mut weights = [0.0; 16];
@@ -199,7 +199,7 @@ pub fn answer_to(
 ) -> Outcome
     requires { QueryFits axes points.now modes.now knots.now tensor.now coordinates.now × (length labels.old ≡ 4) }
     ensures { AnswerAmong way axes points.now modes.now knots.now tensor.now
-        coordinates.now (with-labels result labels.new) }
+        coordinates.now (with_labels result labels.new) }
 {
     if axes == 1 {
         return answer_on_one(way, points, modes, knots, tensor, coordinates, labels);

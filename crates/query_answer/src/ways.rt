@@ -1,6 +1,6 @@
 // The ways in which the cell of a point is found on an axis, and what is looked at for 8 there.
 ghost use Rattle.std.specs.Prelude.{◌≡◌, ◌+◌, ◌<◌, ◌≤◌, length};
-ghost use Rattle.query_answer.specs.Ways.{direct-cell-in, by-search, CellOn, knots-refused-by};
+ghost use Rattle.query_answer.specs.Ways.{direct_cell_in, by_search, CellOn, knots_refused_by};
 
 // Walked: by the search, and all knots of the axis are looked at.
 // Searched: by the search, and the two knots of the cell are looked at.
@@ -17,14 +17,14 @@ pub enum Way {
 // The cell of a point by one division: only the first two knots are looked at.
 fn direct_cell(knots: &[f64], point: f64) -> usize
     requires { 2 ≤ length knots.now }
-    ensures { result ≡ direct-cell-in knots.now point }
+    ensures { result ≡ direct_cell_in knots.now point }
 {
     axis_even::locate_lower_index_uniform(knots[0], knots[1] - knots[0], knots.len(), point)
 }
 
 // Whether a way is by the search.
 fn by_search(way: Way) -> bool
-    ensures { result ≡ by-search way }
+    ensures { result ≡ by_search way }
 {
     match way {
         Way::Walked => true,
@@ -50,7 +50,7 @@ pub fn cell_on_axis(way: Way, knots: &[f64], point: f64, placed: f64) -> usize
 // the step alone is looked at.
 pub fn knots_refused(way: Way, knots: &[f64], cell: usize) -> bool
     requires { cell + 1 < length knots.now }
-    ensures { result ≡ knots-refused-by way knots.now cell }
+    ensures { result ≡ knots_refused_by way knots.now cell }
 {
     match way {
         Way::Walked => grid_checks::rising::knots_refused(knots),

@@ -3,11 +3,11 @@ ghost use Rattle.std.specs.Prelude.{◌≡◌, ◌+◌, ◌*◌, ◌%◌, ◌<�
 ghost use Rattle.rules.specs.Numbers.{at};
 ghost use Rattle.query_blend.specs.Blend.{
   weighted,
-  weighted-at,
-  four-weighted,
-  with-four,
+  weighted_at,
+  four_weighted,
+  with_four,
   WeightsOf,
-  weights-in,
+  weights_in,
   RunGiven,
   RunBlended,
   ByFours,
@@ -45,7 +45,7 @@ pub fn hermite_weights(width: f64, t: f64) -> Weights
 // The weights of an axis, where those of all axes stand side by side, four to an axis. Not a public call: that they are there is required.
 pub fn weights_of(weights: &[f64], axis: usize) -> Weights
     requires { (axis < 4) × (length weights.now ≡ 16) }
-    ensures { result ≡ weights-in weights.now axis }
+    ensures { result ≡ weights_in weights.now axis }
 {
     Weights {
         h00: weights[4 * axis],
@@ -66,7 +66,7 @@ fn evaluate_hermite_1d(weights: Weights, p0: f64, m0: f64, p1: f64, m1: f64) -> 
 // are there is required.
 pub fn one_blended(numbers: &[f64], lower: usize, upper: usize, weights: Weights) -> f64
     requires { (lower + 1 < length numbers.now) × (upper + 1 < length numbers.now) }
-    ensures { result ≡ weighted-at weights (at numbers.now) lower upper }
+    ensures { result ≡ weighted_at weights (at numbers.now) lower upper }
 {
     let p0 = numbers[lower];
     let m0 = numbers[lower + 1];
@@ -78,7 +78,7 @@ pub fn one_blended(numbers: &[f64], lower: usize, upper: usize, weights: Weights
 // Four such blends of neighbours, all read before any is stored: the compiler works out several at a time.
 fn four_blended(numbers: &[f64], lower: usize, upper: usize, weights: Weights) -> [f64; 4]
     requires { (lower + 7 < length numbers.now) × (upper + 7 < length numbers.now) × (length numbers.now ≤ 4096) }
-    ensures { result ≡ four-weighted weights (at numbers.now) lower upper }
+    ensures { result ≡ four_weighted weights (at numbers.now) lower upper }
 {
     [
         one_blended(numbers, lower, upper, weights),
@@ -91,7 +91,7 @@ fn four_blended(numbers: &[f64], lower: usize, upper: usize, weights: Weights) -
 // Four numbers go to their places, from e on.
 fn store_four(cell: &mut [f64], e: usize, four: [f64; 4])
     requires { (e + 3 < length cell.old) × (length cell.old ≤ 4096) }
-    ensures { cell.new ≡ with-four cell.old e four }
+    ensures { cell.new ≡ with_four cell.old e four }
 {
     cell[e] = four[0];
     cell[e + 1] = four[1];

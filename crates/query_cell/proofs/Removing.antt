@@ -26,17 +26,17 @@ use lib.Seq.{length-take-le, get_or-take, get_or-append-add, get_or-set_same}
 use lib.Ieee.{Float, nan}
 use borrow.Author.Tests.{ltb-true, ltb-false}
 use Rattle.rules.specs.Numbers.{at}
-use Rattle.rules.specs.Sizes.{Place, flat, product-below}
+use Rattle.rules.specs.Sizes.{Place, flat, product_below}
 use Rattle.rules.specs.Query.{corner}
-use Rattle.rules.proofs.Places.{OnGrid, flat-below}
-use Rattle.rules.proofs.Cells.{four-power}
+use Rattle.rules.proofs.Places.{OnGrid, flat_below}
+use Rattle.rules.proofs.Cells.{four_power}
 use Rattle.grid.specs.Strides.{stride}
 use Rattle.grid.proofs.Corners.{side_by_side}
-use Rattle.query_blend.specs.Blend.{weighted-at, RunGiven, RunBlended, ByFours, Smaller, Blended}
+use Rattle.query_blend.specs.Blend.{weighted_at, RunGiven, RunBlended, ByFours, Smaller, Blended}
 use Rattle.query_blend.specs.declared.Weights.{Weights}
-use Rattle.query_cell.specs.Points.{CellAt, numbers, SpotsOf, run-start, run-above, RunsGiven, RunsRemoved, FirstRemoved, Removed}
+use Rattle.query_cell.specs.Points.{CellAt, numbers, SpotsOf, run_start, run_above, RunsGiven, RunsRemoved, FirstRemoved, Removed}
 use Rattle.query_cell.specs.declared.Spots.{Spots}
-use Rattle.query_cell.proofs.Runs.{run_at, corner-above}
+use Rattle.query_cell.proofs.Runs.{run_at, corner_above}
 
 -- ---- a part of a list replaced by another of the same length
 
@@ -47,15 +47,15 @@ module _ (old new : List Float) (a k : ℕ) (room : a + k ≤ length old) (exact
   before : length (take a old) ≡ a
   before = length-take-le a old (omega arith)
 
-  replaced-length : length replaced ≡ length old
-  replaced-length = simp (length-append, before, length-drop) (omega arith)
+  replaced_length : length replaced ≡ length old
+  replaced_length = simp (length-append, before, length-drop) (omega arith)
 
-  replaced-before : (e : ℕ) → e < a → at replaced e ≡ at old e
-  replaced-before e h =
+  replaced_before : (e : ℕ) → e < a → at replaced e ≡ at old e
+  replaced_before e h =
       get_or-append (take a old) (new ++ drop k (drop a old)) nan e (omega (arith, before)) ∙ get_or-take a old e nan h
 
-  replaced-within : (e : ℕ) → e < k → at replaced (a + e) ≡ at new e
-  replaced-within e h =
+  replaced_within : (e : ℕ) → e < k → at replaced (a + e) ≡ at new e
+  replaced_within e h =
       ap (λ (n : ℕ). at replaced (n + e)) (sym before)
       ∙ get_or-append-add (take a old) (new ++ drop k (drop a old)) e nan
       ∙ get_or-append new (drop k (drop a old)) nan e (omega arith)
@@ -73,8 +73,8 @@ module _ (axes : ℕ) (n : ℕ → ℕ) (tensor : List Float) (lower : Place) (m
     place = flat n axes (corner axes lower bits)
 
     -- .. and those of an even one and the next
-    two-corners : (k : ℕ) → k < 2 * masks → numbers axes n tensor lower (bits * masks + k) ≡ at tensor (place * masks + k)
-    two-corners k h = go (ltb k masks) refl
+    two_corners : (k : ℕ) → k < 2 * masks → numbers axes n tensor lower (bits * masks + k) ≡ at tensor (place * masks + k)
+    two_corners k h = go (ltb k masks) refl
       where
         go : (b : Bool) → ltb k masks ≡ b → numbers axes n tensor lower (bits * masks + k) ≡ at tensor (place * masks + k)
         go true e = cell_at bits k (ltb-true k masks e)
@@ -91,25 +91,25 @@ module _ (axes : ℕ) (n : ℕ → ℕ) (tensor : List Float) (lower : Place) (m
 
 -- masks, runs, and the numbers that are left
 pub record Counts (axes masks runs size : ℕ) : Type 0 where
-  pub runs-of-four : 4 * runs ≡ masks
+  pub runs_of_four : 4 * runs ≡ masks
   pub all_runs : runs * masks ≡ size
   pub few : size ≤ 64
-  pub few-masks : masks ≤ 16
+  pub few_masks : masks ≤ 16
 
 pub counts : (axes : ℕ) → 2 ≤ axes → axes ≤ 4 → Counts axes (2 ^ axes) (2 ^ axes / 4) (4 ^ (axes - 1))
 counts zero some few = absurd (omega arith)
 counts (suc zero) some few = absurd (omega arith)
-counts (suc (suc zero)) some few = record { runs-of-four = refl; all_runs = refl; few = omega arith; few-masks = omega arith }
-counts (suc (suc (suc zero))) some few = record { runs-of-four = refl; all_runs = refl; few = omega arith; few-masks = omega arith }
-counts (suc (suc (suc (suc zero)))) some few = record { runs-of-four = refl; all_runs = refl; few = omega arith; few-masks = omega arith }
+counts (suc (suc zero)) some few = record { runs_of_four = refl; all_runs = refl; few = omega arith; few_masks = omega arith }
+counts (suc (suc (suc zero))) some few = record { runs_of_four = refl; all_runs = refl; few = omega arith; few_masks = omega arith }
+counts (suc (suc (suc (suc zero)))) some few = record { runs_of_four = refl; all_runs = refl; few = omega arith; few_masks = omega arith }
 counts (suc (suc (suc (suc (suc axes))))) some few = absurd (omega arith)
 
 -- ---- the turns
 
 module _ (cell₀ : List Float) (axes : ℕ) (spots : Spots) (tensor : List Float) (w : Weights) (masks : ℕ) where
   -- a number of a run
-  abbrev run-number : ℕ → ℕ → Float
-  run-number run k = weighted-at w (at tensor) (run-start spots run + 2 * k) (run-above spots run + 2 * k)
+  abbrev run_number : ℕ → ℕ → Float
+  run_number run k = weighted_at w (at tensor) (run_start spots run + 2 * k) (run_above spots run + 2 * k)
 
   -- the runs below `run` are blended
   pub record Turn (cell : List Float) (run : ℕ) : Type 0 where
@@ -118,10 +118,10 @@ module _ (cell₀ : List Float) (axes : ℕ) (spots : Spots) (tensor : List Floa
     pub exact : length cell₀ ≡ 4 ^ (axes - 1)
     pub same_length : length cell ≡ length cell₀
     pub most : run ≤ 2 ^ axes / 4
-    pub done : (r k : ℕ) → r < run → k < masks → at cell (r * masks + k) ≡ run-number r k
+    pub done : (r k : ℕ) → r < run → k < masks → at cell (r * masks + k) ≡ run_number r k
 
-  pub turn-first : RunsGiven axes spots tensor × (length cell₀ ≡ 4 ^ (axes - 1)) → masks ≡ 2 ^ axes → Turn cell₀ 0
-  turn-first given power = record {
+  pub turn_first : RunsGiven axes spots tensor × (length cell₀ ≡ 4 ^ (axes - 1)) → masks ≡ 2 ^ axes → Turn cell₀ 0
+  turn_first given power = record {
     given = given.0;
     power = power;
     exact = given.1;
@@ -132,19 +132,19 @@ module _ (cell₀ : List Float) (axes : ℕ) (spots : Spots) (tensor : List Floa
 
   module _ (cell : List Float) (run : ℕ) (turn : Turn cell run) (lt : run < masks / 4) where
     these : Counts axes (2 ^ axes) (2 ^ axes / 4) (4 ^ (axes - 1))
-    these = counts axes turn.given.two-axes turn.given.few-axes
+    these = counts axes turn.given.two_axes turn.given.few_axes
 
     below : run < 2 ^ axes / 4
     below = rw (← turn.power) lt
 
-    to-more : (run + 1) * masks ≡ run * masks + masks
-    to-more = omega (arith, add-mul run 1 masks)
+    to_more : (run + 1) * masks ≡ run * masks + masks
+    to_more = omega (arith, add-mul run 1 masks)
 
     in_all : run * masks + masks ≤ 4 ^ (axes - 1)
     in_all =
         omega (
           arith,
-          to-more,
+          to_more,
           these.all_runs,
           ap (λ (x : ℕ). 2 ^ axes / 4 * x) turn.power,
           mul-le-mul_right {m = run + 1} {n = 2 ^ axes / 4} masks (omega (arith, below)),
@@ -154,7 +154,7 @@ module _ (cell₀ : List Float) (axes : ℕ) (spots : Spots) (tensor : List Floa
     pub record Room : Type 0 where
       pub to : run * masks + masks ≤ length cell
       pub few : length cell ≤ 64
-      pub there : run-above spots run + 2 * masks ≤ length tensor
+      pub there : run_above spots run + 2 * masks ≤ length tensor
       pub small : length tensor ≤ 4096
 
     pub room : Room
@@ -172,48 +172,48 @@ module _ (cell₀ : List Float) (axes : ℕ) (spots : Spots) (tensor : List Floa
     part_length : length part ≡ masks
     part_length = rw add-sub_cancel_left (length-take-le masks (drop (run * masks) cell) (rw length-drop (omega (arith, room.to))))
 
-    pub run-given : RunGiven (length part) tensor (run-start spots run) (run-above spots run)
-    run-given = rw part_length (record {
-      fours = omega (arith, these.runs-of-four, turn.power);
-      lower-there = omega (arith, room.there);
-      upper-there = room.there;
+    pub run_given : RunGiven (length part) tensor (run_start spots run) (run_above spots run)
+    run_given = rw part_length (record {
+      fours = omega (arith, these.runs_of_four, turn.power);
+      lower_there = omega (arith, room.there);
+      upper_there = room.there;
       few = room.small;
     })
 
-    module _ (new : List Float) (is : RunBlended (length part) tensor (run-start spots run) (run-above spots run) w new) where
+    module _ (new : List Float) (is : RunBlended (length part) tensor (run_start spots run) (run_above spots run) w new) where
       abbrev later : List Float
       later = take (run * masks) cell ++ (new ++ drop (run * masks + masks - run * masks) (drop (run * masks) cell))
 
-      new-length : length new ≡ masks
-      new-length = is.same_length ∙ part_length
+      new_length : length new ≡ masks
+      new_length = is.same_length ∙ part_length
 
-      later-length : length later ≡ length cell
-      later-length = rw (add-sub_cancel_left (run * masks) masks) (replaced-length cell new (run * masks) masks room.to new-length)
+      later_length : length later ≡ length cell
+      later_length = rw (add-sub_cancel_left (run * masks) masks) (replaced_length cell new (run * masks) masks room.to new_length)
 
-      later-before : (e : ℕ) → e < run * masks → at later e ≡ at cell e
-      later-before e h =
-          rw (add-sub_cancel_left (run * masks) masks) (replaced-before cell new (run * masks) masks room.to new-length e h)
+      later_before : (e : ℕ) → e < run * masks → at later e ≡ at cell e
+      later_before e h =
+          rw (add-sub_cancel_left (run * masks) masks) (replaced_before cell new (run * masks) masks room.to new_length e h)
 
-      later-within : (k : ℕ) → k < masks → at later (run * masks + k) ≡ at new k
-      later-within k h =
-          rw (add-sub_cancel_left (run * masks) masks) (replaced-within cell new (run * masks) masks room.to new-length k h)
+      later_within : (k : ℕ) → k < masks → at later (run * masks + k) ≡ at new k
+      later_within k h =
+          rw (add-sub_cancel_left (run * masks) masks) (replaced_within cell new (run * masks) masks room.to new_length k h)
 
       earlier : (r k : ℕ) → r < run → k < masks → r * masks + k < run * masks
       earlier r k h l = omega (arith, add-mul r 1 masks, mul-le-mul_right {m = r + 1} {n = run} masks (omega arith))
 
-      done_next : (r k : ℕ) → r < run + 1 → k < masks → at later (r * masks + k) ≡ run-number r k
+      done_next : (r k : ℕ) → r < run + 1 → k < masks → at later (r * masks + k) ≡ run_number r k
       done_next r k h l =
           ⊎_elim
-          (λ e. rw e (later-within k l ∙ is.number k (omega (arith, part_length))))
-          (λ less. later-before (r * masks + k) (earlier r k less l) ∙ turn.done r k less l)
+          (λ e. rw e (later_within k l ∙ is.number k (omega (arith, part_length))))
+          (λ less. later_before (r * masks + k) (earlier r k less l) ∙ turn.done r k less l)
           (eq-or-lt_of_le (le_of_suc-le-suc (rw add-one at h)))
 
-      pub turn-next : Turn later (run + 1)
-      turn-next = record {
+      pub turn_next : Turn later (run + 1)
+      turn_next = record {
         given = turn.given;
         power = turn.power;
         exact = turn.exact;
-        same_length = later-length ∙ turn.same_length;
+        same_length = later_length ∙ turn.same_length;
         most = omega (arith, below);
         done = done_next;
       }
@@ -230,7 +230,7 @@ module _ (cell₀ : List Float) (axes : ℕ) (spots : Spots) (tensor : List Floa
 
 -- a cell of two axes or more, and where its numbers stand
 module _ (axes : ℕ) (n : ℕ → ℕ) (lower : Place) (tensor : List Float) (spots : Spots) (inside : CellAt axes n lower) (two : 2 ≤ axes)
-    (exact : length tensor ≡ product-below n axes * 2 ^ axes) (spotted : SpotsOf axes n lower spots) where
+    (exact : length tensor ≡ product_below n axes * 2 ^ axes) (spotted : SpotsOf axes n lower spots) where
   abbrev X : ℕ → Float
   X = numbers axes n tensor lower
 
@@ -242,42 +242,42 @@ module _ (axes : ℕ) (n : ℕ → ℕ) (lower : Place) (tensor : List Float) (s
   size = 4 ^ (axes - 1)
 
   powers : Counts axes masks (masks / 4) size
-  powers = counts axes two inside.few-axes
+  powers = counts axes two inside.few_axes
 
-  on-grid : (bits : ℕ) → OnGrid n axes (corner axes lower bits)
+  on_grid : (bits : ℕ) → OnGrid n axes (corner axes lower bits)
   unfolding corner
-  on-grid bits i h = omega (arith, inside.upper i h)
+  on_grid bits i h = omega (arith, inside.upper i h)
 
   -- there are two places from a corner with even bits on
-  two-places : (bits : ℕ) → bits % 2 ≡ 0 → flat n axes (corner axes lower bits) + 2 ≤ product-below n axes
-  two-places bits even =
+  two_places : (bits : ℕ) → bits % 2 ≡ 0 → flat n axes (corner axes lower bits) + 2 ≤ product_below n axes
+  two_places bits even =
       omega (
         arith,
-        side_by_side lower bits even n axes inside.some-axes,
-        flat-below n axes (corner axes lower (bits + 1)) (on-grid (bits + 1)),
+        side_by_side lower bits even n axes inside.some_axes,
+        flat_below n axes (corner axes lower (bits + 1)) (on_grid (bits + 1)),
       )
 
   within : (bits : ℕ) → bits % 2 ≡ 0 → flat n axes (corner axes lower bits) * masks + 2 * masks ≤ length tensor
   within bits even =
-      omega (arith, exact, add-mul (flat n axes (corner axes lower bits)) 2 masks, mul-le-mul_right masks (two-places bits even))
+      omega (arith, exact, add-mul (flat n axes (corner axes lower bits)) 2 masks, mul-le-mul_right masks (two_places bits even))
 
   module _ (run : ℕ) (lt : run < masks / 4) where
     -- the number of the run's first corner, and of that above it on the first axis
-    abbrev near-bits : ℕ
-    near-bits = 2 * run
+    abbrev near_bits : ℕ
+    near_bits = 2 * run
 
-    abbrev far-bits : ℕ
-    far-bits = 2 * run + masks / 2
+    abbrev far_bits : ℕ
+    far_bits = 2 * run + masks / 2
 
-    even-near : near-bits % 2 ≡ 0
-    even-near = omega arith
+    even_near : near_bits % 2 ≡ 0
+    even_near = omega arith
 
-    even-far : far-bits % 2 ≡ 0
-    even-far = omega (arith, powers.runs-of-four)
+    even_far : far_bits % 2 ≡ 0
+    even_far = omega (arith, powers.runs_of_four)
 
-    start_is : run-start spots run ≡ flat n axes (corner axes lower near-bits) * masks
+    start_is : run_start spots run ≡ flat n axes (corner axes lower near_bits) * masks
     start_is =
-        rw (spotted.first, spotted.next, spotted.last, run_at n lower run axes two inside.few-axes lt)
+        rw (spotted.first, spotted.next, spotted.last, run_at n lower run axes two inside.few_axes lt)
         (omega (
           arith,
           add-mul (flat n axes lower + run / 2 * stride n axes 1) (run % 2 * stride n axes (axes - 2)) masks,
@@ -286,59 +286,59 @@ module _ (axes : ℕ) (n : ℕ → ℕ) (lower : Place) (tensor : List Float) (s
           mul_assoc (run % 2) (stride n axes (axes - 2)) masks,
         ))
 
-    above-is : run-above spots run ≡ flat n axes (corner axes lower far-bits) * masks
-    above-is =
+    above_is : run_above spots run ≡ flat n axes (corner axes lower far_bits) * masks
+    above_is =
         ap₂ ◌+◌ start_is spotted.above
-        ∙ rw (corner-above n lower run axes two inside.few-axes lt)
-        (sym (add-mul (flat n axes (corner axes lower near-bits)) (stride n axes 0) masks))
+        ∙ rw (corner_above n lower run axes two inside.few_axes lt)
+        (sym (add-mul (flat n axes (corner axes lower near_bits)) (stride n axes 0) masks))
 
-    there : run-above spots run + 2 * masks ≤ length tensor
-    there = rw above-is (within far-bits even-far)
+    there : run_above spots run + 2 * masks ≤ length tensor
+    there = rw above_is (within far_bits even_far)
 
     -- where a number of the lower half of the cell stands, and one of the upper
-    lower-half : (k b : ℕ) → 2 * k + b < 2 * masks → X (2 * (run * masks + k) + b) ≡ at tensor (run-start spots run + 2 * k + b)
-    lower-half k b h =
-        let place : 2 * (run * masks + k) + b ≡ near-bits * masks + (2 * k + b) = omega (arith, mul_assoc 2 run masks) in
-        let spot : run-start spots run + 2 * k + b ≡ flat n axes (corner axes lower near-bits) * masks + (2 * k + b) =
+    lower_half : (k b : ℕ) → 2 * k + b < 2 * masks → X (2 * (run * masks + k) + b) ≡ at tensor (run_start spots run + 2 * k + b)
+    lower_half k b h =
+        let place : 2 * (run * masks + k) + b ≡ near_bits * masks + (2 * k + b) = omega (arith, mul_assoc 2 run masks) in
+        let spot : run_start spots run + 2 * k + b ≡ flat n axes (corner axes lower near_bits) * masks + (2 * k + b) =
         omega (arith, start_is) in
-        ap X place ∙ two-corners axes n tensor lower masks refl near-bits even-near inside.some-axes (2 * k + b) h
+        ap X place ∙ two_corners axes n tensor lower masks refl near_bits even_near inside.some_axes (2 * k + b) h
         ∙ ap (at tensor) (sym spot)
 
-    upper-half : (k b : ℕ) → 2 * k + b < 2 * masks → X (2 * size + 2 * (run * masks + k) + b) ≡ at tensor (run-above spots run + 2 * k + b)
-    upper-half k b h =
-        let half : masks / 2 ≡ 2 * (masks / 4) = omega (arith, powers.runs-of-four) in
+    upper_half : (k b : ℕ) → 2 * k + b < 2 * masks → X (2 * size + 2 * (run * masks + k) + b) ≡ at tensor (run_above spots run + 2 * k + b)
+    upper_half k b h =
+        let half : masks / 2 ≡ 2 * (masks / 4) = omega (arith, powers.runs_of_four) in
         let halves : masks / 2 * masks ≡ 2 * size = rw half (omega (arith, mul_assoc 2 (masks / 4) masks, powers.all_runs)) in
-        let place : 2 * size + 2 * (run * masks + k) + b ≡ far-bits * masks + (2 * k + b) =
+        let place : 2 * size + 2 * (run * masks + k) + b ≡ far_bits * masks + (2 * k + b) =
         omega (arith, mul_assoc 2 run masks, add-mul (2 * run) (masks / 2) masks, halves) in
-        let spot : run-above spots run + 2 * k + b ≡ flat n axes (corner axes lower far-bits) * masks + (2 * k + b) =
-        omega (arith, above-is) in
-        ap X place ∙ two-corners axes n tensor lower masks refl far-bits even-far inside.some-axes (2 * k + b) h
+        let spot : run_above spots run + 2 * k + b ≡ flat n axes (corner axes lower far_bits) * masks + (2 * k + b) =
+        omega (arith, above_is) in
+        ap X place ∙ two_corners axes n tensor lower masks refl far_bits even_far inside.some_axes (2 * k + b) h
         ∙ ap (at tensor) (sym spot)
 
     module _ (k : ℕ) (h : k < masks) where
-      lower-value : X (2 * (run * masks + k)) ≡ at tensor (run-start spots run + 2 * k)
-      lower-value =
+      lower_value : X (2 * (run * masks + k)) ≡ at tensor (run_start spots run + 2 * k)
+      lower_value =
           let place : 2 * (run * masks + k) ≡ 2 * (run * masks + k) + 0 = omega arith in
-          let spot : run-start spots run + 2 * k + 0 ≡ run-start spots run + 2 * k = omega arith in
-          ap X place ∙ lower-half k 0 (omega arith) ∙ ap (at tensor) spot
+          let spot : run_start spots run + 2 * k + 0 ≡ run_start spots run + 2 * k = omega arith in
+          ap X place ∙ lower_half k 0 (omega arith) ∙ ap (at tensor) spot
 
-      upper-value : X (2 * size + 2 * (run * masks + k)) ≡ at tensor (run-above spots run + 2 * k)
-      upper-value =
+      upper_value : X (2 * size + 2 * (run * masks + k)) ≡ at tensor (run_above spots run + 2 * k)
+      upper_value =
           let place : 2 * size + 2 * (run * masks + k) ≡ 2 * size + 2 * (run * masks + k) + 0 = omega arith in
-          let spot : run-above spots run + 2 * k + 0 ≡ run-above spots run + 2 * k = omega arith in
-          ap X place ∙ upper-half k 0 (omega arith) ∙ ap (at tensor) spot
+          let spot : run_above spots run + 2 * k + 0 ≡ run_above spots run + 2 * k = omega arith in
+          ap X place ∙ upper_half k 0 (omega arith) ∙ ap (at tensor) spot
 
       run_is : (w : Weights)
-          → weighted-at w (at tensor) (run-start spots run + 2 * k) (run-above spots run + 2 * k)
-          ≡ weighted-at w X (2 * (run * masks + k)) (2 * size + 2 * (run * masks + k))
-      run_is w = cc (lower-value, lower-half k 1 (omega arith), upper-value, upper-half k 1 (omega arith))
+          → weighted_at w (at tensor) (run_start spots run + 2 * k) (run_above spots run + 2 * k)
+          ≡ weighted_at w X (2 * (run * masks + k)) (2 * size + 2 * (run * masks + k))
+      run_is w = cc (lower_value, lower_half k 1 (omega arith), upper_value, upper_half k 1 (omega arith))
 
-  pub runs-given : RunsGiven axes spots tensor
-  runs-given = record { two-axes = two; few-axes = inside.few-axes; there = there; few = omega (arith, exact, inside.small) }
+  pub runs_given : RunsGiven axes spots tensor
+  runs_given = record { two_axes = two; few_axes = inside.few_axes; there = there; few = omega (arith, exact, inside.small) }
 
   -- without the first axis the cell is what the runs leave
-  left-of-cell : (w : Weights) (left : List Float) → RunsRemoved axes spots tensor w left → Smaller w size X left
-  left-of-cell w left removed e h =
+  left_of_cell : (w : Weights) (left : List Float) → RunsRemoved axes spots tensor w left → Smaller w size X left
+  left_of_cell w left removed e h =
       let some : 0 < masks = pow_pos axes in
       let split : e / masks * masks + e % masks ≡ e = div-add-mod' e masks in
       let part : e % masks < masks = mod-lt e some in
@@ -346,43 +346,43 @@ module _ (axes : ℕ) (n : ℕ → ℕ) (lower : Place) (tensor : List Float) (s
       ap (at left) (sym split)
       ∙ removed.number (e / masks) (e % masks) run part
       ∙ run_is (e / masks) run (e % masks) part w
-      ∙ ap (λ (x : ℕ). weighted-at w X (2 * x) (2 * size + 2 * x)) split
+      ∙ ap (λ (x : ℕ). weighted_at w X (2 * x) (2 * size + 2 * x)) split
 
   -- so it is where they stand in the front of a longer list
-  pub first-removed :
+  pub first_removed :
       (w : Weights) (cell left : List Float) → size ≤ length cell → RunsRemoved axes spots tensor w left
       → Smaller w size X (take 0 cell ++ (left ++ drop size (drop 0 cell)))
-  first-removed w cell left room removed e h =
+  first_removed w cell left room removed e h =
       let from : 0 + e ≡ e = omega arith in
       ap (at (take 0 cell ++ (left ++ drop size (drop 0 cell)))) (sym from)
-      ∙ replaced-within cell left 0 size (omega arith) removed.exact e h
-      ∙ left-of-cell w left removed e h
+      ∙ replaced_within cell left 0 size (omega arith) removed.exact e h
+      ∙ left_of_cell w left removed e h
 
 -- two axes have one run, of four numbers
 module _ (spots : Spots) (tensor : List Float) where
-  pub one-run-given : RunsGiven 2 spots tensor → RunGiven 4 tensor spots.first (spots.first + spots.above)
-  one-run-given given =
+  pub one_run_given : RunsGiven 2 spots tensor → RunGiven 4 tensor spots.first (spots.first + spots.above)
+  one_run_given given =
       let there = given.there 0 (omega arith) in
-      record { fours = refl; lower-there = omega arith; upper-there = omega arith; few = given.few }
+      record { fours = refl; lower_there = omega arith; upper_there = omega arith; few = given.few }
 
   module _ (w : Weights) (left : List Float) (is : RunBlended 4 tensor spots.first (spots.first + spots.above) w left) where
-    run-number-is :
+    run_number_is :
         (run k : ℕ) → run < 1 → k < 4
-        → at left (run * 4 + k) ≡ weighted-at w (at tensor) (run-start spots run + 2 * k) (run-above spots run + 2 * k)
-    run-number-is (suc run) k h l = absurd (omega arith)
-    run-number-is zero k h l =
+        → at left (run * 4 + k) ≡ weighted_at w (at tensor) (run_start spots run + 2 * k) (run_above spots run + 2 * k)
+    run_number_is (suc run) k h l = absurd (omega arith)
+    run_number_is zero k h l =
         let from : 0 * 4 + k ≡ k = omega arith in
-        ap (at left) from ∙ is.number k l ∙ ap₂ (weighted-at w (at tensor)) (omega arith) (omega arith)
+        ap (at left) from ∙ is.number k l ∙ ap₂ (weighted_at w (at tensor)) (omega arith) (omega arith)
 
-    pub one-run : RunsRemoved 2 spots tensor w left
-    one-run = record { exact = is.same_length; number = run-number-is }
+    pub one_run : RunsRemoved 2 spots tensor w left
+    one_run = record { exact = is.same_length; number = run_number_is }
 
 -- one axis: its four numbers stand side by side
-pub only-removed :
+pub only_removed :
     (n : ℕ → ℕ) (tensor : List Float) (lower : Place) (w : Weights) (cell : List Float) → 0 < length cell
-    → Smaller w 1 (numbers 1 n tensor lower) (set cell 0 (weighted-at w (at tensor) (2 * lower 0) (2 * lower 0 + 2)))
+    → Smaller w 1 (numbers 1 n tensor lower) (set cell 0 (weighted_at w (at tensor) (2 * lower 0) (2 * lower 0 + 2)))
 unfolding flat corner
-only-removed n tensor lower w cell room e h =
+only_removed n tensor lower w cell room e h =
     let X : ℕ → Float = numbers 1 n tensor lower in
     let p0 : at tensor (2 * lower 0) ≡ X 0 = ap (at tensor) (omega arith) in
     let m0 : at tensor (2 * lower 0 + 1) ≡ X 1 = ap (at tensor) (omega arith) in
@@ -390,21 +390,21 @@ only-removed n tensor lower w cell room e h =
     let m1 : at tensor (2 * lower 0 + 2 + 1) ≡ X 3 = ap (at tensor) (omega arith) in
     let none : e ≡ 0 = omega arith in
     rw none
-    (get_or-set_same cell 0 (weighted-at w (at tensor) (2 * lower 0) (2 * lower 0 + 2)) nan room ∙ rw (p0, m0, p1, m1) refl)
+    (get_or-set_same cell 0 (weighted_at w (at tensor) (2 * lower 0) (2 * lower 0 + 2)) nan room ∙ rw (p0, m0, p1, m1) refl)
 
-pub one-within :
+pub one_within :
     (axes : ℕ) (n : ℕ → ℕ) (lower : Place) (tensor : List Float) → axes ≡ 1 → CellAt axes n lower
-    → length tensor ≡ product-below n axes * 2 ^ axes
+    → length tensor ≡ product_below n axes * 2 ^ axes
     → (2 * lower 0 + 4 ≤ length tensor) × (length tensor ≤ 4096)
-unfolding product-below
-one-within axes n lower tensor one inside exact =
+unfolding product_below
+one_within axes n lower tensor one inside exact =
     let upper : lower 0 + 1 < n 0 = inside.upper 0 (omega arith) in
     let all : length tensor ≡ 1 * n 0 * 2 = exact ∙ rw one refl in
     (omega arith, omega (arith, inside.small, exact))
 
 -- neither one, nor two, nor three
-pub four-axes : (axes : ℕ) (n : ℕ → ℕ) (lower : Place) → CellAt axes n lower → axes ≢ 1 → axes ≢ 2 → axes ≢ 3 → axes ≡ 4
-four-axes axes n lower inside one two three = omega (arith, inside.some-axes, inside.few-axes)
+pub four_axes : (axes : ℕ) (n : ℕ → ℕ) (lower : Place) → CellAt axes n lower → axes ≢ 1 → axes ≢ 2 → axes ≢ 3 → axes ≡ 4
+four_axes axes n lower inside one two three = omega (arith, inside.some_axes, inside.few_axes)
 
 -- ---- the lowest of the axes that are left
 
@@ -422,31 +422,31 @@ in_place axes (suc (suc (suc zero))) half some few most other is =
 in_place axes (suc (suc (suc (suc left)))) half some few most other is = absurd (other (omega arith))
 
 module _ (axes left : ℕ) (points lower : List ℕ) (tensor : List Float) (w : Weights) (cell later : List Float) where
-  pub removed-first : left ≡ axes → FirstRemoved axes points lower tensor w later → Removed axes left points lower tensor w cell later
-  removed-first same removed = record { first = λ all. removed; further = λ other. absurd (other same) }
+  pub removed_first : left ≡ axes → FirstRemoved axes points lower tensor w later → Removed axes left points lower tensor w cell later
+  removed_first same removed = record { first = λ all. removed; further = λ other. absurd (other same) }
 
   -- one axis in all is the one that is left
-  pub removed-only :
+  pub removed_only :
       axes ≡ 1 → 1 ≤ left → left ≤ axes → FirstRemoved 1 points lower tensor w later → Removed axes left points lower tensor w cell later
-  removed-only one some few removed = removed-first (omega arith) (rw one removed)
+  removed_only one some few removed = removed_first (omega arith) (rw one removed)
 
-  pub removed-further :
+  pub removed_further :
       (half : ℕ) → left ≢ axes → half ≡ 2 ^ (left - 1) → Blended cell later (half * half) w
       → Removed axes left points lower tensor w cell later
-  removed-further half other is removed =
-      let size : half * half ≡ 4 ^ (left - 1) = rw is (sym (four-power (left - 1))) in
+  removed_further half other is removed =
+      let size : half * half ≡ 4 ^ (left - 1) = rw is (sym (four_power (left - 1))) in
       record { first = λ all. absurd (other all); further = λ fewer. rw size at removed.smaller }
 
 -- ---- the last of two
 
-last-smaller :
-    (w : Weights) (cell : List Float) (r : Float) → r ≡ weighted-at w (at cell) 0 2 → 0 < length cell → Smaller w 1 (at cell) (set cell 0 r)
-last-smaller w cell r is room e h = let none : e ≡ 0 = omega arith in rw none (get_or-set_same cell 0 r nan room ∙ is)
+last_smaller :
+    (w : Weights) (cell : List Float) (r : Float) → r ≡ weighted_at w (at cell) 0 2 → 0 < length cell → Smaller w 1 (at cell) (set cell 0 r)
+last_smaller w cell r is room e h = let none : e ≡ 0 = omega arith in rw none (get_or-set_same cell 0 r nan room ∙ is)
 
 -- of two axes the second is removed in the cell, and one number is left
-pub removed-last :
+pub removed_last :
     (left : ℕ) (points lower : List ℕ) (tensor : List Float) (w : Weights) (cell : List Float) (r : Float) → left ≢ 2 → 1 ≤ left → left ≤ 2
-    → r ≡ weighted-at w (at cell) 0 2 → 0 < length cell → Removed 2 left points lower tensor w cell (set cell 0 r)
-removed-last left points lower tensor w cell r other some few is room =
+    → r ≡ weighted_at w (at cell) 0 2 → 0 < length cell → Removed 2 left points lower tensor w cell (set cell 0 r)
+removed_last left points lower tensor w cell r other some few is room =
     let one : left ≡ 1 = omega arith in
-    record { first = λ all. absurd (other all); further = λ fewer. rw one (last-smaller w cell r is room) }
+    record { first = λ all. absurd (other all); further = λ fewer. rw one (last_smaller w cell r is room) }

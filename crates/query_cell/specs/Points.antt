@@ -2,18 +2,18 @@
 -- say for a grid with these points.
 use Rattle.std.specs.Prelude.{◌≡◌, ◌≢◌, List, ℕ, ◌+◌, ◌-◌, ◌*◌, ◌/◌, ◌%◌, ◌^◌, ◌<◌, ◌≤◌, length, Float}
 use Rattle.rules.specs.Numbers.{at}
-use Rattle.rules.specs.Sizes.{most-axes, most-in-a-tensor, product-below, flat, Place, place_of}
+use Rattle.rules.specs.Sizes.{most_axes, most_in_a_tensor, product_below, flat, Place, place_of}
 use Rattle.rules.specs.Query.{corner, blend}
 use Rattle.grid.specs.Strides.{stride}
-use Rattle.query_blend.specs.Blend.{weighted-at, WeightsOn, Smaller}
+use Rattle.query_blend.specs.Blend.{weighted_at, WeightsOn, Smaller}
 use Rattle.query_blend.specs.declared.Weights.{Weights}
 use Rattle.query_cell.specs.declared.Spots.{Spots}
 
 -- a cell by its lower indices: the upper ones are on the grid too
 pub record CellAt (axes : ℕ) (n : ℕ → ℕ) (lower : Place) : Type 0 where
-  pub some-axes : 1 ≤ axes
-  pub few-axes : axes ≤ most-axes
-  pub small : product-below n axes * 2 ^ axes ≤ most-in-a-tensor
+  pub some_axes : 1 ≤ axes
+  pub few_axes : axes ≤ most_axes
+  pub small : product_below n axes * 2 ^ axes ≤ most_in_a_tensor
   pub upper : (i : ℕ) → i < axes → lower i + 1 < n i
 
 module _ (axes : ℕ) (n : ℕ → ℕ) where
@@ -36,26 +36,26 @@ module _ (axes : ℕ) (n : ℕ → ℕ) where
 -- ---- the runs of a cell without its first axis, of two axes or more
 
 -- where a run begins: the runs differ on axis 1 and on the last but one
-abbrev pub run-start : Spots → ℕ → ℕ
-run-start spots run = spots.first + run / 2 * spots.next + run % 2 * spots.last
+abbrev pub run_start : Spots → ℕ → ℕ
+run_start spots run = spots.first + run / 2 * spots.next + run % 2 * spots.last
 
 -- where the numbers above it on the first axis begin
-abbrev pub run-above : Spots → ℕ → ℕ
-run-above spots run = run-start spots run + spots.above
+abbrev pub run_above : Spots → ℕ → ℕ
+run_above spots run = run_start spots run + spots.above
 
 module _ (axes : ℕ) (spots : Spots) where
   -- they are all in the tensor
   pub record RunsGiven (tensor : List Float) : Type 0 where
-    pub two-axes : 2 ≤ axes
-    pub few-axes : axes ≤ most-axes
-    pub there : (run : ℕ) → run < 2 ^ axes / 4 → run-above spots run + 2 * 2 ^ axes ≤ length tensor
-    pub few : length tensor ≤ most-in-a-tensor
+    pub two_axes : 2 ≤ axes
+    pub few_axes : axes ≤ most_axes
+    pub there : (run : ℕ) → run < 2 ^ axes / 4 → run_above spots run + 2 * 2 ^ axes ≤ length tensor
+    pub few : length tensor ≤ most_in_a_tensor
 
   -- they are blended by the weights of the first axis, one after the other
   pub record RunsRemoved (tensor : List Float) (w : Weights) (left : List Float) : Type 0 where
     pub exact : length left ≡ 4 ^ (axes - 1)
     pub number : (run k : ℕ) → run < 2 ^ axes / 4 → k < 2 ^ axes
-        → at left (run * 2 ^ axes + k) ≡ weighted-at w (at tensor) (run-start spots run + 2 * k) (run-above spots run + 2 * k)
+        → at left (run * 2 ^ axes + k) ≡ weighted_at w (at tensor) (run_start spots run + 2 * k) (run_above spots run + 2 * k)
 
 -- ---- one axis fewer, and the blend of what is left
 
@@ -65,7 +65,7 @@ module _ (axes : ℕ) (points lower : List ℕ) (tensor : List Float) where
   CellGiven =
       CellAt axes (place_of points) (place_of lower)
       × ((length points ≡ 4) × (length lower ≡ 4))
-      × (length tensor ≡ product-below (place_of points) axes * 2 ^ axes)
+      × (length tensor ≡ product_below (place_of points) axes * 2 ^ axes)
 
   -- of all axes the first is removed by its weights
   abbrev pub FirstRemoved : Weights → List Float → Type 0

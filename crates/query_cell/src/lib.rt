@@ -4,8 +4,8 @@
 // the other, four to an axis.
 ghost use Rattle.std.specs.Prelude.{◌≡◌, ◌≢◌, ℕ, ◌+◌, ◌-◌, ◌*◌, ◌^◌, ◌≤◌, length, set, Float};
 ghost use Rattle.rules.specs.Numbers.{at};
-ghost use Rattle.rules.specs.Sizes.{place_of, product-below};
-ghost use Rattle.query_blend.specs.Blend.{weighted-at, WeightsOn};
+ghost use Rattle.rules.specs.Sizes.{place_of, product_below};
+ghost use Rattle.query_blend.specs.Blend.{weighted_at, WeightsOn};
 ghost use Rattle.query_cell.specs.Points.{CellAt, CellGiven, RunsGiven, RunsRemoved, FirstRemoved, Removed, BlendedOn, blended};
 
 use query_blend::Weights;
@@ -45,7 +45,7 @@ fn remove_runs(cell: &mut [f64], axes: usize, spots: Spots, weights: Weights, te
 // The only axis: its four numbers stand side by side, and one is left.
 fn first_of_one(cell: &mut [f64], first: usize, weights: Weights, tensor: &[f64])
     requires { (length cell.old ≡ 64) × (first + 4 ≤ length tensor.now) × (length tensor.now ≤ 4096) }
-    ensures { cell.new ≡ set cell.old 0 (weighted-at weights (at tensor.now) first (first + 2)) }
+    ensures { cell.new ≡ set cell.old 0 (weighted_at weights (at tensor.now) first (first + 2)) }
 {
     cell[0] = query_blend::one_blended(tensor, first, first + 2, weights);
 }
@@ -202,7 +202,7 @@ fn blend(
 pub fn value(axes: usize, points: &[usize], lower: &[usize], weights: &[f64], tensor: &[f64]) -> f64
     requires { CellAt axes (place_of points.now) (place_of lower.now) × (axes ≢ 2)
         × ((length points.now ≡ 4) × (length lower.now ≡ 4) × (length weights.now ≡ 16))
-        × (length tensor.now ≡ product-below (place_of points.now) axes * 2 ^ axes) }
+        × (length tensor.now ≡ product_below (place_of points.now) axes * 2 ^ axes) }
     ensures { (widths ts : ℕ → Float) → WeightsOn axes 0 widths ts weights.now
         → result ≡ blended axes (place_of points.now) (place_of lower.now) widths ts tensor.now }
 {
@@ -260,7 +260,7 @@ fn blend_on_two(
 pub fn value_on_two(points: &[usize], lower: &[usize], weights: &[f64], tensor: &[f64]) -> f64
     requires { CellAt 2 (place_of points.now) (place_of lower.now)
         × ((length points.now ≡ 4) × (length lower.now ≡ 4) × (length weights.now ≡ 16))
-        × (length tensor.now ≡ product-below (place_of points.now) 2 * 2 ^ 2) }
+        × (length tensor.now ≡ product_below (place_of points.now) 2 * 2 ^ 2) }
     ensures { (widths ts : ℕ → Float) → WeightsOn 2 0 widths ts weights.now
         → result ≡ blended 2 (place_of points.now) (place_of lower.now) widths ts tensor.now }
 {

@@ -7,9 +7,9 @@ use Rattle.rules.specs.declared.QueryAnswer.{QueryAnswer}
 use Rattle.rules.proofs.Unique.{same}
 use Rattle.query_direct.specs.DirectCalls.{DirectQueryPromise}
 
-pub direct-query-unique :
-    (g : Grid) (tensor-lent coordinates : List Float) (a a' : QueryAnswer)
-    → DirectQueryPromise g tensor-lent coordinates a
-    → DirectQueryPromise g tensor-lent coordinates a'
+pub direct_query_unique :
+    (g : Grid) (tensor_lent coordinates : List Float) (a a' : QueryAnswer)
+    → DirectQueryPromise g tensor_lent coordinates a
+    → DirectQueryPromise g tensor_lent coordinates a'
     → a ≡ a'
-direct-query-unique g tensor-lent coordinates a a' p q = same p.answer q.answer
+direct_query_unique g tensor_lent coordinates a a' p q = same p.answer q.answer

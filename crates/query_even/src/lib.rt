@@ -1,9 +1,9 @@
 // The query of a tensor on even axes: a point located by one division on each axis, and the blend of the cell that is found.
 ghost use Rattle.std.specs.Prelude.{◌≡◌};
-ghost use Rattle.rules.specs.EvenCalls.{nothing-told, EvenQueryPromise};
+ghost use Rattle.rules.specs.EvenCalls.{nothing_told, EvenQueryPromise};
 ghost use Rattle.grid.specs.GridOfCall.{grid};
 ghost use Rattle.query_answer.specs.PointsAndModes.{QueryFits, OfAnyAxes};
-ghost use Rattle.query_even.specs.Lacking.{refused-uneven};
+ghost use Rattle.query_even.specs.Lacking.{refused_uneven};
 
 use crate::qualities::Quality;
 use query_answer::ways::Way;
@@ -14,7 +14,7 @@ pub mod qualities; // qualities.rt: what the knots must be, and where they are n
 
 // What a query answers, with axis and interval 0.
 fn nothing_told(answer: QueryAnswer) -> EvenAnswer
-    ensures { result ≡ nothing-told answer }
+    ensures { result ≡ nothing_told answer }
 {
     let labels = answer.labels;
     EvenAnswer {
@@ -28,7 +28,7 @@ fn nothing_told(answer: QueryAnswer) -> EvenAnswer
 
 // 21, with the axis that is not even and its interval.
 fn refused_uneven(axis: usize, interval: usize) -> EvenAnswer
-    ensures { result ≡ refused-uneven axis interval }
+    ensures { result ≡ refused_uneven axis interval }
 {
     EvenAnswer {
         refusal: 21,

@@ -2,8 +2,8 @@
 // time.
 ghost use Rattle.std.specs.Prelude.{◌≡◌, false, ◌≤◌, length};
 ghost use Rattle.rules.specs.Sizes.{place_of, sum_below};
-ghost use Rattle.rules.specs.Refusals.{knots-refused};
-ghost use Rattle.rules.specs.Even.{first-failing};
+ghost use Rattle.rules.specs.Refusals.{knots_refused};
+ghost use Rattle.rules.specs.Even.{first_failing};
 ghost use Rattle.grid.specs.GridOfCall.{InRange};
 ghost use Rattle.query_even.specs.Lacking.{PassAmong};
 
@@ -12,8 +12,8 @@ ghost use Rattle.query_even.specs.Lacking.{PassAmong};
 fn axis_may_be_refused(knots: &[f64]) -> bool
     requires { 2 ≤ length knots.now }
     ensures { result ≡ false
-        → (knots-refused knots.now (length knots.now) ≡ false)
-        × (first-failing knots.now (length knots.now) ≡ 0) }
+        → (knots_refused knots.now (length knots.now) ≡ false)
+        × (first_failing knots.now (length knots.now) ≡ 0) }
 {
     let last = knots.len() - 1;
     let step = knots[1] - knots[0];

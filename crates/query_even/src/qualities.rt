@@ -2,7 +2,7 @@
 ghost use Rattle.std.specs.Prelude.{◌≡◌, ◌≤◌, length};
 ghost use Rattle.rules.specs.Sizes.{place_of, sum_below};
 ghost use Rattle.grid.specs.GridOfCall.{InRange};
-ghost use Rattle.query_even.specs.Qualities.{lacks, first-lack};
+ghost use Rattle.query_even.specs.Qualities.{lacks, first_lack};
 ghost use Rattle.query_even.specs.Lacking.{LackAmong};
 ghost use Rattle.query_even.specs.declared.qualities.Quality.TheVariants.{Finite, Rising};
 
@@ -26,7 +26,7 @@ pub struct Lack {
 
 // The first knot that is infinite or NaN, and 0 where none is.
 fn first_not_finite(knots: &[f64]) -> usize
-    ensures { result ≡ first-lack Finite knots.now (length knots.now) }
+    ensures { result ≡ first_lack Finite knots.now (length knots.now) }
 {
     let mut i = 0;
     while i < knots.len() {
@@ -40,7 +40,7 @@ fn first_not_finite(knots: &[f64]) -> usize
 
 // The first knot from which the step to the next is refused, and 0 where none is.
 fn first_step_refused(knots: &[f64]) -> usize
-    ensures { result ≡ first-lack Rising knots.now (length knots.now) }
+    ensures { result ≡ first_lack Rising knots.now (length knots.now) }
 {
     let mut i = 0;
     while i + 1 < knots.len() {
@@ -67,7 +67,7 @@ fn lacks(quality: Quality, knots: &[f64]) -> bool
 // By which of them it does first, and 0 where it does not. Not a public call: two points or more are required.
 fn first_lack(quality: Quality, knots: &[f64]) -> usize
     requires { 2 ≤ length knots.now }
-    ensures { result ≡ first-lack quality knots.now (length knots.now) }
+    ensures { result ≡ first_lack quality knots.now (length knots.now) }
 {
     match quality {
         Quality::Finite => first_not_finite(knots),

@@ -5,20 +5,20 @@ use mathlib.Core.List.{List}
 use Prim.Native.Nat.{ℕ}
 use lib.Ieee.{Float}
 use Rattle.rules.specs.Sizes.{Grid}
-use Rattle.many_points.proofs.Unique.{same-answers}
+use Rattle.many_points.proofs.Unique.{same_answers}
 use Rattle.query_many.specs.ManyCalls.{QuickQueriesPromise, DirectQueriesPromise}
 
-module _ (g : Grid) (tensor-lent coordinates values-lent : List Float) (labels-lent refusals-lent : List ℕ) where
-  pub quick-queries-unique :
+module _ (g : Grid) (tensor_lent coordinates values_lent : List Float) (labels_lent refusals_lent : List ℕ) where
+  pub quick_queries_unique :
       (r r' : ℕ) (v v' : List Float) (l l' f f' : List ℕ)
-      → QuickQueriesPromise g tensor-lent coordinates values-lent labels-lent refusals-lent r v l f
-      → QuickQueriesPromise g tensor-lent coordinates values-lent labels-lent refusals-lent r' v' l' f'
+      → QuickQueriesPromise g tensor_lent coordinates values_lent labels_lent refusals_lent r v l f
+      → QuickQueriesPromise g tensor_lent coordinates values_lent labels_lent refusals_lent r' v' l' f'
       → (r ≡ r') × (v ≡ v') × (l ≡ l') × (f ≡ f')
-  quick-queries-unique = same-answers _ _ values-lent labels-lent refusals-lent
+  quick_queries_unique = same_answers _ _ values_lent labels_lent refusals_lent
 
-  pub direct-queries-unique :
+  pub direct_queries_unique :
       (r r' : ℕ) (v v' : List Float) (l l' f f' : List ℕ)
-      → DirectQueriesPromise g tensor-lent coordinates values-lent labels-lent refusals-lent r v l f
-      → DirectQueriesPromise g tensor-lent coordinates values-lent labels-lent refusals-lent r' v' l' f'
+      → DirectQueriesPromise g tensor_lent coordinates values_lent labels_lent refusals_lent r v l f
+      → DirectQueriesPromise g tensor_lent coordinates values_lent labels_lent refusals_lent r' v' l' f'
       → (r ≡ r') × (v ≡ v') × (l ≡ l') × (f ≡ f')
-  direct-queries-unique = same-answers _ _ values-lent labels-lent refusals-lent
+  direct_queries_unique = same_answers _ _ values_lent labels_lent refusals_lent

@@ -4,8 +4,8 @@ ghost use Rattle.std.specs.Prelude.{◌≡◌, ◌≤◌, length, cond};
 ghost use Rattle.rules.specs.Sizes.{place_of};
 ghost use Rattle.rules.specs.Calls.{or_else};
 ghost use Rattle.grid.specs.GridOfCall.{grid};
-ghost use Rattle.grid_checks.specs.Check.{query-sizes-check};
-ghost use Rattle.many_points.specs.ManyPoints.{points-lengths-refused};
+ghost use Rattle.grid_checks.specs.Check.{query_sizes_check};
+ghost use Rattle.many_points.specs.ManyPoints.{points_lengths_refused};
 ghost use Rattle.query_many.specs.ManyCalls.{QuickQueriesPromise, DirectQueriesPromise};
 
 use many_points::lengths;
@@ -26,8 +26,8 @@ fn queries_refusal(
     count: usize,
 ) -> usize
     requires { length points.now ≡ 4 }
-    ensures { result ≡ or_else (query-sizes-check axes (place_of points.now) knots tensor axes)
-        (cond (points-lengths-refused axes coordinates values labels count) 4 0) }
+    ensures { result ≡ or_else (query_sizes_check axes (place_of points.now) knots tensor axes)
+        (cond (points_lengths_refused axes coordinates values labels count) 4 0) }
 {
     let refusal = grid_checks::query_sizes_refusal(axes, points, knots, tensor, axes);
     if refusal != 0 {

@@ -10,42 +10,42 @@ use Rattle.query_measured.specs.Weights.{h00, h10, h01, h11}
 pub record LowerAlone (t : Float) : Type 0 where
   pub value : h00 t ≡ one
   pub slope : Zero (h10 t)
-  pub other-value : Zero (h01 t)
-  pub other-slope : Zero (h11 t)
+  pub other_value : Zero (h01 t)
+  pub other_slope : Zero (h11 t)
 
 -- the value at the upper knot counts
 pub record UpperAlone (t : Float) : Type 0 where
-  pub other-value : Zero (h00 t)
-  pub other-slope : Zero (h10 t)
+  pub other_value : Zero (h00 t)
+  pub other_slope : Zero (h10 t)
   pub value : h01 t ≡ one
   pub slope : Zero (h11 t)
 
-signed-zero : (s : Bool) → LowerAlone (fin s 0 (pos 0))
+signed_zero : (s : Bool) → LowerAlone (fin s 0 (pos 0))
 unfolding h00 h10 h01 h11 of_bits neg add sub mul
-signed-zero false = record {
+signed_zero false = record {
   value = refl;
   slope = record { sign = false; is = refl };
-  other-value = record { sign = false; is = refl };
-  other-slope = record { sign = false; is = refl };
+  other_value = record { sign = false; is = refl };
+  other_slope = record { sign = false; is = refl };
 }
-signed-zero true = record {
+signed_zero true = record {
   value = refl;
   slope = record { sign = true; is = refl };
-  other-value = record { sign = false; is = refl };
-  other-slope = record { sign = true; is = refl };
+  other_value = record { sign = false; is = refl };
+  other_slope = record { sign = true; is = refl };
 }
 
 pub at_zero : (t : Float) → Zero t → LowerAlone t
-at_zero t z = subst LowerAlone (sym z.is) (signed-zero z.sign)
+at_zero t z = subst LowerAlone (sym z.is) (signed_zero z.sign)
 
-exactly-one : UpperAlone one
+exactly_one : UpperAlone one
 unfolding h00 h10 h01 h11 of_bits neg add sub mul
-exactly-one = record {
-  other-value = record { sign = false; is = refl };
-  other-slope = record { sign = false; is = refl };
+exactly_one = record {
+  other_value = record { sign = false; is = refl };
+  other_slope = record { sign = false; is = refl };
   value = refl;
   slope = record { sign = false; is = refl };
 }
 
 pub at_one : (t : Float) → t ≡ one → UpperAlone t
-at_one t e = subst UpperAlone (sym e) exactly-one
+at_one t e = subst UpperAlone (sym e) exactly_one

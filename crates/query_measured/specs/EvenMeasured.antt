@@ -4,14 +4,14 @@ use Rattle.std.specs.Float.Ieee.{eq}
 use Rattle.std.specs.Float.Ieee.Scale.{finite}
 use Rattle.rules.specs.Numbers.{◌⊖◌, at}
 use Rattle.rules.specs.Sizes.{Grid, points, knots, Place, spot}
-use Rattle.rules.specs.Even.{some-uneven-refused}
+use Rattle.rules.specs.Even.{some_uneven_refused}
 use Rattle.rules.specs.EvenCalls.{EvenQueryPromise}
 use Rattle.rules.specs.declared.EvenAnswer.{EvenAnswer}
 use Rattle.query_measured.specs.Measured.{Surface, AtPlace}
 
 -- every axis is even, and its last knot less its first is finite
 pub record EvenGrid (g : Grid) : Type 0 where
-  pub even : some-uneven-refused g ≡ false
+  pub even : some_uneven_refused g ≡ false
   pub wide : (i : ℕ) → i < g.axes → finite (at (knots g i) (points g i - 1) ⊖ at (knots g i) 0) ≡ true
 
 -- the answer that reads a number at a place: no refusal, the number, −0.0 and +0.0 alike, as label a cell that the knot is an end of,
@@ -19,9 +19,9 @@ pub record EvenGrid (g : Grid) : Type 0 where
 pub record EvenReads (g : Grid) (place : Place) (number : Float) (given : EvenAnswer) : Type 0 where
   pub accepted : given.refusal ≡ 0
   pub value : eq given.value number ≡ true
-  pub label-from : (i : ℕ) → i < g.axes → get_or given.labels i 0 ≤ place i
-  pub label-to : (i : ℕ) → i < g.axes → place i ≤ get_or given.labels i 0 + 1
-  pub label-cell : (i : ℕ) → i < g.axes → get_or given.labels i 0 + 1 < points g i
+  pub label_from : (i : ℕ) → i < g.axes → get_or given.labels i 0 ≤ place i
+  pub label_to : (i : ℕ) → i < g.axes → place i ≤ get_or given.labels i 0 + 1
+  pub label_cell : (i : ℕ) → i < g.axes → get_or given.labels i 0 + 1 < points g i
   pub axis : given.axis ≡ 0
   pub interval : given.interval ≡ 0
 

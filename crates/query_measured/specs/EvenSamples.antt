@@ -6,7 +6,7 @@ use Rattle.rules.specs.Calls.{BuildPromise}
 use Rattle.rules.specs.EvenCalls.{EvenQueryPromise}
 use Rattle.rules.specs.declared.EvenAnswer.{EvenAnswer}
 use Rattle.base_floats.specs.Place.{AllFit}
-use Rattle.tensor.specs.Changes.{OneChange, Kept, tensor-after, samples-after}
+use Rattle.tensor.specs.Changes.{OneChange, Kept, tensor_after, samples_after}
 use Rattle.query_measured.specs.Measured.{AtPlace}
 use Rattle.query_measured.specs.EvenMeasured.{EvenGrid, EvenReads}
 
@@ -14,10 +14,10 @@ use Rattle.query_measured.specs.EvenMeasured.{EvenGrid, EvenReads}
 abbrev pub EvenReadsSamples : Grid → List Float → List Float → Type 0
 EvenReadsSamples g samples t =
     (changes : List OneChange) → Kept g t changes
-    → AllFit g.flat-knots → AllFit (tensor-after t changes) → EvenGrid g
+    → AllFit g.flat_knots → AllFit (tensor_after t changes) → EvenGrid g
     → (coordinates : List Float) (place : Place) (given : EvenAnswer) → AtPlace g place coordinates
-    → EvenQueryPromise g (tensor-after t changes) coordinates given
-    → EvenReads g place (at (samples-after g samples changes) (flat (points g) g.axes place)) given
+    → EvenQueryPromise g (tensor_after t changes) coordinates given
+    → EvenReads g place (at (samples_after g samples changes) (flat (points g) g.axes place)) given
 
 -- so of one that an accepted build made
 abbrev pub EvenReadsItsSamples : Type 0

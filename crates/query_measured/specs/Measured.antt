@@ -2,8 +2,8 @@
 use Rattle.std.specs.Prelude.{◌≡◌, true, false, List, ℕ, ◌-◌, ◌<◌, length, get_or, Float}
 use Rattle.std.specs.Float.Ieee.{eq}
 use Rattle.rules.specs.Numbers.{at}
-use Rattle.rules.specs.Sizes.{Grid, knots-length, knots, tensor-length, Place, spot}
-use Rattle.rules.specs.Refusals.{axes-refused, some-points-refused, tensor-refused, some-number-refused, some-knots-refused}
+use Rattle.rules.specs.Sizes.{Grid, knots_length, knots, tensor_length, Place, spot}
+use Rattle.rules.specs.Refusals.{axes_refused, some_points_refused, tensor_refused, some_number_refused, some_knots_refused}
 use Rattle.rules.specs.declared.QueryAnswer.{QueryAnswer}
 use Rattle.grid.specs.GridOfCall.{On}
 use Rattle.base_floats.specs.Place.{AllFit}
@@ -11,21 +11,21 @@ use Rattle.base_floats.specs.Place.{AllFit}
 -- a grid of 1 to 4 axes whose sizes and lengths fit and whose knots pass 7 and 8, and a tensor of finite numbers, whatever they are; each
 -- an f64, as in every slice. Said by the rules' refusals, so that it is read beside the page and not beside a check
 pub record Surface (g : Grid) (tensor : List Float) : Type 0 where
-  pub axes-fine : axes-refused g ≡ false
-  pub points-fine : some-points-refused g ≡ false
-  pub tensor-fine : tensor-refused g ≡ false
-  pub knots-exact : length g.flat-knots ≡ knots-length g
-  pub tensor-exact : length tensor ≡ tensor-length g
-  pub knots-finite : some-number-refused g.flat-knots ≡ false
-  pub knots-rise : some-knots-refused g ≡ false
-  pub tensor-finite : some-number-refused tensor ≡ false
-  pub knots-fit : AllFit g.flat-knots
-  pub tensor-fit : AllFit tensor
+  pub axes_fine : axes_refused g ≡ false
+  pub points_fine : some_points_refused g ≡ false
+  pub tensor_fine : tensor_refused g ≡ false
+  pub knots_exact : length g.flat_knots ≡ knots_length g
+  pub tensor_exact : length tensor ≡ tensor_length g
+  pub knots_finite : some_number_refused g.flat_knots ≡ false
+  pub knots_rise : some_knots_refused g ≡ false
+  pub tensor_finite : some_number_refused tensor ≡ false
+  pub knots_fit : AllFit g.flat_knots
+  pub tensor_fit : AllFit tensor
 
 -- coordinates that on each axis in use equal the knot of a place, −0.0 and +0.0 alike
 pub record AtPlace (g : Grid) (place : Place) (coordinates : List Float) : Type 0 where
   pub exact : length coordinates ≡ g.axes
-  pub on-grid : On g place
+  pub on_grid : On g place
   pub equal : (i : ℕ) → i < g.axes → eq (at coordinates i) (at (knots g i) (place i)) ≡ true
   pub fit : AllFit coordinates
 

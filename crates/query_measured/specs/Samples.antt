@@ -6,7 +6,7 @@ use Rattle.rules.specs.Sizes.{Grid, points, Place, flat}
 use Rattle.rules.specs.Calls.{BuildPromise}
 use Rattle.rules.specs.declared.QueryAnswer.{QueryAnswer}
 use Rattle.base_floats.specs.Place.{AllFit}
-use Rattle.tensor.specs.Changes.{OneChange, Kept, tensor-after, samples-after}
+use Rattle.tensor.specs.Changes.{OneChange, Kept, tensor_after, samples_after}
 use Rattle.query_measured.specs.Measured.{Promise, AtPlace, Reads}
 
 -- of a tensor t that was made of samples, and any list of changes, refused ones among them; the knots and the tensor that the query is lent
@@ -14,10 +14,10 @@ use Rattle.query_measured.specs.Measured.{Promise, AtPlace, Reads}
 abbrev pub ReadsSamples : Promise → Grid → List Float → List Float → Type 0
 ReadsSamples Promised g samples t =
     (changes : List OneChange) → Kept g t changes
-    → AllFit g.flat-knots → AllFit (tensor-after t changes)
+    → AllFit g.flat_knots → AllFit (tensor_after t changes)
     → (coordinates : List Float) (place : Place) (given : QueryAnswer) → AtPlace g place coordinates
-    → Promised g (tensor-after t changes) coordinates given
-    → Reads g place (at (samples-after g samples changes) (flat (points g) g.axes place)) given
+    → Promised g (tensor_after t changes) coordinates given
+    → Reads g place (at (samples_after g samples changes) (flat (points g) g.axes place)) given
 
 -- so of one that an accepted build made
 abbrev pub ReadsItsSamples : Promise → Type 0

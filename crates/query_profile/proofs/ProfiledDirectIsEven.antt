@@ -8,35 +8,35 @@ use lib.Dec.{eqb}
 use lib.ListN.{length}
 use lib.Ieee.{Float}
 use Rattle.rules.specs.Numbers.{at}
-use Rattle.rules.specs.Sizes.{Grid, knots-length, tensor-length}
+use Rattle.rules.specs.Sizes.{Grid, knots_length, tensor_length}
 use Rattle.rules.specs.Refusals.{
-  axes-refused,
-  some-points-refused,
-  tensor-refused,
-  length-refused,
-  some-number-refused,
-  some-knots-refused,
-  answer-refused,
+  axes_refused,
+  some_points_refused,
+  tensor_refused,
+  length_refused,
+  some_number_refused,
+  some_knots_refused,
+  answer_refused,
 }
-use Rattle.rules.specs.Outside.{with-axes, ButForModes, some-outside-refused}
-use Rattle.rules.specs.Even.{some-uneven-refused}
-use Rattle.rules.specs.Query.{even-query}
-use Rattle.rules.specs.Calls.{query-lengths-refused}
-use Rattle.rules.specs.EvenCalls.{nothing-told, even-query-refusal, even-query-answer}
+use Rattle.rules.specs.Outside.{with_axes, ButForModes, some_outside_refused}
+use Rattle.rules.specs.Even.{some_uneven_refused}
+use Rattle.rules.specs.Query.{even_query}
+use Rattle.rules.specs.Calls.{query_lengths_refused}
+use Rattle.rules.specs.EvenCalls.{nothing_told, even_query_refusal, even_query_answer}
 use Rattle.rules.specs.declared.Axis.{Axis}
-use Rattle.rules.proofs.Cases.{not-both}
+use Rattle.rules.proofs.Cases.{not_both}
 use Rattle.rules.proofs.WithoutModes.{
-  points-refused-same,
-  knots-length-same,
-  tensor-length-same,
-  knots-refused-same,
-  uneven-refused-same,
+  points_refused_same,
+  knots_length_same,
+  tensor_length_same,
+  knots_refused_same,
+  uneven_refused_same,
 }
 use Rattle.base_numbers.proofs.Scan.{neither}
 use Rattle.query_even.specs.Lacking.{KnotsPass}
-use Rattle.query_direct.specs.DirectCalls.{direct-query-answer}
-use Rattle.query_direct.proofs.DirectIsEven.{direct-is-even}
-use Rattle.query_profile.specs.ProfileCalls.{even-profile-refusal}
+use Rattle.query_direct.specs.DirectCalls.{direct_query_answer}
+use Rattle.query_direct.proofs.DirectIsEven.{direct_is_even}
+use Rattle.query_profile.specs.ProfileCalls.{even_profile_refusal}
 
 -- ---- numbers that are met one after the other
 
@@ -44,7 +44,7 @@ use Rattle.query_profile.specs.ProfileCalls.{even-profile-refusal}
 module _ (among : ℕ → Bool) {refusal : ℕ} (is_among : among refusal ≡ true) where
   passed : (test : Bool) (number : ℕ) {later : ℕ} → among number ≡ false → cond test number later ≡ refusal
       → (test ≡ false) × (later ≡ refusal)
-  passed true number other met = not-both (among number) (ap among met ∙ is_among) other
+  passed true number other met = not_both (among number) (ap among met ∙ is_among) other
   passed false number other met = (refl, met)
 
 -- no refusal
@@ -52,65 +52,65 @@ abbrev none : ℕ → Bool
 none refusal = eqb refusal 0
 
 -- no refusal, or one that has passed axes and knots: 18 and 10
-abbrev pub past-knots : ℕ → Bool
-past-knots refusal = eqb refusal 0 || eqb refusal 18 || eqb refusal 10
+abbrev pub past_knots : ℕ → Bool
+past_knots refusal = eqb refusal 0 || eqb refusal 18 || eqb refusal 10
 
 -- ---- what a profile shows of the knots
 
 module _ (g : Grid) where
-  pub profiled : even-profile-refusal g ≡ 0 → KnotsPass g
-  unfolding even-profile-refusal
+  pub profiled : even_profile_refusal g ≡ 0 → KnotsPass g
+  unfolding even_profile_refusal
   profiled met =
-      let at_1 = passed none refl (axes-refused g) 1 refl met in
-      let at-2 = passed none refl (some-points-refused g) 2 refl at_1.1 in
-      let at-3 = passed none refl (tensor-refused g) 3 refl at-2.1 in
-      let at-4 = passed none refl (length-refused (length g.flat-knots) (knots-length g)) 4 refl at-3.1 in
-      let at_7 = passed none refl (some-number-refused g.flat-knots) 7 refl at-4.1 in
-      let at_8 = passed none refl (some-knots-refused g) 8 refl at_7.1 in
-      let at-21 = passed none refl (some-uneven-refused g) 21 refl at_8.1 in
-      record { finite = at_7.0; rise = at_8.0; even = at-21.0 }
+      let at_1 = passed none refl (axes_refused g) 1 refl met in
+      let at_2 = passed none refl (some_points_refused g) 2 refl at_1.1 in
+      let at_3 = passed none refl (tensor_refused g) 3 refl at_2.1 in
+      let at_4 = passed none refl (length_refused (length g.flat_knots) (knots_length g)) 4 refl at_3.1 in
+      let at_7 = passed none refl (some_number_refused g.flat_knots) 7 refl at_4.1 in
+      let at_8 = passed none refl (some_knots_refused g) 8 refl at_7.1 in
+      let at_21 = passed none refl (some_uneven_refused g) 21 refl at_8.1 in
+      record { finite = at_7.0; rise = at_8.0; even = at_21.0 }
 
 -- ---- in any modes
 
 module _ (g : Grid) where
   module _ (all : List Axis) (same : ButForModes g all) where
-    pub profile-without-modes : even-profile-refusal g ≡ even-profile-refusal (with-axes g all)
-    unfolding even-profile-refusal
-    profile-without-modes =
+    pub profile_without_modes : even_profile_refusal g ≡ even_profile_refusal (with_axes g all)
+    unfolding even_profile_refusal
+    profile_without_modes =
         rw (
-          points-refused-same g all same,
-          tensor-length-same g all same,
-          knots-length-same g all same,
-          knots-refused-same g all same,
-          uneven-refused-same g all same,
+          points_refused_same g all same,
+          tensor_length_same g all same,
+          knots_length_same g all same,
+          knots_refused_same g all same,
+          uneven_refused_same g all same,
         )
         refl
 
-    pub profiled-direct-is-even :
-        even-profile-refusal g ≡ 0 → (tensor coordinates : List Float)
-        → even-query-answer (with-axes g all) tensor coordinates ≡ nothing-told (direct-query-answer (with-axes g all) tensor coordinates)
-    profiled-direct-is-even met tensor coordinates =
-        let pass = profiled (with-axes g all) (sym profile-without-modes ∙ met) in
-        direct-is-even (with-axes g all) tensor coordinates pass.finite pass.rise pass.even
+    pub profiled_direct_is_even :
+        even_profile_refusal g ≡ 0 → (tensor coordinates : List Float)
+        → even_query_answer (with_axes g all) tensor coordinates ≡ nothing_told (direct_query_answer (with_axes g all) tensor coordinates)
+    profiled_direct_is_even met tensor coordinates =
+        let pass = profiled (with_axes g all) (sym profile_without_modes ∙ met) in
+        direct_is_even (with_axes g all) tensor coordinates pass.finite pass.rise pass.even
 
   -- ---- the other way
 
-  module _ (tensor coordinates : List Float) (later : past-knots (even-query-refusal g tensor coordinates) ≡ true) where
-    pub even-is-profiled : even-profile-refusal g ≡ 0
-    unfolding even-query-refusal even-profile-refusal
-    even-is-profiled =
-        let at_1 = passed past-knots later (axes-refused g) 1 refl refl in
-        let at-2 = passed past-knots later (some-points-refused g) 2 refl at_1.1 in
-        let at-3 = passed past-knots later (tensor-refused g) 3 refl at-2.1 in
-        let at-4 = passed past-knots later (query-lengths-refused g tensor coordinates) 4 refl at-3.1 in
-        let at_7 = passed past-knots later (some-number-refused g.flat-knots || some-number-refused coordinates) 7 refl at-4.1 in
-        let at_8 = passed past-knots later (some-knots-refused g) 8 refl at_7.1 in
-        let at-21 = passed past-knots later (some-uneven-refused g) 21 refl at_8.1 in
+  module _ (tensor coordinates : List Float) (later : past_knots (even_query_refusal g tensor coordinates) ≡ true) where
+    pub even_is_profiled : even_profile_refusal g ≡ 0
+    unfolding even_query_refusal even_profile_refusal
+    even_is_profiled =
+        let at_1 = passed past_knots later (axes_refused g) 1 refl refl in
+        let at_2 = passed past_knots later (some_points_refused g) 2 refl at_1.1 in
+        let at_3 = passed past_knots later (tensor_refused g) 3 refl at_2.1 in
+        let at_4 = passed past_knots later (query_lengths_refused g tensor coordinates) 4 refl at_3.1 in
+        let at_7 = passed past_knots later (some_number_refused g.flat_knots || some_number_refused coordinates) 7 refl at_4.1 in
+        let at_8 = passed past_knots later (some_knots_refused g) 8 refl at_7.1 in
+        let at_21 = passed past_knots later (some_uneven_refused g) 21 refl at_8.1 in
         let lengths =
-        neither (length-refused (length g.flat-knots) (knots-length g) || length-refused (length tensor) (tensor-length g))
-        (length-refused (length coordinates) g.axes) at-4.0 in
+        neither (length_refused (length g.flat_knots) (knots_length g) || length_refused (length tensor) (tensor_length g))
+        (length_refused (length coordinates) g.axes) at_4.0 in
         let long =
-        (neither (length-refused (length g.flat-knots) (knots-length g)) (length-refused (length tensor) (tensor-length g))
+        (neither (length_refused (length g.flat_knots) (knots_length g)) (length_refused (length tensor) (tensor_length g))
         lengths.0).0 in
-        let numbers = (neither (some-number-refused g.flat-knots) (some-number-refused coordinates) at_7.0).0 in
-        rw (at_1.0, at-2.0, at-3.0, long, numbers, at_8.0, at-21.0) refl
+        let numbers = (neither (some_number_refused g.flat_knots) (some_number_refused coordinates) at_7.0).0 in
+        rw (at_1.0, at_2.0, at_3.0, long, numbers, at_8.0, at_21.0) refl

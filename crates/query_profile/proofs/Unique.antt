@@ -5,5 +5,5 @@ use Rattle.rules.proofs.Unique.{same}
 use Rattle.query_profile.specs.ProfileCalls.{EvenProfilePromise}
 use Rattle.query_profile.specs.declared.EvenProfile.{EvenProfile}
 
-pub even-profile-unique : (g : Grid) (a a' : EvenProfile) → EvenProfilePromise g a → EvenProfilePromise g a' → a ≡ a'
-even-profile-unique g a a' p q = same p.answer q.answer
+pub even_profile_unique : (g : Grid) (a a' : EvenProfile) → EvenProfilePromise g a → EvenProfilePromise g a' → a ≡ a'
+even_profile_unique g a a' p q = same p.answer q.answer

@@ -1,46 +1,46 @@
 -- The chapter ProfileCalls of docs/RULES.md: the refusal of the profile of even axes, and its answer.
 use Rattle.std.specs.Prelude.{◌≡◌, cond, ℕ, eqb, length}
-use Rattle.rules.specs.Sizes.{Grid, knots-length}
+use Rattle.rules.specs.Sizes.{Grid, knots_length}
 use Rattle.rules.specs.Refusals.{
-  axes-refused,
-  some-points-refused,
-  tensor-refused,
-  length-refused,
-  some-number-refused,
-  some-knots-refused,
+  axes_refused,
+  some_points_refused,
+  tensor_refused,
+  length_refused,
+  some_number_refused,
+  some_knots_refused,
 }
-use Rattle.rules.specs.Even.{some-uneven-refused}
-use Rattle.query_even.specs.Qualities.{lacking-axis, lacking-place}
+use Rattle.rules.specs.Even.{some_uneven_refused}
+use Rattle.query_even.specs.Qualities.{lacking_axis, lacking_place}
 use Rattle.query_even.specs.declared.qualities.Quality.{Quality}
 use Rattle.query_even.specs.declared.qualities.Quality.TheVariants.{Finite, Rising, Even}
 use Rattle.query_profile.specs.declared.EvenProfile.{EvenProfile}
 
 -- what is told of the quality that a refusal asks for, and 0 where it asks for none
-abbrev pub told-of-lack : ℕ → (Quality → ℕ) → ℕ
-told-of-lack refusal number =
+abbrev pub told_of_lack : ℕ → (Quality → ℕ) → ℕ
+told_of_lack refusal number =
     cond (eqb refusal 7) (number Finite) (cond (eqb refusal 8) (number Rising) (cond (eqb refusal 21) (number Even) 0))
 
 module _ (g : Grid) where
   -- the refusal, the first of 1 2 3 4 7 8 21 that applies: those that the query of even axes has of its axes and knots
-  unfoldable pub even-profile-refusal : ℕ
-  even-profile-refusal =
-      cond (axes-refused g) 1
-      (cond (some-points-refused g) 2
-      (cond (tensor-refused g) 3
-      (cond (length-refused (length g.flat-knots) (knots-length g)) 4
-      (cond (some-number-refused g.flat-knots) 7
-      (cond (some-knots-refused g) 8
-      (cond (some-uneven-refused g) 21 0))))))
+  unfoldable pub even_profile_refusal : ℕ
+  even_profile_refusal =
+      cond (axes_refused g) 1
+      (cond (some_points_refused g) 2
+      (cond (tensor_refused g) 3
+      (cond (length_refused (length g.flat_knots) (knots_length g)) 4
+      (cond (some_number_refused g.flat_knots) 7
+      (cond (some_knots_refused g) 8
+      (cond (some_uneven_refused g) 21 0))))))
 
   -- its answer: the refusal, and of what is refused the axis and the place
-  unfoldable pub even-profile-answer : EvenProfile
-  unfolding even-profile-refusal lacking-axis lacking-place
-  even-profile-answer = record {
-    refusal = even-profile-refusal;
-    axis = told-of-lack even-profile-refusal (λ quality. lacking-axis quality g);
-    place = told-of-lack even-profile-refusal (λ quality. lacking-place quality g);
+  unfoldable pub even_profile_answer : EvenProfile
+  unfolding even_profile_refusal lacking_axis lacking_place
+  even_profile_answer = record {
+    refusal = even_profile_refusal;
+    axis = told_of_lack even_profile_refusal (λ quality. lacking_axis quality g);
+    place = told_of_lack even_profile_refusal (λ quality. lacking_place quality g);
   }
 
   -- what it promises: the answer
   pub record EvenProfilePromise (given : EvenProfile) : Type 0 where
-    pub answer : given ≡ even-profile-answer
+    pub answer : given ≡ even_profile_answer

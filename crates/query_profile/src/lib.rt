@@ -4,7 +4,7 @@ ghost use Rattle.std.specs.Prelude.{◌≡◌, length};
 ghost use Rattle.rules.specs.Sizes.{place_of};
 ghost use Rattle.grid.specs.GridOfCall.{grid};
 ghost use Rattle.query_profile.specs.ProfileCalls.{EvenProfilePromise};
-ghost use Rattle.query_profile.specs.Profiled.{profile-sizes-check, profile-of, ProfileFits, ProfileAmong};
+ghost use Rattle.query_profile.specs.Profiled.{profile_sizes_check, profile_of, ProfileFits, ProfileAmong};
 
 use grid_checks::{lengths, numbers, rising, sizes};
 use query_even::qualities::Quality;
@@ -22,7 +22,7 @@ pub struct EvenProfile {
 
 // A refusal with an axis and a place.
 fn profile_of(refusal: usize, axis: usize, place: usize) -> EvenProfile
-    ensures { result ≡ profile-of refusal axis place }
+    ensures { result ≡ profile_of refusal axis place }
 {
     EvenProfile {
         refusal,
@@ -34,7 +34,7 @@ fn profile_of(refusal: usize, axis: usize, place: usize) -> EvenProfile
 // What axes of so many points and so many knots meet: 1, 2, 3, 4, or 0. Not a public call: four points are required.
 fn profile_sizes_refusal(axes: usize, points: &[usize], knots: usize) -> usize
     requires { length points.now ≡ 4 }
-    ensures { result ≡ profile-sizes-check axes (place_of points.now) knots }
+    ensures { result ≡ profile_sizes_check axes (place_of points.now) knots }
 {
     if sizes::axes_refused(axes) {
         return 1;

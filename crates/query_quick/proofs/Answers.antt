@@ -7,58 +7,58 @@ use lib.ListN.{length}
 use lib.Ieee.{Float}
 use Rattle.rules.specs.Numbers.{at}
 use Rattle.rules.specs.Sizes.{Grid, place_of}
-use Rattle.rules.specs.Refusals.{some-number-refused, some-found-cell-refused, answer-refused}
-use Rattle.rules.specs.Query.{quick-cell-of, quick-query-in-modes}
-use Rattle.rules.specs.Calls.{answer-of, quick-labels, quick-query-refusal, quick-query-answer, QuickQueryPromise}
+use Rattle.rules.specs.Refusals.{some_number_refused, some_found_cell_refused, answer_refused}
+use Rattle.rules.specs.Query.{quick_cell_of, quick_query_in_modes}
+use Rattle.rules.specs.Calls.{answer_of, quick_labels, quick_query_refusal, quick_query_answer, QuickQueryPromise}
 use Rattle.rules.specs.declared.Axis.{Axis}
 use Rattle.rules.specs.declared.QueryAnswer.{QueryAnswer}
-use Rattle.grid.specs.GridOfCall.{grid, points-of}
-use Rattle.grid_checks.specs.Check.{query-sizes-check}
+use Rattle.grid.specs.GridOfCall.{grid, points_of}
+use Rattle.grid_checks.specs.Check.{query_sizes_check}
 use Rattle.query_answer.specs.PointsAndModes.{AxesOf, QueryFits}
-use Rattle.query_answer.specs.AnswerByWay.{refused-with, refusal-by, AnswerBy}
+use Rattle.query_answer.specs.AnswerByWay.{refused_with, refusal_by, AnswerBy}
 use Rattle.query_answer.specs.declared.ways.Way.TheVariants.{Searched}
-use Rattle.query_answer.proofs.Answering.{refused-is}
-use Rattle.query_answer.proofs.Promised.{from-7, sizes-refuse}
+use Rattle.query_answer.proofs.Answering.{refused_is}
+use Rattle.query_answer.proofs.Promised.{from_7, sizes_refuse}
 
 -- sizes or lengths are refused
-module _ (axes : ℕ) (all : List Axis) (x tensor coordinates : List Float) (points-in : List ℕ) (same : place_of points-in ≡ points-of all)
-    (number : ℕ) (is : number ≡ query-sizes-check axes (place_of points-in) (length x) (length tensor) (length coordinates))
+module _ (axes : ℕ) (all : List Axis) (x tensor coordinates : List Float) (points_in : List ℕ) (same : place_of points_in ≡ points_of all)
+    (number : ℕ) (is : number ≡ query_sizes_check axes (place_of points_in) (length x) (length tensor) (length coordinates))
     (some : number ≢ 0) where
   abbrev given : Grid
   given = grid axes all x
 
-  refusal-met : quick-query-refusal given tensor coordinates ≡ number
-  unfolding quick-query-refusal
-  refusal-met = sizes-refuse axes all x tensor coordinates points-in same number is some _
+  refusal_met : quick_query_refusal given tensor coordinates ≡ number
+  unfolding quick_query_refusal
+  refusal_met = sizes_refuse axes all x tensor coordinates points_in same number is some _
 
-  pub sizes-answer : (r : QueryAnswer) → r ≡ refused-with number → QuickQueryPromise given tensor coordinates r
-  unfolding quick-query-answer
-  sizes-answer r refused =
+  pub sizes_answer : (r : QueryAnswer) → r ≡ refused_with number → QuickQueryPromise given tensor coordinates r
+  unfolding quick_query_answer
+  sizes_answer r refused =
       record {
         answer = refused
-            ∙ refused-is (quick-query-refusal given tensor coordinates) number (quick-query-in-modes given tensor (at coordinates))
-            (quick-labels given coordinates) refusal-met some;
+            ∙ refused_is (quick_query_refusal given tensor coordinates) number (quick_query_in_modes given tensor (at coordinates))
+            (quick_labels given coordinates) refusal_met some;
       }
 
 -- they are not: the search answers
-module _ (axes : ℕ) (points-in modes-in : List ℕ) (x tensor coordinates : List Float)
-    (fits : QueryFits axes points-in modes-in x tensor coordinates) (all : List Axis) (are : AxesOf axes points-in modes-in all)
+module _ (axes : ℕ) (points_in modes_in : List ℕ) (x tensor coordinates : List Float)
+    (fits : QueryFits axes points_in modes_in x tensor coordinates) (all : List Axis) (are : AxesOf axes points_in modes_in all)
     (r : QueryAnswer) (by : AnswerBy Searched (grid axes all x) tensor coordinates r) where
   abbrev g : Grid
   g = grid axes all x
 
-  refusal-of : quick-query-refusal g tensor coordinates ≡ refusal-by Searched g tensor coordinates
-  unfolding quick-query-refusal quick-query-in-modes
-  refusal-of =
-      from-7 axes points-in modes-in x tensor coordinates fits all are
-      (some-number-refused coordinates) (some-found-cell-refused g (quick-cell-of g (at coordinates)))
-      (answer-refused (quick-query-in-modes g tensor (at coordinates)))
+  refusal_of : quick_query_refusal g tensor coordinates ≡ refusal_by Searched g tensor coordinates
+  unfolding quick_query_refusal quick_query_in_modes
+  refusal_of =
+      from_7 axes points_in modes_in x tensor coordinates fits all are
+      (some_number_refused coordinates) (some_found_cell_refused g (quick_cell_of g (at coordinates)))
+      (answer_refused (quick_query_in_modes g tensor (at coordinates)))
 
-  pub search-answers : QuickQueryPromise g tensor coordinates r
-  unfolding quick-query-answer quick-query-in-modes quick-labels
-  search-answers =
+  pub search_answers : QuickQueryPromise g tensor coordinates r
+  unfolding quick_query_answer quick_query_in_modes quick_labels
+  search_answers =
       record {
         answer = by.answer
-            ∙ ap (λ (refusal : ℕ). answer-of refusal (quick-query-in-modes g tensor (at coordinates)) (quick-labels g coordinates))
-            (sym refusal-of);
+            ∙ ap (λ (refusal : ℕ). answer_of refusal (quick_query_in_modes g tensor (at coordinates)) (quick_labels g coordinates))
+            (sym refusal_of);
       }

@@ -5,62 +5,62 @@ use mathlib.Core.List.{List, [], ◌∷◌}
 use Prim.Native.Nat.{ℕ, zero, suc, ◌*◌, ◌<◌, ◌≤◌}
 use native.Mathlib.Omega.{arith}
 use lib.ListN.{length, get_or, length-append}
-use Rattle.rules.specs.Sizes.{most-in-a-tensor}
-use Rattle.report_front.specs.Front.{rest-bytes}
-use Rattle.report_totals.specs.Totals.{all-entries, most-sheets}
-use Rattle.report_totals.specs.Counting.{no-entries, Running}
-use Rattle.report_totals.proofs.Sheets.{sheets-most, refused-most}
-use Rattle.report_totals.proofs.Each.{entries-most}
-use Rattle.report.specs.Report.{front-sheet, stops, stream-of, report-of}
-use Rattle.report.proofs.Fronts.{front-small}
+use Rattle.rules.specs.Sizes.{most_in_a_tensor}
+use Rattle.report_front.specs.Front.{rest_bytes}
+use Rattle.report_totals.specs.Totals.{all_entries, most_sheets}
+use Rattle.report_totals.specs.Counting.{no_entries, Running}
+use Rattle.report_totals.proofs.Sheets.{sheets_most, refused_most}
+use Rattle.report_totals.proofs.Each.{entries_most}
+use Rattle.report.specs.Report.{front_sheet, stops, stream_of, report_of}
+use Rattle.report.proofs.Fronts.{front_small}
 
 -- a stream of at most n sheets has no more
-stream-few : (n : ℕ) (bytes : List ℕ) → length (stream-of n bytes).sheets ≤ n
-unfolding stream-of
-stream-few zero [] = omega arith
-stream-few zero (byte ∷ bytes) = omega arith
-stream-few (suc n) [] = omega arith
-stream-few (suc n) (byte ∷ bytes) = go (stops (front-sheet (byte ∷ bytes)).refusal) refl (stream-few n (rest-bytes (byte ∷ bytes)))
+stream_few : (n : ℕ) (bytes : List ℕ) → length (stream_of n bytes).sheets ≤ n
+unfolding stream_of
+stream_few zero [] = omega arith
+stream_few zero (byte ∷ bytes) = omega arith
+stream_few (suc n) [] = omega arith
+stream_few (suc n) (byte ∷ bytes) = go (stops (front_sheet (byte ∷ bytes)).refusal) refl (stream_few n (rest_bytes (byte ∷ bytes)))
   where
-    go : (b : Bool) → stops (front-sheet (byte ∷ bytes)).refusal ≡ b → length (stream-of n (rest-bytes (byte ∷ bytes))).sheets ≤ n
-        → length (stream-of (suc n) (byte ∷ bytes)).sheets ≤ suc n
+    go : (b : Bool) → stops (front_sheet (byte ∷ bytes)).refusal ≡ b → length (stream_of n (rest_bytes (byte ∷ bytes))).sheets ≤ n
+        → length (stream_of (suc n) (byte ∷ bytes)).sheets ≤ suc n
     go true e rest = rw e (omega arith)
     go false e rest = rw e (omega arith)
 
 -- and no more entries than its sheets can have
-stream-small : (n : ℕ) (bytes : List ℕ)
-    → length (all-entries (stream-of n bytes).sheets) ≤ most-in-a-tensor * length (stream-of n bytes).sheets
-unfolding stream-of all-entries
-stream-small zero [] = omega arith
-stream-small zero (byte ∷ bytes) = omega arith
-stream-small (suc n) [] = omega arith
-stream-small (suc n) (byte ∷ bytes) = go (stops (front-sheet (byte ∷ bytes)).refusal) refl (stream-small n (rest-bytes (byte ∷ bytes)))
+stream_small : (n : ℕ) (bytes : List ℕ)
+    → length (all_entries (stream_of n bytes).sheets) ≤ most_in_a_tensor * length (stream_of n bytes).sheets
+unfolding stream_of all_entries
+stream_small zero [] = omega arith
+stream_small zero (byte ∷ bytes) = omega arith
+stream_small (suc n) [] = omega arith
+stream_small (suc n) (byte ∷ bytes) = go (stops (front_sheet (byte ∷ bytes)).refusal) refl (stream_small n (rest_bytes (byte ∷ bytes)))
   where
-    go : (b : Bool) → stops (front-sheet (byte ∷ bytes)).refusal ≡ b
-        → length (all-entries (stream-of n (rest-bytes (byte ∷ bytes))).sheets)
-        ≤ most-in-a-tensor * length (stream-of n (rest-bytes (byte ∷ bytes))).sheets
-        → length (all-entries (stream-of (suc n) (byte ∷ bytes)).sheets)
-        ≤ most-in-a-tensor * length (stream-of (suc n) (byte ∷ bytes)).sheets
-    go true e rest = rw (e, length-append) (let front = front-small (byte ∷ bytes) in omega arith)
-    go false e rest = rw (e, length-append) (let front = front-small (byte ∷ bytes) in omega arith)
+    go : (b : Bool) → stops (front_sheet (byte ∷ bytes)).refusal ≡ b
+        → length (all_entries (stream_of n (rest_bytes (byte ∷ bytes))).sheets)
+        ≤ most_in_a_tensor * length (stream_of n (rest_bytes (byte ∷ bytes))).sheets
+        → length (all_entries (stream_of (suc n) (byte ∷ bytes)).sheets)
+        ≤ most_in_a_tensor * length (stream_of (suc n) (byte ∷ bytes)).sheets
+    go true e rest = rw (e, length-append) (let front = front_small (byte ∷ bytes) in omega arith)
+    go false e rest = rw (e, length-append) (let front = front_small (byte ∷ bytes) in omega arith)
 
 module _ (bytes : List ℕ) where
-  counted : Running (report-of bytes).totals
-  unfolding report-of
+  counted : Running (report_of bytes).totals
+  unfolding report_of
   counted = record {
-    seen = (stream-of most-sheets bytes).sheets;
+    seen = (stream_of most_sheets bytes).sheets;
     said = refl;
-    few = stream-few most-sheets bytes;
-    small = stream-small most-sheets bytes;
+    few = stream_few most_sheets bytes;
+    small = stream_small most_sheets bytes;
   }
 
-  pub sheets-bound : (report-of bytes).totals.sheets ≤ most-sheets
-  sheets-bound = sheets-most (report-of bytes).totals counted
+  pub sheets_bound : (report_of bytes).totals.sheets ≤ most_sheets
+  sheets_bound = sheets_most (report_of bytes).totals counted
 
-  pub refused-bound : (number : ℕ) → number < 24 → get_or (report-of bytes).totals.refusals number 0 ≤ most-sheets
-  refused-bound number h = refused-most (report-of bytes).totals number counted h
+  pub refused_bound : (number : ℕ) → number < 24 → get_or (report_of bytes).totals.refusals number 0 ≤ most_sheets
+  refused_bound number h = refused_most (report_of bytes).totals number counted h
 
-  pub entries-bound : (k : ℕ) → k < 5
-      → ((get_or (report-of bytes).totals.orders k no-entries).entries ≤ most-in-a-tensor * most-sheets)
-      × ((get_or (report-of bytes).totals.orders k no-entries).nonzero ≤ most-in-a-tensor * most-sheets)
-  entries-bound k h = entries-most (report-of bytes).totals k counted h
+  pub entries_bound : (k : ℕ) → k < 5
+      → ((get_or (report_of bytes).totals.orders k no_entries).entries ≤ most_in_a_tensor * most_sheets)
+      × ((get_or (report_of bytes).totals.orders k no_entries).nonzero ≤ most_in_a_tensor * most_sheets)
+  entries_bound k h = entries_most (report_of bytes).totals k counted h

@@ -3,51 +3,51 @@ use mathlib.Core.Path.{◌≡◌, refl}
 use mathlib.Core.Bool.{true, false}
 use mathlib.Core.List.{[], ◌∷◌, ◌++◌}
 use Rattle.rules.specs.Numbers.{any}
-use Rattle.rules.specs.Sizes.{product-below}
+use Rattle.rules.specs.Sizes.{product_below}
 use Rattle.base_bits.specs.Bits.{bit, field}
-use Rattle.grid_codes.specs.Kinds.{values-of-kind, end-of-kind, condition-of-kind, periodic-at-one-end}
-use Rattle.grid_codes.specs.Modes.{mode-of-number}
-use Rattle.grid_codes.specs.Editions.{unknown-edition, mode-width}
+use Rattle.grid_codes.specs.Kinds.{values_of_kind, end_of_kind, condition_of_kind, periodic_at_one_end}
+use Rattle.grid_codes.specs.Modes.{mode_of_number}
+use Rattle.grid_codes.specs.Editions.{unknown_edition, mode_width}
 use Rattle.grid_codes.specs.Classes.{class}
 use Rattle.sheet_read.specs.Fields.{
-  points-at,
-  values-at,
-  axis-at,
-  knots-begin,
-  knots-at,
-  axis-end,
-  axis-begin,
+  points_at,
+  values_at,
+  axis_at,
+  knots_begin,
+  knots_at,
+  axis_end,
+  axis_begin,
   entries,
-  knots-below,
-  sheet-grid,
+  knots_below,
+  sheet_grid,
 }
-use Rattle.sheet_read.specs.Faults.{axis-fault, axes-fault, tail-refused, samples-fault, sheet-refusal}
-use Rattle.sheet_read.proofs.Examples.{first-bytes}
-use Rattle.sheet_build.specs.SheetTensor.{own-refusal}
-use Rattle.report_front.specs.Front.{sheet-bytes, front-size}
-use Rattle.report_totals.specs.Totals.{totals-of, most-sheets}
-use Rattle.report.specs.Report.{sheet-at, front-sheet, stops, stream-of, report-of}
+use Rattle.sheet_read.specs.Faults.{axis_fault, axes_fault, tail_refused, samples_fault, sheet_refusal}
+use Rattle.sheet_read.proofs.Examples.{first_bytes}
+use Rattle.sheet_build.specs.SheetTensor.{own_refusal}
+use Rattle.report_front.specs.Front.{sheet_bytes, front_size}
+use Rattle.report_totals.specs.Totals.{totals_of, most_sheets}
+use Rattle.report.specs.Report.{sheet_at, front_sheet, stops, stream_of, report_of}
 
-no_bytes : report-of [] ≡ record { totals = totals-of []; stopped = false }
-unfolding stream-of report-of
+no_bytes : report_of [] ≡ record { totals = totals_of []; stopped = false }
+unfolding stream_of report_of
 no_bytes = refl
 
-ends-inside : stream-of most-sheets (0x12 ∷ []) ≡ record { sheets = record { refusal = 11; tensor = [] } ∷ []; stopped = true }
-unfolding any product-below bit field values-of-kind end-of-kind condition-of-kind periodic-at-one-end mode-of-number unknown-edition
-    mode-width class points-at values-at axis-at knots-begin knots-at axis-end axis-begin entries knots-below sheet-grid axis-fault
-    axes-fault tail-refused samples-fault sheet-refusal own-refusal sheet-bytes front-size sheet-at front-sheet stops stream-of
-ends-inside = refl
+ends_inside : stream_of most_sheets (0x12 ∷ []) ≡ record { sheets = record { refusal = 11; tensor = [] } ∷ []; stopped = true }
+unfolding any product_below bit field values_of_kind end_of_kind condition_of_kind periodic_at_one_end mode_of_number unknown_edition
+    mode_width class points_at values_at axis_at knots_begin knots_at axis_end axis_begin entries knots_below sheet_grid axis_fault
+    axes_fault tail_refused samples_fault sheet_refusal own_refusal sheet_bytes front_size sheet_at front_sheet stops stream_of
+ends_inside = refl
 
-last-bit-set : stream-of most-sheets (first-bytes ++ (0x01 ∷ 0xFF ∷ 0xFF ∷ []))
+last_bit_set : stream_of most_sheets (first_bytes ++ (0x01 ∷ 0xFF ∷ 0xFF ∷ []))
     ≡ record { sheets = record { refusal = 14; tensor = [] } ∷ []; stopped = true }
-unfolding any product-below bit field values-of-kind end-of-kind condition-of-kind periodic-at-one-end mode-of-number unknown-edition
-    mode-width class points-at values-at axis-at knots-begin knots-at axis-end axis-begin entries knots-below sheet-grid axis-fault
-    axes-fault tail-refused samples-fault sheet-refusal own-refusal sheet-bytes front-size sheet-at front-sheet stops stream-of
-last-bit-set = refl
+unfolding any product_below bit field values_of_kind end_of_kind condition_of_kind periodic_at_one_end mode_of_number unknown_edition
+    mode_width class points_at values_at axis_at knots_begin knots_at axis_end axis_begin entries knots_below sheet_grid axis_fault
+    axes_fault tail_refused samples_fault sheet_refusal own_refusal sheet_bytes front_size sheet_at front_sheet stops stream_of
+last_bit_set = refl
 
 -- its own bytes end where its fields do
-cut-to-the-byte : front-size (first-bytes ++ (0x01 ∷ 0xFF ∷ 0xFF ∷ [])) ≡ 51
-unfolding any product-below bit field values-of-kind end-of-kind condition-of-kind periodic-at-one-end mode-of-number unknown-edition
-    mode-width points-at values-at axis-at knots-begin knots-at axis-end axis-begin entries knots-below sheet-grid axis-fault axes-fault
-    tail-refused samples-fault sheet-refusal sheet-bytes front-size
-cut-to-the-byte = refl
+cut_to_the_byte : front_size (first_bytes ++ (0x01 ∷ 0xFF ∷ 0xFF ∷ [])) ≡ 51
+unfolding any product_below bit field values_of_kind end_of_kind condition_of_kind periodic_at_one_end mode_of_number unknown_edition
+    mode_width points_at values_at axis_at knots_begin knots_at axis_end axis_begin entries knots_below sheet_grid axis_fault axes_fault
+    tail_refused samples_fault sheet_refusal sheet_bytes front_size
+cut_to_the_byte = refl

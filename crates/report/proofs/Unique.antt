@@ -5,5 +5,5 @@ use Prim.Native.Nat.{ℕ}
 use Rattle.report_totals.specs.declared.Report.{Report}
 use Rattle.report.specs.Report.{ReportPromise}
 
-pub report-unique : (bytes : List ℕ) (a a' : Report) → ReportPromise bytes a → ReportPromise bytes a' → a ≡ a'
-report-unique bytes a a' p q = p.answer ∙ sym q.answer
+pub report_unique : (bytes : List ℕ) (a a' : Report) → ReportPromise bytes a → ReportPromise bytes a' → a ≡ a'
+report_unique bytes a a' p q = p.answer ∙ sym q.answer

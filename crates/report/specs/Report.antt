@@ -3,29 +3,29 @@
 use Rattle.std.specs.Prelude.{◌≡◌, Bool, true, false, List, [], ◌∷◌, ◌++◌, ℕ, zero, suc}
 use Rattle.rules.specs.Tensor.{tensor}
 use Rattle.grid_codes.specs.Classes.{class, unread}
-use Rattle.sheet_read.specs.Fields.{axes, sheet-grid, sheet-samples}
-use Rattle.sheet_build.specs.SheetTensor.{own-refusal}
-use Rattle.report_front.specs.Front.{front_bytes, rest-bytes}
-use Rattle.report_totals.specs.Totals.{Entry, Sheet, most-sheets, tensor-entries, totals-of}
+use Rattle.sheet_read.specs.Fields.{axes, sheet_grid, sheet_samples}
+use Rattle.sheet_build.specs.SheetTensor.{own_refusal}
+use Rattle.report_front.specs.Front.{front_bytes, rest_bytes}
+use Rattle.report_totals.specs.Totals.{Entry, Sheet, most_sheets, tensor_entries, totals_of}
 use Rattle.report_totals.specs.declared.Report.{Report}
 
 -- ---- one sheet
 
 -- what an accepted sheet has, and a refused one has not
-abbrev pub accepted-alone : ℕ → List Entry → List Entry
-accepted-alone zero entries = entries
-accepted-alone (suc refusal) entries = []
+abbrev pub accepted_alone : ℕ → List Entry → List Entry
+accepted_alone zero entries = entries
+accepted_alone (suc refusal) entries = []
 
 -- bytes taken for one sheet
-unfoldable pub sheet-at : List ℕ → Sheet
-sheet-at bytes = record {
-  refusal = own-refusal bytes;
-  tensor = accepted-alone (own-refusal bytes) (tensor-entries (axes bytes) (tensor (sheet-grid bytes) (sheet-samples bytes)));
+unfoldable pub sheet_at : List ℕ → Sheet
+sheet_at bytes = record {
+  refusal = own_refusal bytes;
+  tensor = accepted_alone (own_refusal bytes) (tensor_entries (axes bytes) (tensor (sheet_grid bytes) (sheet_samples bytes)));
 }
 
 -- the sheet at the front of a stream
-unfoldable pub front-sheet : List ℕ → Sheet
-front-sheet bytes = sheet-at (front_bytes bytes)
+unfoldable pub front_sheet : List ℕ → Sheet
+front_sheet bytes = sheet_at (front_bytes bytes)
 
 -- whether a report stops in a sheet of this refusal: where it was not read
 unfoldable pub stops : ℕ → Bool
@@ -39,34 +39,34 @@ pub record Stream : Type 0 where
   pub stopped : Bool
 
 -- no sheet, at the end and before it
-abbrev pub ends-here : Stream
-ends-here = record { sheets = []; stopped = false }
+abbrev pub ends_here : Stream
+ends_here = record { sheets = []; stopped = false }
 
-abbrev pub stops-here : Stream
-stops-here = record { sheets = []; stopped = true }
+abbrev pub stops_here : Stream
+stops_here = record { sheets = []; stopped = true }
 
 -- sheets, and then a stream
 abbrev pub after : List Sheet → Stream → Stream
 after seen stream = record { sheets = seen ++ stream.sheets; stopped = stream.stopped }
 
 -- a stream of at most n sheets: it ends where no byte is left, and stops at bytes behind the last of them, and in a sheet that was not read
-unfoldable pub stream-of : ℕ → List ℕ → Stream
-stream-of zero [] = ends-here
-stream-of zero (byte ∷ bytes) = stops-here
-stream-of (suc n) [] = ends-here
-stream-of (suc n) (byte ∷ bytes) =
-    after (front-sheet (byte ∷ bytes) ∷ [])
-    (elim (stops (front-sheet (byte ∷ bytes)).refusal) [ true ↦ stops-here | false ↦ stream-of n (rest-bytes (byte ∷ bytes)) ])
+unfoldable pub stream_of : ℕ → List ℕ → Stream
+stream_of zero [] = ends_here
+stream_of zero (byte ∷ bytes) = stops_here
+stream_of (suc n) [] = ends_here
+stream_of (suc n) (byte ∷ bytes) =
+    after (front_sheet (byte ∷ bytes) ∷ [])
+    (elim (stops (front_sheet (byte ∷ bytes)).refusal) [ true ↦ stops_here | false ↦ stream_of n (rest_bytes (byte ∷ bytes)) ])
 
 -- ---- the report
 
 -- the report of a stream: the totals of its sheets, and whether it stops
-unfoldable pub report-of : List ℕ → Report
-report-of bytes = record {
-  totals = totals-of (stream-of most-sheets bytes).sheets;
-  stopped = (stream-of most-sheets bytes).stopped;
+unfoldable pub report_of : List ℕ → Report
+report_of bytes = record {
+  totals = totals_of (stream_of most_sheets bytes).sheets;
+  stopped = (stream_of most_sheets bytes).stopped;
 }
 
 -- what the call promises: the report
 pub record ReportPromise (bytes : List ℕ) (given : Report) : Type 0 where
-  pub answer : given ≡ report-of bytes
+  pub answer : given ≡ report_of bytes

@@ -11,94 +11,94 @@ use lib.Dec.{ltb, eqb}
 use lib.ListN.{length, take, drop, length-take}
 use lib.Seq.{take-append-le, drop-append-le, take-length}
 use lib.Pow.{pow_pos}
-use Rattle.rules.specs.Sizes.{Grid, samples-length, tensor-length}
-use Rattle.rules.specs.Refusals.{axes-refused, tensor-refused}
-use Rattle.rules.proofs.Refused.{or-else-passed}
+use Rattle.rules.specs.Sizes.{Grid, samples_length, tensor_length}
+use Rattle.rules.specs.Refusals.{axes_refused, tensor_refused}
+use Rattle.rules.proofs.Refused.{or_else_passed}
 use Rattle.base_numbers.proofs.Scan.{neither}
-use Rattle.base_bits.specs.Bits.{field, short, numbers-short}
-use Rattle.base_bits.proofs.Runs.{short-together}
-use Rattle.grid_codes.specs.Editions.{unknown-edition}
-use Rattle.grid_codes.specs.Classes.{length-known}
-use Rattle.sheet_read.specs.Fields.{edition, axes, axis-begin, entries, sheet-grid, samples-begin, samples-end}
-use Rattle.sheet_read.specs.Faults.{axis-fault, axes-fault, tail-refused, sheet-refusal}
-use Rattle.sheet_read.specs.Read.{refused-answer, answer-of}
-use Rattle.sheet_read.proofs.Extents.{begin-most, begin-first}
-use Rattle.sheet_read.proofs.Walks.{faultless-axis}
-use Rattle.sheet_read.proofs.Samples.{few-left}
+use Rattle.base_bits.specs.Bits.{field, short, numbers_short}
+use Rattle.base_bits.proofs.Runs.{short_together}
+use Rattle.grid_codes.specs.Editions.{unknown_edition}
+use Rattle.grid_codes.specs.Classes.{length_known}
+use Rattle.sheet_read.specs.Fields.{edition, axes, axis_begin, entries, sheet_grid, samples_begin, samples_end}
+use Rattle.sheet_read.specs.Faults.{axis_fault, axes_fault, tail_refused, sheet_refusal}
+use Rattle.sheet_read.specs.Read.{refused_answer, answer_of}
+use Rattle.sheet_read.proofs.Extents.{begin_most, begin_first}
+use Rattle.sheet_read.proofs.Walks.{faultless_axis}
+use Rattle.sheet_read.proofs.Samples.{few_left}
 use Rattle.rules.proofs.Cases.{passed}
-use Rattle.report_front.specs.Front.{sheet-bytes, front-size, front_bytes, rest-bytes, enough-bytes}
-use Rattle.report_front.specs.LookedAt.{look-answer}
+use Rattle.report_front.specs.Front.{sheet_bytes, front_size, front_bytes, rest_bytes, enough_bytes}
+use Rattle.report_front.specs.LookedAt.{look_answer}
 use Rattle.report_front.proofs.Agree.{
   Agree,
-  agree-append,
-  agree-take,
-  begin-least,
-  field-same,
-  short-same,
-  numbers-short-same,
-  begin-same,
-  axes-fault-same,
-  axes-same,
-  grid-same,
+  agree_append,
+  agree_take,
+  begin_least,
+  field_same,
+  short_same,
+  numbers_short_same,
+  begin_same,
+  axes_fault_same,
+  axes_same,
+  grid_same,
 }
-use Rattle.report_front.proofs.Tails.{before-tail, refusal-early, refusal-late, known_of, unknown-of, either-case}
+use Rattle.report_front.proofs.Tails.{before_tail, refusal_early, refusal_late, known_of, unknown_of, either_case}
 
 -- ---- what is met before the tail, of bytes that agree as far as its fields reach
 
 pub record Reach (n : ℕ) (bytes : List ℕ) : Type 0 where
   pub header : 7 ≤ n
-  pub all-axes : axes bytes ≤ 4 → samples-begin bytes ≤ n
-  pub all-samples : axes bytes ≤ 4 → tensor-refused (sheet-grid bytes) ≡ false → samples-end bytes ≤ n
+  pub all_axes : axes bytes ≤ 4 → samples_begin bytes ≤ n
+  pub all_samples : axes bytes ≤ 4 → tensor_refused (sheet_grid bytes) ≡ false → samples_end bytes ≤ n
 
 cond_same : (test : Bool) (x y z : ℕ) → (test ≡ false → y ≡ z) → cond test x y ≡ cond test x z
 cond_same true x y z e = refl
 cond_same false x y z e = e refl
 
-axes-in-range : (bytes : List ℕ) → axes-refused (sheet-grid bytes) ≡ false → (1 ≤ axes bytes) × (axes bytes ≤ 4)
-unfolding sheet-grid
-axes-in-range bytes e =
+axes_in_range : (bytes : List ℕ) → axes_refused (sheet_grid bytes) ≡ false → (1 ≤ axes bytes) × (axes bytes ≤ 4)
+unfolding sheet_grid
+axes_in_range bytes e =
     let both = neither (ltb (axes bytes) 1) (ltb 4 (axes bytes)) e in
     (ltb-false (axes bytes) 1 both.0, ltb-false 4 (axes bytes) both.1)
 
 module _ (n : ℕ) (a b : List ℕ) (s : Agree n a b) (r : Reach n a) where
-  axes-refused-same : axes-refused (sheet-grid a) ≡ axes-refused (sheet-grid b)
-  unfolding sheet-grid
-  axes-refused-same = rw (axes-same n a b s r.header)
+  axes_refused_same : axes_refused (sheet_grid a) ≡ axes_refused (sheet_grid b)
+  unfolding sheet_grid
+  axes_refused_same = rw (axes_same n a b s r.header)
 
   module _ (few : axes a ≤ 4) where
-    grid-is : sheet-grid a ≡ sheet-grid b
-    grid-is = grid-same n a b s r.header (r.all-axes few)
+    grid_is : sheet_grid a ≡ sheet_grid b
+    grid_is = grid_same n a b s r.header (r.all_axes few)
 
-    begin-is : samples-begin a ≡ samples-begin b
-    begin-is = begin-same n a b s (axes a) (r.all-axes few) ∙ rw (axes-same n a b s r.header)
+    begin_is : samples_begin a ≡ samples_begin b
+    begin_is = begin_same n a b s (axes a) (r.all_axes few) ∙ rw (axes_same n a b s r.header)
 
-    end_is : samples-end a ≡ samples-end b
-    end_is = rw (begin-is, grid-is)
+    end_is : samples_end a ≡ samples_end b
+    end_is = rw (begin_is, grid_is)
 
-    samples-same :
-        ◌≡◌ {A = ℕ} (cond (tensor-refused (sheet-grid a)) 3 (cond (numbers-short a (samples-begin a) (samples-length (sheet-grid a))) 11 0))
-        (cond (tensor-refused (sheet-grid b)) 3 (cond (numbers-short b (samples-begin b) (samples-length (sheet-grid b))) 11 0))
-    samples-same =
-        cond_same (tensor-refused (sheet-grid a)) 3 _ (cond (numbers-short b (samples-begin b) (samples-length (sheet-grid b))) 11 0)
+    samples_same :
+        ◌≡◌ {A = ℕ} (cond (tensor_refused (sheet_grid a)) 3 (cond (numbers_short a (samples_begin a) (samples_length (sheet_grid a))) 11 0))
+        (cond (tensor_refused (sheet_grid b)) 3 (cond (numbers_short b (samples_begin b) (samples_length (sheet_grid b))) 11 0))
+    samples_same =
+        cond_same (tensor_refused (sheet_grid a)) 3 _ (cond (numbers_short b (samples_begin b) (samples_length (sheet_grid b))) 11 0)
         (λ small.
-        rw (numbers-short-same n a b s (samples-begin a) (samples-length (sheet-grid a)) (r.all-samples few small), begin-is, grid-is))
-        ∙ rw grid-is
+        rw (numbers_short_same n a b s (samples_begin a) (samples_length (sheet_grid a)) (r.all_samples few small), begin_is, grid_is))
+        ∙ rw grid_is
 
-  before-tail-same : before-tail a ≡ before-tail b
-  unfolding before-tail
-  before-tail-same =
+  before_tail_same : before_tail a ≡ before_tail b
+  unfolding before_tail
+  before_tail_same =
       rw (
-        short-same n a b s 0 4 (omega (arith, r.header)),
-        short-same n a b s 4 3 (omega (arith, r.header)),
-        field-same n a b s 0 4 (omega (arith, r.header)),
-        ← axes-refused-same,
+        short_same n a b s 0 4 (omega (arith, r.header)),
+        short_same n a b s 4 3 (omega (arith, r.header)),
+        field_same n a b s 0 4 (omega (arith, r.header)),
+        ← axes_refused_same,
       )
       (cond_same (short b 0 4) 11 _ _ (λ p.
-      cond_same (unknown-edition (edition b)) 12 _ _ (λ q.
+      cond_same (unknown_edition (edition b)) 12 _ _ (λ q.
       cond_same (short b 4 3) 11 _ _ (λ t.
-      cond_same (axes-refused (sheet-grid a)) 1 _ _ (λ u.
-      let few = (axes-in-range a u).1 in
-      rw (samples-same few, axes-fault-same n a b s (axes a) (r.all-axes few), axes-same n a b s r.header))))))
+      cond_same (axes_refused (sheet_grid a)) 1 _ _ (λ u.
+      let few = (axes_in_range a u).1 in
+      rw (samples_same few, axes_fault_same n a b s (axes a) (r.all_axes few), axes_same n a b s r.header))))))
 
 -- ---- where nothing is met before the tail
 
@@ -106,200 +106,200 @@ pub record Sound (bytes : List ℕ) : Type 0 where
   pub seven : 7 ≤ 8 * length bytes
   pub least : 1 ≤ axes bytes
   pub few : axes bytes ≤ 4
-  pub small : tensor-refused (sheet-grid bytes) ≡ false
-  pub faultless : axes-fault bytes (axes bytes) ≡ 0
-  pub room : samples-end bytes ≤ 8 * length bytes
+  pub small : tensor_refused (sheet_grid bytes) ≡ false
+  pub faultless : axes_fault bytes (axes bytes) ≡ 0
+  pub room : samples_end bytes ≤ 8 * length bytes
 
-samples-room : (bytes : List ℕ) (m : ℕ) → samples-begin bytes ≤ 8 * length bytes → numbers-short bytes (samples-begin bytes) m ≡ false
-    → samples-begin bytes + 64 * m ≤ 8 * length bytes
-samples-room bytes zero h e = omega arith
-samples-room bytes (suc m) h e = ltb-false _ _ (short-together bytes (samples-begin bytes) (suc m) (omega arith) ∙ e)
+samples_room : (bytes : List ℕ) (m : ℕ) → samples_begin bytes ≤ 8 * length bytes → numbers_short bytes (samples_begin bytes) m ≡ false
+    → samples_begin bytes + 64 * m ≤ 8 * length bytes
+samples_room bytes zero h e = omega arith
+samples_room bytes (suc m) h e = ltb-false _ _ (short_together bytes (samples_begin bytes) (suc m) (omega arith) ∙ e)
 
-axes-room : (bytes : List ℕ) (i : ℕ) → 7 ≤ 8 * length bytes → axes-fault bytes i ≡ 0 → axis-begin bytes i ≤ 8 * length bytes
-unfolding axis-begin axes-fault
-axes-room bytes zero h e = h
-axes-room bytes (suc i) h e =
-    (faultless-axis bytes (axis-begin bytes i) (or-else-passed (axes-fault bytes i) (axis-fault bytes (axis-begin bytes i)) e).1).1
+axes_room : (bytes : List ℕ) (i : ℕ) → 7 ≤ 8 * length bytes → axes_fault bytes i ≡ 0 → axis_begin bytes i ≤ 8 * length bytes
+unfolding axis_begin axes_fault
+axes_room bytes zero h e = h
+axes_room bytes (suc i) h e =
+    (faultless_axis bytes (axis_begin bytes i) (or_else_passed (axes_fault bytes i) (axis_fault bytes (axis_begin bytes i)) e).1).1
 
-pub sound : (bytes : List ℕ) → before-tail bytes ≡ 0 → Sound bytes
-unfolding before-tail
+pub sound : (bytes : List ℕ) → before_tail bytes ≡ 0 → Sound bytes
+unfolding before_tail
 sound bytes none =
     let p = passed (short bytes 0 4) 10 _ none in
-    let q = passed (unknown-edition (edition bytes)) 11 _ p.1 in
+    let q = passed (unknown_edition (edition bytes)) 11 _ p.1 in
     let t = passed (short bytes 4 3) 10 _ q.1 in
-    let u = passed (axes-refused (sheet-grid bytes)) 0 _ t.1 in
-    let f = or-else-passed (axes-fault bytes (axes bytes)) _ u.1 in
-    let v = passed (tensor-refused (sheet-grid bytes)) 2 _ f.1 in
-    let w = passed (numbers-short bytes (samples-begin bytes) (samples-length (sheet-grid bytes))) 10 0 v.1 in
+    let u = passed (axes_refused (sheet_grid bytes)) 0 _ t.1 in
+    let f = or_else_passed (axes_fault bytes (axes bytes)) _ u.1 in
+    let v = passed (tensor_refused (sheet_grid bytes)) 2 _ f.1 in
+    let w = passed (numbers_short bytes (samples_begin bytes) (samples_length (sheet_grid bytes))) 10 0 v.1 in
     let seven : 7 ≤ 8 * length bytes = ltb-false (8 * length bytes) (4 + 3) t.0 in
     record {
       seven = seven;
-      least = (axes-in-range bytes u.0).0;
-      few = (axes-in-range bytes u.0).1;
+      least = (axes_in_range bytes u.0).0;
+      few = (axes_in_range bytes u.0).1;
       small = v.0;
       faultless = f.0;
-      room = samples-room bytes (samples-length (sheet-grid bytes)) (axes-room bytes (axes bytes) seven f.0) w.0;
+      room = samples_room bytes (samples_length (sheet_grid bytes)) (axes_room bytes (axes bytes) seven f.0) w.0;
     }
 
 module _ (bytes : List ℕ) where
-  pub size-of-known : length-known (sheet-refusal bytes) ≡ true → front-size bytes ≡ sheet-bytes bytes
-  unfolding front-size
-  size-of-known known = rw known
+  pub size_of_known : length_known (sheet_refusal bytes) ≡ true → front_size bytes ≡ sheet_bytes bytes
+  unfolding front_size
+  size_of_known known = rw known
 
-  size-known : before-tail bytes ≡ 0 → front-size bytes ≡ sheet-bytes bytes
-  size-known none = size-of-known (known_of bytes none)
+  size_known : before_tail bytes ≡ 0 → front_size bytes ≡ sheet_bytes bytes
+  size_known none = size_of_known (known_of bytes none)
 
-  pub size-unknown : (before-tail bytes ≡ 0 → ⊥) → front-size bytes ≡ length bytes
-  unfolding front-size
-  size-unknown met = rw (unknown-of bytes met)
+  pub size_unknown : (before_tail bytes ≡ 0 → ⊥) → front_size bytes ≡ length bytes
+  unfolding front_size
+  size_unknown met = rw (unknown_of bytes met)
 
-  pub all_shown : (before-tail bytes ≡ 0 → ⊥) → front_bytes bytes ≡ bytes
-  all_shown met = rw (size-unknown met) (take-length bytes)
+  pub all_shown : (before_tail bytes ≡ 0 → ⊥) → front_bytes bytes ≡ bytes
+  all_shown met = rw (size_unknown met) (take-length bytes)
 
   -- ---- the sheet that is cut from the stream
 
-  module _ (none : before-tail bytes ≡ 0) where
-    header-least : 7 ≤ samples-end bytes
-    header-least =
-        let least = begin-least bytes 0 (axes bytes) (omega arith) in
-        let first = begin-first bytes in omega arith
+  module _ (none : before_tail bytes ≡ 0) where
+    header_least : 7 ≤ samples_end bytes
+    header_least =
+        let least = begin_least bytes 0 (axes bytes) (omega arith) in
+        let first = begin_first bytes in omega arith
 
-    fields-inside : (samples-end bytes ≤ 8 * sheet-bytes bytes) × (8 * sheet-bytes bytes < samples-end bytes + 8)
-        × (sheet-bytes bytes ≤ length bytes)
-    unfolding sheet-bytes
-    fields-inside = let s = (sound bytes none).room in (omega arith, omega arith, omega arith)
+    fields_inside : (samples_end bytes ≤ 8 * sheet_bytes bytes) × (8 * sheet_bytes bytes < samples_end bytes + 8)
+        × (sheet_bytes bytes ≤ length bytes)
+    unfolding sheet_bytes
+    fields_inside = let s = (sound bytes none).room in (omega arith, omega arith, omega arith)
 
-    pub size-some : 1 ≤ front-size bytes
-    size-some = let least = header-least in let inside = fields-inside.0 in rw (size-known none) (omega arith)
+    pub size_some : 1 ≤ front_size bytes
+    size_some = let least = header_least in let inside = fields_inside.0 in rw (size_known none) (omega arith)
 
     abbrev own : List ℕ
-    own = take (sheet-bytes bytes) bytes
+    own = take (sheet_bytes bytes) bytes
 
-    own-front : front_bytes bytes ≡ own
-    own-front = rw (size-known none)
+    own_front : front_bytes bytes ≡ own
+    own_front = rw (size_known none)
 
-    own-length : length own ≡ sheet-bytes bytes
-    own-length = let inside = fields-inside.2 in length-take (sheet-bytes bytes) bytes ∙ omega arith
+    own_length : length own ≡ sheet_bytes bytes
+    own_length = let inside = fields_inside.2 in length-take (sheet_bytes bytes) bytes ∙ omega arith
 
-    own-reach : Reach (samples-end bytes) bytes
-    own-reach = record { header = header-least; all-axes = λ few. omega arith; all-samples = λ few small. omega arith }
+    own_reach : Reach (samples_end bytes) bytes
+    own_reach = record { header = header_least; all_axes = λ few. omega arith; all_samples = λ few small. omega arith }
 
-    own-agree : Agree (samples-end bytes) bytes own
-    own-agree = agree-take (samples-end bytes) (sheet-bytes bytes) bytes fields-inside.0 fields-inside.2
+    own_agree : Agree (samples_end bytes) bytes own
+    own_agree = agree_take (samples_end bytes) (sheet_bytes bytes) bytes fields_inside.0 fields_inside.2
 
-    own-none : before-tail own ≡ 0
-    own-none = sym (before-tail-same (samples-end bytes) bytes own own-agree own-reach) ∙ none
+    own_none : before_tail own ≡ 0
+    own_none = sym (before_tail_same (samples_end bytes) bytes own own_agree own_reach) ∙ none
 
-    own-end : samples-end own ≡ samples-end bytes
-    own-end = sym (end_is (samples-end bytes) bytes own own-agree own-reach (sound bytes none).few)
+    own_end : samples_end own ≡ samples_end bytes
+    own_end = sym (end_is (samples_end bytes) bytes own own_agree own_reach (sound bytes none).few)
 
     -- nothing is met before the tail of the sheet's own bytes
-    pub front-none : before-tail (front_bytes bytes) ≡ 0
-    front-none = rw own-front own-none
+    pub front_none : before_tail (front_bytes bytes) ≡ 0
+    front_none = rw own_front own_none
 
     -- the bits after the last sample, up to the byte
     abbrev tail : ℕ
-    tail = field own (samples-end bytes) (8 * length own - samples-end bytes)
+    tail = field own (samples_end bytes) (8 * length own - samples_end bytes)
 
     -- the tail rule of a stream: bits to the byte only, and one that is not zero is 14
-    pub tail-to-the-byte : sheet-refusal (front_bytes bytes) ≡ cond (not (eqb tail 0)) 14 0
-    tail-to-the-byte =
-        let long = own-length in
-        let near = fields-inside.1 in
-        let few : length own < (samples-end bytes + 15) / 8 = omega arith in
-        rw (own-front, refusal-late own own-none, own-end, ← few-left own (samples-end bytes) few tail refl)
+    pub tail_to_the_byte : sheet_refusal (front_bytes bytes) ≡ cond (not (eqb tail 0)) 14 0
+    tail_to_the_byte =
+        let long = own_length in
+        let near = fields_inside.1 in
+        let few : length own < (samples_end bytes + 15) / 8 = omega arith in
+        rw (own_front, refusal_late own own_none, own_end, ← few_left own (samples_end bytes) few tail refl)
 
     -- ---- what looking at its own bytes finds
 
-    edition-own : edition own ≡ edition bytes
-    edition-own = sym (field-same (samples-end bytes) bytes own own-agree 0 4 (omega (arith, header-least)))
+    edition_own : edition own ≡ edition bytes
+    edition_own = sym (field_same (samples_end bytes) bytes own own_agree 0 4 (omega (arith, header_least)))
 
-    grid-own : sheet-grid own ≡ sheet-grid bytes
-    grid-own = sym (grid-is (samples-end bytes) bytes own own-agree own-reach (sound bytes none).few)
+    grid_own : sheet_grid own ≡ sheet_grid bytes
+    grid_own = sym (grid_is (samples_end bytes) bytes own own_agree own_reach (sound bytes none).few)
 
-    axes-own : axes own ≡ axes bytes
-    axes-own = sym (axes-same (samples-end bytes) bytes own own-agree header-least)
+    axes_own : axes own ≡ axes bytes
+    axes_own = sym (axes_same (samples_end bytes) bytes own own_agree header_least)
 
-    entries-own : entries own (axes own) ≡ entries bytes (axes bytes)
-    unfolding sheet-grid
-    entries-own = ap (λ (g : Grid). g.entries) grid-own
+    entries_own : entries own (axes own) ≡ entries bytes (axes bytes)
+    unfolding sheet_grid
+    entries_own = ap (λ (g : Grid). g.entries) grid_own
 
     -- the bits after the last sample, which are there, read in the stream
-    pub tail-room : (8 * sheet-bytes bytes ≤ 8 * length bytes) × (samples-end bytes ≤ 8 * sheet-bytes bytes)
-        × (8 * sheet-bytes bytes - samples-end bytes < 8) × (1 ≤ sheet-bytes bytes)
-    tail-room =
-        let inside = fields-inside in
-        let least = header-least in
+    pub tail_room : (8 * sheet_bytes bytes ≤ 8 * length bytes) × (samples_end bytes ≤ 8 * sheet_bytes bytes)
+        × (8 * sheet_bytes bytes - samples_end bytes < 8) × (1 ≤ sheet_bytes bytes)
+    tail_room =
+        let inside = fields_inside in
+        let least = header_least in
         (omega (arith, inside.2), inside.0, omega (arith, inside.1), omega (arith, inside.0))
 
-    tail-is : field bytes (samples-end bytes) (8 * sheet-bytes bytes - samples-end bytes) ≡ tail
-    tail-is =
-        field-same (8 * sheet-bytes bytes) bytes own (agree-take (8 * sheet-bytes bytes) (sheet-bytes bytes) bytes (omega arith)
-        fields-inside.2) (samples-end bytes) (8 * sheet-bytes bytes - samples-end bytes) (omega (arith, fields-inside.0))
-        ∙ ap (λ (n : ℕ). field own (samples-end bytes) (8 * n - samples-end bytes)) (sym own-length)
+    tail_is : field bytes (samples_end bytes) (8 * sheet_bytes bytes - samples_end bytes) ≡ tail
+    tail_is =
+        field_same (8 * sheet_bytes bytes) bytes own (agree_take (8 * sheet_bytes bytes) (sheet_bytes bytes) bytes (omega arith)
+        fields_inside.2) (samples_end bytes) (8 * sheet_bytes bytes - samples_end bytes) (omega (arith, fields_inside.0))
+        ∙ ap (λ (n : ℕ). field own (samples_end bytes) (8 * n - samples_end bytes)) (sym own_length)
 
-    pub tail-set : (field bytes (samples-end bytes) (8 * sheet-bytes bytes - samples-end bytes) ≡ 0 → ⊥)
-        → refused-answer 14 ≡ look-answer (front_bytes bytes)
-    tail-set set =
-        let some : eqb tail 0 ≡ false = ne_eqb tail 0 (λ z. set (tail-is ∙ z)) in
-        let refusal : sheet-refusal (front_bytes bytes) ≡ 14 = tail-to-the-byte ∙ ap (λ (b : Bool). cond (not b) 14 0) some in
+    pub tail_set : (field bytes (samples_end bytes) (8 * sheet_bytes bytes - samples_end bytes) ≡ 0 → ⊥)
+        → refused_answer 14 ≡ look_answer (front_bytes bytes)
+    tail_set set =
+        let some : eqb tail 0 ≡ false = ne_eqb tail 0 (λ z. set (tail_is ∙ z)) in
+        let refusal : sheet_refusal (front_bytes bytes) ≡ 14 = tail_to_the_byte ∙ ap (λ (b : Bool). cond (not b) 14 0) some in
         rw refusal
 
-    pub tail-zero : field bytes (samples-end bytes) (8 * sheet-bytes bytes - samples-end bytes) ≡ 0
-        → answer-of 0 (edition bytes) (axes bytes) (entries bytes (axes bytes)) ≡ look-answer (front_bytes bytes)
-    tail-zero zero-there =
-        let none-set : eqb tail 0 ≡ true = eq-eqb tail 0 (sym tail-is ∙ zero-there) in
-        let refusal : sheet-refusal (front_bytes bytes) ≡ 0 = tail-to-the-byte ∙ ap (λ (b : Bool). cond (not b) 14 0) none-set in
-        rw (refusal, own-front, edition-own, entries-own, axes-own)
+    pub tail_zero : field bytes (samples_end bytes) (8 * sheet_bytes bytes - samples_end bytes) ≡ 0
+        → answer_of 0 (edition bytes) (axes bytes) (entries bytes (axes bytes)) ≡ look_answer (front_bytes bytes)
+    tail_zero zero_there =
+        let none_set : eqb tail 0 ≡ true = eq-eqb tail 0 (sym tail_is ∙ zero_there) in
+        let refusal : sheet_refusal (front_bytes bytes) ≡ 0 = tail_to_the_byte ∙ ap (λ (b : Bool). cond (not b) 14 0) none_set in
+        rw (refusal, own_front, edition_own, entries_own, axes_own)
 
-  pub size-inside : front-size bytes ≤ length bytes
-  size-inside = either-case bytes (λ none. rw (size-known none) (fields-inside none).2) (λ met. rw (size-unknown met) (omega arith))
+  pub size_inside : front_size bytes ≤ length bytes
+  size_inside = either_case bytes (λ none. rw (size_known none) (fields_inside none).2) (λ met. rw (size_unknown met) (omega arith))
 
 -- ---- enough bytes, and more
 
-samples-few : (bytes : List ℕ) → tensor-refused (sheet-grid bytes) ≡ false → samples-length (sheet-grid bytes) ≤ 4096
-samples-few bytes e =
-    let most = ltb-false 4096 (tensor-length (sheet-grid bytes)) e in
-    let g = sheet-grid bytes in
-    omega (arith, le-mul_of_pos_right (samples-length g) (pow_pos g.axes))
+samples_few : (bytes : List ℕ) → tensor_refused (sheet_grid bytes) ≡ false → samples_length (sheet_grid bytes) ≤ 4096
+samples_few bytes e =
+    let most = ltb-false 4096 (tensor_length (sheet_grid bytes)) e in
+    let g = sheet_grid bytes in
+    omega (arith, le-mul_of_pos_right (samples_length g) (pow_pos g.axes))
 
-enough-reach : (bytes : List ℕ) → Reach (8 * enough-bytes) bytes
-enough-reach bytes = record {
+enough_reach : (bytes : List ℕ) → Reach (8 * enough_bytes) bytes
+enough_reach bytes = record {
   header = omega arith;
-  all-axes = λ few. let most = begin-most bytes (axes bytes) in omega arith;
-  all-samples = λ few small. let most = begin-most bytes (axes bytes) in let count = samples-few bytes small in omega arith;
+  all_axes = λ few. let most = begin_most bytes (axes bytes) in omega arith;
+  all_samples = λ few small. let most = begin_most bytes (axes bytes) in let count = samples_few bytes small in omega arith;
 }
 
-pub end-most : (bytes : List ℕ) → before-tail bytes ≡ 0 → samples-end bytes ≤ 8 * enough-bytes
-end-most bytes none = let s = sound bytes none in (enough-reach bytes).all-samples s.few s.small
+pub end_most : (bytes : List ℕ) → before_tail bytes ≡ 0 → samples_end bytes ≤ 8 * enough_bytes
+end_most bytes none = let s = sound bytes none in (enough_reach bytes).all_samples s.few s.small
 
-module _ (bytes more : List ℕ) (h : enough-bytes ≤ length bytes) where
+module _ (bytes more : List ℕ) (h : enough_bytes ≤ length bytes) where
   abbrev all : List ℕ
   all = bytes ++ more
 
-  agree : Agree (8 * enough-bytes) all bytes
-  agree = agree-append (8 * enough-bytes) bytes more (omega arith)
+  agree : Agree (8 * enough_bytes) all bytes
+  agree = agree_append (8 * enough_bytes) bytes more (omega arith)
 
-  pub before-tail-local : before-tail all ≡ before-tail bytes
-  before-tail-local = before-tail-same (8 * enough-bytes) all bytes agree (enough-reach all)
+  pub before_tail_local : before_tail all ≡ before_tail bytes
+  before_tail_local = before_tail_same (8 * enough_bytes) all bytes agree (enough_reach all)
 
   -- a fault before the tail is met whatever follows
-  pub refusal-local : (before-tail bytes ≡ 0 → ⊥) → sheet-refusal all ≡ sheet-refusal bytes
-  refusal-local met = refusal-early all (λ z. met (sym before-tail-local ∙ z)) ∙ before-tail-local ∙ sym (refusal-early bytes met)
+  pub refusal_local : (before_tail bytes ≡ 0 → ⊥) → sheet_refusal all ≡ sheet_refusal bytes
+  refusal_local met = refusal_early all (λ z. met (sym before_tail_local ∙ z)) ∙ before_tail_local ∙ sym (refusal_early bytes met)
 
   -- and where there is none, the front sheet has the same bytes, and the same follow it
-  module _ (none : before-tail bytes ≡ 0) where
-    none-all : before-tail all ≡ 0
-    none-all = before-tail-local ∙ none
+  module _ (none : before_tail bytes ≡ 0) where
+    none_all : before_tail all ≡ 0
+    none_all = before_tail_local ∙ none
 
-    size-local : front-size all ≡ front-size bytes
-    unfolding sheet-bytes
-    size-local =
-        let same = end_is (8 * enough-bytes) all bytes agree (enough-reach all) (sound all none-all).few in
-        size-known all none-all ∙ ap (λ (n : ℕ). (n + 7) / 8) same ∙ sym (size-known bytes none)
+    size_local : front_size all ≡ front_size bytes
+    unfolding sheet_bytes
+    size_local =
+        let same = end_is (8 * enough_bytes) all bytes agree (enough_reach all) (sound all none_all).few in
+        size_known all none_all ∙ ap (λ (n : ℕ). (n + 7) / 8) same ∙ sym (size_known bytes none)
 
-    pub front-local : front_bytes all ≡ front_bytes bytes
-    front-local = rw size-local (take-append-le (front-size bytes) bytes more (size-inside bytes))
+    pub front_local : front_bytes all ≡ front_bytes bytes
+    front_local = rw size_local (take-append-le (front_size bytes) bytes more (size_inside bytes))
 
-    pub rest-local : rest-bytes all ≡ rest-bytes bytes ++ more
-    rest-local = rw size-local (drop-append-le (front-size bytes) bytes more (size-inside bytes))
+    pub rest_local : rest_bytes all ≡ rest_bytes bytes ++ more
+    rest_local = rw size_local (drop-append-le (front_size bytes) bytes more (size_inside bytes))

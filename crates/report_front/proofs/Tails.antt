@@ -6,28 +6,28 @@ use Prim.Native.Nat.{ℕ, zero, suc}
 use native.Mathlib.Omega.{arith}
 use borrow.Author.Tests.{ne_eqb}
 use lib.Dec.{eqb}
-use Rattle.rules.specs.Sizes.{samples-length}
-use Rattle.rules.specs.Refusals.{axes-refused, tensor-refused}
+use Rattle.rules.specs.Sizes.{samples_length}
+use Rattle.rules.specs.Refusals.{axes_refused, tensor_refused}
 use Rattle.rules.specs.Calls.{or_else}
-use Rattle.rules.proofs.Refused.{or-else-met}
-use Rattle.base_bits.specs.Bits.{short, numbers-short}
-use Rattle.grid_codes.specs.Editions.{unknown-edition}
-use Rattle.grid_codes.specs.Classes.{length-known}
-use Rattle.grid_codes.proofs.Tested.{tested, one-or-other}
-use Rattle.sheet_read.specs.Fields.{edition, axes, sheet-grid, samples-begin, samples-end}
-use Rattle.sheet_read.specs.Faults.{axes-fault, tail-refused, samples-fault, sheet-refusal}
-use Rattle.sheet_read.proofs.Numbers.{Holds, axes-number}
+use Rattle.rules.proofs.Refused.{or_else_met}
+use Rattle.base_bits.specs.Bits.{short, numbers_short}
+use Rattle.grid_codes.specs.Editions.{unknown_edition}
+use Rattle.grid_codes.specs.Classes.{length_known}
+use Rattle.grid_codes.proofs.Tested.{tested, one_or_other}
+use Rattle.sheet_read.specs.Fields.{edition, axes, sheet_grid, samples_begin, samples_end}
+use Rattle.sheet_read.specs.Faults.{axes_fault, tail_refused, samples_fault, sheet_refusal}
+use Rattle.sheet_read.proofs.Numbers.{Holds, axes_number}
 
 -- the refusal of a sheet, but for 14
-unfoldable pub before-tail : List ℕ → ℕ
-before-tail bytes =
+unfoldable pub before_tail : List ℕ → ℕ
+before_tail bytes =
     cond (short bytes 0 4) 11
-    (cond (unknown-edition (edition bytes)) 12
+    (cond (unknown_edition (edition bytes)) 12
     (cond (short bytes 4 3) 11
-    (cond (axes-refused (sheet-grid bytes)) 1
-    (or_else (axes-fault bytes (axes bytes))
-    (cond (tensor-refused (sheet-grid bytes)) 3
-    (cond (numbers-short bytes (samples-begin bytes) (samples-length (sheet-grid bytes))) 11 0))))))
+    (cond (axes_refused (sheet_grid bytes)) 1
+    (or_else (axes_fault bytes (axes bytes))
+    (cond (tensor_refused (sheet_grid bytes)) 3
+    (cond (numbers_short bytes (samples_begin bytes) (samples_length (sheet_grid bytes))) 11 0))))))
 
 -- ---- the two parts
 
@@ -43,31 +43,31 @@ split false false false false zero true w later = refl
 split false false false false zero false true later = refl
 split false false false false zero false false later = refl
 
-pub refusal-parts : (bytes : List ℕ)
-    → sheet-refusal bytes ≡ or_else (before-tail bytes) (cond (tail-refused bytes (samples-end bytes)) 14 0)
-unfolding sheet-refusal samples-fault before-tail
-refusal-parts bytes =
-    split (short bytes 0 4) (unknown-edition (edition bytes)) (short bytes 4 3) (axes-refused (sheet-grid bytes))
-    (axes-fault bytes (axes bytes))
-    (tensor-refused (sheet-grid bytes)) (numbers-short bytes (samples-begin bytes) (samples-length (sheet-grid bytes))) _
+pub refusal_parts : (bytes : List ℕ)
+    → sheet_refusal bytes ≡ or_else (before_tail bytes) (cond (tail_refused bytes (samples_end bytes)) 14 0)
+unfolding sheet_refusal samples_fault before_tail
+refusal_parts bytes =
+    split (short bytes 0 4) (unknown_edition (edition bytes)) (short bytes 4 3) (axes_refused (sheet_grid bytes))
+    (axes_fault bytes (axes bytes))
+    (tensor_refused (sheet_grid bytes)) (numbers_short bytes (samples_begin bytes) (samples_length (sheet_grid bytes))) _
 
 -- ---- what holds of each number that is met before the tail
 
 module _ (P : ℕ → Type 0) (h : Holds P) where
-  before-tail-number : (bytes : List ℕ) → P (before-tail bytes)
-  unfolding before-tail
-  before-tail-number bytes =
+  before_tail_number : (bytes : List ℕ) → P (before_tail bytes)
+  unfolding before_tail
+  before_tail_number bytes =
       tested P (short bytes 0 4) h.eleven
-      (tested P (unknown-edition (edition bytes)) h.twelve
+      (tested P (unknown_edition (edition bytes)) h.twelve
       (tested P (short bytes 4 3) h.eleven
-      (tested P (axes-refused (sheet-grid bytes)) h.one
-      (one-or-other P (axes-fault bytes (axes bytes)) (axes-number P h bytes (axes bytes))
-      (tested P (tensor-refused (sheet-grid bytes)) h.three
-      (tested P (numbers-short bytes (samples-begin bytes) (samples-length (sheet-grid bytes))) h.eleven h.none))))))
+      (tested P (axes_refused (sheet_grid bytes)) h.one
+      (one_or_other P (axes_fault bytes (axes bytes)) (axes_number P h bytes (axes bytes))
+      (tested P (tensor_refused (sheet_grid bytes)) h.three
+      (tested P (numbers_short bytes (samples_begin bytes) (samples_length (sheet_grid bytes))) h.eleven h.none))))))
 
-not-14 : (bytes : List ℕ) → before-tail bytes ≡ 14 → ⊥
-not-14 =
-    before-tail-number (λ (k : ℕ). (k ≡ 14 → ⊥))
+not_14 : (bytes : List ℕ) → before_tail bytes ≡ 14 → ⊥
+not_14 =
+    before_tail_number (λ (k : ℕ). (k ≡ 14 → ⊥))
     (record {
       none = λ z. omega arith;
       one = λ z. omega arith;
@@ -76,42 +76,42 @@ not-14 =
       eleven = λ z. omega arith;
       twelve = λ z. omega arith;
       thirteen = λ z. omega arith;
-      twenty-two = λ z. omega arith;
+      twenty_two = λ z. omega arith;
     })
 
 -- ---- whether the length is known
 
-pub true-not-false : true ≡ false → ⊥
-true-not-false e = let z : ◌≡◌ {A = ℕ} 0 1 = cc in omega arith
+pub true_not_false : true ≡ false → ⊥
+true_not_false e = let z : ◌≡◌ {A = ℕ} 0 1 = cc in omega arith
 
 module _ (bytes : List ℕ) where
   -- a fault before the tail is the sheet's refusal
-  pub refusal-early : (before-tail bytes ≡ 0 → ⊥) → sheet-refusal bytes ≡ before-tail bytes
-  refusal-early met = refusal-parts bytes ∙ or-else-met (before-tail bytes) _ met
+  pub refusal_early : (before_tail bytes ≡ 0 → ⊥) → sheet_refusal bytes ≡ before_tail bytes
+  refusal_early met = refusal_parts bytes ∙ or_else_met (before_tail bytes) _ met
 
-  pub refusal-late : before-tail bytes ≡ 0 → sheet-refusal bytes ≡ cond (tail-refused bytes (samples-end bytes)) 14 0
-  refusal-late none = refusal-parts bytes ∙ rw none
+  pub refusal_late : before_tail bytes ≡ 0 → sheet_refusal bytes ≡ cond (tail_refused bytes (samples_end bytes)) 14 0
+  refusal_late none = refusal_parts bytes ∙ rw none
 
-  pub known_of : before-tail bytes ≡ 0 → length-known (sheet-refusal bytes) ≡ true
-  known_of none = rw (refusal-late none) (go (tail-refused bytes (samples-end bytes)))
+  pub known_of : before_tail bytes ≡ 0 → length_known (sheet_refusal bytes) ≡ true
+  known_of none = rw (refusal_late none) (go (tail_refused bytes (samples_end bytes)))
     where
-      go : (test : Bool) → length-known (cond test 14 0) ≡ true
+      go : (test : Bool) → length_known (cond test 14 0) ≡ true
       go true = refl
       go false = refl
 
-  pub unknown-of : (before-tail bytes ≡ 0 → ⊥) → length-known (sheet-refusal bytes) ≡ false
-  unknown-of met = rw (refusal-early met, ne_eqb (before-tail bytes) 0 met, ne_eqb (before-tail bytes) 14 (not-14 bytes))
+  pub unknown_of : (before_tail bytes ≡ 0 → ⊥) → length_known (sheet_refusal bytes) ≡ false
+  unknown_of met = rw (refusal_early met, ne_eqb (before_tail bytes) 0 met, ne_eqb (before_tail bytes) 14 (not_14 bytes))
 
   -- the two cases, for whatever is to be shown
-  pub either-case : {A : Type 0} → (before-tail bytes ≡ 0 → A) → ((before-tail bytes ≡ 0 → ⊥) → A) → A
-  either-case {A} known unknown = go (before-tail bytes) refl
+  pub either_case : {A : Type 0} → (before_tail bytes ≡ 0 → A) → ((before_tail bytes ≡ 0 → ⊥) → A) → A
+  either_case {A} known unknown = go (before_tail bytes) refl
     where
-      go : (fault : ℕ) → before-tail bytes ≡ fault → A
+      go : (fault : ℕ) → before_tail bytes ≡ fault → A
       go zero e = known e
       go (suc fault) e = unknown (λ z. omega (arith, e, z))
 
-  pub none_before : length-known (sheet-refusal bytes) ≡ true → before-tail bytes ≡ 0
-  none_before known = either-case (λ none. none) (λ met. absurd (true-not-false (sym known ∙ unknown-of met)))
+  pub none_before : length_known (sheet_refusal bytes) ≡ true → before_tail bytes ≡ 0
+  none_before known = either_case (λ none. none) (λ met. absurd (true_not_false (sym known ∙ unknown_of met)))
 
-  pub met-before : length-known (sheet-refusal bytes) ≡ false → before-tail bytes ≡ 0 → ⊥
-  met-before unknown none = true-not-false (sym (known_of none) ∙ unknown)
+  pub met_before : length_known (sheet_refusal bytes) ≡ false → before_tail bytes ≡ 0 → ⊥
+  met_before unknown none = true_not_false (sym (known_of none) ∙ unknown)

@@ -1,7 +1,7 @@
 // The sheet at the front of a stream: how many bytes it has, and what looking at these finds.
 ghost use Rattle.std.specs.Prelude.{◌≡◌, true};
-ghost use Rattle.grid_codes.specs.Classes.{length-known};
-ghost use Rattle.sheet_read.specs.Faults.{sheet-refusal};
+ghost use Rattle.grid_codes.specs.Classes.{length_known};
+ghost use Rattle.sheet_read.specs.Faults.{sheet_refusal};
 ghost use Rattle.report_front.specs.LookedAt.{FrontLooked};
 
 use base_bits::field_at;
@@ -21,7 +21,7 @@ pub struct Front {
 
 // The front sheet, of which only the bits up to its last byte are left to judge. Not a public call: that its length is known is required.
 fn known_front(bytes: &[u8]) -> Front
-    requires { length-known (sheet-refusal bytes.now) ≡ true }
+    requires { length_known (sheet_refusal bytes.now) ≡ true }
     ensures { FrontLooked bytes.now result }
 {
     let edition = field_at(bytes, 0, 4) as usize;

@@ -16,10 +16,10 @@ use lib.Pow.{pow_mono}
 use Rattle.rules.specs.Numbers.{at}
 use Rattle.base_numbers.proofs.Scan.{any_at}
 use Rattle.report_totals.specs.Totals.{magnitude}
-use Rattle.report_totals.specs.Counting.{one-if, of_mask, InPlaces}
+use Rattle.report_totals.specs.Counting.{one_if, of_mask, InPlaces}
 use Rattle.report_totals.specs.declared.OrderTotals.{OrderTotals}
-use Rattle.report_totals.proofs.Orders.{totals-parts}
-use Rattle.report_totals.proofs.Masks.{of-mask-most}
+use Rattle.report_totals.proofs.Orders.{totals_parts}
+use Rattle.report_totals.proofs.Masks.{of_mask_most}
 
 abbrev counts : ℕ → ℕ → ℕ → OrderTotals
 counts entries nonzero largest = record { entries = entries; nonzero = nonzero; largest = largest }
@@ -27,50 +27,50 @@ counts entries nonzero largest = record { entries = entries; nonzero = nonzero; 
 -- a mask with one place more
 mask_next : (masks mask : ℕ) (numbers : List Float) (e p nonzero largest size one most : ℕ) → e ≡ p * masks + mask
     → of_mask masks mask numbers p ≡ counts p nonzero largest
-    → size ≡ magnitude (at numbers e) → one ≡ one-if (not (eqb size 0)) → most ≡ max largest size
+    → size ≡ magnitude (at numbers e) → one ≡ one_if (not (eqb size 0)) → most ≡ max largest size
     → of_mask masks mask numbers (p + 1) ≡ counts (p + 1) (nonzero + one) most
 unfolding of_mask
-mask_next masks mask numbers e p nonzero largest size one most place so_far size_is one-is most-is =
-    rw (add-one p, so_far, ← place) (totals-parts _ _ _ _ _ _ (omega arith) (rw (one-is, size_is)) (rw (most-is, size_is)))
+mask_next masks mask numbers e p nonzero largest size one most place so_far size_is one_is most_is =
+    rw (add-one p, so_far, ← place) (totals_parts _ _ _ _ _ _ (omega arith) (rw (one_is, size_is)) (rw (most_is, size_is)))
 
 -- four axes have 16 masks
-pub masks-few : {axes masks : ℕ} → axes ≤ 4 → masks ≡ 2 ^ axes → masks ≤ 16
-masks-few few e = let most = pow_mono few in omega arith
+pub masks_few : {axes masks : ℕ} → axes ≤ 4 → masks ≡ 2 ^ axes → masks ≤ 16
+masks_few few e = let most = pow_mono few in omega arith
 
 truth : (b : Bool) → not b ≡ false → b ≡ true
 truth true e = refl
 truth false e = sym e
 
 module _ (masks mask places : ℕ) (numbers : List Float) where
-  pub record Counted (nonzero largest next-nonzero next-largest e p : ℕ) : Type 0 where
+  pub record Counted (nonzero largest next_nonzero next_largest e p : ℕ) : Type 0 where
     pub most : p ≤ places
     pub place : e ≡ p * masks + mask
     pub first : of_mask masks mask numbers p ≡ record { entries = p; nonzero = nonzero; largest = largest }
-    pub second : of_mask masks (mask + 1) numbers p ≡ record { entries = p; nonzero = next-nonzero; largest = next-largest }
+    pub second : of_mask masks (mask + 1) numbers p ≡ record { entries = p; nonzero = next_nonzero; largest = next_largest }
 
-module _ (axes masks mask places : ℕ) (numbers : List Float) (given : InPlaces axes numbers) (masks-are : masks ≡ 2 ^ axes)
-    (below : mask + 1 < masks) (places-are : places ≡ length numbers / 2 ^ axes) where
+module _ (axes masks mask places : ℕ) (numbers : List Float) (given : InPlaces axes numbers) (masks_are : masks ≡ 2 ^ axes)
+    (below : mask + 1 < masks) (places_are : places ≡ length numbers / 2 ^ axes) where
   whole : places * masks ≡ length numbers
-  whole = rw (masks-are, places-are) (sym given.whole)
+  whole = rw (masks_are, places_are) (sym given.whole)
 
-  pub counted-first : Counted masks mask places numbers 0 0 0 0 mask 0
+  pub counted_first : Counted masks mask places numbers 0 0 0 0 mask 0
   unfolding of_mask
-  counted-first = record { most = omega arith; place = omega arith; first = refl; second = refl }
+  counted_first = record { most = omega arith; place = omega arith; first = refl; second = refl }
 
-  pub places-few : places ≤ 4096
-  places-few =
+  pub places_few : places ≤ 4096
+  places_few =
       let some : 0 < masks = omega (arith, below) in
       omega (arith, le-mul_of_pos_right places some, whole, given.small)
 
-  pub finite-at : (k : ℕ) → k < length numbers → finite (at numbers k) ≡ true
-  finite-at k h = truth (finite (at numbers k)) (any_at _ (length numbers) given.finite k h)
+  pub finite_at : (k : ℕ) → k < length numbers → finite (at numbers k) ≡ true
+  finite_at k h = truth (finite (at numbers k)) (any_at _ (length numbers) given.finite k h)
 
-  module _ (nonzero largest next-nonzero next-largest e p : ℕ)
-      (t : Counted masks mask places numbers nonzero largest next-nonzero next-largest e p) where
-    pub counts-few : (nonzero ≤ p) × (next-nonzero ≤ p)
-    counts-few = (
-      rw t.first at (of-mask-most masks mask numbers p).1,
-      rw t.second at (of-mask-most masks (mask + 1) numbers p).1,
+  module _ (nonzero largest next_nonzero next_largest e p : ℕ)
+      (t : Counted masks mask places numbers nonzero largest next_nonzero next_largest e p) where
+    pub counts_few : (nonzero ≤ p) × (next_nonzero ≤ p)
+    counts_few = (
+      rw t.first at (of_mask_most masks mask numbers p).1,
+      rw t.second at (of_mask_most masks (mask + 1) numbers p).1,
     )
 
     module _ (h : p < places) where
@@ -78,22 +78,22 @@ module _ (axes masks mask places : ℕ) (numbers : List Float) (given : InPlaces
       pub inside : e + 1 < length numbers
       inside = let l = digits_lt {q = p} {m = places} {r = mask + 1} {c = masks} h below in omega (arith, t.place, whole)
 
-      pub counted_next : (size next-size one next_one later next-later : ℕ)
-          → size ≡ magnitude (at numbers e) → next-size ≡ magnitude (at numbers (e + 1))
-          → one ≡ one-if (not (eqb size 0)) → next_one ≡ one-if (not (eqb next-size 0))
-          → later ≡ max largest size → next-later ≡ max next-largest next-size
-          → Counted masks mask places numbers (nonzero + one) later (next-nonzero + next_one) next-later (e + masks) (p + 1)
-      counted_next size next-size one next_one later next-later s s' o o' l l' = record {
+      pub counted_next : (size next_size one next_one later next_later : ℕ)
+          → size ≡ magnitude (at numbers e) → next_size ≡ magnitude (at numbers (e + 1))
+          → one ≡ one_if (not (eqb size 0)) → next_one ≡ one_if (not (eqb next_size 0))
+          → later ≡ max largest size → next_later ≡ max next_largest next_size
+          → Counted masks mask places numbers (nonzero + one) later (next_nonzero + next_one) next_later (e + masks) (p + 1)
+      counted_next size next_size one next_one later next_later s s' o o' l l' = record {
         most = omega arith;
         place = omega (arith, t.place);
         first = mask_next masks mask numbers e p nonzero largest size one later t.place t.first s o l;
         second =
-            mask_next masks (mask + 1) numbers (e + 1) p next-nonzero next-largest next-size next_one next-later (omega (arith, t.place))
+            mask_next masks (mask + 1) numbers (e + 1) p next_nonzero next_largest next_size next_one next_later (omega (arith, t.place))
             t.second s' o' l';
       }
 
-    pub counted-last : places ≤ p
+    pub counted_last : places ≤ p
         → (record { entries = places; nonzero = nonzero; largest = largest } ≡ of_mask masks mask numbers places)
-        × (record { entries = places; nonzero = next-nonzero; largest = next-largest } ≡ of_mask masks (mask + 1) numbers places)
-    counted-last end =
+        × (record { entries = places; nonzero = next_nonzero; largest = next_largest } ≡ of_mask masks (mask + 1) numbers places)
+    counted_last end =
         let full : p ≡ places = omega (arith, t.most) in (rw (← full) (sym t.first), rw (← full) (sym t.second))

@@ -16,47 +16,47 @@ use lib.Pow.{pow_pos}
 use lib.Seq.{take-suc, take_all}
 use borrow.Author.Tests.{eq-eqb, ne_eqb}
 use Rattle.rules.specs.Numbers.{at, table}
-use Rattle.rules.proofs.Tables.{length-table, at_table, table_of, table-ext}
-use Rattle.report_totals.specs.Totals.{Entry, nonzero, of-order, tensor-entries}
-use Rattle.report_totals.specs.Counting.{one-if, no-entries, of_one, sum, of_mask, order-totals, orders-of, InPlaces, Room, Tallied}
+use Rattle.rules.proofs.Tables.{length_table, at_table, table_of, table_ext}
+use Rattle.report_totals.specs.Totals.{Entry, nonzero, of_order, tensor_entries}
+use Rattle.report_totals.specs.Counting.{one_if, no_entries, of_one, sum, of_mask, order_totals, orders_of, InPlaces, Room, Tallied}
 use Rattle.report_totals.specs.declared.OrderTotals.{OrderTotals}
-use Rattle.report_totals.proofs.Lists.{filter-kept, filter-dropped, table-set}
-use Rattle.report_totals.proofs.Orders.{totals-parts, order-next, order-most}
+use Rattle.report_totals.proofs.Lists.{filter_kept, filter_dropped, table_set}
+use Rattle.report_totals.proofs.Orders.{totals_parts, order_next, order_most}
 
-one-if-most : (test : Bool) → one-if test ≤ 1
-one-if-most true = omega arith
-one-if-most false = omega arith
+one_if_most : (test : Bool) → one_if test ≤ 1
+one_if_most true = omega arith
+one_if_most false = omega arith
 
-pub one-if-not-zero-most : (size : ℕ) → one-if (not (eqb size 0)) ≤ 1
-one-if-not-zero-most size = one-if-most (not (eqb size 0))
+pub one_if_not_zero_most : (size : ℕ) → one_if (not (eqb size 0)) ≤ 1
+one_if_not_zero_most size = one_if_most (not (eqb size 0))
 
 -- ---- sums of totals
 
-sum-none : (a : OrderTotals) → a ≡ sum a no-entries
-sum-none a = totals-parts _ _ _ _ _ _ (omega arith) (omega arith) (omega arith)
+sum_none : (a : OrderTotals) → a ≡ sum a no_entries
+sum_none a = totals_parts _ _ _ _ _ _ (omega arith) (omega arith) (omega arith)
 
-sum-assoc : (a b c : OrderTotals) → sum (sum a b) c ≡ sum a (sum b c)
-sum-assoc a b c = totals-parts _ _ _ _ _ _ (omega arith) (omega arith) (omega arith)
+sum_assoc : (a b c : OrderTotals) → sum (sum a b) c ≡ sum a (sum b c)
+sum_assoc a b c = totals_parts _ _ _ _ _ _ (omega arith) (omega arith) (omega arith)
 
-sum-across : (a b c d : OrderTotals) → sum (sum a b) (sum c d) ≡ sum (sum a c) (sum b d)
-sum-across a b c d = totals-parts _ _ _ _ _ _ (omega arith) (omega arith) (omega arith)
+sum_across : (a b c d : OrderTotals) → sum (sum a b) (sum c d) ≡ sum (sum a c) (sum b d)
+sum_across a b c d = totals_parts _ _ _ _ _ _ (omega arith) (omega arith) (omega arith)
 
 -- of more entries, where they are of the order that is counted
-abbrev sum-if : Bool → OrderTotals → OrderTotals → OrderTotals
-sum-if test totals more = cond test (sum totals more) totals
+abbrev sum_if : Bool → OrderTotals → OrderTotals → OrderTotals
+sum_if test totals more = cond test (sum totals more) totals
 
-sums-across : (test : Bool) (a b c d : OrderTotals) → sum-if test (sum a b) (sum c d) ≡ sum (sum-if test a c) (sum-if test b d)
-sums-across true a b c d = sum-across a b c d
-sums-across false a b c d = refl
+sums_across : (test : Bool) (a b c d : OrderTotals) → sum_if test (sum a b) (sum c d) ≡ sum (sum_if test a c) (sum_if test b d)
+sums_across true a b c d = sum_across a b c d
+sums_across false a b c d = refl
 
 -- a mask has one entry at each place
-pub of-mask-most : (masks mask : ℕ) (numbers : List Float) (p : ℕ)
+pub of_mask_most : (masks mask : ℕ) (numbers : List Float) (p : ℕ)
     → ((of_mask masks mask numbers p).entries ≡ p) × ((of_mask masks mask numbers p).nonzero ≤ p)
 unfolding of_mask
-of-mask-most masks mask numbers zero = (refl, omega arith)
-of-mask-most masks mask numbers (suc p) =
-    let before = of-mask-most masks mask numbers p in
-    let one = one-if-most (nonzero (at numbers (p * masks + mask))) in (omega (arith, before.0), omega (arith, before.1))
+of_mask_most masks mask numbers zero = (refl, omega arith)
+of_mask_most masks mask numbers (suc p) =
+    let before = of_mask_most masks mask numbers p in
+    let one = one_if_most (nonzero (at numbers (p * masks + mask))) in (omega (arith, before.0), omega (arith, before.1))
 
 -- ---- the entries of one order, place by place and mask by mask
 
@@ -66,38 +66,38 @@ module _ (axes : ℕ) (numbers : List Float) (k : ℕ) where
 
   -- those at one place, of the first masks
   unfoldable at_place : ℕ → ℕ → OrderTotals
-  at_place p zero = no-entries
-  at_place p (suc m) = sum-if (eqb (ones m) k) (at_place p m) (of_one (at numbers (p * masks + m)))
+  at_place p zero = no_entries
+  at_place p (suc m) = sum_if (eqb (ones m) k) (at_place p m) (of_one (at numbers (p * masks + m)))
 
   -- those at the first places, of the first masks, one mask after the other
-  unfoldable pub by-masks : ℕ → ℕ → OrderTotals
-  by-masks p zero = no-entries
-  by-masks p (suc m) = sum-if (eqb (ones m) k) (by-masks p m) (of_mask masks m numbers p)
+  unfoldable pub by_masks : ℕ → ℕ → OrderTotals
+  by_masks p zero = no_entries
+  by_masks p (suc m) = sum_if (eqb (ones m) k) (by_masks p m) (of_mask masks m numbers p)
 
   -- one place more is one entry more of each mask
-  place-more : (p m : ℕ) → by-masks (suc p) m ≡ sum (by-masks p m) (at_place p m)
-  unfolding by-masks at_place of_mask
-  place-more p zero = sum-none no-entries
-  place-more p (suc m) = rw (place-more p m) (sums-across (eqb (ones m) k) _ _ _ _)
+  place_more : (p m : ℕ) → by_masks (suc p) m ≡ sum (by_masks p m) (at_place p m)
+  unfolding by_masks at_place of_mask
+  place_more p zero = sum_none no_entries
+  place_more p (suc m) = rw (place_more p m) (sums_across (eqb (ones m) k) _ _ _ _)
 
-  no-places : (m : ℕ) → by-masks 0 m ≡ no-entries
-  unfolding by-masks of_mask
-  no-places zero = refl
-  no-places (suc m) = rw (no-places m) (go (eqb (ones m) k))
+  no_places : (m : ℕ) → by_masks 0 m ≡ no_entries
+  unfolding by_masks of_mask
+  no_places zero = refl
+  no_places (suc m) = rw (no_places m) (go (eqb (ones m) k))
     where
-      go : (test : Bool) → sum-if test no-entries no-entries ≡ no-entries
+      go : (test : Bool) → sum_if test no_entries no_entries ≡ no_entries
       go true = refl
       go false = refl
 
-  by-masks-most : (p m : ℕ) → ((by-masks p m).entries ≤ m * p) × ((by-masks p m).nonzero ≤ m * p)
-  unfolding by-masks
-  by-masks-most p zero = (omega arith, omega arith)
-  by-masks-most p (suc m) = go (eqb (ones m) k) (by-masks-most p m) (of-mask-most masks m numbers p)
+  by_masks_most : (p m : ℕ) → ((by_masks p m).entries ≤ m * p) × ((by_masks p m).nonzero ≤ m * p)
+  unfolding by_masks
+  by_masks_most p zero = (omega arith, omega arith)
+  by_masks_most p (suc m) = go (eqb (ones m) k) (by_masks_most p m) (of_mask_most masks m numbers p)
     where
-      go : (test : Bool) → ((by-masks p m).entries ≤ m * p) × ((by-masks p m).nonzero ≤ m * p)
+      go : (test : Bool) → ((by_masks p m).entries ≤ m * p) × ((by_masks p m).nonzero ≤ m * p)
           → ((of_mask masks m numbers p).entries ≡ p) × ((of_mask masks m numbers p).nonzero ≤ p)
-          → ((sum-if test (by-masks p m) (of_mask masks m numbers p)).entries ≤ suc m * p)
-          × ((sum-if test (by-masks p m) (of_mask masks m numbers p)).nonzero ≤ suc m * p)
+          → ((sum_if test (by_masks p m) (of_mask masks m numbers p)).entries ≤ suc m * p)
+          × ((sum_if test (by_masks p m) (of_mask masks m numbers p)).nonzero ≤ suc m * p)
       go true before own = (omega (arith, before.0, own.0), omega (arith, before.1, own.1))
       go false before own = (omega (arith, before.0), omega (arith, before.1))
 
@@ -108,73 +108,73 @@ module _ (axes : ℕ) (numbers : List Float) (k : ℕ) where
   entry e = record { order = ones (e % masks); number = get_or numbers e nan }
 
   take_next : (e : ℕ) → e < length numbers
-      → take (suc e) (tensor-entries axes numbers) ≡ take e (tensor-entries axes numbers) ++ (entry e ∷ [])
+      → take (suc e) (tensor_entries axes numbers) ≡ take e (tensor_entries axes numbers) ++ (entry e ∷ [])
   take_next e h =
-      let long = length-table (length numbers) entry in
-      rw (take-suc (tensor-entries axes numbers) e (entry 0) (omega arith), at_table (length numbers) entry e (entry 0) h)
+      let long = length_table (length numbers) entry in
+      rw (take-suc (tensor_entries axes numbers) e (entry 0) (omega arith), at_table (length numbers) entry e (entry 0) h)
 
   module _ (before : List Entry) where
     -- the first so many entries of the tensor behind the others
     abbrev behind : ℕ → List Entry
-    behind e = before ++ take e (tensor-entries axes numbers)
+    behind e = before ++ take e (tensor_entries axes numbers)
 
     -- what is counted of them
     abbrev counted : ℕ → OrderTotals
-    counted e = order-totals (of-order k (behind e))
+    counted e = order_totals (of_order k (behind e))
 
-    with-entry : (e : ℕ) (test : Bool) → eqb (ones (e % masks)) k ≡ test
-        → order-totals (of-order k (behind e ++ (entry e ∷ []))) ≡ sum-if test (counted e) (of_one (at numbers e))
-    with-entry e true q =
-        rw (filter-kept (λ (x : Entry). eqb x.order k) (behind e) (entry e) q) (order-next (of-order k (behind e)) (entry e))
-    with-entry e false q = rw (filter-dropped (λ (x : Entry). eqb x.order k) (behind e) (entry e) q)
+    with_entry : (e : ℕ) (test : Bool) → eqb (ones (e % masks)) k ≡ test
+        → order_totals (of_order k (behind e ++ (entry e ∷ []))) ≡ sum_if test (counted e) (of_one (at numbers e))
+    with_entry e true q =
+        rw (filter_kept (λ (x : Entry). eqb x.order k) (behind e) (entry e) q) (order_next (of_order k (behind e)) (entry e))
+    with_entry e false q = rw (filter_dropped (λ (x : Entry). eqb x.order k) (behind e) (entry e) q)
 
-    entry_more : (e : ℕ) → e < length numbers → counted (suc e) ≡ sum-if (eqb (ones (e % masks)) k) (counted e) (of_one (at numbers e))
-    entry_more e h = rw (take_next e h, ← append_assoc) (with-entry e (eqb (ones (e % masks)) k) refl)
+    entry_more : (e : ℕ) → e < length numbers → counted (suc e) ≡ sum_if (eqb (ones (e % masks)) k) (counted e) (of_one (at numbers e))
+    entry_more e h = rw (take_next e h, ← append_assoc) (with_entry e (eqb (ones (e % masks)) k) refl)
 
     -- a place, mask by mask
-    place-counted : (p : ℕ) → suc p * masks ≤ length numbers → (m : ℕ) → m ≤ masks
+    place_counted : (p : ℕ) → suc p * masks ≤ length numbers → (m : ℕ) → m ≤ masks
         → counted (p * masks + m) ≡ sum (counted (p * masks)) (at_place p m)
     unfolding at_place
-    place-counted p room zero h = rw (add-zero (p * masks)) (sum-none (counted (p * masks)))
-    place-counted p room (suc m) h =
+    place_counted p room zero h = rw (add-zero (p * masks)) (sum_none (counted (p * masks)))
+    place_counted p room (suc m) h =
         let e : p * masks + suc m ≡ suc (p * masks + m) = omega arith in
         let inside : p * masks + m < length numbers = omega (arith, suc-mul p masks) in
         ap counted e ∙ entry_more (p * masks + m) inside
-        ∙ rw (digits_mod p {m = masks} {r = m} (omega arith), place-counted p room m (omega arith))
+        ∙ rw (digits_mod p {m = masks} {r = m} (omega arith), place_counted p room m (omega arith))
         (go (eqb (ones m) k))
       where
-        go : (test : Bool) → sum-if test (sum (counted (p * masks)) (at_place p m)) (of_one (at numbers (p * masks + m)))
-            ≡ sum (counted (p * masks)) (sum-if test (at_place p m) (of_one (at numbers (p * masks + m))))
-        go true = sum-assoc _ _ _
+        go : (test : Bool) → sum_if test (sum (counted (p * masks)) (at_place p m)) (of_one (at numbers (p * masks + m)))
+            ≡ sum (counted (p * masks)) (sum_if test (at_place p m) (of_one (at numbers (p * masks + m))))
+        go true = sum_assoc _ _ _
         go false = refl
 
     -- and place by place
-    places-counted : (p : ℕ) → p * masks ≤ length numbers
-        → counted (p * masks) ≡ sum (order-totals (of-order k before)) (by-masks p masks)
-    places-counted zero room =
+    places_counted : (p : ℕ) → p * masks ≤ length numbers
+        → counted (p * masks) ≡ sum (order_totals (of_order k before)) (by_masks p masks)
+    places_counted zero room =
         let e : 0 * masks ≡ 0 = omega arith in
-        ap counted e ∙ ap (λ (l : List Entry). order-totals (of-order k l)) (append-nil before)
-        ∙ rw (no-places masks) (sum-none (order-totals (of-order k before)))
-    places-counted (suc p) room =
+        ap counted e ∙ ap (λ (l : List Entry). order_totals (of_order k l)) (append-nil before)
+        ∙ rw (no_places masks) (sum_none (order_totals (of_order k before)))
+    places_counted (suc p) room =
         let e : suc p * masks ≡ p * masks + masks = suc-mul p masks in
-        ap counted e ∙ place-counted p room masks (omega arith)
-        ∙ rw (places-counted p (omega arith), place-more p masks) (sum-assoc _ _ _)
+        ap counted e ∙ place_counted p room masks (omega arith)
+        ∙ rw (places_counted p (omega arith), place_more p masks) (sum_assoc _ _ _)
 
 -- ---- all orders
 
 -- one axis or more has an even number of masks
-pub masks-even : (axes : ℕ) → 1 ≤ axes → (half : ℕ) × (2 ^ axes ≡ 2 * half)
-masks-even zero some = absurd (omega arith)
-masks-even (suc axes) some = (2 ^ axes, omega (arith, pow-suc 2 axes))
+pub masks_even : (axes : ℕ) → 1 ≤ axes → (half : ℕ) × (2 ^ axes ≡ 2 * half)
+masks_even zero some = absurd (omega arith)
+masks_even (suc axes) some = (2 ^ axes, omega (arith, pow-suc 2 axes))
 
-pub five-orders : (orders : List OrderTotals) (n : ℕ) → Room orders n → length orders ≡ 5
-unfolding orders-of
-five-orders orders n room = rw room.said (length-table 5 (λ k. order-totals (of-order k room.before)))
+pub five_orders : (orders : List OrderTotals) (n : ℕ) → Room orders n → length orders ≡ 5
+unfolding orders_of
+five_orders orders n room = rw room.said (length_table 5 (λ k. order_totals (of_order k room.before)))
 
 module _ (orders : List OrderTotals) (axes : ℕ) (numbers : List Float) (places : ℕ) where
   -- an order with the first masks counted
   abbrev so_far : ℕ → ℕ → OrderTotals
-  so_far m k = sum (get_or orders k no-entries) (by-masks axes numbers k places m)
+  so_far m k = sum (get_or orders k no_entries) (by_masks axes numbers k places m)
 
   pub record Turn (all : List OrderTotals) (mask : ℕ) : Type 0 where
     pub most : mask ≤ 2 ^ axes
@@ -182,84 +182,84 @@ module _ (orders : List OrderTotals) (axes : ℕ) (numbers : List Float) (places
     pub even : mask ≡ 2 * half
     pub done : all ≡ table 5 (so_far mask)
 
-  pub turn-first : length orders ≡ 5 → Turn orders 0
-  unfolding by-masks
-  turn-first five = record {
+  pub turn_first : length orders ≡ 5 → Turn orders 0
+  unfolding by_masks
+  turn_first five = record {
     most = omega arith;
     half = 0;
     even = refl;
-    done = table_of no-entries orders 5 five ∙ table-ext 5 _ _ (λ k l. sum-none (get_or orders k no-entries));
+    done = table_of no_entries orders 5 five ∙ table_ext 5 _ _ (λ k l. sum_none (get_or orders k no_entries));
   }
 
   -- one mask more is stored under its order
-  mask-stored : (all : List OrderTotals) (m : ℕ) → all ≡ table 5 (so_far m) → ones m < 5 → (later : OrderTotals)
-      → later ≡ sum (get_or all (ones m) no-entries) (of_mask (2 ^ axes) m numbers places)
+  mask_stored : (all : List OrderTotals) (m : ℕ) → all ≡ table 5 (so_far m) → ones m < 5 → (later : OrderTotals)
+      → later ≡ sum (get_or all (ones m) no_entries) (of_mask (2 ^ axes) m numbers places)
       → set all (ones m) later ≡ table 5 (so_far (suc m))
-  unfolding by-masks
-  mask-stored all m done small later said =
+  unfolding by_masks
+  mask_stored all m done small later said =
       rw done
-      (table-set no-entries 5 (so_far m) (so_far (suc m)) (ones m) later small
-      (said ∙ rw (done, at_table 5 (so_far m) (ones m) no-entries small, eq-eqb (ones m) (ones m) refl) (sum-assoc _ _ _))
+      (table_set no_entries 5 (so_far m) (so_far (suc m)) (ones m) later small
+      (said ∙ rw (done, at_table 5 (so_far m) (ones m) no_entries small, eq-eqb (ones m) (ones m) refl) (sum_assoc _ _ _))
       (λ k other. rw (ne_eqb (ones m) k (λ z. other (sym z)))))
 
   module _ (room : Room orders (places * 2 ^ axes)) where
     -- no order has so many that another mask does not fit
-    pub order-room : (all : List OrderTotals) (m : ℕ) → all ≡ table 5 (so_far m) → m ≤ 2 ^ axes → (k : ℕ) → k < 5
+    pub order_room : (all : List OrderTotals) (m : ℕ) → all ≡ table 5 (so_far m) → m ≤ 2 ^ axes → (k : ℕ) → k < 5
         → (mask : ℕ) → let own = of_mask (2 ^ axes) mask numbers places in
-        ((get_or all k no-entries).entries + own.entries < 2 ^ 64) × ((get_or all k no-entries).nonzero + own.nonzero < 2 ^ 64)
-    order-room all m done below k small mask =
-        let most = order-most room.before k small in
-        let counted = by-masks-most axes numbers k places m in
-        let more = of-mask-most (2 ^ axes) mask numbers places in
-        let all-masks = mul-le-mul_right places below in
-        let one-mask = mul-le-mul_right places (pow_pos axes) in
+        ((get_or all k no_entries).entries + own.entries < 2 ^ 64) × ((get_or all k no_entries).nonzero + own.nonzero < 2 ^ 64)
+    order_room all m done below k small mask =
+        let most = order_most room.before k small in
+        let counted = by_masks_most axes numbers k places m in
+        let more = of_mask_most (2 ^ axes) mask numbers places in
+        let all_masks = mul-le-mul_right places below in
+        let one_mask = mul-le-mul_right places (pow_pos axes) in
         let few = room.few in
-        rw (done, at_table 5 (so_far m) k no-entries small, room.said) (omega arith, omega arith)
+        rw (done, at_table 5 (so_far m) k no_entries small, room.said) (omega arith, omega arith)
 
   module _ (all : List OrderTotals) (mask : ℕ) (t : Turn all mask) (h : mask < 2 ^ axes) (first : OrderTotals)
-      (first-is : first ≡ of_mask (2 ^ axes) mask numbers places) (k : ℕ) (k-is : k ≡ ones mask) (small : k < 5) where
-    pub first-room : Room orders (places * 2 ^ axes)
-        → ((get_or all k no-entries).entries + first.entries < 2 ^ 64) × ((get_or all k no-entries).nonzero + first.nonzero < 2 ^ 64)
-    first-room room = rw first-is (order-room room all mask t.done (omega arith) k small mask)
+      (first_is : first ≡ of_mask (2 ^ axes) mask numbers places) (k : ℕ) (k_is : k ≡ ones mask) (small : k < 5) where
+    pub first_room : Room orders (places * 2 ^ axes)
+        → ((get_or all k no_entries).entries + first.entries < 2 ^ 64) × ((get_or all k no_entries).nonzero + first.nonzero < 2 ^ 64)
+    first_room room = rw first_is (order_room room all mask t.done (omega arith) k small mask)
 
-    module _ (later : OrderTotals) (later-is : later ≡ sum (get_or all k no-entries) first) where
-      half-done : set all k later ≡ table 5 (so_far (suc mask))
-      half-done = rw k-is (mask-stored all mask t.done (rw k-is at small) later (later-is ∙ rw (k-is, first-is)))
+    module _ (later : OrderTotals) (later_is : later ≡ sum (get_or all k no_entries) first) where
+      half_done : set all k later ≡ table 5 (so_far (suc mask))
+      half_done = rw k_is (mask_stored all mask t.done (rw k_is at small) later (later_is ∙ rw (k_is, first_is)))
 
       module _ (second : OrderTotals) (second_is : second ≡ of_mask (2 ^ axes) (mask + 1) numbers places) (next : ℕ)
-          (next-is : next ≡ ones (mask + 1)) (next_small : next < 5) where
-        pub second-room : Room orders (places * 2 ^ axes)
-            → ((get_or (set all k later) next no-entries).entries + second.entries < 2 ^ 64)
-            × ((get_or (set all k later) next no-entries).nonzero + second.nonzero < 2 ^ 64)
-        second-room room = rw second_is (order-room room (set all k later) (suc mask) half-done (omega arith) next next_small (mask + 1))
+          (next_is : next ≡ ones (mask + 1)) (next_small : next < 5) where
+        pub second_room : Room orders (places * 2 ^ axes)
+            → ((get_or (set all k later) next no_entries).entries + second.entries < 2 ^ 64)
+            × ((get_or (set all k later) next no_entries).nonzero + second.nonzero < 2 ^ 64)
+        second_room room = rw second_is (order_room room (set all k later) (suc mask) half_done (omega arith) next next_small (mask + 1))
 
-        pub turn-next : 1 ≤ axes → (last : OrderTotals) → last ≡ sum (get_or (set all k later) next no-entries) second
+        pub turn_next : 1 ≤ axes → (last : OrderTotals) → last ≡ sum (get_or (set all k later) next no_entries) second
             → Turn (set (set all k later) next last) (mask + 2)
-        turn-next some last last-is =
+        turn_next some last last_is =
             let e = add-one mask in
-            let own : next ≡ ones (suc mask) = next-is ∙ ap ones e in
+            let own : next ≡ ones (suc mask) = next_is ∙ ap ones e in
             let two : mask + 2 ≡ suc (suc mask) = omega arith in
-            let full = masks-even axes some in
+            let full = masks_even axes some in
             record {
               most = omega (arith, t.even, full.1);
               half = t.half + 1;
               even = omega (arith, t.even);
               done =
                   rw (two, own)
-                  (mask-stored (set all k later) (suc mask) half-done (rw own at next_small) last
-                  (last-is ∙ rw (second_is, own, e)));
+                  (mask_stored (set all k later) (suc mask) half_done (rw own at next_small) last
+                  (last_is ∙ rw (second_is, own, e)));
             }
 
   pub turn_last : (all : List OrderTotals) (mask : ℕ) → Turn all mask → 2 ^ axes ≤ mask → places * 2 ^ axes ≡ length numbers
-      → Tallied orders (tensor-entries axes numbers) all
-  unfolding orders-of
+      → Tallied orders (tensor_entries axes numbers) all
+  unfolding orders_of
   turn_last all mask t end whole before said =
-      let long = length-table (length numbers) (entry axes numbers 0) in
+      let long = length_table (length numbers) (entry axes numbers 0) in
       let full : mask ≡ 2 ^ axes = omega (arith, t.most) in
-      t.done ∙ table-ext 5 _ _ (λ k l.
-      let own : get_or orders k no-entries ≡ order-totals (of-order k before) =
-      rw said (at_table 5 (λ j. order-totals (of-order j before)) k no-entries l) in
-      let masked : so_far mask k ≡ sum (order-totals (of-order k before)) (by-masks axes numbers k places (2 ^ axes)) = rw (full, own) in
-      masked ∙ sym (places-counted axes numbers k before places (omega arith))
-      ∙ ap (λ (l : List Entry). order-totals (of-order k (before ++ l)))
-      (take_all (places * 2 ^ axes) (tensor-entries axes numbers) (omega arith)))
+      t.done ∙ table_ext 5 _ _ (λ k l.
+      let own : get_or orders k no_entries ≡ order_totals (of_order k before) =
+      rw said (at_table 5 (λ j. order_totals (of_order j before)) k no_entries l) in
+      let masked : so_far mask k ≡ sum (order_totals (of_order k before)) (by_masks axes numbers k places (2 ^ axes)) = rw (full, own) in
+      masked ∙ sym (places_counted axes numbers k before places (omega arith))
+      ∙ ap (λ (l : List Entry). order_totals (of_order k (before ++ l)))
+      (take_all (places * 2 ^ axes) (tensor_entries axes numbers) (omega arith)))

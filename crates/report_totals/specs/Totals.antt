@@ -7,16 +7,16 @@ use Rattle.rules.specs.Numbers.{at, table, filter}
 use Rattle.report_totals.specs.declared.Totals.{Totals}
 
 -- the most sheets in a report
-abbrev pub most-sheets : ℕ
-most-sheets = 1000000
+abbrev pub most_sheets : ℕ
+most_sheets = 1000000
 
 -- how many numbers a refusal may have: from 0, which is none, to 23
-abbrev pub refusal-numbers : ℕ
-refusal-numbers = 24
+abbrev pub refusal_numbers : ℕ
+refusal_numbers = 24
 
 -- how many derivative orders there are: from 0 to the most axes
-abbrev pub derivative-orders : ℕ
-derivative-orders = 5
+abbrev pub derivative_orders : ℕ
+derivative_orders = 5
 
 -- one number of a tensor, and of which derivative order it is
 pub record Entry : Type 0 where
@@ -29,8 +29,8 @@ pub record Sheet : Type 0 where
   pub tensor : List Entry
 
 -- the entries of a tensor over so many axes: the masks of a place lie side by side, and the ones of a mask are counted for the order
-abbrev pub tensor-entries : ℕ → List Float → List Entry
-tensor-entries axes numbers = table (length numbers) (λ e. record { order = ones (e % 2 ^ axes); number = at numbers e })
+abbrev pub tensor_entries : ℕ → List Float → List Entry
+tensor_entries axes numbers = table (length numbers) (λ e. record { order = ones (e % 2 ^ axes); number = at numbers e })
 
 -- the magnitude of a number: its pattern with the sign cleared
 abbrev pub magnitude : Float → ℕ
@@ -46,46 +46,46 @@ largest [] = 0
 largest (entry ∷ rest) = max (magnitude entry.number) (largest rest)
 
 -- the entries of one order
-abbrev pub of-order : ℕ → List Entry → List Entry
-of-order k entries = filter (λ entry. eqb entry.order k) entries
+abbrev pub of_order : ℕ → List Entry → List Entry
+of_order k entries = filter (λ entry. eqb entry.order k) entries
 
 -- the entries of all tensors, one after the other
-unfoldable pub all-entries : List Sheet → List Entry
-all-entries [] = []
-all-entries (sheet ∷ rest) = sheet.tensor ++ all-entries rest
+unfoldable pub all_entries : List Sheet → List Entry
+all_entries [] = []
+all_entries (sheet ∷ rest) = sheet.tensor ++ all_entries rest
 
 -- ---- the totals
 
 -- how many sheets there are
-abbrev pub sheets-total : List Sheet → ℕ
-sheets-total sheets = length sheets
+abbrev pub sheets_total : List Sheet → ℕ
+sheets_total sheets = length sheets
 
 -- how many have a refusal's number
-abbrev pub refused-total : ℕ → List Sheet → ℕ
-refused-total number sheets = length (filter (λ sheet. eqb sheet.refusal number) sheets)
+abbrev pub refused_total : ℕ → List Sheet → ℕ
+refused_total number sheets = length (filter (λ sheet. eqb sheet.refusal number) sheets)
 
 -- how many are accepted: those of number 0
-abbrev pub accepted-total : List Sheet → ℕ
-accepted-total sheets = refused-total 0 sheets
+abbrev pub accepted_total : List Sheet → ℕ
+accepted_total sheets = refused_total 0 sheets
 
 -- how many entries of order k there are
-abbrev pub entries-total : ℕ → List Sheet → ℕ
-entries-total k sheets = length (of-order k (all-entries sheets))
+abbrev pub entries_total : ℕ → List Sheet → ℕ
+entries_total k sheets = length (of_order k (all_entries sheets))
 
 -- how many of these are not zero
-abbrev pub nonzero-total : ℕ → List Sheet → ℕ
-nonzero-total k sheets = length (filter (λ entry. nonzero entry.number) (of-order k (all-entries sheets)))
+abbrev pub nonzero_total : ℕ → List Sheet → ℕ
+nonzero_total k sheets = length (filter (λ entry. nonzero entry.number) (of_order k (all_entries sheets)))
 
 -- the largest magnitude among them
-abbrev pub largest-total : ℕ → List Sheet → ℕ
-largest-total k sheets = largest (of-order k (all-entries sheets))
+abbrev pub largest_total : ℕ → List Sheet → ℕ
+largest_total k sheets = largest (of_order k (all_entries sheets))
 
 -- all of them: by refusal number, of which 0 are the accepted ones, and by order
-unfoldable pub totals-of : List Sheet → Totals
-totals-of sheets = record {
-  sheets = sheets-total sheets;
-  refusals = table refusal-numbers (λ number. refused-total number sheets);
+unfoldable pub totals_of : List Sheet → Totals
+totals_of sheets = record {
+  sheets = sheets_total sheets;
+  refusals = table refusal_numbers (λ number. refused_total number sheets);
   orders =
-      table derivative-orders
-      (λ k. record { entries = entries-total k sheets; nonzero = nonzero-total k sheets; largest = largest-total k sheets });
+      table derivative_orders
+      (λ k. record { entries = entries_total k sheets; nonzero = nonzero_total k sheets; largest = largest_total k sheets });
 }

@@ -3,8 +3,8 @@
 ghost use Rattle.std.specs.Prelude.{◌≡◌, true, not, [], ◌+◌, ◌/◌, ◌^◌, ◌<◌, ◌≤◌, max, length, eqb};
 ghost use Rattle.std.specs.Int.Count.{ones};
 ghost use Rattle.std.specs.Float.Ieee.Scale.{finite};
-ghost use Rattle.report_totals.specs.Totals.{magnitude, tensor-entries, totals-of};
-ghost use Rattle.report_totals.specs.Counting.{one-if, sum, of_mask, InPlaces, Room, Tallied, Running, sheet-added, Adds};
+ghost use Rattle.report_totals.specs.Totals.{magnitude, tensor_entries, totals_of};
+ghost use Rattle.report_totals.specs.Counting.{one_if, sum, of_mask, InPlaces, Room, Tallied, Running, sheet_added, Adds};
 
 // What is counted of one derivative order: its entries, those of them that are not zero, and the pattern of the largest magnitude.
 #[derive(Drop)]
@@ -45,7 +45,7 @@ fn larger(a: u64, b: u64) -> u64
 
 // How many of one entry are not zero, by its magnitude.
 fn one_if_not_zero(size: u64) -> u64
-    ensures { result ≡ one-if (not (eqb size 0)) }
+    ensures { result ≡ one_if (not (eqb size 0)) }
 {
     if size == 0 { 0 } else { 1 }
 }
@@ -116,7 +116,7 @@ fn together(a: OrderTotals, b: OrderTotals) -> OrderTotals
 // All five orders, after the entries of one more tensor. It goes by masks, since the entries of a mask are all of one order.
 fn tally(orders: [OrderTotals; 5], axes: usize, tensor: &[f64]) -> [OrderTotals; 5]
     requires { InPlaces axes tensor.now × Room orders (length tensor.now) }
-    ensures { Tallied orders (tensor-entries axes tensor.now) result }
+    ensures { Tallied orders (tensor_entries axes tensor.now) result }
 {
     let masks = grid::masks(axes);
     let places = tensor.len() >> axes;
@@ -136,7 +136,7 @@ fn tally(orders: [OrderTotals; 5], axes: usize, tensor: &[f64]) -> [OrderTotals;
 // The totals with one sheet more, the number of whose refusal is 0 for none, and with these orders.
 fn with_sheet(totals: Totals, refusal: usize, orders: [OrderTotals; 5]) -> Totals
     requires { (refusal < 24) × Running totals }
-    ensures { result ≡ sheet-added totals refusal orders }
+    ensures { result ≡ sheet_added totals refusal orders }
 {
     let mut refusals = totals.refusals;
     refusals[refusal] += 1;
@@ -161,7 +161,7 @@ pub fn with_refused(totals: Totals, refusal: usize) -> Totals
 // 4,096 numbers, finite and as many for each mask of one axis or more.
 pub fn with_accepted(totals: Totals, axes: usize, tensor: &[f64]) -> Totals
     requires { InPlaces axes tensor.now × Running totals }
-    ensures { Adds totals 0 (tensor-entries axes tensor.now) result }
+    ensures { Adds totals 0 (tensor_entries axes tensor.now) result }
 {
     let before = totals.orders;
     let orders = tally(before, axes, tensor);
@@ -170,7 +170,7 @@ pub fn with_accepted(totals: Totals, axes: usize, tensor: &[f64]) -> Totals
 
 // The totals of no sheets.
 pub fn none() -> Totals
-    ensures { result ≡ totals-of [] }
+    ensures { result ≡ totals_of [] }
 {
     Totals {
         sheets: 0,

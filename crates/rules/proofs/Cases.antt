@@ -10,24 +10,24 @@ abbrev pub arms : {A : Type 0} → Bool → A → A → A
 arms b x y = elim b [ true ↦ x | false ↦ y ]
 
 -- two pairs of arms that are equal where each is taken
-pub arms-ext : {A : Type 0} (b : Bool) {x x' y y' : A} → (b ≡ true → x ≡ x') → (b ≡ false → y ≡ y') → arms b x y ≡ arms b x' y'
-arms-ext true first second = first refl
-arms-ext false first second = second refl
+pub arms_ext : {A : Type 0} (b : Bool) {x x' y y' : A} → (b ≡ true → x ≡ x') → (b ≡ false → y ≡ y') → arms b x y ≡ arms b x' y'
+arms_ext true first second = first refl
+arms_ext false first second = second refl
 
 -- arms that both equal one thing where they are taken
-pub arms-one : {A : Type 0} (b : Bool) {x y z : A} → (b ≡ true → x ≡ z) → (b ≡ false → y ≡ z) → arms b x y ≡ z
-arms-one true first second = first refl
-arms-one false first second = second refl
+pub arms_one : {A : Type 0} (b : Bool) {x y z : A} → (b ≡ true → x ≡ z) → (b ≡ false → y ≡ z) → arms b x y ≡ z
+arms_one true first second = first refl
+arms_one false first second = second refl
 
 -- no test is true and false
-pub not-both : {A : Type 0} (b : Bool) → b ≡ true → b ≡ false → A
-not-both b holds fails = absurd (let z : ◌≡◌ {A = ℕ} 0 1 = cc in omega arith)
+pub not_both : {A : Type 0} (b : Bool) → b ≡ true → b ≡ false → A
+not_both b holds fails = absurd (let z : ◌≡◌ {A = ℕ} 0 1 = cc in omega arith)
 
 -- a test that fails at each index below n is met at none
-pub any-never : (test : ℕ → Bool) (n : ℕ) → ((i : ℕ) → i < n → test i ≡ false) → any test n ≡ false
+pub any_never : (test : ℕ → Bool) (n : ℕ) → ((i : ℕ) → i < n → test i ≡ false) → any test n ≡ false
 unfolding any
-any-never test zero fails = refl
-any-never test (suc n) fails = rw (any-never test n (λ i l. fails i (omega arith)), fails n (omega arith)) refl
+any_never test zero fails = refl
+any_never test (suc n) fails = rw (any_never test n (λ i l. fails i (omega arith)), fails n (omega arith)) refl
 
 -- the first of two tests that both hold
 pub both_left : (a b : Bool) → a && b ≡ true → a ≡ true
@@ -35,8 +35,8 @@ both_left true b e = refl
 both_left false b e = e
 
 -- two tests that fail
-pub neither-of : {a b : Bool} → a ≡ false → b ≡ false → (a || b) ≡ false
-neither-of e f = rw (e, f)
+pub neither_of : {a b : Bool} → a ≡ false → b ≡ false → (a || b) ≡ false
+neither_of e f = rw (e, f)
 
 -- a refusal that was passed, and what is left to be met
 pub passed : (test : Bool) (number later : ℕ) → cond test (suc number) later ≡ 0 → (test ≡ false) × (later ≡ 0)
@@ -44,6 +44,6 @@ passed true number later e = absurd (omega (arith, e))
 passed false number later e = (refl, e)
 
 -- a number is 0 or more
-pub zero-or-more : (k : ℕ) → (k ≡ 0) ⊎ (0 < k)
-zero-or-more zero = inl refl
-zero-or-more (suc k) = inr (omega arith)
+pub zero_or_more : (k : ℕ) → (k ≡ 0) ⊎ (0 < k)
+zero_or_more zero = inl refl
+zero_or_more (suc k) = inr (omega arith)

@@ -6,7 +6,7 @@ use Rattle.rules.specs.declared.End.{End}
 use Rattle.rules.specs.declared.End.TheVariants.{NotAKnot, FirstDerivative, SecondDerivative}
 
 -- an end drops one unknown at most
-pub dropped-most : (end : End) → dropped end ≤ 1
-dropped-most NotAKnot = omega arith
-dropped-most (FirstDerivative v) = omega arith
-dropped-most (SecondDerivative v) = omega arith
+pub dropped_most : (end : End) → dropped end ≤ 1
+dropped_most NotAKnot = omega arith
+dropped_most (FirstDerivative v) = omega arith
+dropped_most (SecondDerivative v) = omega arith

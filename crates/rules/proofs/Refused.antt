@@ -7,13 +7,13 @@ use native.Mathlib.Omega.{arith}
 use Rattle.rules.specs.Numbers.{any}
 use Rattle.rules.specs.Calls.{or_else, stored, counted}
 
-pub or-else-met : (first later : ℕ) → (first ≡ 0 → ⊥) → or_else first later ≡ first
-or-else-met zero later met = absurd (met refl)
-or-else-met (suc first) later met = refl
+pub or_else_met : (first later : ℕ) → (first ≡ 0 → ⊥) → or_else first later ≡ first
+or_else_met zero later met = absurd (met refl)
+or_else_met (suc first) later met = refl
 
-pub or-else-passed : (first later : ℕ) → or_else first later ≡ 0 → (first ≡ 0) × (later ≡ 0)
-or-else-passed zero later e = (refl, e)
-or-else-passed (suc first) later e = absurd (omega (arith, e))
+pub or_else_passed : (first later : ℕ) → or_else first later ≡ 0 → (first ≡ 0) × (later ≡ 0)
+or_else_passed zero later e = (refl, e)
+or_else_passed (suc first) later e = absurd (omega (arith, e))
 
 -- an output after a refusal is what it was
 pub unchanged : {A : Type 0} (refusal : ℕ) (old new : List A) → (refusal ≡ 0 → ⊥) → old ≡ stored refusal old new
@@ -21,18 +21,18 @@ unchanged zero old new met = absurd (met refl)
 unchanged (suc refusal) old new met = refl
 
 -- two tests that agree at each index find alike
-pub any-ext : (test other : ℕ → Bool) (n : ℕ) → ((i : ℕ) → i < n → test i ≡ other i) → any test n ≡ any other n
+pub any_ext : (test other : ℕ → Bool) (n : ℕ) → ((i : ℕ) → i < n → test i ≡ other i) → any test n ≡ any other n
 unfolding any
-any-ext test other zero same = refl
-any-ext test other (suc n) same =
-    ap₂ (λ (a b : Bool). a || b) (any-ext test other n (λ i l. same i (omega arith))) (same n (omega arith))
+any_ext test other zero same = refl
+any_ext test other (suc n) same =
+    ap₂ (λ (a b : Bool). a || b) (any_ext test other n (λ i l. same i (omega arith))) (same n (omega arith))
 
 -- a refused call counts nothing
-pub none-counted : (refusal count : ℕ) → (refusal ≡ 0 → ⊥) → 0 ≡ counted refusal count
-none-counted zero count met = absurd (met refl)
-none-counted (suc refusal) count met = refl
+pub none_counted : (refusal count : ℕ) → (refusal ≡ 0 → ⊥) → 0 ≡ counted refusal count
+none_counted zero count met = absurd (met refl)
+none_counted (suc refusal) count met = refl
 
 -- what is counted is no more than the count
-pub counted-most : (refusal : ℕ) {count most : ℕ} → count ≤ most → counted refusal count ≤ most
-counted-most zero h = h
-counted-most (suc refusal) h = omega arith
+pub counted_most : (refusal : ℕ) {count most : ℕ} → count ≤ most → counted refusal count ≤ most
+counted_most zero h = h
+counted_most (suc refusal) h = omega arith

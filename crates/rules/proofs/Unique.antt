@@ -31,90 +31,90 @@ use Rattle.rules.specs.declared.SteppedAnswer.{SteppedAnswer}
 pub same : {A : Type 0} {a b c : A} → a ≡ c → b ≡ c → a ≡ b
 same p q = p ∙ sym q
 
-pub moments-unique :
-    (n : ℕ) (knots samples : List Float) (condition : Condition) (moments-out scratch : List Float)
+pub moments_unique :
+    (n : ℕ) (knots samples : List Float) (condition : Condition) (moments_out scratch : List Float)
     (r r' : ℕ) (m m' s s' : List Float)
-    → MomentsPromise n knots samples condition moments-out scratch r m s
-    → MomentsPromise n knots samples condition moments-out scratch r' m' s'
+    → MomentsPromise n knots samples condition moments_out scratch r m s
+    → MomentsPromise n knots samples condition moments_out scratch r' m' s'
     → (r ≡ r') × (m ≡ m') × (s ≡ s')
-moments-unique n knots samples condition moments-out scratch r r' m m' s s' p q =
+moments_unique n knots samples condition moments_out scratch r r' m m' s s' p q =
     (same p.answer q.answer, same p.output q.output, same p.scratch q.scratch)
 
-pub curve-unique :
-    (n : ℕ) (knots samples moments-in : List Float) (point : Float) (a a' : CurveAnswer)
-    → CurvePromise n knots samples moments-in point a
-    → CurvePromise n knots samples moments-in point a'
+pub curve_unique :
+    (n : ℕ) (knots samples moments_in : List Float) (point : Float) (a a' : CurveAnswer)
+    → CurvePromise n knots samples moments_in point a
+    → CurvePromise n knots samples moments_in point a'
     → a ≡ a'
-curve-unique n knots samples moments-in point a a' p q = same p.answer q.answer
+curve_unique n knots samples moments_in point a a' p q = same p.answer q.answer
 
-pub slopes-unique :
-    (n : ℕ) (knots samples moments-in slopes-out : List Float) (r r' : ℕ) (d d' : List Float)
-    → SlopesPromise n knots samples moments-in slopes-out r d
-    → SlopesPromise n knots samples moments-in slopes-out r' d'
+pub slopes_unique :
+    (n : ℕ) (knots samples moments_in slopes_out : List Float) (r r' : ℕ) (d d' : List Float)
+    → SlopesPromise n knots samples moments_in slopes_out r d
+    → SlopesPromise n knots samples moments_in slopes_out r' d'
     → (r ≡ r') × (d ≡ d')
-slopes-unique n knots samples moments-in slopes-out r r' d d' p q = (same p.answer q.answer, same p.output q.output)
+slopes_unique n knots samples moments_in slopes_out r r' d d' p q = (same p.answer q.answer, same p.output q.output)
 
-pub build-unique :
-    (g : Grid) (samples tensor-out scratch : List Float) (r r' : ℕ) (t t' s s' : List Float)
-    → BuildPromise g samples tensor-out scratch r t s
-    → BuildPromise g samples tensor-out scratch r' t' s'
+pub build_unique :
+    (g : Grid) (samples tensor_out scratch : List Float) (r r' : ℕ) (t t' s s' : List Float)
+    → BuildPromise g samples tensor_out scratch r t s
+    → BuildPromise g samples tensor_out scratch r' t' s'
     → (r ≡ r') × (t ≡ t') × (s ≡ s')
-build-unique g samples tensor-out scratch r r' t t' s s' p q =
+build_unique g samples tensor_out scratch r r' t t' s s' p q =
     (same p.answer q.answer, same p.output q.output, same p.scratch q.scratch)
 
-pub change-unique :
-    (g : Grid) (tensor-lent scratch : List Float) (changed : Place) (v : Float) (a a' : ChangeAnswer) (t t' s s' : List Float)
-    → ChangePromise g tensor-lent scratch changed v a t s
-    → ChangePromise g tensor-lent scratch changed v a' t' s'
+pub change_unique :
+    (g : Grid) (tensor_lent scratch : List Float) (changed : Place) (v : Float) (a a' : ChangeAnswer) (t t' s s' : List Float)
+    → ChangePromise g tensor_lent scratch changed v a t s
+    → ChangePromise g tensor_lent scratch changed v a' t' s'
     → (a ≡ a') × (t ≡ t') × (s ≡ s')
-change-unique g tensor-lent scratch changed v a a' t t' s s' p q =
+change_unique g tensor_lent scratch changed v a a' t t' s s' p q =
     (same p.answer q.answer, same p.output q.output, same p.scratch q.scratch)
 
-pub query-unique :
-    (g : Grid) (tensor-lent coordinates : List Float) (a a' : QueryAnswer)
-    → QueryPromise g tensor-lent coordinates a
-    → QueryPromise g tensor-lent coordinates a'
+pub query_unique :
+    (g : Grid) (tensor_lent coordinates : List Float) (a a' : QueryAnswer)
+    → QueryPromise g tensor_lent coordinates a
+    → QueryPromise g tensor_lent coordinates a'
     → a ≡ a'
-query-unique g tensor-lent coordinates a a' p q = same p.answer q.answer
+query_unique g tensor_lent coordinates a a' p q = same p.answer q.answer
 
-pub quick-query-unique :
-    (g : Grid) (tensor-lent coordinates : List Float) (a a' : QueryAnswer)
-    → QuickQueryPromise g tensor-lent coordinates a
-    → QuickQueryPromise g tensor-lent coordinates a'
+pub quick_query_unique :
+    (g : Grid) (tensor_lent coordinates : List Float) (a a' : QueryAnswer)
+    → QuickQueryPromise g tensor_lent coordinates a
+    → QuickQueryPromise g tensor_lent coordinates a'
     → a ≡ a'
-quick-query-unique g tensor-lent coordinates a a' p q = same p.answer q.answer
+quick_query_unique g tensor_lent coordinates a a' p q = same p.answer q.answer
 
-pub even-query-unique :
-    (g : Grid) (tensor-lent coordinates : List Float) (a a' : EvenAnswer)
-    → EvenQueryPromise g tensor-lent coordinates a
-    → EvenQueryPromise g tensor-lent coordinates a'
+pub even_query_unique :
+    (g : Grid) (tensor_lent coordinates : List Float) (a a' : EvenAnswer)
+    → EvenQueryPromise g tensor_lent coordinates a
+    → EvenQueryPromise g tensor_lent coordinates a'
     → a ≡ a'
-even-query-unique g tensor-lent coordinates a a' p q = same p.answer q.answer
+even_query_unique g tensor_lent coordinates a a' p q = same p.answer q.answer
 
-pub exact-unique :
+pub exact_unique :
     (n : ℕ) (knots : List Float) (lower : ℕ) (point : Float) (a a' : ExactAnswer)
     → ExactPromise n knots lower point a
     → ExactPromise n knots lower point a'
     → a ≡ a'
-exact-unique n knots lower point a a' p q = same p.answer q.answer
+exact_unique n knots lower point a a' p q = same p.answer q.answer
 
-pub axis-unique :
+pub axis_unique :
     (n : ℕ) (knots : List Float) (point : Float) (a a' : AxisAnswer)
     → AxisPromise n knots point a
     → AxisPromise n knots point a'
     → a ≡ a'
-axis-unique n knots point a a' p q = same p.answer q.answer
+axis_unique n knots point a a' p q = same p.answer q.answer
 
-pub step-unique :
+pub step_unique :
     (direction : StepDirection) (n : ℕ) (knots : List Float) (point : Float) (a a' : StepAnswer)
     → StepPromise direction n knots point a
     → StepPromise direction n knots point a'
     → a ≡ a'
-step-unique direction n knots point a a' p q = same p.answer q.answer
+step_unique direction n knots point a a' p q = same p.answer q.answer
 
-pub stepped-unique :
+pub stepped_unique :
     (g : Grid) (directions : List StepDirection) (samples coordinates : List Float) (a a' : SteppedAnswer)
     → SteppedPromise g directions samples coordinates a
     → SteppedPromise g directions samples coordinates a'
     → a ≡ a'
-stepped-unique g directions samples coordinates a a' p q = same p.answer q.answer
+stepped_unique g directions samples coordinates a a' p q = same p.answer q.answer

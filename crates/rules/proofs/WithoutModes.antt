@@ -13,386 +13,386 @@ use Rattle.rules.specs.Sizes.{
   points,
   condition,
   sum_below,
-  product-below,
+  product_below,
   knots,
-  knots-length,
-  samples-length,
+  knots_length,
+  samples_length,
   masks,
-  tensor-length,
+  tensor_length,
   Place,
   flat,
   unflat,
   spot,
 }
 use Rattle.rules.specs.Refusals.{
-  points-refused,
-  some-points-refused,
-  place-refused,
-  ends-refused,
-  some-ends-refused,
-  knots-refused,
-  some-knots-refused,
-  found-cell-refused,
-  some-found-cell-refused,
-  fewness-refused,
-  some-fewness-refused,
+  points_refused,
+  some_points_refused,
+  place_refused,
+  ends_refused,
+  some_ends_refused,
+  knots_refused,
+  some_knots_refused,
+  found_cell_refused,
+  some_found_cell_refused,
+  fewness_refused,
+  some_fewness_refused,
 }
-use Rattle.rules.specs.Tensor.{slope-along, entry, sample, place_at, mask_at, tensor}
+use Rattle.rules.specs.Tensor.{slope_along, entry, sample, place_at, mask_at, tensor}
 use Rattle.rules.specs.Change.{
-  can-differ,
-  with-sample,
-  changed-entry,
-  changed-tensor,
+  can_differ,
+  with_sample,
+  changed_entry,
+  changed_tensor,
   Lane,
   starts,
-  lanes-from,
-  lanes-along,
-  lanes-below,
-  change-lanes,
+  lanes_from,
+  lanes_along,
+  lanes_below,
+  change_lanes,
 }
 use Rattle.rules.specs.Steps.{h}
-use Rattle.rules.specs.Outside.{with-axes, ButForModes}
-use Rattle.rules.specs.Even.{first-that, uneven-refused, some-uneven-refused, uneven-axis, uneven-interval, direct-cell-of}
-use Rattle.rules.specs.Query.{corner, cell, fraction, value_in, cell-of, query, quick-cell-of, quick-query}
+use Rattle.rules.specs.Outside.{with_axes, ButForModes}
+use Rattle.rules.specs.Even.{first_that, uneven_refused, some_uneven_refused, uneven_axis, uneven_interval, direct_cell_of}
+use Rattle.rules.specs.Query.{corner, cell, fraction, value_in, cell_of, query, quick_cell_of, quick_query}
 use Rattle.rules.specs.Calls.{
-  labels-of,
+  labels_of,
   labels,
-  quick-labels,
-  build-refusal,
+  quick_labels,
+  build_refusal,
   BuildPromise,
-  change-refusal,
-  change-answer,
+  change_refusal,
+  change_answer,
   ChangePromise,
 }
 use Rattle.rules.specs.Extended.{
-  extended-query-refusal,
-  extended-query-answer,
-  extended-quick-refusal,
-  extended-quick-answer,
-  extended-even-value,
-  extended-even-refusal,
-  extended-even-answer,
+  extended_query_refusal,
+  extended_query_answer,
+  extended_quick_refusal,
+  extended_quick_answer,
+  extended_even_value,
+  extended_even_refusal,
+  extended_even_answer,
 }
 use Rattle.rules.specs.declared.Axis.{Axis}
 use Rattle.rules.specs.declared.ChangeAnswer.{ChangeAnswer}
 use Rattle.rules.specs.declared.Condition.{Condition}
-use Rattle.rules.proofs.Cells.{blend-ext}
+use Rattle.rules.proofs.Cells.{blend_ext}
 
 module _ (g : Grid) (all : List Axis) (same : ButForModes g all) where
   abbrev other : Grid
-  other = with-axes g all
+  other = with_axes g all
 
   -- ---- sizes, knots and refusals
 
-  points-same : points g ≡ points other
-  points-same = fun_ext same.same_points
+  points_same : points g ≡ points other
+  points_same = fun_ext same.same_points
 
-  condition-same : condition g ≡ condition other
-  condition-same = fun_ext same.same-condition
+  condition_same : condition g ≡ condition other
+  condition_same = fun_ext same.same_condition
 
-  pub knots-same : (i : ℕ) → knots g i ≡ knots other i
-  knots-same i = ap (λ (n : ℕ → ℕ). take (n i) (drop (sum_below n i) g.flat-knots)) points-same
+  pub knots_same : (i : ℕ) → knots g i ≡ knots other i
+  knots_same i = ap (λ (n : ℕ → ℕ). take (n i) (drop (sum_below n i) g.flat_knots)) points_same
 
-  pub points-refused-same : some-points-refused g ≡ some-points-refused other
-  points-refused-same = ap (λ (n : ℕ → ℕ). any (λ i. points-refused (n i)) g.axes) points-same
+  pub points_refused_same : some_points_refused g ≡ some_points_refused other
+  points_refused_same = ap (λ (n : ℕ → ℕ). any (λ i. points_refused (n i)) g.axes) points_same
 
-  pub knots-length-same : knots-length g ≡ knots-length other
-  knots-length-same = ap (λ (n : ℕ → ℕ). sum_below n g.axes) points-same
+  pub knots_length_same : knots_length g ≡ knots_length other
+  knots_length_same = ap (λ (n : ℕ → ℕ). sum_below n g.axes) points_same
 
-  pub samples-length-same : samples-length g ≡ samples-length other
-  samples-length-same = ap (λ (n : ℕ → ℕ). product-below n g.axes) points-same
+  pub samples_length_same : samples_length g ≡ samples_length other
+  samples_length_same = ap (λ (n : ℕ → ℕ). product_below n g.axes) points_same
 
-  pub tensor-length-same : tensor-length g ≡ tensor-length other
-  tensor-length-same = ap (λ (n : ℕ). n * masks g) samples-length-same
+  pub tensor_length_same : tensor_length g ≡ tensor_length other
+  tensor_length_same = ap (λ (n : ℕ). n * masks g) samples_length_same
 
-  place-refused-same : (p : Place) → place-refused g p ≡ place-refused other p
-  place-refused-same p = rw points-same refl
+  place_refused_same : (p : Place) → place_refused g p ≡ place_refused other p
+  place_refused_same p = rw points_same refl
 
-  ends-refused-same : some-ends-refused g ≡ some-ends-refused other
-  ends-refused-same = ap (λ (c : ℕ → Condition). any (λ i. ends-refused (c i)) g.axes) condition-same
+  ends_refused_same : some_ends_refused g ≡ some_ends_refused other
+  ends_refused_same = ap (λ (c : ℕ → Condition). any (λ i. ends_refused (c i)) g.axes) condition_same
 
-  pub uneven-refused-same : some-uneven-refused g ≡ some-uneven-refused other
-  uneven-refused-same =
-      ap (λ (n : ℕ → ℕ). any (λ i. uneven-refused (take (n i) (drop (sum_below n i) g.flat-knots)) (n i)) g.axes) points-same
+  pub uneven_refused_same : some_uneven_refused g ≡ some_uneven_refused other
+  uneven_refused_same =
+      ap (λ (n : ℕ → ℕ). any (λ i. uneven_refused (take (n i) (drop (sum_below n i) g.flat_knots)) (n i)) g.axes) points_same
 
-  pub uneven-axis-same : uneven-axis g ≡ uneven-axis other
-  unfolding uneven-axis
-  uneven-axis-same =
-      ap (λ (n : ℕ → ℕ). first-that (λ i. uneven-refused (take (n i) (drop (sum_below n i) g.flat-knots)) (n i)) g.axes 0)
-      points-same
+  pub uneven_axis_same : uneven_axis g ≡ uneven_axis other
+  unfolding uneven_axis
+  uneven_axis_same =
+      ap (λ (n : ℕ → ℕ). first_that (λ i. uneven_refused (take (n i) (drop (sum_below n i) g.flat_knots)) (n i)) g.axes 0)
+      points_same
 
-  pub uneven-interval-same : uneven-interval g ≡ uneven-interval other
-  unfolding uneven-interval
-  uneven-interval-same = cc (uneven-axis-same, knots-same (uneven-axis g), same.same_points (uneven-axis g))
+  pub uneven_interval_same : uneven_interval g ≡ uneven_interval other
+  unfolding uneven_interval
+  uneven_interval_same = cc (uneven_axis_same, knots_same (uneven_axis g), same.same_points (uneven_axis g))
 
-  pub knots-refused-same : some-knots-refused g ≡ some-knots-refused other
-  knots-refused-same =
-      ap (λ (n : ℕ → ℕ). any (λ i. knots-refused (take (n i) (drop (sum_below n i) g.flat-knots)) (n i)) g.axes) points-same
+  pub knots_refused_same : some_knots_refused g ≡ some_knots_refused other
+  knots_refused_same =
+      ap (λ (n : ℕ → ℕ). any (λ i. knots_refused (take (n i) (drop (sum_below n i) g.flat_knots)) (n i)) g.axes) points_same
 
-  fewness-refused-same : some-fewness-refused g ≡ some-fewness-refused other
-  fewness-refused-same =
-      ap₂ (λ (c : ℕ → Condition) (n : ℕ → ℕ). any (λ i. fewness-refused (c i) (n i)) g.axes) condition-same points-same
+  fewness_refused_same : some_fewness_refused g ≡ some_fewness_refused other
+  fewness_refused_same =
+      ap₂ (λ (c : ℕ → Condition) (n : ℕ → ℕ). any (λ i. fewness_refused (c i) (n i)) g.axes) condition_same points_same
 
   -- ---- the tensor
 
-  slope-same : (i mask : ℕ) (numbers : Place → Float) (p : Place) → slope-along g i mask numbers p ≡ slope-along other i mask numbers p
-  unfolding slope-along
-  slope-same i mask numbers p = cc (knots-same i, same.same_points i, same.same-condition i)
+  slope_same : (i mask : ℕ) (numbers : Place → Float) (p : Place) → slope_along g i mask numbers p ≡ slope_along other i mask numbers p
+  unfolding slope_along
+  slope_same i mask numbers p = cc (knots_same i, same.same_points i, same.same_condition i)
 
-  entry-same : (samples : Place → Float) (i mask : ℕ) → entry g samples i mask ≡ entry other samples i mask
+  entry_same : (samples : Place → Float) (i mask : ℕ) → entry g samples i mask ≡ entry other samples i mask
   unfolding entry
-  entry-same samples zero mask = refl
-  entry-same samples (suc i) mask =
+  entry_same samples zero mask = refl
+  entry_same samples (suc i) mask =
       fun_ext (λ p. ap₂ (λ (below : Place → Float) (along : Float). elim (ltb mask (2 ^ i)) [ true ↦ below p | false ↦ along ])
-      (entry-same samples i mask)
-      (slope-same i (mask - 2 ^ i) (entry g samples i (mask - 2 ^ i)) p
-      ∙ ap (λ (numbers : Place → Float). slope-along other i (mask - 2 ^ i) numbers p) (entry-same samples i (mask - 2 ^ i))))
+      (entry_same samples i mask)
+      (slope_same i (mask - 2 ^ i) (entry g samples i (mask - 2 ^ i)) p
+      ∙ ap (λ (numbers : Place → Float). slope_along other i (mask - 2 ^ i) numbers p) (entry_same samples i (mask - 2 ^ i))))
 
-  sample-same : (samples : List Float) → sample g samples ≡ sample other samples
+  sample_same : (samples : List Float) → sample g samples ≡ sample other samples
   unfolding sample
-  sample-same samples = fun_ext (λ p. ap (λ (n : ℕ → ℕ). at samples (flat n g.axes p)) points-same)
+  sample_same samples = fun_ext (λ p. ap (λ (n : ℕ → ℕ). at samples (flat n g.axes p)) points_same)
 
   place_same : (e : ℕ) → place_at g e ≡ place_at other e
-  place_same e = ap (λ (n : ℕ → ℕ). unflat n g.axes (e / masks g)) points-same
+  place_same e = ap (λ (n : ℕ → ℕ). unflat n g.axes (e / masks g)) points_same
 
-  pub tensor-without-modes : (samples : List Float) → tensor g samples ≡ tensor other samples
+  pub tensor_without_modes : (samples : List Float) → tensor g samples ≡ tensor other samples
   unfolding tensor
-  tensor-without-modes samples =
-      ap₂ (λ (n : ℕ) (f : ℕ → Float). table n f) tensor-length-same
-      (fun_ext (λ e. rw (sample-same samples, entry-same (sample other samples) g.axes (mask_at g e), place_same e) refl))
+  tensor_without_modes samples =
+      ap₂ (λ (n : ℕ) (f : ℕ → Float). table n f) tensor_length_same
+      (fun_ext (λ e. rw (sample_same samples, entry_same (sample other samples) g.axes (mask_at g e), place_same e) refl))
 
-  pub build-refusal-without-modes : (samples out scratch : List Float)
-      → build-refusal g samples out scratch ≡ build-refusal other samples out scratch
-  unfolding build-refusal
-  build-refusal-without-modes samples out scratch =
+  pub build_refusal_without_modes : (samples out scratch : List Float)
+      → build_refusal g samples out scratch ≡ build_refusal other samples out scratch
+  unfolding build_refusal
+  build_refusal_without_modes samples out scratch =
       rw (
-        tensor-without-modes samples,
-        points-refused-same,
-        tensor-length-same,
-        knots-length-same,
-        samples-length-same,
-        ends-refused-same,
-        knots-refused-same,
-        fewness-refused-same,
+        tensor_without_modes samples,
+        points_refused_same,
+        tensor_length_same,
+        knots_length_same,
+        samples_length_same,
+        ends_refused_same,
+        knots_refused_same,
+        fewness_refused_same,
       )
       refl
 
   -- what the build promises of a grid it promises of the same grid in other modes
-  pub build-without-modes :
-      (samples out scratch : List Float) {refusal : ℕ} {tensor-later scratch-later : List Float}
-      → BuildPromise g samples out scratch refusal tensor-later scratch-later
-      → BuildPromise other samples out scratch refusal tensor-later scratch-later
-  build-without-modes samples out scratch p =
-      let same-refusal = build-refusal-without-modes samples out scratch in
+  pub build_without_modes :
+      (samples out scratch : List Float) {refusal : ℕ} {tensor_later scratch_later : List Float}
+      → BuildPromise g samples out scratch refusal tensor_later scratch_later
+      → BuildPromise other samples out scratch refusal tensor_later scratch_later
+  build_without_modes samples out scratch p =
+      let same_refusal = build_refusal_without_modes samples out scratch in
       record {
-        answer = p.answer ∙ same-refusal;
-        output = cc (p.output, same-refusal, tensor-without-modes samples);
-        scratch = p.scratch ∙ rw same-refusal refl;
+        answer = p.answer ∙ same_refusal;
+        output = cc (p.output, same_refusal, tensor_without_modes samples);
+        scratch = p.scratch ∙ rw same_refusal refl;
       }
 
   -- ---- the change
 
-  changed-entry-same : (changed : Place) (v : Float) (old : Place → ℕ → Float) (i mask : ℕ)
-      → changed-entry g changed v old i mask ≡ changed-entry other changed v old i mask
-  unfolding changed-entry with-sample can-differ
-  changed-entry-same changed v old zero mask = refl
-  changed-entry-same changed v old (suc i) mask =
+  changed_entry_same : (changed : Place) (v : Float) (old : Place → ℕ → Float) (i mask : ℕ)
+      → changed_entry g changed v old i mask ≡ changed_entry other changed v old i mask
+  unfolding changed_entry with_sample can_differ
+  changed_entry_same changed v old zero mask = refl
+  changed_entry_same changed v old (suc i) mask =
       fun_ext (λ p. ap₂
       (λ (below : Place → Float) (along : Float).
       elim (ltb mask (2 ^ i)) [
         | true ↦ below p
-        | false ↦ elim (can-differ g changed i (mask - 2 ^ i) p) [ true ↦ along | false ↦ old p mask ]
+        | false ↦ elim (can_differ g changed i (mask - 2 ^ i) p) [ true ↦ along | false ↦ old p mask ]
       ])
-      (changed-entry-same changed v old i mask)
-      (slope-same i (mask - 2 ^ i) (changed-entry g changed v old i (mask - 2 ^ i)) p
-      ∙ ap (λ (numbers : Place → Float). slope-along other i (mask - 2 ^ i) numbers p) (changed-entry-same changed v old i (mask - 2 ^ i))))
+      (changed_entry_same changed v old i mask)
+      (slope_same i (mask - 2 ^ i) (changed_entry g changed v old i (mask - 2 ^ i)) p
+      ∙ ap (λ (numbers : Place → Float). slope_along other i (mask - 2 ^ i) numbers p) (changed_entry_same changed v old i (mask - 2 ^ i))))
 
-  abbrev old-numbers : Grid → List Float → Place → ℕ → Float
-  old-numbers grid numbers p mask = at numbers (spot grid p mask)
+  abbrev old_numbers : Grid → List Float → Place → ℕ → Float
+  old_numbers grid numbers p mask = at numbers (spot grid p mask)
 
-  old-same : (numbers : List Float) → old-numbers g numbers ≡ old-numbers other numbers
-  old-same numbers = fun_ext (λ p. fun_ext (λ mask. ap (λ (n : ℕ → ℕ). at numbers (flat n g.axes p * masks g + mask)) points-same))
+  old_same : (numbers : List Float) → old_numbers g numbers ≡ old_numbers other numbers
+  old_same numbers = fun_ext (λ p. fun_ext (λ mask. ap (λ (n : ℕ → ℕ). at numbers (flat n g.axes p * masks g + mask)) points_same))
 
-  pub changed-tensor-without-modes : (changed : Place) (v : Float) (old : List Float)
-      → changed-tensor g changed v old ≡ changed-tensor other changed v old
-  unfolding changed-tensor
-  changed-tensor-without-modes changed v old =
-      ap₂ (λ (n : ℕ) (f : ℕ → Float). table n f) tensor-length-same
-      (fun_ext (λ e. rw (old-same old, changed-entry-same changed v (old-numbers other old) g.axes (mask_at g e), place_same e) refl))
+  pub changed_tensor_without_modes : (changed : Place) (v : Float) (old : List Float)
+      → changed_tensor g changed v old ≡ changed_tensor other changed v old
+  unfolding changed_tensor
+  changed_tensor_without_modes changed v old =
+      ap₂ (λ (n : ℕ) (f : ℕ → Float). table n f) tensor_length_same
+      (fun_ext (λ e. rw (old_same old, changed_entry_same changed v (old_numbers other old) g.axes (mask_at g e), place_same e) refl))
 
-  pub change-refusal-without-modes : (old scratch : List Float) (changed : Place) (v : Float)
-      → change-refusal g old scratch changed v ≡ change-refusal other old scratch changed v
-  unfolding change-refusal
-  change-refusal-without-modes old scratch changed v =
+  pub change_refusal_without_modes : (old scratch : List Float) (changed : Place) (v : Float)
+      → change_refusal g old scratch changed v ≡ change_refusal other old scratch changed v
+  unfolding change_refusal
+  change_refusal_without_modes old scratch changed v =
       rw (
-        changed-tensor-without-modes changed v old,
-        points-refused-same,
-        tensor-length-same,
-        knots-length-same,
-        place-refused-same changed,
-        ends-refused-same,
-        knots-refused-same,
-        fewness-refused-same,
+        changed_tensor_without_modes changed v old,
+        points_refused_same,
+        tensor_length_same,
+        knots_length_same,
+        place_refused_same changed,
+        ends_refused_same,
+        knots_refused_same,
+        fewness_refused_same,
       )
       refl
 
-  starts-same : (i : ℕ) → starts g i ≡ starts other i
+  starts_same : (i : ℕ) → starts g i ≡ starts other i
   unfolding starts
-  starts-same i = ap (λ (n : ℕ → ℕ). filter (λ f. eqb (unflat n g.axes f i) 0) (table (product-below n g.axes) (λ f. f))) points-same
+  starts_same i = ap (λ (n : ℕ → ℕ). filter (λ f. eqb (unflat n g.axes f i) 0) (table (product_below n g.axes) (λ f. f))) points_same
 
-  lanes-along-same : (i mask : ℕ) → lanes-along g i mask ≡ lanes-along other i mask
-  unfolding lanes-along
-  lanes-along-same i zero = refl
-  lanes-along-same i (suc mask) =
-      ap₂ (λ (before here : List Lane). before ++ here) (lanes-along-same i mask) (ap (lanes-from i mask) (starts-same i))
+  lanes_along_same : (i mask : ℕ) → lanes_along g i mask ≡ lanes_along other i mask
+  unfolding lanes_along
+  lanes_along_same i zero = refl
+  lanes_along_same i (suc mask) =
+      ap₂ (λ (before here : List Lane). before ++ here) (lanes_along_same i mask) (ap (lanes_from i mask) (starts_same i))
 
-  lanes-below-same : (i : ℕ) → lanes-below g i ≡ lanes-below other i
-  unfolding lanes-below
-  lanes-below-same zero = refl
-  lanes-below-same (suc i) = ap₂ (λ (before here : List Lane). before ++ here) (lanes-below-same i) (lanes-along-same i (2 ^ i))
+  lanes_below_same : (i : ℕ) → lanes_below g i ≡ lanes_below other i
+  unfolding lanes_below
+  lanes_below_same zero = refl
+  lanes_below_same (suc i) = ap₂ (λ (before here : List Lane). before ++ here) (lanes_below_same i) (lanes_along_same i (2 ^ i))
 
-  lanes-same : (changed : Place) → change-lanes g changed ≡ change-lanes other changed
-  unfolding change-lanes can-differ
-  lanes-same changed =
+  lanes_same : (changed : Place) → change_lanes g changed ≡ change_lanes other changed
+  unfolding change_lanes can_differ
+  lanes_same changed =
       ap₂
       (λ (n : ℕ → ℕ) (lanes : List Lane). filter
-      (λ lane. can-differ g changed lane.axis lane.mask (unflat n g.axes lane.start)) lanes)
-      points-same (lanes-below-same g.axes)
+      (λ lane. can_differ g changed lane.axis lane.mask (unflat n g.axes lane.start)) lanes)
+      points_same (lanes_below_same g.axes)
 
-  change-answer-same : (old scratch : List Float) (changed : Place) (v : Float)
-      → change-answer g old scratch changed v ≡ change-answer other old scratch changed v
-  unfolding change-answer
-  change-answer-same old scratch changed v = cc (change-refusal-without-modes old scratch changed v, lanes-same changed)
+  change_answer_same : (old scratch : List Float) (changed : Place) (v : Float)
+      → change_answer g old scratch changed v ≡ change_answer other old scratch changed v
+  unfolding change_answer
+  change_answer_same old scratch changed v = cc (change_refusal_without_modes old scratch changed v, lanes_same changed)
 
   -- so of the change
-  pub change-without-modes :
-      (old scratch : List Float) (changed : Place) (v : Float) {given : ChangeAnswer} {tensor-later scratch-later : List Float}
-      → ChangePromise g old scratch changed v given tensor-later scratch-later
-      → ChangePromise other old scratch changed v given tensor-later scratch-later
-  change-without-modes old scratch changed v p =
-      let same-refusal = change-refusal-without-modes old scratch changed v in
+  pub change_without_modes :
+      (old scratch : List Float) (changed : Place) (v : Float) {given : ChangeAnswer} {tensor_later scratch_later : List Float}
+      → ChangePromise g old scratch changed v given tensor_later scratch_later
+      → ChangePromise other old scratch changed v given tensor_later scratch_later
+  change_without_modes old scratch changed v p =
+      let same_refusal = change_refusal_without_modes old scratch changed v in
       record {
-        answer = p.answer ∙ change-answer-same old scratch changed v;
-        output = cc (p.output, same-refusal, changed-tensor-without-modes changed v old);
-        scratch = p.scratch ∙ rw same-refusal refl;
+        answer = p.answer ∙ change_answer_same old scratch changed v;
+        output = cc (p.output, same_refusal, changed_tensor_without_modes changed v old);
+        scratch = p.scratch ∙ rw same_refusal refl;
       }
 
   -- ---- cells and values
 
-  pub cell-without-modes : (point : ℕ → Float) → cell-of g point ≡ cell-of other point
-  unfolding cell-of
-  cell-without-modes point = fun_ext (λ i. cc (knots-same i, same.same_points i))
+  pub cell_without_modes : (point : ℕ → Float) → cell_of g point ≡ cell_of other point
+  unfolding cell_of
+  cell_without_modes point = fun_ext (λ i. cc (knots_same i, same.same_points i))
 
-  quick-cell-without-modes : (point : ℕ → Float) → quick-cell-of g point ≡ quick-cell-of other point
-  unfolding quick-cell-of
-  quick-cell-without-modes point = fun_ext (λ i. cc (knots-same i))
+  quick_cell_without_modes : (point : ℕ → Float) → quick_cell_of g point ≡ quick_cell_of other point
+  unfolding quick_cell_of
+  quick_cell_without_modes point = fun_ext (λ i. cc (knots_same i))
 
-  pub direct-cell-without-modes : (point : ℕ → Float) → direct-cell-of g point ≡ direct-cell-of other point
-  unfolding direct-cell-of
-  direct-cell-without-modes point = fun_ext (λ i. cc (knots-same i, same.same_points i))
+  pub direct_cell_without_modes : (point : ℕ → Float) → direct_cell_of g point ≡ direct_cell_of other point
+  unfolding direct_cell_of
+  direct_cell_without_modes point = fun_ext (λ i. cc (knots_same i, same.same_points i))
 
-  numbers-same : (numbers : List Float) (cells : Place) (e : ℕ) → cell g numbers cells e ≡ cell other numbers cells e
+  numbers_same : (numbers : List Float) (cells : Place) (e : ℕ) → cell g numbers cells e ≡ cell other numbers cells e
   unfolding cell
-  numbers-same numbers cells e =
-      ap (λ (n : ℕ → ℕ). at numbers (flat n g.axes (corner g.axes cells (e / masks g)) * masks g + e % masks g)) points-same
+  numbers_same numbers cells e =
+      ap (λ (n : ℕ → ℕ). at numbers (flat n g.axes (corner g.axes cells (e / masks g)) * masks g + e % masks g)) points_same
 
-  pub value-without-modes : (numbers : List Float) (cells : Place) (point : ℕ → Float)
+  pub value_without_modes : (numbers : List Float) (cells : Place) (point : ℕ → Float)
       → value_in g numbers cells point ≡ value_in other numbers cells point
   unfolding value_in
-  value-without-modes numbers cells point =
-      blend-ext g.axes 0 _ _ _ _ _ _
-      (λ i a b. ap (λ (x : List Float). h x (cells i)) (knots-same i))
-      (λ i a b. ap (λ (x : List Float). fraction x (cells i) (point i)) (knots-same i))
-      (λ e b. numbers-same numbers cells e)
+  value_without_modes numbers cells point =
+      blend_ext g.axes 0 _ _ _ _ _ _
+      (λ i a b. ap (λ (x : List Float). h x (cells i)) (knots_same i))
+      (λ i a b. ap (λ (x : List Float). fraction x (cells i) (point i)) (knots_same i))
+      (λ e b. numbers_same numbers cells e)
 
-  pub labels-without-modes : (coordinates : List Float) → labels g coordinates ≡ labels other coordinates
+  pub labels_without_modes : (coordinates : List Float) → labels g coordinates ≡ labels other coordinates
   unfolding labels
-  labels-without-modes coordinates = ap (labels-of g) (cell-without-modes (at coordinates))
+  labels_without_modes coordinates = ap (labels_of g) (cell_without_modes (at coordinates))
 
-  quick-labels-same : (coordinates : List Float) → quick-labels g coordinates ≡ quick-labels other coordinates
-  unfolding quick-labels
-  quick-labels-same coordinates = ap (labels-of g) (quick-cell-without-modes (at coordinates))
+  quick_labels_same : (coordinates : List Float) → quick_labels g coordinates ≡ quick_labels other coordinates
+  unfolding quick_labels
+  quick_labels_same coordinates = ap (labels_of g) (quick_cell_without_modes (at coordinates))
 
-  query-same : (numbers : List Float) (point : ℕ → Float) → query g numbers point ≡ query other numbers point
+  query_same : (numbers : List Float) (point : ℕ → Float) → query g numbers point ≡ query other numbers point
   unfolding query
-  query-same numbers point =
-      value-without-modes numbers (cell-of g point) point
-      ∙ ap (λ (cells : Place). value_in other numbers cells point) (cell-without-modes point)
+  query_same numbers point =
+      value_without_modes numbers (cell_of g point) point
+      ∙ ap (λ (cells : Place). value_in other numbers cells point) (cell_without_modes point)
 
-  quick-query-same : (numbers : List Float) (point : ℕ → Float) → quick-query g numbers point ≡ quick-query other numbers point
-  unfolding quick-query
-  quick-query-same numbers point =
-      value-without-modes numbers (quick-cell-of g point) point
-      ∙ ap (λ (cells : Place). value_in other numbers cells point) (quick-cell-without-modes point)
+  quick_query_same : (numbers : List Float) (point : ℕ → Float) → quick_query g numbers point ≡ quick_query other numbers point
+  unfolding quick_query
+  quick_query_same numbers point =
+      value_without_modes numbers (quick_cell_of g point) point
+      ∙ ap (λ (cells : Place). value_in other numbers cells point) (quick_cell_without_modes point)
 
-  found-cells-same : (point : ℕ → Float)
-      → some-found-cell-refused g (quick-cell-of g point) ≡ some-found-cell-refused other (quick-cell-of other point)
-  found-cells-same point =
+  found_cells_same : (point : ℕ → Float)
+      → some_found_cell_refused g (quick_cell_of g point) ≡ some_found_cell_refused other (quick_cell_of other point)
+  found_cells_same point =
       ap₂
-      (λ (n : ℕ → ℕ) (cells : Place). any (λ i. found-cell-refused (take (n i) (drop (sum_below n i) g.flat-knots)) (cells i))
+      (λ (n : ℕ → ℕ) (cells : Place). any (λ i. found_cell_refused (take (n i) (drop (sum_below n i) g.flat_knots)) (cells i))
       g.axes)
-      points-same (quick-cell-without-modes point)
+      points_same (quick_cell_without_modes point)
 
-  extended-refusal-same : (numbers coordinates : List Float)
-      → extended-query-refusal g numbers coordinates ≡ extended-query-refusal other numbers coordinates
-  unfolding extended-query-refusal
-  extended-refusal-same numbers coordinates =
-      rw (query-same numbers (at coordinates), points-refused-same, tensor-length-same, knots-length-same, knots-refused-same) refl
+  extended_refusal_same : (numbers coordinates : List Float)
+      → extended_query_refusal g numbers coordinates ≡ extended_query_refusal other numbers coordinates
+  unfolding extended_query_refusal
+  extended_refusal_same numbers coordinates =
+      rw (query_same numbers (at coordinates), points_refused_same, tensor_length_same, knots_length_same, knots_refused_same) refl
 
-  extended-quick-refusal-same : (numbers coordinates : List Float)
-      → extended-quick-refusal g numbers coordinates ≡ extended-quick-refusal other numbers coordinates
-  unfolding extended-quick-refusal
-  extended-quick-refusal-same numbers coordinates =
+  extended_quick_refusal_same : (numbers coordinates : List Float)
+      → extended_quick_refusal g numbers coordinates ≡ extended_quick_refusal other numbers coordinates
+  unfolding extended_quick_refusal
+  extended_quick_refusal_same numbers coordinates =
       rw (
-        quick-query-same numbers (at coordinates),
-        found-cells-same (at coordinates),
-        points-refused-same,
-        tensor-length-same,
-        knots-length-same,
+        quick_query_same numbers (at coordinates),
+        found_cells_same (at coordinates),
+        points_refused_same,
+        tensor_length_same,
+        knots_length_same,
       )
       refl
 
-  pub extended-without-modes : (numbers coordinates : List Float)
-      → extended-query-answer g numbers coordinates ≡ extended-query-answer other numbers coordinates
-  unfolding extended-query-answer
-  extended-without-modes numbers coordinates =
-      cc (extended-refusal-same numbers coordinates, query-same numbers (at coordinates), labels-without-modes coordinates)
+  pub extended_without_modes : (numbers coordinates : List Float)
+      → extended_query_answer g numbers coordinates ≡ extended_query_answer other numbers coordinates
+  unfolding extended_query_answer
+  extended_without_modes numbers coordinates =
+      cc (extended_refusal_same numbers coordinates, query_same numbers (at coordinates), labels_without_modes coordinates)
 
-  pub extended-quick-without-modes : (numbers coordinates : List Float)
-      → extended-quick-answer g numbers coordinates ≡ extended-quick-answer other numbers coordinates
-  unfolding extended-quick-answer
-  extended-quick-without-modes numbers coordinates =
-      cc (extended-quick-refusal-same numbers coordinates, quick-query-same numbers (at coordinates), quick-labels-same coordinates)
+  pub extended_quick_without_modes : (numbers coordinates : List Float)
+      → extended_quick_answer g numbers coordinates ≡ extended_quick_answer other numbers coordinates
+  unfolding extended_quick_answer
+  extended_quick_without_modes numbers coordinates =
+      cc (extended_quick_refusal_same numbers coordinates, quick_query_same numbers (at coordinates), quick_labels_same coordinates)
 
-  extended-even-value-same :
-      (numbers coordinates : List Float) → extended-even-value g numbers coordinates ≡ extended-even-value other numbers coordinates
-  unfolding extended-even-value
-  extended-even-value-same numbers coordinates =
-      value-without-modes numbers (direct-cell-of g (at coordinates)) (at coordinates)
-      ∙ ap (λ (cells : Place). value_in other numbers cells (at coordinates)) (direct-cell-without-modes (at coordinates))
+  extended_even_value_same :
+      (numbers coordinates : List Float) → extended_even_value g numbers coordinates ≡ extended_even_value other numbers coordinates
+  unfolding extended_even_value
+  extended_even_value_same numbers coordinates =
+      value_without_modes numbers (direct_cell_of g (at coordinates)) (at coordinates)
+      ∙ ap (λ (cells : Place). value_in other numbers cells (at coordinates)) (direct_cell_without_modes (at coordinates))
 
-  extended-even-refusal-same :
-      (numbers coordinates : List Float) → extended-even-refusal g numbers coordinates ≡ extended-even-refusal other numbers coordinates
-  unfolding extended-even-refusal
-  extended-even-refusal-same numbers coordinates =
+  extended_even_refusal_same :
+      (numbers coordinates : List Float) → extended_even_refusal g numbers coordinates ≡ extended_even_refusal other numbers coordinates
+  unfolding extended_even_refusal
+  extended_even_refusal_same numbers coordinates =
       rw (
-        extended-even-value-same numbers coordinates,
-        points-refused-same,
-        tensor-length-same,
-        knots-length-same,
-        knots-refused-same,
-        uneven-refused-same,
+        extended_even_value_same numbers coordinates,
+        points_refused_same,
+        tensor_length_same,
+        knots_length_same,
+        knots_refused_same,
+        uneven_refused_same,
       )
       refl
 
-  pub extended-even-without-modes :
-      (numbers coordinates : List Float) → extended-even-answer g numbers coordinates ≡ extended-even-answer other numbers coordinates
-  unfolding extended-even-answer
-  extended-even-without-modes numbers coordinates =
+  pub extended_even_without_modes :
+      (numbers coordinates : List Float) → extended_even_answer g numbers coordinates ≡ extended_even_answer other numbers coordinates
+  unfolding extended_even_answer
+  extended_even_without_modes numbers coordinates =
       cc (
-        extended-even-refusal-same numbers coordinates,
-        extended-even-value-same numbers coordinates,
-        ap (labels-of g) (direct-cell-without-modes (at coordinates)),
-        uneven-axis-same,
-        uneven-interval-same,
+        extended_even_refusal_same numbers coordinates,
+        extended_even_value_same numbers coordinates,
+        ap (labels_of g) (direct_cell_without_modes (at coordinates)),
+        uneven_axis_same,
+        uneven_interval_same,
       )

@@ -24,8 +24,8 @@ abbrev pub ◌⊘◌ : Float → Float → Float
 ◌⊘◌ a b = Ieee.div binary64 a b
 
 -- +0.0
-abbrev pub plus-zero : Float
-plus-zero = Ieee.of_bits binary64 0x0000_0000_0000_0000
+abbrev pub plus_zero : Float
+plus_zero = Ieee.of_bits binary64 0x0000_0000_0000_0000
 
 -- the other constants by their patterns: 1, 2, 3 and 6
 abbrev pub one : Float
@@ -46,17 +46,17 @@ at xs k = get_or xs k nan
 
 -- n times +0.0
 abbrev pub zeros : ℕ → List Float
-zeros n = replicate n plus-zero
+zeros n = replicate n plus_zero
 
 module _ {A : Type 0} where
   -- f a, f (a + 1), .., n of them
-  abbrev pub table-from : ℕ → ℕ → (ℕ → A) → List A
-  table-from zero a f = []
-  table-from (suc n) a f = f a ∷ table-from n (suc a) f
+  abbrev pub table_from : ℕ → ℕ → (ℕ → A) → List A
+  table_from zero a f = []
+  table_from (suc n) a f = f a ∷ table_from n (suc a) f
 
   -- f 0, f 1, .., f (n - 1)
   abbrev pub table : ℕ → (ℕ → A) → List A
-  table n f = table-from n 0 f
+  table n f = table_from n 0 f
 
   -- the elements of which a test holds, in their order
   unfoldable pub filter : (A → Bool) → List A → List A

@@ -2,7 +2,7 @@
 use Rattle.std.specs.Prelude.{◌≡◌, Bool, true, false, cond, List, [], ◌∷◌, ℕ, ◌-◌, get_or, length, Float}
 use Rattle.std.specs.Float.Ieee.{lt}
 use Rattle.rules.specs.Numbers.{at, any, table}
-use Rattle.rules.specs.Sizes.{unused-axis, Grid, points, condition, knots}
+use Rattle.rules.specs.Sizes.{unused_axis, Grid, points, condition, knots}
 use Rattle.rules.specs.declared.Axis.{Axis}
 use Rattle.rules.specs.declared.Mode.{Mode}
 use Rattle.rules.specs.declared.Mode.TheVariants.{Extend, Hold, Refuse}
@@ -10,14 +10,14 @@ use Rattle.rules.specs.declared.Side.{Side}
 use Rattle.rules.specs.declared.Side.TheVariants.{Below, Inside, Above}
 
 -- the number of a mode
-abbrev pub mode-number : Mode → ℕ
-mode-number Extend = 0
-mode-number Hold = 1
-mode-number Refuse = 2
+abbrev pub mode_number : Mode → ℕ
+mode_number Extend = 0
+mode_number Hold = 1
+mode_number Refuse = 2
 
 -- the mode of axis i
-abbrev pub mode-at : Grid → ℕ → Mode
-mode-at g i = (get_or g.entries i unused-axis).mode
+abbrev pub mode_at : Grid → ℕ → Mode
+mode_at g i = (get_or g.entries i unused_axis).mode
 
 -- on which side of the knots a point lies: below the first, then above the last, else inside, as on an end knot
 unfoldable pub side : List Float → Float → Side
@@ -37,7 +37,7 @@ placed Refuse x p = p
 
 -- the same on each axis
 abbrev pub placed_on : Grid → (ℕ → Float) → ℕ → Float
-placed_on g point i = placed (mode-at g i) (knots g i) (point i)
+placed_on g point i = placed (mode_at g i) (knots g i) (point i)
 
 -- whether a side is not the inside
 abbrev pub outside : Side → Bool
@@ -46,14 +46,14 @@ outside Inside = false
 outside Above = true
 
 -- 18: the mode is refuse, and the point lies outside
-abbrev pub outside-refused : Mode → Side → Bool
-outside-refused Extend s = false
-outside-refused Hold s = false
-outside-refused Refuse s = outside s
+abbrev pub outside_refused : Mode → Side → Bool
+outside_refused Extend s = false
+outside_refused Hold s = false
+outside_refused Refuse s = outside s
 
 -- 18 of a grid: so for an axis in use
-abbrev pub some-outside-refused : Grid → (ℕ → Float) → Bool
-some-outside-refused g point = any (λ i. outside-refused (mode-at g i) (side (knots g i) (point i))) g.axes
+abbrev pub some_outside_refused : Grid → (ℕ → Float) → Bool
+some_outside_refused g point = any (λ i. outside_refused (mode_at g i) (side (knots g i) (point i))) g.axes
 
 -- a mode with extend for hold
 abbrev pub released : Mode → Mode
@@ -73,10 +73,10 @@ replaced g coordinates = table (length coordinates) (placed_on g (at coordinates
 -- ---- grids that differ in their modes
 
 -- a grid with other axes for its own
-abbrev pub with-axes : Grid → List Axis → Grid
-with-axes g all = record { axes = g.axes; entries = all; flat-knots = g.flat-knots }
+abbrev pub with_axes : Grid → List Axis → Grid
+with_axes g all = record { axes = g.axes; entries = all; flat_knots = g.flat_knots }
 
 -- axes that are, but for their modes, those of a grid
 pub record ButForModes (g : Grid) (all : List Axis) : Type 0 where
-  pub same_points : (i : ℕ) → points g i ≡ points (with-axes g all) i
-  pub same-condition : (i : ℕ) → condition g i ≡ condition (with-axes g all) i
+  pub same_points : (i : ℕ) → points g i ≡ points (with_axes g all) i
+  pub same_condition : (i : ℕ) → condition g i ≡ condition (with_axes g all) i

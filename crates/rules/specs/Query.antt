@@ -5,9 +5,9 @@ use Rattle.rules.specs.Numbers.{◌⊕◌, ◌⊖◌, ◌⊗◌, ◌⊘◌, one,
 use Rattle.rules.specs.Sizes.{Grid, points, knots, masks, Place, flat, spot}
 use Rattle.rules.specs.Steps.{h}
 use Rattle.rules.specs.Locate.{locate}
-use Rattle.rules.specs.Search.{lower-index}
+use Rattle.rules.specs.Search.{lower_index}
 use Rattle.rules.specs.Outside.{placed_on}
-use Rattle.rules.specs.Even.{direct-cell-of}
+use Rattle.rules.specs.Even.{direct_cell_of}
 
 -- the blend of two knots with values p0, p1 and slopes m0, m1, at the fraction t of their width; with the names of the Rust in
 -- `evaluate_hermite_1d`
@@ -22,17 +22,17 @@ hermite p0 m0 p1 m1 width t =
     h00 ⊗ p0 ⊕ h10 ⊗ width ⊗ m0 ⊕ h01 ⊗ p1 ⊕ h11 ⊗ width ⊗ m1
 
 -- a cell without its lowest axis: of 4 × size numbers, that axis slowest and its bit of the mask fastest, size numbers are left
-unfoldable pub without-lowest : ℕ → Float → Float → (ℕ → Float) → ℕ → Float
+unfoldable pub without_lowest : ℕ → Float → Float → (ℕ → Float) → ℕ → Float
 unfolding hermite
-without-lowest size width t cell e =
+without_lowest size width t cell e =
     hermite (cell (2 * e)) (cell (2 * e + 1)) (cell (2 * size + 2 * e)) (cell (2 * size + 2 * e + 1)) width t
 
 -- what is left of a cell when its axes, so many from `lowest` on, are removed one after the other, the lowest first
 unfoldable pub blend : ℕ → ℕ → (ℕ → Float) → (ℕ → Float) → (ℕ → Float) → Float
-unfolding without-lowest
+unfolding without_lowest
 blend zero lowest widths ts cell = cell 0
 blend (suc axes) lowest widths ts cell =
-    blend axes (suc lowest) widths ts (without-lowest (4 ^ axes) (widths lowest) (ts lowest) cell)
+    blend axes (suc lowest) widths ts (without_lowest (4 ^ axes) (widths lowest) (ts lowest) cell)
 
 -- a corner of the cell: its bits say on which axes it is the upper one, axis 0 in the highest bit
 unfoldable pub corner : ℕ → Place → ℕ → Place
@@ -58,40 +58,40 @@ value_in g tensor cells point =
     (cell g tensor cells)
 
 -- the cell of a point: the lower knot on each axis
-unfoldable pub cell-of : Grid → (ℕ → Float) → Place
+unfoldable pub cell_of : Grid → (ℕ → Float) → Place
 unfolding locate
-cell-of g point i = locate (knots g i) (points g i - 1) (point i)
+cell_of g point i = locate (knots g i) (points g i - 1) (point i)
 
 -- the surface's value at a point
 unfoldable pub query : Grid → List Float → (ℕ → Float) → Float
-unfolding value_in cell-of
-query g tensor point = value_in g tensor (cell-of g point) point
+unfolding value_in cell_of
+query g tensor point = value_in g tensor (cell_of g point) point
 
 -- the cell that the search finds on each axis, on any knots
-unfoldable pub quick-cell-of : Grid → (ℕ → Float) → Place
-unfolding lower-index
-quick-cell-of g point i = lower-index (knots g i) (point i)
+unfoldable pub quick_cell_of : Grid → (ℕ → Float) → Place
+unfolding lower_index
+quick_cell_of g point i = lower_index (knots g i) (point i)
 
 -- the value at a point in the cell that the search finds
-unfoldable pub quick-query : Grid → List Float → (ℕ → Float) → Float
-unfolding value_in quick-cell-of
-quick-query g tensor point = value_in g tensor (quick-cell-of g point) point
+unfoldable pub quick_query : Grid → List Float → (ℕ → Float) → Float
+unfolding value_in quick_cell_of
+quick_query g tensor point = value_in g tensor (quick_cell_of g point) point
 
 -- both values with a mode for each axis: the cell is that of the point as it is given, and hold moves the point in it
-unfoldable pub query-in-modes : Grid → List Float → (ℕ → Float) → Float
-unfolding value_in cell-of
-query-in-modes g tensor point = value_in g tensor (cell-of g point) (placed_on g point)
+unfoldable pub query_in_modes : Grid → List Float → (ℕ → Float) → Float
+unfolding value_in cell_of
+query_in_modes g tensor point = value_in g tensor (cell_of g point) (placed_on g point)
 
-unfoldable pub quick-query-in-modes : Grid → List Float → (ℕ → Float) → Float
-unfolding value_in quick-cell-of
-quick-query-in-modes g tensor point = value_in g tensor (quick-cell-of g point) (placed_on g point)
+unfoldable pub quick_query_in_modes : Grid → List Float → (ℕ → Float) → Float
+unfolding value_in quick_cell_of
+quick_query_in_modes g tensor point = value_in g tensor (quick_cell_of g point) (placed_on g point)
 
 -- the cell on even axes: the direct cell of the point where the modes place it, so hold moves the point before the cell is found
-unfoldable pub even-cell-of : Grid → (ℕ → Float) → Place
-unfolding direct-cell-of
-even-cell-of g point = direct-cell-of g (placed_on g point)
+unfoldable pub even_cell_of : Grid → (ℕ → Float) → Place
+unfolding direct_cell_of
+even_cell_of g point = direct_cell_of g (placed_on g point)
 
 -- the value there, in that cell
-unfoldable pub even-query : Grid → List Float → (ℕ → Float) → Float
-unfolding value_in even-cell-of
-even-query g tensor point = value_in g tensor (even-cell-of g point) (placed_on g point)
+unfoldable pub even_query : Grid → List Float → (ℕ → Float) → Float
+unfolding value_in even_cell_of
+even_query g tensor point = value_in g tensor (even_cell_of g point) (placed_on g point)

@@ -18,29 +18,29 @@ halving knots point (suc halvings) low high =
     low
 
 -- as many halvings as 256 knots can take
-abbrev pub most-halvings : ℕ
-most-halvings = 8
+abbrev pub most_halvings : ℕ
+most_halvings = 8
 
 -- one back from where the search ended, where that knot is at or above the point
-unfoldable pub one-back : List Float → Float → ℕ → ℕ
-one-back knots point low = cond (ltb 0 low && le point (at knots low)) (low - 1) low
+unfoldable pub one_back : List Float → Float → ℕ → ℕ
+one_back knots point low = cond (ltb 0 low && le point (at knots low)) (low - 1) low
 
 -- what the Rust answers: the last knot, past the last cell, where the point or that knot is a NaN
-unfoldable pub rust-index : List Float → Float → ℕ
-unfolding halving one-back
-rust-index knots point =
+unfoldable pub rust_index : List Float → Float → ℕ
+unfolding halving one_back
+rust_index knots point =
     cond (lt point (at knots 0)) 0
     (cond (le (at knots (length knots - 1)) point) (length knots - 2)
-    (one-back knots point (halving knots point most-halvings 0 (length knots - 1))))
+    (one_back knots point (halving knots point most_halvings 0 (length knots - 1))))
 
 -- an index, and that of the last cell where it would be greater
 abbrev pub held : ℕ → ℕ → ℕ
 held index points = min index (points - 2)
 
 -- the cell: the Rust's index, so held
-unfoldable pub lower-index : List Float → Float → ℕ
-unfolding rust-index
-lower-index knots point = held (rust-index knots point) (length knots)
+unfoldable pub lower_index : List Float → Float → ℕ
+unfolding rust_index
+lower_index knots point = held (rust_index knots point) (length knots)
 
 -- the knots that the halvings between low and high look at, by the recursion of the search itself
 unfoldable pub middles : List Float → Float → ℕ → ℕ → ℕ → List ℕ
@@ -54,9 +54,9 @@ middles knots point (suc halvings) low high =
 
 -- all knots that matter to a cell: the first, the last, the two of the cell, and those that the halvings look at
 unfoldable pub visited : List Float → Float → List ℕ
-unfolding lower-index middles
+unfolding lower_index middles
 visited knots point =
-    0 ∷ (length knots - 1) ∷ lower-index knots point ∷ (lower-index knots point + 1)
+    0 ∷ (length knots - 1) ∷ lower_index knots point ∷ (lower_index knots point + 1)
     ∷ cond (lt point (at knots 0)) []
     (cond (le (at knots (length knots - 1)) point) []
-    (middles knots point most-halvings 0 (length knots - 1)))
+    (middles knots point most_halvings 0 (length knots - 1)))

@@ -1,47 +1,47 @@
 -- The chapter Sizes of docs/RULES.md: the limits, and the lengths, places and masks of a grid.
 use Rattle.std.specs.Prelude.{Bool, cond, List, ℕ, zero, suc, ◌+◌, ◌*◌, ◌/◌, ◌%◌, ◌^◌, eqb, get_or, take, drop, Float}
-use Rattle.rules.specs.Ends.{not-a-knot}
+use Rattle.rules.specs.Ends.{not_a_knot}
 use Rattle.rules.specs.declared.Condition.{Condition}
 use Rattle.rules.specs.declared.Mode.TheVariants.{Extend}
 use Rattle.rules.specs.declared.Axis.{Axis}
 
 -- the most axes
-abbrev pub most-axes : ℕ
-most-axes = 4
+abbrev pub most_axes : ℕ
+most_axes = 4
 
 -- the fewest points on an axis
-abbrev pub fewest-on-an-axis : ℕ
-fewest-on-an-axis = 2
+abbrev pub fewest_on_an_axis : ℕ
+fewest_on_an_axis = 2
 
 -- the most points on an axis
-abbrev pub most-on-an-axis : ℕ
-most-on-an-axis = 256
+abbrev pub most_on_an_axis : ℕ
+most_on_an_axis = 256
 
 -- the most numbers in a tensor
-abbrev pub most-in-a-tensor : ℕ
-most-in-a-tensor = 4096
+abbrev pub most_in_a_tensor : ℕ
+most_in_a_tensor = 4096
 
 -- the scratch beside the tensor's length: the rows that a lane is solved in
-abbrev pub scratch-of-rows : ℕ
-scratch-of-rows = 2048
+abbrev pub scratch_of_rows : ℕ
+scratch_of_rows = 2048
 
 -- an axis not in use: no points, NotAKnot twice, and extend
-abbrev pub unused-axis : Axis
-unused-axis = record { points = 0; condition = not-a-knot; mode = Extend }
+abbrev pub unused_axis : Axis
+unused_axis = record { points = 0; condition = not_a_knot; mode = Extend }
 
 -- what a call is given of its grid: how many axes are in use, the four axes, and the knots of all of them in one list
 pub record Grid : Type 0 where
   pub axes : ℕ
   pub entries : List Axis
-  pub flat-knots : List Float
+  pub flat_knots : List Float
 
 -- the points of axis i
 abbrev pub points : Grid → ℕ → ℕ
-points g i = (get_or g.entries i unused-axis).points
+points g i = (get_or g.entries i unused_axis).points
 
 -- the condition of axis i
 abbrev pub condition : Grid → ℕ → Condition
-condition g i = (get_or g.entries i unused-axis).condition
+condition g i = (get_or g.entries i unused_axis).condition
 
 -- the sum of the first i of some sizes
 unfoldable pub sum_below : (ℕ → ℕ) → ℕ → ℕ
@@ -49,33 +49,33 @@ sum_below n zero = 0
 sum_below n (suc i) = sum_below n i + n i
 
 -- the product of the first i of some sizes
-unfoldable pub product-below : (ℕ → ℕ) → ℕ → ℕ
-product-below n zero = 1
-product-below n (suc i) = product-below n i * n i
+unfoldable pub product_below : (ℕ → ℕ) → ℕ → ℕ
+product_below n zero = 1
+product_below n (suc i) = product_below n i * n i
 
 -- how many knots the axes in use have together
-abbrev pub knots-length : Grid → ℕ
-knots-length g = sum_below (points g) g.axes
+abbrev pub knots_length : Grid → ℕ
+knots_length g = sum_below (points g) g.axes
 
 -- the knots of axis i, which begin after those of the axes before it
 abbrev pub knots : Grid → ℕ → List Float
-knots g i = take (points g i) (drop (sum_below (points g) i) g.flat-knots)
+knots g i = take (points g i) (drop (sum_below (points g) i) g.flat_knots)
 
 -- how many samples there are: one at each place of the grid
-abbrev pub samples-length : Grid → ℕ
-samples-length g = product-below (points g) g.axes
+abbrev pub samples_length : Grid → ℕ
+samples_length g = product_below (points g) g.axes
 
 -- how many masks there are: one for each set of axes
 abbrev pub masks : Grid → ℕ
 masks g = 2 ^ g.axes
 
 -- how many numbers a tensor has: one for each sample and each mask
-abbrev pub tensor-length : Grid → ℕ
-tensor-length g = samples-length g * masks g
+abbrev pub tensor_length : Grid → ℕ
+tensor_length g = samples_length g * masks g
 
 -- how long scratch must be at least
-abbrev pub scratch-length : Grid → ℕ
-scratch-length g = tensor-length g + scratch-of-rows
+abbrev pub scratch_length : Grid → ℕ
+scratch_length g = tensor_length g + scratch_of_rows
 
 -- a place of the grid: the index on each axis
 abbrev pub Place : Type 0
@@ -104,5 +104,5 @@ abbrev pub spot : Grid → Place → ℕ → ℕ
 spot g p mask = flat (points g) g.axes p * masks g + mask
 
 -- whether axis i is in a mask: the bit of weight 2^i is set
-unfoldable pub in-mask : ℕ → ℕ → Bool
-in-mask mask i = eqb (mask / 2 ^ i % 2) 1
+unfoldable pub in_mask : ℕ → ℕ → Bool
+in_mask mask i = eqb (mask / 2 ^ i % 2) 1

@@ -3,7 +3,7 @@
 use Rattle.std.specs.Prelude.{cond, eqb, Float}
 use Prim.Native.Nat.{ℕ, zero, suc, ◌-◌}
 use Rattle.std.specs.Float.Ieee.{neg}
-use Rattle.rules.specs.Numbers.{◌⊕◌, ◌⊖◌, ◌⊗◌, ◌⊘◌, plus-zero, one}
+use Rattle.rules.specs.Numbers.{◌⊕◌, ◌⊖◌, ◌⊗◌, ◌⊘◌, plus_zero, one}
 
 -- `thomas`
 module _ (sub diag sup rhs : ℕ → Float) where
@@ -41,25 +41,25 @@ module _ (sub diag sup rhs : ℕ → Float) (corner : Float) where
   gamma = neg (diag 0)
 
   -- the diagonal without the corners
-  unfoldable pub diag-mod : ℕ → ℕ → Float
-  diag-mod l k =
+  unfoldable pub diag_mod : ℕ → ℕ → Float
+  diag_mod l k =
       cond (eqb k 0) (diag k ⊖ gamma)
       (cond (eqb k l) (diag k ⊖ corner ⊗ corner ⊘ gamma)
       (diag k))
 
   -- the right side of the second solve
-  unfoldable pub u-vec : ℕ → ℕ → Float
-  u-vec l k = cond (eqb k 0) gamma (cond (eqb k l) corner plus-zero)
+  unfoldable pub u_vec : ℕ → ℕ → Float
+  u_vec l k = cond (eqb k 0) gamma (cond (eqb k l) corner plus_zero)
 
   -- number k of the first solve, which has the right side as it is
   unfoldable pub y : ℕ → ℕ → Float
-  unfolding diag-mod thomas
-  y l k = thomas sub (diag-mod l) sup rhs l k
+  unfolding diag_mod thomas
+  y l k = thomas sub (diag_mod l) sup rhs l k
 
   -- number k of the second solve
   unfoldable pub z : ℕ → ℕ → Float
-  unfolding diag-mod u-vec thomas
-  z l k = thomas sub (diag-mod l) sup (u-vec l) l k
+  unfolding diag_mod u_vec thomas
+  z l k = thomas sub (diag_mod l) sup (u_vec l) l k
 
   -- how many times the second result is taken from the first
   unfoldable pub factor : ℕ → Float
@@ -67,6 +67,6 @@ module _ (sub diag sup rhs : ℕ → Float) (corner : Float) where
   factor l = (y l 0 ⊕ corner ⊘ gamma ⊗ y l l) ⊘ (one ⊕ (z l 0 ⊕ corner ⊘ gamma ⊗ z l l))
 
   -- number k of the result, of two unknowns or more
-  unfoldable pub cyclic-thomas : ℕ → ℕ → Float
+  unfoldable pub cyclic_thomas : ℕ → ℕ → Float
   unfolding y z factor
-  cyclic-thomas l k = y l k ⊖ factor l ⊗ z l k
+  cyclic_thomas l k = y l k ⊖ factor l ⊗ z l k

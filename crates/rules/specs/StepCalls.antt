@@ -2,21 +2,21 @@
 use Rattle.std.specs.Prelude.{◌≡◌, ◌||◌, List, ℕ, zero, suc, ◌-◌, ltb, get_or, length, Float}
 use Rattle.std.proofs.Math.Bool.{cond}
 use Rattle.rules.specs.Numbers.{at, table}
-use Rattle.rules.specs.Sizes.{most-axes, Grid, knots-length, samples-length}
+use Rattle.rules.specs.Sizes.{most_axes, Grid, knots_length, samples_length}
 use Rattle.rules.specs.Refusals.{
-  axes-refused,
-  points-refused,
-  some-points-refused,
-  tensor-refused,
-  length-refused,
-  lower-refused,
-  number-refused,
-  some-number-refused,
-  knots-refused,
-  some-knots-refused,
-  location-refused,
+  axes_refused,
+  points_refused,
+  some_points_refused,
+  tensor_refused,
+  length_refused,
+  lower_refused,
+  number_refused,
+  some_number_refused,
+  knots_refused,
+  some_knots_refused,
+  location_refused,
 }
-use Rattle.rules.specs.Step.{exact-index, locate-axis, step-index, stepped-place, stepped, lower-step, upper-step}
+use Rattle.rules.specs.Step.{exact_index, locate_axis, step_index, stepped_place, stepped, lower_step, upper_step}
 use Rattle.rules.specs.Calls.{answered, counted, labelled}
 use Rattle.rules.specs.declared.StepDirection.{StepDirection}
 use Rattle.rules.specs.declared.StepDirection.TheVariants.{Lower}
@@ -43,64 +43,64 @@ located (suc refusal) location = Exact 0
 
 module _ (n : ℕ) (knots : List Float) (lower : ℕ) (point : Float) where
   -- its refusal, the first of 2 4 6 7 8 that applies
-  unfoldable pub exact-refusal : ℕ
-  exact-refusal =
-      cond (points-refused n) 2
-      (cond (length-refused (length knots) n) 4
-      (cond (lower-refused lower n) 6
-      (cond (some-number-refused knots || number-refused point) 7
-      (cond (knots-refused knots n) 8 0))))
+  unfoldable pub exact_refusal : ℕ
+  exact_refusal =
+      cond (points_refused n) 2
+      (cond (length_refused (length knots) n) 4
+      (cond (lower_refused lower n) 6
+      (cond (some_number_refused knots || number_refused point) 7
+      (cond (knots_refused knots n) 8 0))))
 
   -- its answer: the refusal, and which of the two knots equals the point
-  unfoldable pub exact-answer : ExactAnswer
-  unfolding exact-refusal exact-index
-  exact-answer = record { refusal = exact-refusal; index = found exact-refusal (exact-index knots lower point) }
+  unfoldable pub exact_answer : ExactAnswer
+  unfolding exact_refusal exact_index
+  exact_answer = record { refusal = exact_refusal; index = found exact_refusal (exact_index knots lower point) }
 
   -- what it promises: the answer
   pub record ExactPromise (given : ExactAnswer) : Type 0 where
-    pub answer : given ≡ exact-answer
+    pub answer : given ≡ exact_answer
 
 -- ---- the location on an axis
 
 module _ (n : ℕ) (knots : List Float) (point : Float) where
   -- its refusal, the first of 2 4 7 8 10 that applies
-  unfoldable pub axis-refusal : ℕ
-  unfolding locate-axis
-  axis-refusal =
-      cond (points-refused n) 2
-      (cond (length-refused (length knots) n) 4
-      (cond (some-number-refused knots || number-refused point) 7
-      (cond (knots-refused knots n) 8
-      (cond (location-refused (locate-axis knots (n - 1) point)) 10 0))))
+  unfoldable pub axis_refusal : ℕ
+  unfolding locate_axis
+  axis_refusal =
+      cond (points_refused n) 2
+      (cond (length_refused (length knots) n) 4
+      (cond (some_number_refused knots || number_refused point) 7
+      (cond (knots_refused knots n) 8
+      (cond (location_refused (locate_axis knots (n - 1) point)) 10 0))))
 
   -- its answer: the refusal, and where the point lies
-  unfoldable pub axis-answer : AxisAnswer
-  unfolding axis-refusal
-  axis-answer = record { refusal = axis-refusal; location = located axis-refusal (locate-axis knots (n - 1) point) }
+  unfoldable pub axis_answer : AxisAnswer
+  unfolding axis_refusal
+  axis_answer = record { refusal = axis_refusal; location = located axis_refusal (locate_axis knots (n - 1) point) }
 
   -- what it promises: the answer
   pub record AxisPromise (given : AxisAnswer) : Type 0 where
-    pub answer : given ≡ axis-answer
+    pub answer : given ≡ axis_answer
 
 -- ---- the index of a step
 
 module _ (direction : StepDirection) (n : ℕ) (knots : List Float) (point : Float) where
   -- its refusal, the first of 2 4 7 8 that applies
-  unfoldable pub step-refusal : ℕ
-  step-refusal =
-      cond (points-refused n) 2
-      (cond (length-refused (length knots) n) 4
-      (cond (some-number-refused knots || number-refused point) 7
-      (cond (knots-refused knots n) 8 0)))
+  unfoldable pub step_refusal : ℕ
+  step_refusal =
+      cond (points_refused n) 2
+      (cond (length_refused (length knots) n) 4
+      (cond (some_number_refused knots || number_refused point) 7
+      (cond (knots_refused knots n) 8 0)))
 
   -- its answer: the refusal, and the index
-  unfoldable pub step-answer : StepAnswer
-  unfolding step-refusal lower-step upper-step
-  step-answer = record { refusal = step-refusal; index = counted step-refusal (step-index direction knots (n - 1) point) }
+  unfoldable pub step_answer : StepAnswer
+  unfolding step_refusal lower_step upper_step
+  step_answer = record { refusal = step_refusal; index = counted step_refusal (step_index direction knots (n - 1) point) }
 
   -- what it promises: the answer
   pub record StepPromise (given : StepAnswer) : Type 0 where
-    pub answer : given ≡ step-answer
+    pub answer : given ≡ step_answer
 
 -- ---- the stepped surface
 
@@ -110,32 +110,32 @@ direction directions i = get_or directions i Lower
 
 module _ (g : Grid) (directions : List StepDirection) (samples coordinates : List Float) where
   -- its refusal, the first of 1 2 3 4 7 8 that applies
-  unfoldable pub stepped-refusal : ℕ
-  stepped-refusal =
-      cond (axes-refused g) 1
-      (cond (some-points-refused g) 2
-      (cond (tensor-refused g) 3
+  unfoldable pub stepped_refusal : ℕ
+  stepped_refusal =
+      cond (axes_refused g) 1
+      (cond (some_points_refused g) 2
+      (cond (tensor_refused g) 3
       (cond
-      (length-refused (length g.flat-knots) (knots-length g) || length-refused (length samples) (samples-length g)
-      || length-refused (length coordinates) g.axes)
+      (length_refused (length g.flat_knots) (knots_length g) || length_refused (length samples) (samples_length g)
+      || length_refused (length coordinates) g.axes)
       4
-      (cond (some-number-refused g.flat-knots || some-number-refused samples || some-number-refused coordinates) 7
-      (cond (some-knots-refused g) 8 0)))))
+      (cond (some_number_refused g.flat_knots || some_number_refused samples || some_number_refused coordinates) 7
+      (cond (some_knots_refused g) 8 0)))))
 
   -- the indices of the four axes: those of the steps, and 0 for axes not in use
-  unfoldable pub step-indices : List ℕ
-  unfolding stepped-place
-  step-indices = table most-axes (λ i. cond (ltb i g.axes) (stepped-place g (direction directions) (at coordinates) i) 0)
+  unfoldable pub step_indices : List ℕ
+  unfolding stepped_place
+  step_indices = table most_axes (λ i. cond (ltb i g.axes) (stepped_place g (direction directions) (at coordinates) i) 0)
 
   -- its answer: the refusal, the sample at the place of the steps, and the indices
-  unfoldable pub stepped-answer : SteppedAnswer
-  unfolding stepped-refusal stepped step-indices
-  stepped-answer = record {
-    refusal = stepped-refusal;
-    value = answered stepped-refusal (stepped g (direction directions) samples (at coordinates));
-    indices = labelled stepped-refusal step-indices;
+  unfoldable pub stepped_answer : SteppedAnswer
+  unfolding stepped_refusal stepped step_indices
+  stepped_answer = record {
+    refusal = stepped_refusal;
+    value = answered stepped_refusal (stepped g (direction directions) samples (at coordinates));
+    indices = labelled stepped_refusal step_indices;
   }
 
   -- what it promises: the answer
   pub record SteppedPromise (given : SteppedAnswer) : Type 0 where
-    pub answer : given ≡ stepped-answer
+    pub answer : given ≡ stepped_answer

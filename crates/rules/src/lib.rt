@@ -1,7 +1,7 @@
 // The types that the rules speak of: ends, conditions, axes, and what the public calls answer.
 ghost use Rattle.std.specs.Prelude.{◌≡◌};
-ghost use Rattle.rules.specs.Ends.{zero-valued, crossed, not-a-knot, natural, clamped, periodic, first-derivative, second-derivative};
-ghost use Rattle.rules.specs.Sizes.{unused-axis};
+ghost use Rattle.rules.specs.Ends.{zero_valued, crossed, not_a_knot, natural, clamped, periodic, first_derivative, second_derivative};
+ghost use Rattle.rules.specs.Sizes.{unused_axis};
 
 // An end of an axis.
 #[derive(Drop)]
@@ -136,7 +136,7 @@ pub struct SteppedAnswer {
 impl End {
     // The end that a spline through derivatives takes: of the same kind, with +0.0 for its number.
     pub fn zero_valued(self) -> End
-        ensures { result ≡ zero-valued self }
+        ensures { result ≡ zero_valued self }
     {
         match self {
             End::NotAKnot => End::NotAKnot,
@@ -158,7 +158,7 @@ impl Condition {
 
     // NotAKnot at both ends.
     pub fn not_a_knot() -> Condition
-        ensures { result ≡ not-a-knot }
+        ensures { result ≡ not_a_knot }
     {
         Condition::NOT_A_KNOT
     }
@@ -186,14 +186,14 @@ impl Condition {
 
     // The first derivatives of both ends.
     pub fn first_derivative(lower: f64, upper: f64) -> Condition
-        ensures { result ≡ first-derivative lower upper }
+        ensures { result ≡ first_derivative lower upper }
     {
         Condition::Endpoints(End::FirstDerivative(lower), End::FirstDerivative(upper))
     }
 
     // The second derivatives of both ends.
     pub fn second_derivative(lower: f64, upper: f64) -> Condition
-        ensures { result ≡ second-derivative lower upper }
+        ensures { result ≡ second_derivative lower upper }
     {
         Condition::Endpoints(End::SecondDerivative(lower), End::SecondDerivative(upper))
     }
@@ -214,7 +214,7 @@ impl Condition {
 impl Axis {
     // An axis not in use.
     pub fn unused() -> Axis
-        ensures { result ≡ unused-axis }
+        ensures { result ≡ unused_axis }
     {
         Axis {
             points: 0,

@@ -7,12 +7,12 @@ use lib.Ieee.{Float}
 use Rattle.sheet_build.specs.SheetTensor.{SheetPromise}
 use Rattle.sheet_build.specs.declared.SheetAnswer.{SheetAnswer}
 
-pub sheet-unique :
+pub sheet_unique :
     (bytes : List ℕ) (knots samples tensor scratch : List Float) (a a' : SheetAnswer) (k k' s s' t t' w w' : List Float)
     → SheetPromise bytes knots samples tensor scratch a k s t w
     → SheetPromise bytes knots samples tensor scratch a' k' s' t' w'
     → (a ≡ a') × (k ≡ k') × (s ≡ s') × (t ≡ t') × (w ≡ w')
-sheet-unique bytes knots samples tensor scratch a a' k k' s s' t t' w w' p q = (
+sheet_unique bytes knots samples tensor scratch a a' k k' s s' t t' w w' p q = (
   p.answer ∙ sym q.answer,
   p.knots ∙ sym q.knots,
   p.samples ∙ sym q.samples,

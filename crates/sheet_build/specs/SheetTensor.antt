@@ -2,20 +2,20 @@
 -- that it was lent.
 use Rattle.std.specs.Prelude.{◌≡◌, cond, List, ℕ, zero, suc, ◌≤◌, length, take, Float}
 use Rattle.rules.specs.Numbers.{zeros, table}
-use Rattle.rules.specs.Sizes.{most-axes, most-in-a-tensor, unused-axis, Grid, knots-length, samples-length, tensor-length, scratch-length}
-use Rattle.rules.specs.Refusals.{length-refused}
+use Rattle.rules.specs.Sizes.{most_axes, most_in_a_tensor, unused_axis, Grid, knots_length, samples_length, tensor_length, scratch_length}
+use Rattle.rules.specs.Refusals.{length_refused}
 use Rattle.rules.specs.Tensor.{tensor}
-use Rattle.rules.specs.Calls.{or_else, stored, counted, scratch_after, build-refusal}
+use Rattle.rules.specs.Calls.{or_else, stored, counted, scratch_after, build_refusal}
 use Rattle.rules.specs.declared.Axis.{Axis}
-use Rattle.grid.specs.GridOfCall.{grid, sizes-of, points-of, InRange}
-use Rattle.sheet_read.specs.Fields.{edition, sheet-grid, sheet-samples}
-use Rattle.sheet_read.specs.Faults.{sheet-refusal}
-use Rattle.sheet_read.specs.Read.{over, read-refusal}
+use Rattle.grid.specs.GridOfCall.{grid, sizes_of, points_of, InRange}
+use Rattle.sheet_read.specs.Fields.{edition, sheet_grid, sheet_samples}
+use Rattle.sheet_read.specs.Faults.{sheet_refusal}
+use Rattle.sheet_read.specs.Read.{over, read_refusal}
 use Rattle.sheet_build.specs.declared.SheetAnswer.{SheetAnswer}
 
 -- the answer of a sheet that is not read: no edition, no axes, all four as not in use, and no numbers
-abbrev pub unread-answer : ℕ → SheetAnswer
-unread-answer refusal = record { refusal = refusal; edition = 0; axes = 0; all = table most-axes (λ i. unused-axis); length = 0 }
+abbrev pub unread_answer : ℕ → SheetAnswer
+unread_answer refusal = record { refusal = refusal; edition = 0; axes = 0; all = table most_axes (λ i. unused_axis); length = 0 }
 
 -- the answer of a sheet that was read: its edition, its axes, and the length of a tensor that is built, 0 where the build refuses
 abbrev pub read_answer : ℕ → ℕ → Grid → SheetAnswer
@@ -24,68 +24,68 @@ read_answer refusal edition g = record {
   edition = edition;
   axes = g.axes;
   all = g.entries;
-  length = counted refusal (tensor-length g);
+  length = counted refusal (tensor_length g);
 }
 
 -- the answer of what is met before the build, 0 for nothing, of the whole call's refusal, and of what was found
-abbrev pub answer-of : ℕ → ℕ → ℕ → Grid → SheetAnswer
-answer-of zero refusal edition g = read_answer refusal edition g
-answer-of (suc reading) refusal edition g = unread-answer refusal
+abbrev pub answer_of : ℕ → ℕ → ℕ → Grid → SheetAnswer
+answer_of zero refusal edition g = read_answer refusal edition g
+answer_of (suc reading) refusal edition g = unread_answer refusal
 
 -- ---- a build whose numbers stand in the first places of buffers
 
 -- axes that are not refused, and buffers with room for their numbers
-pub record PartsGiven (axes : ℕ) (all : List Axis) (knots samples tensor-lent : List Float) : Type 0 where
-  pub in-range : InRange axes (points-of all)
-  pub knots-room : knots-length (sizes-of axes all) ≤ length knots
-  pub samples-room : samples-length (sizes-of axes all) ≤ length samples
-  pub tensor-room : tensor-length (sizes-of axes all) ≤ length tensor-lent
+pub record PartsGiven (axes : ℕ) (all : List Axis) (knots samples tensor_lent : List Float) : Type 0 where
+  pub in_range : InRange axes (points_of all)
+  pub knots_room : knots_length (sizes_of axes all) ≤ length knots
+  pub samples_room : samples_length (sizes_of axes all) ≤ length samples
+  pub tensor_room : tensor_length (sizes_of axes all) ≤ length tensor_lent
 
 -- the grid that such buffers hold
-abbrev pub grid-in : ℕ → List Axis → List Float → Grid
-grid-in axes all knots = grid axes all (take (knots-length (sizes-of axes all)) knots)
+abbrev pub grid_in : ℕ → List Axis → List Float → Grid
+grid_in axes all knots = grid axes all (take (knots_length (sizes_of axes all)) knots)
 
 -- the samples that such buffers hold
-abbrev pub samples-in : ℕ → List Axis → List Float → List Float
-samples-in axes all samples = take (samples-length (sizes-of axes all)) samples
+abbrev pub samples_in : ℕ → List Axis → List Float → List Float
+samples_in axes all samples = take (samples_length (sizes_of axes all)) samples
 
-module _ (g : Grid) (samples tensor-lent scratch-lent : List Float) where
+module _ (g : Grid) (samples tensor_lent scratch_lent : List Float) where
   -- the build is lent the places that the tensor needs
-  abbrev pub parts-refusal : ℕ
-  parts-refusal = build-refusal g samples (take (tensor-length g) tensor-lent) scratch-lent
+  abbrev pub parts_refusal : ℕ
+  parts_refusal = build_refusal g samples (take (tensor_length g) tensor_lent) scratch_lent
 
   -- what that build promises of a sheet that says its edition: the answer, the tensor in the first places, the scratch
-  pub record PartsPromise (said : ℕ) (given : SheetAnswer) (tensor-later scratch-later : List Float) : Type 0 where
-    pub answer : given ≡ read_answer parts-refusal said g
-    pub output : tensor-later ≡ stored parts-refusal tensor-lent (over (tensor g samples) tensor-lent)
-    pub scratch : scratch-later ≡ scratch_after parts-refusal scratch-lent
+  pub record PartsPromise (said : ℕ) (given : SheetAnswer) (tensor_later scratch_later : List Float) : Type 0 where
+    pub answer : given ≡ read_answer parts_refusal said g
+    pub output : tensor_later ≡ stored parts_refusal tensor_lent (over (tensor g samples) tensor_lent)
+    pub scratch : scratch_later ≡ scratch_after parts_refusal scratch_lent
 
 -- ---- the sheet
 
 -- what its build refuses that has a tensor and a scratch of the lengths that it asks for
-unfoldable pub building-refusal : List ℕ → ℕ
-building-refusal bytes =
-    build-refusal (sheet-grid bytes) (sheet-samples bytes) (zeros (tensor-length (sheet-grid bytes)))
-    (zeros (scratch-length (sheet-grid bytes)))
+unfoldable pub building_refusal : List ℕ → ℕ
+building_refusal bytes =
+    build_refusal (sheet_grid bytes) (sheet_samples bytes) (zeros (tensor_length (sheet_grid bytes)))
+    (zeros (scratch_length (sheet_grid bytes)))
 
 -- the refusal that its bytes alone decide: its fault, and then what its build refuses
-unfoldable pub own-refusal : List ℕ → ℕ
-own-refusal bytes = or_else (sheet-refusal bytes) (building-refusal bytes)
+unfoldable pub own_refusal : List ℕ → ℕ
+own_refusal bytes = or_else (sheet_refusal bytes) (building_refusal bytes)
 
-module _ (bytes : List ℕ) (knots-lent samples-lent tensor-lent scratch-lent : List Float) where
+module _ (bytes : List ℕ) (knots_lent samples_lent tensor_lent scratch_lent : List Float) where
   -- what is met before the build: 4 for the tensor's buffer, before all else, then what the reader meets
-  unfoldable pub reading-refusal : ℕ
-  reading-refusal = cond (length-refused (length tensor-lent) most-in-a-tensor) 4 (read-refusal bytes knots-lent samples-lent)
+  unfoldable pub reading_refusal : ℕ
+  reading_refusal = cond (length_refused (length tensor_lent) most_in_a_tensor) 4 (read_refusal bytes knots_lent samples_lent)
 
   -- its refusal: what is met before the build, and then the build's
-  unfoldable pub sheet-tensor-refusal : ℕ
-  sheet-tensor-refusal = or_else reading-refusal (parts-refusal (sheet-grid bytes) (sheet-samples bytes) tensor-lent scratch-lent)
+  unfoldable pub sheet_tensor_refusal : ℕ
+  sheet_tensor_refusal = or_else reading_refusal (parts_refusal (sheet_grid bytes) (sheet_samples bytes) tensor_lent scratch_lent)
 
   -- the answer has the axes, and the buffers of knots and samples change, where the reader refuses nothing; those of the tensor where the
   -- build does not either
-  pub record SheetPromise (given : SheetAnswer) (knots-later samples-later tensor-later scratch-later : List Float) : Type 0 where
-    pub answer : given ≡ answer-of reading-refusal sheet-tensor-refusal (edition bytes) (sheet-grid bytes)
-    pub knots : knots-later ≡ stored reading-refusal knots-lent (over (sheet-grid bytes).flat-knots knots-lent)
-    pub samples : samples-later ≡ stored reading-refusal samples-lent (over (sheet-samples bytes) samples-lent)
-    pub output : tensor-later ≡ stored sheet-tensor-refusal tensor-lent (over (tensor (sheet-grid bytes) (sheet-samples bytes)) tensor-lent)
-    pub scratch : scratch-later ≡ scratch_after sheet-tensor-refusal scratch-lent
+  pub record SheetPromise (given : SheetAnswer) (knots_later samples_later tensor_later scratch_later : List Float) : Type 0 where
+    pub answer : given ≡ answer_of reading_refusal sheet_tensor_refusal (edition bytes) (sheet_grid bytes)
+    pub knots : knots_later ≡ stored reading_refusal knots_lent (over (sheet_grid bytes).flat_knots knots_lent)
+    pub samples : samples_later ≡ stored reading_refusal samples_lent (over (sheet_samples bytes) samples_lent)
+    pub output : tensor_later ≡ stored sheet_tensor_refusal tensor_lent (over (tensor (sheet_grid bytes) (sheet_samples bytes)) tensor_lent)
+    pub scratch : scratch_later ≡ scratch_after sheet_tensor_refusal scratch_lent

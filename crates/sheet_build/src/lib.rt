@@ -1,6 +1,6 @@
 // From the bytes of a packed sheet to its tensor: the reader, then the build.
 ghost use Rattle.std.specs.Prelude.{◌≡◌};
-ghost use Rattle.sheet_build.specs.SheetTensor.{unread-answer, grid-in, samples-in, PartsGiven, PartsPromise, SheetPromise};
+ghost use Rattle.sheet_build.specs.SheetTensor.{unread_answer, grid_in, samples_in, PartsGiven, PartsPromise, SheetPromise};
 
 use grid_codes::classes::{is_built, is_unread};
 use rules::Axis;
@@ -17,7 +17,7 @@ pub struct SheetAnswer {
 
 // The answer of a sheet that was not read: no edition, no axes, none of the four in use, and no numbers.
 fn not_read(refusal: usize) -> SheetAnswer
-    ensures { result ≡ unread-answer refusal }
+    ensures { result ≡ unread_answer refusal }
 {
     SheetAnswer {
         refusal,
@@ -40,7 +40,7 @@ fn build_parts(
     scratch: &mut [f64],
 ) -> SheetAnswer
     requires { PartsGiven axes all knots.now samples.now tensor.old }
-    ensures { PartsPromise (grid-in axes all knots.now) (samples-in axes all samples.now) tensor.old
+    ensures { PartsPromise (grid_in axes all knots.now) (samples_in axes all samples.now) tensor.old
         scratch.old edition result tensor.new scratch.new }
 {
     let knots_end = grid::knots_length(axes, all);

@@ -7,100 +7,100 @@ use native.Mathlib.Nat.{sub-zero}
 use native.Mathlib.Omega.{arith}
 use lib.ListN.{length, take, length-append, length-replicate}
 use lib.Ieee.{Float}
-use Rattle.rules.specs.Numbers.{plus-zero, zeros}
-use Rattle.rules.specs.Sizes.{Grid, points, knots-length, samples-length, tensor-length, scratch-length}
-use Rattle.rules.specs.Refusals.{outcome-refused}
+use Rattle.rules.specs.Numbers.{plus_zero, zeros}
+use Rattle.rules.specs.Sizes.{Grid, points, knots_length, samples_length, tensor_length, scratch_length}
+use Rattle.rules.specs.Refusals.{outcome_refused}
 use Rattle.rules.specs.Tensor.{tensor}
-use Rattle.rules.specs.Calls.{build-refusal}
+use Rattle.rules.specs.Calls.{build_refusal}
 use Rattle.rules.specs.declared.Axis.{Axis}
 use Rattle.rules.proofs.Cases.{passed}
-use Rattle.rules.proofs.Refused.{or-else-passed}
-use Rattle.grid_checks.specs.Check.{build-check}
-use Rattle.grid_checks.proofs.Rows.{axes-few, in-range}
-use Rattle.grid_checks.proofs.ThenOutcome.{build-outcome}
-use Rattle.grid.specs.GridOfCall.{grid, sizes-of, points-of, InRange}
-use Rattle.sheet_read.specs.Fields.{axes, knots-below, sheet-grid, sheet-samples}
+use Rattle.rules.proofs.Refused.{or_else_passed}
+use Rattle.grid_checks.specs.Check.{build_check}
+use Rattle.grid_checks.proofs.Rows.{axes_few, in_range}
+use Rattle.grid_checks.proofs.ThenOutcome.{build_outcome}
+use Rattle.grid.specs.GridOfCall.{grid, sizes_of, points_of, InRange}
+use Rattle.sheet_read.specs.Fields.{axes, knots_below, sheet_grid, sheet_samples}
 use Rattle.sheet_read.specs.Read.{over}
 use Rattle.sheet_read.specs.FoundSoFar.{PartsRoom}
-use Rattle.sheet_read.proofs.Parts.{Parts, parts, take-over}
-use Rattle.sheet_build.specs.SheetTensor.{building-refusal}
-use Rattle.sheet_build.proofs.Enough.{lent-build}
+use Rattle.sheet_read.proofs.Parts.{Parts, parts, take_over}
+use Rattle.sheet_build.specs.SheetTensor.{building_refusal}
+use Rattle.sheet_build.proofs.Enough.{lent_build}
 use Rattle.sheet_in_scratch.specs.InScratch.{InScratch, SheetInScratch}
 
 -- a sheet that the build accepts has a tensor of finite numbers
-pub tensor-finite : (bytes : List ℕ) → building-refusal bytes ≡ 0
-    → outcome-refused (tensor (sheet-grid bytes) (sheet-samples bytes)) ≡ false
-unfolding building-refusal
-tensor-finite bytes none =
-    let g = sheet-grid bytes in
-    let t = build-outcome g (sheet-samples bytes) (zeros (tensor-length g)) (zeros (scratch-length g)) in
-    let both = or-else-passed (build-check g (sheet-samples bytes) (length (zeros (tensor-length g))) (length (zeros (scratch-length g)))) _
+pub tensor_finite : (bytes : List ℕ) → building_refusal bytes ≡ 0
+    → outcome_refused (tensor (sheet_grid bytes) (sheet_samples bytes)) ≡ false
+unfolding building_refusal
+tensor_finite bytes none =
+    let g = sheet_grid bytes in
+    let t = build_outcome g (sheet_samples bytes) (zeros (tensor_length g)) (zeros (scratch_length g)) in
+    let both = or_else_passed (build_check g (sheet_samples bytes) (length (zeros (tensor_length g))) (length (zeros (scratch_length g)))) _
     (sym t.is ∙ none) in
-    (passed (outcome-refused (tensor g (sheet-samples bytes))) 9 0 both.1).0
+    (passed (outcome_refused (tensor g (sheet_samples bytes))) 9 0 both.1).0
 
-module _ (bytes : List ℕ) (said n : ℕ) (all : List Axis) (knots-lent samples-lent : List Float)
-    (s : PartsRoom bytes said n all knots-lent samples-lent) where
+module _ (bytes : List ℕ) (said n : ℕ) (all : List Axis) (knots_lent samples_lent : List Float)
+    (s : PartsRoom bytes said n all knots_lent samples_lent) where
   abbrev g : Grid
-  g = sheet-grid bytes
+  g = sheet_grid bytes
 
   has : Parts bytes
   has = parts bytes s.faultless
 
   own_range : InRange g.axes (points g)
-  own_range = let few = axes-few {axes = g.axes} has.axes in in-range few.0 few.1 has.points
+  own_range = let few = axes_few {axes = g.axes} has.axes in in_range few.0 few.1 has.points
 
-  pub range : InRange n (points-of all)
-  unfolding sheet-grid
-  range = rw (s.axes-said, s.found) own_range
+  pub range : InRange n (points_of all)
+  unfolding sheet_grid
+  range = rw (s.axes_said, s.found) own_range
 
-  pub knots-are : knots-length (sizes-of n all) ≡ knots-length g
-  unfolding sheet-grid
-  knots-are = rw (s.axes-said, s.found)
+  pub knots_are : knots_length (sizes_of n all) ≡ knots_length g
+  unfolding sheet_grid
+  knots_are = rw (s.axes_said, s.found)
 
-  pub samples-are : samples-length (sizes-of n all) ≡ samples-length g
-  unfolding sheet-grid
-  samples-are = rw (s.axes-said, s.found)
+  pub samples_are : samples_length (sizes_of n all) ≡ samples_length g
+  unfolding sheet_grid
+  samples_are = rw (s.axes_said, s.found)
 
-  pub tensor-is : tensor-length (sizes-of n all) ≡ tensor-length g
-  unfolding sheet-grid
-  tensor-is = rw (s.axes-said, s.found)
+  pub tensor_is : tensor_length (sizes_of n all) ≡ tensor_length g
+  unfolding sheet_grid
+  tensor_is = rw (s.axes_said, s.found)
 
-  grid-is : grid n all g.flat-knots ≡ g
-  unfolding sheet-grid
-  grid-is = rw (s.axes-said, s.found)
+  grid_is : grid n all g.flat_knots ≡ g
+  unfolding sheet_grid
+  grid_is = rw (s.axes_said, s.found)
 
   -- the first knots of their buffer are the sheet's
-  module _ (knots : List Float) (stand : knots ≡ over g.flat-knots knots-lent) (end : ℕ) (e : end ≡ knots-length (sizes-of n all)) where
-    pub knots-within : end ≤ length knots
-    knots-within = rw (stand, length-append) (omega (arith, knots-are, has.knots))
+  module _ (knots : List Float) (stand : knots ≡ over g.flat_knots knots_lent) (end : ℕ) (e : end ≡ knots_length (sizes_of n all)) where
+    pub knots_within : end ≤ length knots
+    knots_within = rw (stand, length-append) (omega (arith, knots_are, has.knots))
 
-    pub knots-taken : take (end - 0) knots ≡ g.flat-knots
-    knots-taken = rw (sub-zero end, e, knots-are, stand) (take-over g.flat-knots knots-lent (knots-length g) has.knots)
+    pub knots_taken : take (end - 0) knots ≡ g.flat_knots
+    knots_taken = rw (sub-zero end, e, knots_are, stand) (take_over g.flat_knots knots_lent (knots_length g) has.knots)
 
-  module _ (knots samples : List Float) (k : knots ≡ over (knots-below bytes (axes bytes)) knots-lent)
-      (y : samples ≡ over (sheet-samples bytes) samples-lent) where
-    pub knots-over : knots ≡ over g.flat-knots knots-lent
-    unfolding sheet-grid
-    knots-over = k
+  module _ (knots samples : List Float) (k : knots ≡ over (knots_below bytes (axes bytes)) knots_lent)
+      (y : samples ≡ over (sheet_samples bytes) samples_lent) where
+    pub knots_over : knots ≡ over g.flat_knots knots_lent
+    unfolding sheet_grid
+    knots_over = k
 
-    pub samples-within : (end : ℕ) → end ≡ samples-length (sizes-of n all) → end ≤ length samples
-    samples-within end e = rw (y, length-append) (omega (arith, samples-are, has.samples))
+    pub samples_within : (end : ℕ) → end ≡ samples_length (sizes_of n all) → end ≤ length samples
+    samples_within end e = rw (y, length-append) (omega (arith, samples_are, has.samples))
 
-    samples-taken : (end : ℕ) → end ≡ samples-length (sizes-of n all) → take (end - 0) samples ≡ sheet-samples bytes
-    samples-taken end e =
-        rw (sub-zero end, e, samples-are, y) (take-over (sheet-samples bytes) samples-lent (samples-length g) has.samples)
+    samples_taken : (end : ℕ) → end ≡ samples_length (sizes_of n all) → take (end - 0) samples ≡ sheet_samples bytes
+    samples_taken end e =
+        rw (sub-zero end, e, samples_are, y) (take_over (sheet_samples bytes) samples_lent (samples_length g) has.samples)
 
-    pub sheet-stands : (knots-end samples-end numbers r : ℕ) (scratch later : List Float)
-        → knots-end ≡ knots-length (sizes-of n all) → samples-end ≡ samples-length (sizes-of n all)
-        → numbers ≡ tensor-length (sizes-of n all) → scratch-length g ≤ length scratch
-        → InScratch (grid n all (take (knots-end - 0) knots)) (take (samples-end - 0) samples) numbers scratch r later
-        → SheetInScratch bytes knots-lent r knots later
-    sheet-stands knots-end samples-end numbers r scratch later a b t enough stands =
-        let count : numbers ≡ tensor-length g = t ∙ tensor-is in
-        let p : InScratch g (sheet-samples bytes) (tensor-length g) scratch r later =
-        rw (knots-taken knots knots-over knots-end a, grid-is, samples-taken samples-end b, count) at stands in
+    pub sheet_stands : (knots_end samples_end numbers r : ℕ) (scratch later : List Float)
+        → knots_end ≡ knots_length (sizes_of n all) → samples_end ≡ samples_length (sizes_of n all)
+        → numbers ≡ tensor_length (sizes_of n all) → scratch_length g ≤ length scratch
+        → InScratch (grid n all (take (knots_end - 0) knots)) (take (samples_end - 0) samples) numbers scratch r later
+        → SheetInScratch bytes knots_lent r knots later
+    sheet_stands knots_end samples_end numbers r scratch later a b t enough stands =
+        let count : numbers ≡ tensor_length g = t ∙ tensor_is in
+        let p : InScratch g (sheet_samples bytes) (tensor_length g) scratch r later =
+        rw (knots_taken knots knots_over knots_end a, grid_is, samples_taken samples_end b, count) at stands in
         record {
-          refused = p.answer ∙ lent-build bytes (zeros (tensor-length g)) scratch (length-replicate (tensor-length g) plus-zero) enough;
-          knots = knots-over;
+          refused = p.answer ∙ lent_build bytes (zeros (tensor_length g)) scratch (length-replicate (tensor_length g) plus_zero) enough;
+          knots = knots_over;
           output = p.output;
         }

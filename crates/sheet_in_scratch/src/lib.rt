@@ -1,9 +1,9 @@
 // The tensor of a sheet that was looked at, built in the scratch, where it stays: for callers that need it no longer than the scratch, so
 // that nothing is copied from it or cleared behind it. Neither function is a public call.
 ghost use Rattle.std.specs.Prelude.{◌≤◌, length};
-ghost use Rattle.rules.specs.Sizes.{scratch-length};
+ghost use Rattle.rules.specs.Sizes.{scratch_length};
 ghost use Rattle.grid.specs.GridOfCall.{grid};
-ghost use Rattle.sheet_read.specs.Fields.{sheet-grid};
+ghost use Rattle.sheet_read.specs.Fields.{sheet_grid};
 ghost use Rattle.sheet_read.specs.FoundSoFar.{PartsRoom};
 ghost use Rattle.sheet_in_scratch.specs.InScratch.{InScratch, SheetInScratch};
 
@@ -48,7 +48,7 @@ pub fn tensor_in_scratch(
     scratch: &mut [f64],
 ) -> usize
     requires { PartsRoom bytes.now edition axes all knots.old samples.old
-        × (scratch-length (sheet-grid bytes.now) ≤ length scratch.old) }
+        × (scratch_length (sheet_grid bytes.now) ≤ length scratch.old) }
     ensures { SheetInScratch bytes.now knots.old result knots.new scratch.new }
 {
     store_parts(bytes, edition, axes, all, knots, samples);

@@ -3,7 +3,7 @@ use Rattle.std.specs.Prelude.{Bool, not, List, ℕ, zero, suc, ◌+◌, ◌-◌,
 use Rattle.std.specs.Float.{binary64}
 use Rattle.std.specs.Float.Ieee.{of_bits, to_bits}
 use Rattle.rules.specs.Numbers.{any, table}
-use Rattle.rules.specs.Sizes.{most-axes}
+use Rattle.rules.specs.Sizes.{most_axes}
 
 -- the pattern of coordinate i of the four
 abbrev pub pattern : List ℕ → ℕ → ℕ
@@ -14,14 +14,14 @@ abbrev pub coordinates : ℕ → List ℕ → List Float
 coordinates axes patterns = table axes (λ i. of_bits binary64 (pattern patterns i))
 
 -- 17: a pattern past the axes in use is not 0, as that of -0.0 is not
-abbrev pub unused-refused : ℕ → List ℕ → Bool
-unused-refused axes patterns = any (λ k. not (eqb (pattern patterns (axes + k)) 0)) (most-axes - axes)
+abbrev pub unused_refused : ℕ → List ℕ → Bool
+unused_refused axes patterns = any (λ k. not (eqb (pattern patterns (axes + k)) 0)) (most_axes - axes)
 
 -- the pattern of a refusal: that of a NaN, with the number in its lowest bits
-abbrev pub refusal-pattern : ℕ → ℕ
-refusal-pattern refusal = 0x7FF8_0000_0000_0000 + refusal
+abbrev pub refusal_pattern : ℕ → ℕ
+refusal_pattern refusal = 0x7FF8_0000_0000_0000 + refusal
 
 -- the pattern of an answer: of its refusal, or of its value where that is 0
-abbrev pub answer-pattern : ℕ → Float → ℕ
-answer-pattern zero value = to_bits binary64 value
-answer-pattern (suc refusal) value = refusal-pattern (suc refusal)
+abbrev pub answer_pattern : ℕ → Float → ℕ
+answer_pattern zero value = to_bits binary64 value
+answer_pattern (suc refusal) value = refusal_pattern (suc refusal)

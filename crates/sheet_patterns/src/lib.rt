@@ -1,7 +1,7 @@
 // Coordinates, a value and a refusal as 64-bit patterns: what firmware hands over and receives. None of these is a public call.
 ghost use Rattle.std.specs.Prelude.{◌≡◌, true, ◌≤◌};
 ghost use Rattle.std.specs.Float.Ieee.Scale.{finite};
-ghost use Rattle.sheet_patterns.specs.Patterns.{coordinates, unused-refused, refusal-pattern, answer-pattern};
+ghost use Rattle.sheet_patterns.specs.Patterns.{coordinates, unused_refused, refusal_pattern, answer_pattern};
 
 use base_numbers::{float_of, pattern_of};
 
@@ -20,7 +20,7 @@ pub fn coordinates_of(patterns: [u64; 4]) -> [f64; 4]
 // Whether a pattern past the axes in use is not 0.
 pub fn is_unused_refused(axes: usize, patterns: [u64; 4]) -> bool
     requires { axes ≤ 4 }
-    ensures { result ≡ unused-refused axes patterns }
+    ensures { result ≡ unused_refused axes patterns }
 {
     let mut k = 0;
     while k < 4 - axes {
@@ -35,7 +35,7 @@ pub fn is_unused_refused(axes: usize, patterns: [u64; 4]) -> bool
 // The pattern of a refusal, whose number is small.
 pub fn refusal_pattern(refusal: usize) -> u64
     requires { refusal ≤ 23 }
-    ensures { result ≡ refusal-pattern refusal }
+    ensures { result ≡ refusal_pattern refusal }
 {
     0x7FF8000000000000 + refusal as u64
 }
@@ -43,7 +43,7 @@ pub fn refusal_pattern(refusal: usize) -> u64
 // The pattern of an answer: of its refusal, or of its value, which is finite where there is none.
 pub fn answer_pattern(refusal: usize, value: f64) -> u64
     requires { (refusal ≤ 23) × (refusal ≡ 0 → finite value ≡ true) }
-    ensures { result ≡ answer-pattern refusal value }
+    ensures { result ≡ answer_pattern refusal value }
 {
     if refusal != 0 {
         return refusal_pattern(refusal);

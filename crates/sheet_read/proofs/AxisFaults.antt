@@ -7,100 +7,100 @@ use native.Mathlib.Omega.{arith}
 use borrow.Author.Tests.{lt-ltb, le-ltb, ltb-true, ltb-false}
 use lib.Dec.{ltb}
 use lib.ListN.{length}
-use Rattle.rules.specs.Refusals.{points-refused}
-use Rattle.base_bits.specs.Bits.{short, numbers-short}
-use Rattle.grid_codes.specs.Kinds.{periodic-at-one-end}
-use Rattle.grid_codes.specs.Modes.{unknown-mode}
-use Rattle.sheet_read.specs.Fields.{mode-bits, points-at, lower-kind, upper-kind, mode-said, values-at, values-begin}
-use Rattle.sheet_read.specs.Faults.{axis-fault}
+use Rattle.rules.specs.Refusals.{points_refused}
+use Rattle.base_bits.specs.Bits.{short, numbers_short}
+use Rattle.grid_codes.specs.Kinds.{periodic_at_one_end}
+use Rattle.grid_codes.specs.Modes.{unknown_mode}
+use Rattle.sheet_read.specs.Fields.{mode_bits, points_at, lower_kind, upper_kind, mode_said, values_at, values_begin}
+use Rattle.sheet_read.specs.Faults.{axis_fault}
 use Rattle.sheet_read.proofs.Extents.{extent}
 
 module _ (bytes : List ℕ) (at : ℕ) where
   abbrev bits : ℕ
   bits = 8 * length bytes
 
-  pub no-points : bits < at + 8 → 11 ≡ axis-fault bytes at
-  unfolding axis-fault
-  no-points gone = rw (lt-ltb bits (at + 8) gone)
+  pub no_points : bits < at + 8 → 11 ≡ axis_fault bytes at
+  unfolding axis_fault
+  no_points gone = rw (lt-ltb bits (at + 8) gone)
 
-  pub few-points : at + 8 ≤ bits → points-at bytes at < 2 → 2 ≡ axis-fault bytes at
-  unfolding axis-fault
-  few-points room few = rw (le-ltb bits (at + 8) room, lt-ltb (points-at bytes at) 2 few)
+  pub few_points : at + 8 ≤ bits → points_at bytes at < 2 → 2 ≡ axis_fault bytes at
+  unfolding axis_fault
+  few_points room few = rw (le-ltb bits (at + 8) room, lt-ltb (points_at bytes at) 2 few)
 
-  module _ (enough : 2 ≤ points-at bytes at) where
-    enough-points : points-refused (points-at bytes at) ≡ false
-    enough-points =
+  module _ (enough : 2 ≤ points_at bytes at) where
+    enough_points : points_refused (points_at bytes at) ≡ false
+    enough_points =
         let reach = extent bytes at in
-        rw (le-ltb (points-at bytes at) 2 (omega arith), le-ltb 256 (points-at bytes at) (omega arith))
+        rw (le-ltb (points_at bytes at) 2 (omega arith), le-ltb 256 (points_at bytes at) (omega arith))
 
-    no-lower-kind : at + 8 ≤ bits → bits < at + 8 + 2 → 11 ≡ axis-fault bytes at
-    unfolding axis-fault
-    no-lower-kind room gone = rw (le-ltb bits (at + 8) room, enough-points, lt-ltb bits (at + 8 + 2) gone)
+    no_lower_kind : at + 8 ≤ bits → bits < at + 8 + 2 → 11 ≡ axis_fault bytes at
+    unfolding axis_fault
+    no_lower_kind room gone = rw (le-ltb bits (at + 8) room, enough_points, lt-ltb bits (at + 8 + 2) gone)
 
-    no-upper-kind : at + 8 + 2 ≤ bits → bits < at + 10 + 2 → 11 ≡ axis-fault bytes at
-    unfolding axis-fault
-    no-upper-kind room gone =
-        rw (le-ltb bits (at + 8) (omega arith), enough-points, le-ltb bits (at + 8 + 2) room, lt-ltb bits (at + 10 + 2) gone)
+    no_upper_kind : at + 8 + 2 ≤ bits → bits < at + 10 + 2 → 11 ≡ axis_fault bytes at
+    unfolding axis_fault
+    no_upper_kind room gone =
+        rw (le-ltb bits (at + 8) (omega arith), enough_points, le-ltb bits (at + 8 + 2) room, lt-ltb bits (at + 10 + 2) gone)
 
     -- where one of the two kinds is not there
-    pub no-kinds : at + 8 ≤ bits → bits < at + 8 + 4 → 11 ≡ axis-fault bytes at
+    pub no-kinds : at + 8 ≤ bits → bits < at + 8 + 4 → 11 ≡ axis_fault bytes at
     no-kinds room gone = go (ltb bits (at + 8 + 2)) refl
       where
-        go : (b : Bool) → ltb bits (at + 8 + 2) ≡ b → 11 ≡ axis-fault bytes at
-        go true e = no-lower-kind room (ltb-true bits (at + 8 + 2) e)
-        go false e = no-upper-kind (ltb-false bits (at + 8 + 2) e) (omega (arith, gone))
+        go : (b : Bool) → ltb bits (at + 8 + 2) ≡ b → 11 ≡ axis_fault bytes at
+        go true e = no_lower_kind room (ltb-true bits (at + 8 + 2) e)
+        go false e = no_upper_kind (ltb-false bits (at + 8 + 2) e) (omega (arith, gone))
 
     module _ (room : at + 10 + 2 ≤ bits) where
-      pub one-periodic : periodic-at-one-end (lower-kind bytes at) (upper-kind bytes at) ≡ true → 13 ≡ axis-fault bytes at
-      unfolding axis-fault
-      one-periodic one =
+      pub one_periodic : periodic_at_one_end (lower_kind bytes at) (upper_kind bytes at) ≡ true → 13 ≡ axis_fault bytes at
+      unfolding axis_fault
+      one_periodic one =
           rw (
             le-ltb bits (at + 8) (omega arith),
-            enough-points,
+            enough_points,
             le-ltb bits (at + 8 + 2) (omega arith),
             le-ltb bits (at + 10 + 2) room,
             one,
           )
 
-      module _ (none : periodic-at-one-end (lower-kind bytes at) (upper-kind bytes at) ≡ false) where
-        pub no_mode : bits < at + 12 + mode-bits bytes → 11 ≡ axis-fault bytes at
-        unfolding axis-fault
+      module _ (none : periodic_at_one_end (lower_kind bytes at) (upper_kind bytes at) ≡ false) where
+        pub no_mode : bits < at + 12 + mode_bits bytes → 11 ≡ axis_fault bytes at
+        unfolding axis_fault
         no_mode gone =
             rw (
               le-ltb bits (at + 8) (omega arith),
-              enough-points,
+              enough_points,
               le-ltb bits (at + 8 + 2) (omega arith),
               le-ltb bits (at + 10 + 2) room,
               none,
-              lt-ltb bits (at + 12 + mode-bits bytes) gone,
+              lt-ltb bits (at + 12 + mode_bits bytes) gone,
             )
 
-        module _ (mode-room : at + 12 + mode-bits bytes ≤ bits) where
-          pub other-mode : unknown-mode (mode-said bytes at) ≡ true → 22 ≡ axis-fault bytes at
-          unfolding axis-fault
-          other-mode other =
+        module _ (mode_room : at + 12 + mode_bits bytes ≤ bits) where
+          pub other_mode : unknown_mode (mode_said bytes at) ≡ true → 22 ≡ axis_fault bytes at
+          unfolding axis_fault
+          other_mode other =
               rw (
                 le-ltb bits (at + 8) (omega arith),
-                enough-points,
+                enough_points,
                 le-ltb bits (at + 8 + 2) (omega arith),
                 le-ltb bits (at + 10 + 2) room,
                 none,
-                le-ltb bits (at + 12 + mode-bits bytes) mode-room,
+                le-ltb bits (at + 12 + mode_bits bytes) mode_room,
                 other,
               )
 
-          pub patterns : unknown-mode (mode-said bytes at) ≡ false
-              → (test : Bool) → numbers-short bytes (values-begin bytes at) (values-at bytes at + points-at bytes at) ≡ test
-              → cond test 11 0 ≡ axis-fault bytes at
-          unfolding axis-fault
+          pub patterns : unknown_mode (mode_said bytes at) ≡ false
+              → (test : Bool) → numbers_short bytes (values_begin bytes at) (values_at bytes at + points_at bytes at) ≡ test
+              → cond test 11 0 ≡ axis_fault bytes at
+          unfolding axis_fault
           patterns known test short =
               rw (
                 le-ltb bits (at + 8) (omega arith),
-                enough-points,
+                enough_points,
                 le-ltb bits (at + 8 + 2) (omega arith),
                 le-ltb bits (at + 10 + 2) room,
                 none,
-                le-ltb bits (at + 12 + mode-bits bytes) mode-room,
+                le-ltb bits (at + 12 + mode_bits bytes) mode_room,
                 known,
                 short,
               )

@@ -5,41 +5,41 @@ use mathlib.Core.List.{List}
 use Prim.Native.Nat.{ℕ}
 use lib.ListN.{length}
 use lib.Ieee.{Float}
-use Rattle.sheet_read.specs.Fields.{edition, axes, entries, knots-below, sheet-samples}
-use Rattle.sheet_read.specs.Faults.{sheet-refusal}
-use Rattle.sheet_read.specs.Read.{over, read-refusal, ReadPromise}
+use Rattle.sheet_read.specs.Fields.{edition, axes, entries, knots_below, sheet_samples}
+use Rattle.sheet_read.specs.Faults.{sheet_refusal}
+use Rattle.sheet_read.specs.Read.{over, read_refusal, ReadPromise}
 use Rattle.sheet_read.specs.declared.ReadAnswer.{ReadAnswer}
-use Rattle.sheet_read.proofs.Promises.{answer-refusal, refusal_is, lengths-passed}
+use Rattle.sheet_read.proofs.Promises.{answer_refusal, refusal_is, lengths_passed}
 
-pub read-unique :
+pub read_unique :
     (bytes : List ℕ) (knots samples : List Float) (a a' : ReadAnswer) (k k' s s' : List Float)
     → ReadPromise bytes knots samples a k s
     → ReadPromise bytes knots samples a' k' s'
     → (a ≡ a') × (k ≡ k') × (s ≡ s')
-read-unique bytes knots samples a a' k k' s s' p q =
+read_unique bytes knots samples a a' k k' s s' p q =
     (p.answer ∙ sym q.answer, p.knots ∙ sym q.knots, p.samples ∙ sym q.samples)
 
 -- what it accepts: the definition accepts it, and the answer and both buffers have its parts
-pub read-accepts :
+pub read_accepts :
     (bytes : List ℕ) (knots samples : List Float) (a : ReadAnswer) (k s : List Float)
     → ReadPromise bytes knots samples a k s
     → a.refusal ≡ 0
-    → (sheet-refusal bytes ≡ 0)
+    → (sheet_refusal bytes ≡ 0)
     × (a ≡ record { refusal = 0; edition = edition bytes; axes = axes bytes; all = entries bytes (axes bytes) })
-    × (k ≡ over (knots-below bytes (axes bytes)) knots)
-    × (s ≡ over (sheet-samples bytes) samples)
-read-accepts bytes knots samples a k s p none =
-    let z : read-refusal bytes knots samples ≡ 0 =
-    sym (sym none ∙ ap (λ (r : ReadAnswer). r.refusal) p.answer ∙ answer-refusal _ _ _ _) in
-    (lengths-passed bytes knots samples z, rw z at p.answer, rw z at p.knots, rw z at p.samples)
+    × (k ≡ over (knots_below bytes (axes bytes)) knots)
+    × (s ≡ over (sheet_samples bytes) samples)
+read_accepts bytes knots samples a k s p none =
+    let z : read_refusal bytes knots samples ≡ 0 =
+    sym (sym none ∙ ap (λ (r : ReadAnswer). r.refusal) p.answer ∙ answer_refusal _ _ _ _) in
+    (lengths_passed bytes knots samples z, rw z at p.answer, rw z at p.knots, rw z at p.samples)
 
 -- what the definition accepts is not refused, where both buffers have their length
-pub read-refuses-no-sheet :
+pub read_refuses_no_sheet :
     (bytes : List ℕ) (knots samples : List Float) (a : ReadAnswer) (k s : List Float)
     → ReadPromise bytes knots samples a k s
     → length knots ≡ 1024
     → length samples ≡ 1024
-    → sheet-refusal bytes ≡ 0
+    → sheet_refusal bytes ≡ 0
     → a.refusal ≡ 0
-read-refuses-no-sheet bytes knots samples a k s p e f z =
-    ap (λ (r : ReadAnswer). r.refusal) p.answer ∙ answer-refusal _ _ _ _ ∙ refusal_is bytes knots samples e f ∙ z
+read_refuses_no_sheet bytes knots samples a k s p e f z =
+    ap (λ (r : ReadAnswer). r.refusal) p.answer ∙ answer_refusal _ _ _ _ ∙ refusal_is bytes knots samples e f ∙ z

@@ -1,8 +1,8 @@
 // The axes of a sheet, one after the other. None of these is a public call: `fault_of_short_head` and `walk_axes` test whether the bits are
 // there, all others require it. All are told how many bits the mode of an axis has in the sheet's edition.
 ghost use Rattle.std.specs.Prelude.{◌≡◌, ◌+◌, ◌*◌, ◌<◌, ◌≤◌, length};
-ghost use Rattle.sheet_read.specs.Fields.{mode-bits, axis-at, axis-begin, knots-below};
-ghost use Rattle.sheet_read.specs.Faults.{axis-fault};
+ghost use Rattle.sheet_read.specs.Fields.{mode_bits, axis_at, axis_begin, knots_below};
+ghost use Rattle.sheet_read.specs.Faults.{axis_fault};
 ghost use Rattle.sheet_read.specs.Read.{over};
 ghost use Rattle.base_bits.specs.BitsThere.{Within};
 ghost use Rattle.sheet_read.specs.FoundSoFar.{Whole, Walked, NoFault};
@@ -25,8 +25,8 @@ pub struct Walk {
 
 // The fault of the axis at bit `at` where its head is not there whole, in the order of its fields.
 fn fault_of_short_head(bytes: &[u8], width: usize, at: usize) -> usize
-    requires { (width ≡ mode-bits bytes.now) × (at ≤ 131072) × (8 * length bytes.now < at + (12 + width)) }
-    ensures { (result ≡ axis-fault bytes.now at) × (0 < result) }
+    requires { (width ≡ mode_bits bytes.now) × (at ≤ 131072) × (8 * length bytes.now < at + (12 + width)) }
+    ensures { (result ≡ axis_fault bytes.now at) × (0 < result) }
 {
     if is_short(bytes, at, 8) {
         return 11;
@@ -45,8 +45,8 @@ fn fault_of_short_head(bytes: &[u8], width: usize, at: usize) -> usize
 
 // The same where it is there.
 fn fault_of_head(bytes: &[u8], width: usize, at: usize, head: Head) -> usize
-    requires { (width ≡ mode-bits bytes.now) × Within bytes.now at (12 + width) × HeadOf bytes.now at head × (at ≤ 131072) }
-    ensures { result ≡ axis-fault bytes.now at }
+    requires { (width ≡ mode_bits bytes.now) × Within bytes.now at (12 + width) × HeadOf bytes.now at head × (at ≤ 131072) }
+    ensures { result ≡ axis_fault bytes.now at }
 {
     if head.points < 2 {
         return 2;
@@ -65,8 +65,8 @@ fn fault_of_head(bytes: &[u8], width: usize, at: usize, head: Head) -> usize
 
 // The ends of the axis at bit `at`. Knots follow, so there are patterns to read even where a kind has none.
 fn condition(bytes: &[u8], width: usize, at: usize, head: Head) -> Condition
-    requires { (width ≡ mode-bits bytes.now) × Whole bytes.now at × HeadOf bytes.now at head }
-    ensures { result ≡ (axis-at bytes.now at).condition }
+    requires { (width ≡ mode_bits bytes.now) × Whole bytes.now at × HeadOf bytes.now at head }
+    ensures { result ≡ (axis_at bytes.now at).condition }
 {
     let first = number_at(bytes, at + 12 + width);
     let second = number_at(bytes, at + 12 + width + 64 * values_of_kind(head.lower));
@@ -79,8 +79,8 @@ fn condition(bytes: &[u8], width: usize, at: usize, head: Head) -> Condition
 
 // The axis at bit `at`.
 fn axis(bytes: &[u8], width: usize, at: usize, head: Head) -> Axis
-    requires { (width ≡ mode-bits bytes.now) × Whole bytes.now at × HeadOf bytes.now at head }
-    ensures { result ≡ axis-at bytes.now at }
+    requires { (width ≡ mode_bits bytes.now) × Whole bytes.now at × HeadOf bytes.now at head }
+    ensures { result ≡ axis_at bytes.now at }
 {
     Axis {
         points: head.points,
@@ -91,7 +91,7 @@ fn axis(bytes: &[u8], width: usize, at: usize, head: Head) -> Axis
 
 // Looks at the axes, up to the first fault.
 pub fn walk_axes(bytes: &[u8], width: usize, axes: usize) -> Walk
-    requires { (width ≡ mode-bits bytes.now) × (axes ≤ 4) }
+    requires { (width ≡ mode_bits bytes.now) × (axes ≤ 4) }
     ensures { Walked bytes.now axes result }
 {
     let mut all = [Axis::unused(); 4];
@@ -120,10 +120,10 @@ pub fn walk_axes(bytes: &[u8], width: usize, axes: usize) -> Walk
 
 // Stores the knots, axis after axis, in the first places of `knots`. Answers the bit after the last axis.
 pub fn store_knots(bytes: &[u8], width: usize, axes: usize, knots: &mut [f64]) -> usize
-    requires { (width ≡ mode-bits bytes.now) × NoFault bytes.now axes
-        × (length (knots-below bytes.now axes) ≤ length knots.old) }
-    ensures { (result ≡ axis-begin bytes.now axes)
-        × (knots.new ≡ over (knots-below bytes.now axes) knots.old) }
+    requires { (width ≡ mode_bits bytes.now) × NoFault bytes.now axes
+        × (length (knots_below bytes.now axes) ≤ length knots.old) }
+    ensures { (result ≡ axis_begin bytes.now axes)
+        × (knots.new ≡ over (knots_below bytes.now axes) knots.old) }
 {
     let mut at = 7;
     let mut from = 0;

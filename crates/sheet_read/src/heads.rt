@@ -3,8 +3,8 @@
 // mode has in the sheet's edition; the last two require places that are small numbers.
 ghost use Rattle.std.specs.Prelude.{◌≡◌, ◌+◌, ◌*◌};
 ghost use Rattle.base_bits.specs.BitsThere.{Within};
-ghost use Rattle.sheet_read.specs.Fields.{mode-bits};
-ghost use Rattle.sheet_read.specs.Heads.{HeadOf, values-of-head, knots-of-head, SmallHead};
+ghost use Rattle.sheet_read.specs.Fields.{mode_bits};
+ghost use Rattle.sheet_read.specs.Heads.{HeadOf, values_of_head, knots_of_head, SmallHead};
 
 use base_bits::field_at;
 use grid_codes::ends::values_of_kind;
@@ -19,7 +19,7 @@ pub struct Head {
 
 // The head of the axis at bit `at`.
 pub fn head_at(bytes: &[u8], width: usize, at: usize) -> Head
-    requires { (width ≡ mode-bits bytes.now) × Within bytes.now at (12 + width) }
+    requires { (width ≡ mode_bits bytes.now) × Within bytes.now at (12 + width) }
     ensures { HeadOf bytes.now at result }
 {
     Head {
@@ -32,7 +32,7 @@ pub fn head_at(bytes: &[u8], width: usize, at: usize) -> Head
 
 // How many patterns the ends have.
 pub fn values(head: Head) -> usize
-    ensures { result ≡ values-of-head head }
+    ensures { result ≡ values_of_head head }
 {
     values_of_kind(head.lower) + values_of_kind(head.upper)
 }
@@ -40,7 +40,7 @@ pub fn values(head: Head) -> usize
 // Where the knots of the axis at bit `at` begin.
 pub fn knots_from(width: usize, at: usize, head: Head) -> usize
     requires { SmallHead width at head }
-    ensures { result ≡ knots-of-head width at head }
+    ensures { result ≡ knots_of_head width at head }
 {
     at + 12 + width + 64 * values(head)
 }
@@ -48,7 +48,7 @@ pub fn knots_from(width: usize, at: usize, head: Head) -> usize
 // The bit after the axis at bit `at`.
 pub fn after(width: usize, at: usize, head: Head) -> usize
     requires { SmallHead width at head }
-    ensures { result ≡ knots-of-head width at head + 64 * head.points }
+    ensures { result ≡ knots_of_head width at head + 64 * head.points }
 {
     knots_from(width, at, head) + 64 * head.points
 }

@@ -1,6 +1,6 @@
 // The packed sheet: its reader, and the reader of its first edition.
 ghost use Rattle.std.specs.Prelude.{◌≡◌};
-ghost use Rattle.sheet_read.specs.Read.{edition-1-answer, ReadPromise, Edition1Promise};
+ghost use Rattle.sheet_read.specs.Read.{edition_1_answer, ReadPromise, Edition1Promise};
 
 use crate::look::{look, refused};
 use crate::store::store_parts;
@@ -56,7 +56,7 @@ pub fn read(bytes: &[u8], knots: &mut [f64], samples: &mut [f64]) -> ReadAnswer
 
 // An answer without its edition.
 fn without_edition(answer: ReadAnswer) -> Edition1Answer
-    ensures { result ≡ edition-1-answer answer }
+    ensures { result ≡ edition_1_answer answer }
 {
     let all = answer.all;
     Edition1Answer {

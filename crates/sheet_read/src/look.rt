@@ -1,9 +1,9 @@
 // All of a sheet looked at, up to its first fault, before anything is stored.
 ghost use Rattle.std.specs.Prelude.{◌≡◌};
 ghost use Rattle.rules.specs.Calls.{or_else};
-ghost use Rattle.sheet_read.specs.Fields.{edition as edition-said, axes, entries};
-ghost use Rattle.sheet_read.specs.Faults.{axes-fault, tail-refused, samples-fault, sheet-refusal};
-ghost use Rattle.sheet_read.specs.Read.{answer-of, refused-answer};
+ghost use Rattle.sheet_read.specs.Fields.{edition as edition_said, axes, entries};
+ghost use Rattle.sheet_read.specs.Faults.{axes_fault, tail_refused, samples_fault, sheet_refusal};
+ghost use Rattle.sheet_read.specs.Read.{answer_of, refused_answer};
 ghost use Rattle.base_bits.specs.BitsThere.{Within};
 ghost use Rattle.sheet_read.specs.FoundSoFar.{Axes, Ended};
 
@@ -17,7 +17,7 @@ use rules::Axis;
 
 // The answer of a refusal: no edition, no axes, and none of the four in use.
 pub fn refused(refusal: usize) -> ReadAnswer
-    ensures { result ≡ refused-answer refusal }
+    ensures { result ≡ refused_answer refusal }
 {
     ReadAnswer {
         refusal,
@@ -30,7 +30,7 @@ pub fn refused(refusal: usize) -> ReadAnswer
 // Whether 8 or more bits follow bit `at`, or one that is not zero.
 fn has_more(bytes: &[u8], at: usize) -> bool
     requires { Within bytes.now at 0 }
-    ensures { result ≡ tail-refused bytes.now at }
+    ensures { result ≡ tail_refused bytes.now at }
 {
     if (at + 15) / 8 <= bytes.len() {
         return true;
@@ -41,7 +41,7 @@ fn has_more(bytes: &[u8], at: usize) -> bool
 // The fault that is met after the last axis: the tensor's length, the samples, and what follows them.
 fn fault_of_samples(bytes: &[u8], at: usize, n: usize, all: [Axis; 4]) -> usize
     requires { Ended bytes.now at n all }
-    ensures { result ≡ samples-fault bytes.now }
+    ensures { result ≡ samples_fault bytes.now }
 {
     if 4096 < tensor_length(n, all) {
         return 3;
@@ -58,8 +58,8 @@ fn fault_of_samples(bytes: &[u8], at: usize, n: usize, all: [Axis; 4]) -> usize
 
 // Looks at the axes and what follows them.
 fn look_at_axes(bytes: &[u8], edition: usize, n: usize) -> ReadAnswer
-    requires { (edition ≡ edition-said bytes.now) × Axes bytes.now n }
-    ensures { result ≡ answer-of (or_else (axes-fault bytes.now n) (samples-fault bytes.now)) edition n
+    requires { (edition ≡ edition_said bytes.now) × Axes bytes.now n }
+    ensures { result ≡ answer_of (or_else (axes_fault bytes.now n) (samples_fault bytes.now)) edition n
         (entries bytes.now n) }
 {
     let walk = walk_axes(bytes, mode_width(edition), n);
@@ -83,7 +83,7 @@ fn look_at_axes(bytes: &[u8], edition: usize, n: usize) -> ReadAnswer
 
 // Looks at all of a sheet: the answer that `read` gives where both buffers have their length.
 pub fn look(bytes: &[u8]) -> ReadAnswer
-    ensures { result ≡ answer-of (sheet-refusal bytes.now) (edition-said bytes.now) (axes bytes.now)
+    ensures { result ≡ answer_of (sheet_refusal bytes.now) (edition_said bytes.now) (axes bytes.now)
         (entries bytes.now (axes bytes.now)) }
 {
     if is_short(bytes, 0, 4) {

@@ -1,7 +1,7 @@
 // The numbers of a sheet that was looked at and has no fault. Not a public call: such a sheet is required, its own edition and axes, and
 // places for the numbers.
 ghost use Rattle.std.specs.Prelude.{◌≡◌};
-ghost use Rattle.sheet_read.specs.Fields.{axes, knots-below, sheet-samples};
+ghost use Rattle.sheet_read.specs.Fields.{axes, knots_below, sheet_samples};
 ghost use Rattle.sheet_read.specs.Read.{over};
 ghost use Rattle.sheet_read.specs.FoundSoFar.{PartsRoom};
 
@@ -21,8 +21,8 @@ pub fn store_parts(
     samples: &mut [f64],
 )
     requires { PartsRoom bytes.now edition n all knots.old samples.old }
-    ensures { (knots.new ≡ over (knots-below bytes.now (axes bytes.now)) knots.old)
-        × (samples.new ≡ over (sheet-samples bytes.now) samples.old) }
+    ensures { (knots.new ≡ over (knots_below bytes.now (axes bytes.now)) knots.old)
+        × (samples.new ≡ over (sheet_samples bytes.now) samples.old) }
 {
     let at = store_knots(bytes, mode_width(edition), n, knots);
     let count = samples_length(n, all);

@@ -1,13 +1,13 @@
 // One call for the firmware of an aid: the bytes of a sheet and the patterns of four coordinates in, the pattern of the surface's value
 // out.
 ghost use Rattle.std.specs.Prelude.{◌≡◌, [], ◌∷◌, ◌≤◌, length};
-ghost use Rattle.rules.specs.Sizes.{scratch-length};
+ghost use Rattle.rules.specs.Sizes.{scratch_length};
 ghost use Rattle.rules.specs.Calls.{or_else};
-ghost use Rattle.sheet_patterns.specs.Patterns.{answer-pattern};
-ghost use Rattle.sheet_read.specs.Fields.{sheet-grid};
+ghost use Rattle.sheet_patterns.specs.Patterns.{answer_pattern};
+ghost use Rattle.sheet_read.specs.Fields.{sheet_grid};
 ghost use Rattle.sheet_read.specs.FoundSoFar.{PartsRoom};
-ghost use Rattle.sheet_build.specs.SheetTensor.{building-refusal};
-ghost use Rattle.sheet_surface.specs.SheetSurface.{most-on-the-stack, asked, SurfacePromise};
+ghost use Rattle.sheet_build.specs.SheetTensor.{building_refusal};
+ghost use Rattle.sheet_surface.specs.SheetSurface.{most_on_the_stack, asked, SurfacePromise};
 ghost use Rattle.sheet_surface.specs.OnTheStack.{SmallSheet};
 
 use grid_scratch::TENSOR;
@@ -28,8 +28,8 @@ fn build_and_query(
     scratch: &mut [f64],
 ) -> u64
     requires { PartsRoom bytes.now edition axes all knots.old samples.old
-        × (scratch-length (sheet-grid bytes.now) ≤ length scratch.old) }
-    ensures { result ≡ answer-pattern (or_else (building-refusal bytes.now) (asked bytes.now patterns).refusal)
+        × (scratch_length (sheet_grid bytes.now) ≤ length scratch.old) }
+    ensures { result ≡ answer_pattern (or_else (building_refusal bytes.now) (asked bytes.now patterns).refusal)
         (asked bytes.now patterns).value }
 {
     let refusal = tensor_in_scratch(bytes, edition, axes, all, knots, samples, scratch);
@@ -58,7 +58,7 @@ fn small_on_the_stack(
     patterns: [u64; 4],
 ) -> u64
     requires { SmallSheet 128 bytes.now edition axes all }
-    ensures { result ≡ answer-pattern (or_else (building-refusal bytes.now) (asked bytes.now patterns).refusal)
+    ensures { result ≡ answer_pattern (or_else (building_refusal bytes.now) (asked bytes.now patterns).refusal)
         (asked bytes.now patterns).value }
 {
     let mut knots = [0.0; 64];
@@ -84,8 +84,8 @@ fn on_the_stack(
     all: [Axis; 4],
     patterns: [u64; 4],
 ) -> u64
-    requires { SmallSheet most-on-the-stack bytes.now edition axes all }
-    ensures { result ≡ answer-pattern (or_else (building-refusal bytes.now) (asked bytes.now patterns).refusal)
+    requires { SmallSheet most_on_the_stack bytes.now edition axes all }
+    ensures { result ≡ answer_pattern (or_else (building_refusal bytes.now) (asked bytes.now patterns).refusal)
         (asked bytes.now patterns).value }
 {
     let mut knots = [0.0; 256];

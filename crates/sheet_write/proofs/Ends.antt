@@ -15,37 +15,37 @@ use Rattle.rules.specs.declared.End.{End}
 use Rattle.rules.specs.declared.End.TheVariants.{NotAKnot, FirstDerivative, SecondDerivative}
 use Rattle.rules.specs.declared.Condition.{Condition}
 use Rattle.rules.specs.declared.Condition.TheVariants.{Endpoints, Periodic}
-use Rattle.rules.proofs.Cases.{not-both}
+use Rattle.rules.proofs.Cases.{not_both}
 use Rattle.grid_codes.specs.Kinds.{
-  values-of-kind,
-  end-of-kind,
-  condition-of-kind,
-  periodic-at-one-end,
-  kind-of-end,
-  lower-kind-of,
-  upper-kind-of,
+  values_of_kind,
+  end_of_kind,
+  condition_of_kind,
+  periodic_at_one_end,
+  kind_of_end,
+  lower_kind_of,
+  upper_kind_of,
 }
 use Rattle.base_bits.specs.Bits.{number, field}
 use Rattle.base_bits.specs.Written.{bits_in}
-use Rattle.base_bits.proofs.Rows.{Stand, Sized, stand-first, stand-second, stand-append, bits-in-append, sized-append}
-use Rattle.base_bits.proofs.Numbers.{number-stands}
-use Rattle.grid_codes.proofs.Told.{lower-not-periodic}
-use Rattle.sheet_write.specs.SheetOf.{end-fields, ends-fields}
+use Rattle.base_bits.proofs.Rows.{Stand, Sized, stand_first, stand_second, stand_append, bits_in_append, sized_append}
+use Rattle.base_bits.proofs.Numbers.{number_stands}
+use Rattle.grid_codes.proofs.Told.{lower_not_periodic}
+use Rattle.sheet_write.specs.SheetOf.{end_fields, ends_fields}
 use Rattle.sheet_write.specs.RoundTrip.{EndHeld, EndsHeld}
 
 -- ---- how many bits
 
-pub end-bits : (e : End) → bits_in (end-fields e) ≡ 64 * values-of-kind (kind-of-end e)
-unfolding bits_in values-of-kind
-end-bits NotAKnot = refl
-end-bits (FirstDerivative value) = refl
-end-bits (SecondDerivative value) = refl
+pub end_bits : (e : End) → bits_in (end_fields e) ≡ 64 * values_of_kind (kind_of_end e)
+unfolding bits_in values_of_kind
+end_bits NotAKnot = refl
+end_bits (FirstDerivative value) = refl
+end_bits (SecondDerivative value) = refl
 
 -- ---- where they stand they are read
 
-pub end_read : (bytes : List ℕ) (at : ℕ) (e : End) → EndHeld e → Stand bytes at (end-fields e)
-    → end-of-kind (kind-of-end e) (number bytes at) ≡ e
-unfolding Stand end-of-kind
+pub end_read : (bytes : List ℕ) (at : ℕ) (e : End) → EndHeld e → Stand bytes at (end_fields e)
+    → end_of_kind (kind_of_end e) (number bytes at) ≡ e
+unfolding Stand end_of_kind
 end_read bytes at NotAKnot held s = refl
 end_read bytes at (FirstDerivative value) held s = ap FirstDerivative (ap (of_bits binary64) s.0 ∙ of_bits-to_bits binary64 value held)
 end_read bytes at (SecondDerivative value) held s = ap SecondDerivative (ap (of_bits binary64) s.0 ∙ of_bits-to_bits binary64 value held)
@@ -53,73 +53,73 @@ end_read bytes at (SecondDerivative value) held s = ap SecondDerivative (ap (of_
 -- the condition of kinds lower and upper, whose numbers stand from bit `at` on
 abbrev pub found : List ℕ → ℕ → ℕ → ℕ → Condition
 found bytes at lower upper =
-    condition-of-kind lower (end-of-kind lower (number bytes at)) (end-of-kind upper (number bytes (at + 64 * values-of-kind lower)))
+    condition_of_kind lower (end_of_kind lower (number bytes at)) (end_of_kind upper (number bytes (at + 64 * values_of_kind lower)))
 
-periodic-read : (bytes : List ℕ) (at : ℕ) → found bytes at 3 3 ≡ Periodic
-unfolding condition-of-kind
-periodic-read bytes at = refl
+periodic_read : (bytes : List ℕ) (at : ℕ) → found bytes at 3 3 ≡ Periodic
+unfolding condition_of_kind
+periodic_read bytes at = refl
 
-pub condition-read : (bytes : List ℕ) (at : ℕ) (c : Condition) → EndsHeld c → Stand bytes at (ends-fields c)
-    → found bytes at (lower-kind-of c) (upper-kind-of c) ≡ c
-condition-read bytes at (Endpoints lower upper) held s =
-    let second : Stand bytes (at + 64 * values-of-kind (kind-of-end lower)) (end-fields upper) =
-    rw (end-bits lower) at (stand-second bytes at (end-fields lower) (end-fields upper) s) in
+pub condition_read : (bytes : List ℕ) (at : ℕ) (c : Condition) → EndsHeld c → Stand bytes at (ends_fields c)
+    → found bytes at (lower_kind_of c) (upper_kind_of c) ≡ c
+condition_read bytes at (Endpoints lower upper) held s =
+    let second : Stand bytes (at + 64 * values_of_kind (kind_of_end lower)) (end_fields upper) =
+    rw (end_bits lower) at (stand_second bytes at (end_fields lower) (end_fields upper) s) in
     rw (
-      end_read bytes at lower held.0 (stand-first bytes at (end-fields lower) (end-fields upper) s),
+      end_read bytes at lower held.0 (stand_first bytes at (end_fields lower) (end_fields upper) s),
       end_read bytes _ upper held.1 second,
     )
-    (lower-not-periodic lower lower upper)
-condition-read bytes at Periodic held s = periodic-read bytes at
+    (lower_not_periodic lower lower upper)
+condition_read bytes at Periodic held s = periodic_read bytes at
 
 -- ---- both ends together
 
-no_bits : bits_in [] ≡ 64 * (values-of-kind 3 + values-of-kind 3)
-unfolding bits_in values-of-kind
+no_bits : bits_in [] ≡ 64 * (values_of_kind 3 + values_of_kind 3)
+unfolding bits_in values_of_kind
 no_bits = refl
 
-pub ends-bits : (c : Condition) → bits_in (ends-fields c) ≡ 64 * (values-of-kind (lower-kind-of c) + values-of-kind (upper-kind-of c))
-ends-bits (Endpoints lower upper) =
-    let a = end-bits lower in let b = end-bits upper in bits-in-append (end-fields lower) (end-fields upper) ∙ omega arith
-ends-bits Periodic = no_bits
+pub ends_bits : (c : Condition) → bits_in (ends_fields c) ≡ 64 * (values_of_kind (lower_kind_of c) + values_of_kind (upper_kind_of c))
+ends_bits (Endpoints lower upper) =
+    let a = end_bits lower in let b = end_bits upper in bits_in_append (end_fields lower) (end_fields upper) ∙ omega arith
+ends_bits Periodic = no_bits
 
-kind-most : (e : End) → kind-of-end e < 3
-kind-most NotAKnot = lit< tt
-kind-most (FirstDerivative value) = lit< tt
-kind-most (SecondDerivative value) = lit< tt
+kind_most : (e : End) → kind_of_end e < 3
+kind_most NotAKnot = lit< tt
+kind_most (FirstDerivative value) = lit< tt
+kind_most (SecondDerivative value) = lit< tt
 
-pub lower-kind-most : (c : Condition) → lower-kind-of c < 4
-lower-kind-most (Endpoints lower upper) = let h = kind-most lower in omega arith
-lower-kind-most Periodic = lit< tt
+pub lower_kind_most : (c : Condition) → lower_kind_of c < 4
+lower_kind_most (Endpoints lower upper) = let h = kind_most lower in omega arith
+lower_kind_most Periodic = lit< tt
 
-pub upper-kind-most : (c : Condition) → upper-kind-of c < 4
-upper-kind-most (Endpoints lower upper) = let h = kind-most upper in omega arith
-upper-kind-most Periodic = lit< tt
+pub upper_kind_most : (c : Condition) → upper_kind_of c < 4
+upper_kind_most (Endpoints lower upper) = let h = kind_most upper in omega arith
+upper_kind_most Periodic = lit< tt
 
-end-sized : (e : End) → EndHeld e → Sized (end-fields e)
+end_sized : (e : End) → EndHeld e → Sized (end_fields e)
 unfolding Sized
-end-sized NotAKnot held = tt
-end-sized (FirstDerivative value) held = (to_bits-lt binary64 value held, tt)
-end-sized (SecondDerivative value) held = (to_bits-lt binary64 value held, tt)
+end_sized NotAKnot held = tt
+end_sized (FirstDerivative value) held = (to_bits-lt binary64 value held, tt)
+end_sized (SecondDerivative value) held = (to_bits-lt binary64 value held, tt)
 
-pub ends-sized : (c : Condition) → EndsHeld c → Sized (ends-fields c)
+pub ends_sized : (c : Condition) → EndsHeld c → Sized (ends_fields c)
 unfolding Sized
-ends-sized (Endpoints lower upper) held =
-    sized-append (end-fields lower) (end-fields upper) (end-sized lower held.0) (end-sized upper held.1)
-ends-sized Periodic held = tt
+ends_sized (Endpoints lower upper) held =
+    sized_append (end_fields lower) (end_fields upper) (end_sized lower held.0) (end_sized upper held.1)
+ends_sized Periodic held = tt
 
 -- kind 3 stands at both ends or at none
-pub kinds-agree : (c : Condition) → periodic-at-one-end (lower-kind-of c) (upper-kind-of c) ≡ false
-unfolding periodic-at-one-end
-kinds-agree (Endpoints NotAKnot NotAKnot) = refl
-kinds-agree (Endpoints NotAKnot (FirstDerivative w)) = refl
-kinds-agree (Endpoints NotAKnot (SecondDerivative w)) = refl
-kinds-agree (Endpoints (FirstDerivative v) NotAKnot) = refl
-kinds-agree (Endpoints (FirstDerivative v) (FirstDerivative w)) = refl
-kinds-agree (Endpoints (FirstDerivative v) (SecondDerivative w)) = refl
-kinds-agree (Endpoints (SecondDerivative v) NotAKnot) = refl
-kinds-agree (Endpoints (SecondDerivative v) (FirstDerivative w)) = refl
-kinds-agree (Endpoints (SecondDerivative v) (SecondDerivative w)) = refl
-kinds-agree Periodic = refl
+pub kinds_agree : (c : Condition) → periodic_at_one_end (lower_kind_of c) (upper_kind_of c) ≡ false
+unfolding periodic_at_one_end
+kinds_agree (Endpoints NotAKnot NotAKnot) = refl
+kinds_agree (Endpoints NotAKnot (FirstDerivative w)) = refl
+kinds_agree (Endpoints NotAKnot (SecondDerivative w)) = refl
+kinds_agree (Endpoints (FirstDerivative v) NotAKnot) = refl
+kinds_agree (Endpoints (FirstDerivative v) (FirstDerivative w)) = refl
+kinds_agree (Endpoints (FirstDerivative v) (SecondDerivative w)) = refl
+kinds_agree (Endpoints (SecondDerivative v) NotAKnot) = refl
+kinds_agree (Endpoints (SecondDerivative v) (FirstDerivative w)) = refl
+kinds_agree (Endpoints (SecondDerivative v) (SecondDerivative w)) = refl
+kinds_agree Periodic = refl
 
 -- ---- what is read stands, unless a number is the nan
 
@@ -132,26 +132,26 @@ abbrev pub EndsNoNan : Condition → Type 0
 EndsNoNan (Endpoints lower upper) = EndNoNan lower × EndNoNan upper
 EndsNoNan Periodic = Unit {0}
 
-pub kind-back : (kind : ℕ) (value : Float) → kind < 3 → kind-of-end (end-of-kind kind value) ≡ kind
-unfolding end-of-kind
-kind-back zero value h = refl
-kind-back (suc zero) value h = refl
-kind-back (suc (suc zero)) value h = refl
-kind-back (suc (suc (suc kind))) value h = absurd (omega (arith, h))
+pub kind_back : (kind : ℕ) (value : Float) → kind < 3 → kind_of_end (end_of_kind kind value) ≡ kind
+unfolding end_of_kind
+kind_back zero value h = refl
+kind_back (suc zero) value h = refl
+kind_back (suc (suc zero)) value h = refl
+kind_back (suc (suc (suc kind))) value h = absurd (omega (arith, h))
 
-end-stands : (bytes : List ℕ) (at kind : ℕ) → kind < 3 → EndNoNan (end-of-kind kind (number bytes at))
-    → Stand bytes at (end-fields (end-of-kind kind (number bytes at)))
-unfolding end-of-kind Stand
-end-stands bytes at zero h fine = tt
-end-stands bytes at (suc zero) h fine = (number-stands bytes at fine, tt)
-end-stands bytes at (suc (suc zero)) h fine = (number-stands bytes at fine, tt)
-end-stands bytes at (suc (suc (suc kind))) h fine = absurd (omega (arith, h))
+end_stands : (bytes : List ℕ) (at kind : ℕ) → kind < 3 → EndNoNan (end_of_kind kind (number bytes at))
+    → Stand bytes at (end_fields (end_of_kind kind (number bytes at)))
+unfolding end_of_kind Stand
+end_stands bytes at zero h fine = tt
+end_stands bytes at (suc zero) h fine = (number_stands bytes at fine, tt)
+end_stands bytes at (suc (suc zero)) h fine = (number_stands bytes at fine, tt)
+end_stands bytes at (suc (suc (suc kind))) h fine = absurd (omega (arith, h))
 
 -- two kinds of a sheet that is not refused by 13: both below 3, or both 3
-pub both-or-none : (lower upper : ℕ) → lower < 4 → upper < 4 → periodic-at-one-end lower upper ≡ false
+pub both_or_none : (lower upper : ℕ) → lower < 4 → upper < 4 → periodic_at_one_end lower upper ≡ false
     → ((lower < 3) × (upper < 3)) ⊎ ((lower ≡ 3) × (upper ≡ 3))
-unfolding periodic-at-one-end
-both-or-none lower upper l u e =
+unfolding periodic_at_one_end
+both_or_none lower upper l u e =
     elim (dec_lt lower 3) [
       | yes below ↦ inl (below, lesser upper u (rw (ne_eqb lower 3 (λ q. omega (arith, q, below))) at e))
       | no above ↦
@@ -161,42 +161,42 @@ both-or-none lower upper l u e =
   where
     lesser : (n : ℕ) → n < 4 → eqb n 3 ≡ false → n < 3
     lesser n h other =
-        ⊎_elim (λ (q : n ≡ 3). not-both (eqb n 3) (eq-eqb n 3 q) other) (λ below. below) (eq-or-lt_of_le (le_of_suc-le-suc h))
+        ⊎_elim (λ (q : n ≡ 3). not_both (eqb n 3) (eq-eqb n 3 q) other) (λ below. below) (eq-or-lt_of_le (le_of_suc-le-suc h))
 
 pub record KindsBack (bytes : List ℕ) (at lower upper : ℕ) : Type 0 where
-  pub lower-same : lower-kind-of (found bytes at lower upper) ≡ lower
-  pub upper-same : upper-kind-of (found bytes at lower upper) ≡ upper
-  pub stands : EndsNoNan (found bytes at lower upper) → Stand bytes at (ends-fields (found bytes at lower upper))
+  pub lower_same : lower_kind_of (found bytes at lower upper) ≡ lower
+  pub upper_same : upper_kind_of (found bytes at lower upper) ≡ upper
+  pub stands : EndsNoNan (found bytes at lower upper) → Stand bytes at (ends_fields (found bytes at lower upper))
 
-pub below-3 : (lower : ℕ) (a b : End) → lower < 3 → condition-of-kind lower a b ≡ Endpoints a b
-unfolding condition-of-kind
-below-3 lower a b h = rw (ne_eqb lower 3 (λ q. omega (arith, q, h)))
+pub below_3 : (lower : ℕ) (a b : End) → lower < 3 → condition_of_kind lower a b ≡ Endpoints a b
+unfolding condition_of_kind
+below_3 lower a b h = rw (ne_eqb lower 3 (λ q. omega (arith, q, h)))
 
-endpoints-back : (bytes : List ℕ) (at lower upper : ℕ) → lower < 3 → upper < 3 → KindsBack bytes at lower upper
-endpoints-back bytes at lower upper l u =
-    let first = end-of-kind lower (number bytes at) in
-    let second = end-of-kind upper (number bytes (at + 64 * values-of-kind lower)) in
-    let is = below-3 lower first second l in
+endpoints_back : (bytes : List ℕ) (at lower upper : ℕ) → lower < 3 → upper < 3 → KindsBack bytes at lower upper
+endpoints_back bytes at lower upper l u =
+    let first = end_of_kind lower (number bytes at) in
+    let second = end_of_kind upper (number bytes (at + 64 * values_of_kind lower)) in
+    let is = below_3 lower first second l in
     record {
-      lower-same = rw is (kind-back lower (number bytes at) l);
-      upper-same = rw is (kind-back upper (number bytes (at + 64 * values-of-kind lower)) u);
+      lower_same = rw is (kind_back lower (number bytes at) l);
+      upper_same = rw is (kind_back upper (number bytes (at + 64 * values_of_kind lower)) u);
       stands = rw is (λ fine.
-          stand-append bytes at (end-fields first) (end-fields second) (end-stands bytes at lower l fine.0)
-          (rw (end-bits first, kind-back lower (number bytes at) l) (end-stands bytes (at + 64 * values-of-kind lower) upper u fine.1)));
+          stand_append bytes at (end_fields first) (end_fields second) (end_stands bytes at lower l fine.0)
+          (rw (end_bits first, kind_back lower (number bytes at) l) (end_stands bytes (at + 64 * values_of_kind lower) upper u fine.1)));
     }
 
-periodic-back : (bytes : List ℕ) (at : ℕ) → KindsBack bytes at 3 3
+periodic_back : (bytes : List ℕ) (at : ℕ) → KindsBack bytes at 3 3
 unfolding Stand
-periodic-back bytes at = record {
-  lower-same = ap lower-kind-of (periodic-read bytes at);
-  upper-same = ap upper-kind-of (periodic-read bytes at);
-  stands = rw (periodic-read bytes at) (λ fine. tt);
+periodic_back bytes at = record {
+  lower_same = ap lower_kind_of (periodic_read bytes at);
+  upper_same = ap upper_kind_of (periodic_read bytes at);
+  stands = rw (periodic_read bytes at) (λ fine. tt);
 }
 
-pub kinds-back : (bytes : List ℕ) (at lower upper : ℕ) → lower < 4 → upper < 4 → periodic-at-one-end lower upper ≡ false
+pub kinds_back : (bytes : List ℕ) (at lower upper : ℕ) → lower < 4 → upper < 4 → periodic_at_one_end lower upper ≡ false
     → KindsBack bytes at lower upper
-kinds-back bytes at lower upper l u e =
+kinds_back bytes at lower upper l u e =
     ⊎_elim
-    (λ (below : (lower < 3) × (upper < 3)). endpoints-back bytes at lower upper below.0 below.1)
-    (λ (three : (lower ≡ 3) × (upper ≡ 3)). rw (three.0, three.1) (periodic-back bytes at))
-    (both-or-none lower upper l u e)
+    (λ (below : (lower < 3) × (upper < 3)). endpoints_back bytes at lower upper below.0 below.1)
+    (λ (three : (lower ≡ 3) × (upper ≡ 3)). rw (three.0, three.1) (periodic_back bytes at))
+    (both_or_none lower upper l u e)

@@ -8,50 +8,50 @@ use native.Mathlib.Decide.{dec_lt}
 use native.Mathlib.Omega.{arith}
 use lib.ListN.{length}
 use lib.Ieee.{Float}
-use Rattle.rules.specs.Sizes.{Grid, points, condition, sum_below, product-below, knots}
+use Rattle.rules.specs.Sizes.{Grid, points, condition, sum_below, product_below, knots}
 use Rattle.rules.specs.declared.Condition.{Condition}
-use Rattle.grid.proofs.Knots.{knots-of-axis}
-use Rattle.grid_codes.specs.Kinds.{lower-kind-of, upper-kind-of}
-use Rattle.base_bits.specs.Written.{bits_in, bytes-for}
-use Rattle.grid_codes.specs.Editions.{mode-width}
-use Rattle.sheet_read.proofs.Extents.{value-most, width-most}
+use Rattle.grid.proofs.Knots.{knots_of_axis}
+use Rattle.grid_codes.specs.Kinds.{lower_kind_of, upper_kind_of}
+use Rattle.base_bits.specs.Written.{bits_in, bytes_for}
+use Rattle.grid_codes.specs.Editions.{mode_width}
+use Rattle.sheet_read.proofs.Extents.{value_most, width_most}
 use Rattle.rules.proofs.Sums.{sum_bound}
-use Rattle.sheet_write.specs.SheetOf.{axes-fields, part-fields, sheet-of}
-use Rattle.sheet_write.specs.Write.{no-sheet-refusal}
-use Rattle.sheet_write.specs.PartsWithRoom.{values, values-below, parts-bits}
-use Rattle.sheet_write.proofs.Lengths.{axis-bits, axes-next, axes-none, part-bits, sheet-length}
+use Rattle.sheet_write.specs.SheetOf.{axes_fields, part_fields, sheet_of}
+use Rattle.sheet_write.specs.Write.{no_sheet_refusal}
+use Rattle.sheet_write.specs.PartsWithRoom.{values, values_below, parts_bits}
+use Rattle.sheet_write.proofs.Lengths.{axis_bits, axes_next, axes_none, part_bits, sheet_length}
 use Rattle.sheet_write.proofs.Parts.{Known, known}
 use Rattle.sheet_write.specs.RoundTrip.{entry}
 
 -- ---- counted from the sizes
 
 module _ (g : Grid) (samples : List Float) (k : Known g samples) where
-  axes-count : (width i : ℕ) → i ≤ g.axes
-      → bits_in (axes-fields width g i) ≡ 12 * i + width * i + 64 * (values-below g.entries i + sum_below (points g) i)
+  axes_count : (width i : ℕ) → i ≤ g.axes
+      → bits_in (axes_fields width g i) ≡ 12 * i + width * i + 64 * (values_below g.entries i + sum_below (points g) i)
   unfolding sum_below
-  axes-count width zero l = let none = axes-none width g in omega arith
-  axes-count width (suc i) l =
-      let before = axes-count width i (omega arith) in
-      let next = axes-next width g i in
-      let here = axis-bits width (entry g i) (knots g i) in
+  axes_count width zero l = let none = axes_none width g in omega arith
+  axes_count width (suc i) l =
+      let before = axes_count width i (omega arith) in
+      let next = axes_next width g i in
+      let here = axis_bits width (entry g i) (knots g i) in
       let more = mul-suc width i in
-      let exact = knots-of-axis g k.grid-given.knots-exact i l in omega arith
+      let exact = knots_of_axis g k.grid_given.knots_exact i l in omega arith
 
-  pub part_count : (edition : ℕ) → bits_in (part-fields edition g samples) ≡ parts-bits edition g.axes g.entries
-  unfolding parts-bits
+  pub part_count : (edition : ℕ) → bits_in (part_fields edition g samples) ≡ parts_bits edition g.axes g.entries
+  unfolding parts_bits
   part_count edition =
-      let a = part-bits edition g samples in
-      let b = axes-count (mode-width edition) g.axes (le_refl _) in
-      let c = k.samples-exact in omega arith
+      let a = part_bits edition g samples in
+      let b = axes_count (mode_width edition) g.axes (le_refl _) in
+      let c = k.samples_exact in omega arith
 
 -- ---- how many there can be
 
-pub values-most : (c : Condition) → values c ≤ 2
-values-most c = let a = value-most (lower-kind-of c) in let b = value-most (upper-kind-of c) in omega arith
+pub values_most : (c : Condition) → values c ≤ 2
+values_most c = let a = value_most (lower_kind_of c) in let b = value_most (upper_kind_of c) in omega arith
 
 -- two sizes of a product that is not above 1,024
-two-sum : (a b : ℕ) → a ≤ 256 → b ≤ 256 → a * b ≤ 1024 → a + b ≤ 260
-two-sum a b h k l =
+two_sum : (a b : ℕ) → a ≤ 256 → b ≤ 256 → a * b ≤ 1024 → a + b ≤ 260
+two_sum a b h k l =
     elim (dec_lt a 4) [
       | yes few ↦ omega (arith, few)
       | no many ↦
@@ -69,13 +69,13 @@ two-sum a b h k l =
     ]
 
 all_most : (width : ℕ) (p : ℕ → ℕ) (n : ℕ) → width ≤ 2 → 1 ≤ n → n ≤ 4 → ((i : ℕ) → i < n → 2 ≤ p i) → ((i : ℕ) → i < n → p i ≤ 256)
-    → product-below p n * 2 ^ n ≤ 4096 → 140 * n + width * n + 64 * (sum_below p n + product-below p n) ≤ 82456 + 2 * width
-unfolding sum_below product-below
+    → product_below p n * 2 ^ n ≤ 4096 → 140 * n + width * n + 64 * (sum_below p n + product_below p n) ≤ 82456 + 2 * width
+unfolding sum_below product_below
 all_most width p zero narrow some few two most small = absurd (omega arith)
 all_most width p (suc zero) narrow some few two most small = let a = most 0 (omega arith) in omega arith
 all_most width p (suc (suc zero)) narrow some few two most small =
     let s =
-    two-sum (p 0) (p 1) (most 0 (omega arith)) (most 1 (omega arith))
+    two_sum (p 0) (p 1) (most 0 (omega arith)) (most 1 (omega arith))
     (rw one-mul at (let e : 1 * p 0 * p 1 ≤ 1024 = omega arith in e)) in
     omega arith
 all_most width p (suc (suc (suc zero))) narrow some few two most small =
@@ -94,49 +94,49 @@ all_most width p (suc (suc (suc (suc (suc n))))) narrow some few two most small 
 
 -- the parts of any sheet
 pub bits_most : (edition : ℕ) (g : Grid) (samples : List Float) → Known g samples
-    → parts-bits edition g.axes g.entries ≤ 82463 + 2 * mode-width edition
-unfolding parts-bits
+    → parts_bits edition g.axes g.entries ≤ 82463 + 2 * mode_width edition
+unfolding parts_bits
 bits_most edition g samples k =
-    let range = k.grid-given.in-range in
-    let v = sum_bound (λ i. values (condition g i)) 2 g.axes (λ i l. values-most (condition g i)) in
+    let range = k.grid_given.in_range in
+    let v = sum_bound (λ i. values (condition g i)) 2 g.axes (λ i l. values_most (condition g i)) in
     let a =
-    all_most (mode-width edition) (points g) g.axes (width-most edition) range.some-axes range.few-axes range.some-points
-    range.few-points k.grid-given.small in
+    all_most (mode_width edition) (points g) g.axes (width_most edition) range.some_axes range.few_axes range.some_points
+    range.few_points k.grid_given.small in
     omega arith
 
-length_most : (edition : ℕ) (g : Grid) (samples : List Float) → no-sheet-refusal g samples ≡ 0
-    → length (sheet-of edition g samples) ≤ bytes-for (82463 + 2 * mode-width edition)
+length_most : (edition : ℕ) (g : Grid) (samples : List Float) → no_sheet_refusal g samples ≡ 0
+    → length (sheet_of edition g samples) ≤ bytes_for (82463 + 2 * mode_width edition)
 length_most edition g samples e =
     let k = known g samples e in
-    let a = sheet-length edition g samples in
+    let a = sheet_length edition g samples in
     let b = part_count g samples k edition in
     let c = bits_most edition g samples k in omega arith
 
-pub sheet-length-most : (edition : ℕ) (g : Grid) (samples : List Float) → no-sheet-refusal g samples ≡ 0
-    → length (sheet-of edition g samples) ≤ 10309
-sheet-length-most edition g samples e = let a = length_most edition g samples e in let b = width-most edition in omega arith
+pub sheet_length_most : (edition : ℕ) (g : Grid) (samples : List Float) → no_sheet_refusal g samples ≡ 0
+    → length (sheet_of edition g samples) ≤ 10309
+sheet_length_most edition g samples e = let a = length_most edition g samples e in let b = width_most edition in omega arith
 
-pub edition-1-length-most : (g : Grid) (samples : List Float) → no-sheet-refusal g samples ≡ 0 → length (sheet-of 1 g samples) ≤ 10308
-unfolding mode-width
-edition-1-length-most g samples e = length_most 1 g samples e
+pub edition_1_length_most : (g : Grid) (samples : List Float) → no_sheet_refusal g samples ≡ 0 → length (sheet_of 1 g samples) ≤ 10308
+unfolding mode_width
+edition_1_length_most g samples e = length_most 1 g samples e
 
 -- and so none has more than 65,536
-pub sheet-length-below : (edition : ℕ) (g : Grid) (samples : List Float) → no-sheet-refusal g samples ≡ 0
-    → length (sheet-of edition g samples) ≤ 65536
-sheet-length-below edition g samples e = let most = sheet-length-most edition g samples e in omega arith
+pub sheet_length_below : (edition : ℕ) (g : Grid) (samples : List Float) → no_sheet_refusal g samples ≡ 0
+    → length (sheet_of edition g samples) ≤ 65536
+sheet_length_below edition g samples e = let most = sheet_length_most edition g samples e in omega arith
 
 -- the largest: two axes of 256 and of 4 points, with a number at each of the four ends
-module _ (g : Grid) (samples : List Float) (e : no-sheet-refusal g samples ≡ 0) (two : g.axes ≡ 2) (first : points g 0 ≡ 256)
+module _ (g : Grid) (samples : List Float) (e : no_sheet_refusal g samples ≡ 0) (two : g.axes ≡ 2) (first : points g 0 ≡ 256)
     (second : points g 1 ≡ 4)
     (lower : values (condition g 0) ≡ 2) (upper : values (condition g 1) ≡ 2) where
-  largest-bits : (edition : ℕ) → bits_in (part-fields edition g samples) ≡ 82463 + mode-width edition * 2
-  unfolding parts-bits sum_below product-below
-  largest-bits edition = part_count g samples (known g samples e) edition ∙ rw (two, first, second, lower, upper) (omega arith)
+  largest_bits : (edition : ℕ) → bits_in (part_fields edition g samples) ≡ 82463 + mode_width edition * 2
+  unfolding parts_bits sum_below product_below
+  largest_bits edition = part_count g samples (known g samples e) edition ∙ rw (two, first, second, lower, upper) (omega arith)
 
-  pub largest-length : length (sheet-of 2 g samples) ≡ 10309
-  unfolding mode-width
-  largest-length = sheet-length 2 g samples ∙ rw (largest-bits 2)
+  pub largest_length : length (sheet_of 2 g samples) ≡ 10309
+  unfolding mode_width
+  largest_length = sheet_length 2 g samples ∙ rw (largest_bits 2)
 
-  pub largest-length-of-edition-1 : length (sheet-of 1 g samples) ≡ 10308
-  unfolding mode-width
-  largest-length-of-edition-1 = sheet-length 1 g samples ∙ rw (largest-bits 1)
+  pub largest_length_of_edition_1 : length (sheet_of 1 g samples) ≡ 10308
+  unfolding mode_width
+  largest_length_of_edition_1 = sheet_length 1 g samples ∙ rw (largest_bits 1)

@@ -7,24 +7,24 @@ use native.Mathlib.Omega.{arith}
 use lib.Dec.{ltb, lit<}
 use lib.ListN.{length}
 use lib.Ieee.{Float}
-use Rattle.rules.specs.Sizes.{Grid, knots-length, samples-length}
+use Rattle.rules.specs.Sizes.{Grid, knots_length, samples_length}
 use Rattle.rules.specs.Refusals.{
-  axes-refused,
-  some-points-refused,
-  tensor-refused,
-  length-refused,
-  some-number-refused,
-  some-ends-refused,
-  some-knots-refused,
-  some-fewness-refused,
+  axes_refused,
+  some_points_refused,
+  tensor_refused,
+  length_refused,
+  some_number_refused,
+  some_ends_refused,
+  some_knots_refused,
+  some_fewness_refused,
 }
 use Rattle.rules.specs.Calls.{or_else}
 use Rattle.grid_codes.specs.Classes.{class}
-use Rattle.grid_codes.specs.Editions.{unknown-edition}
+use Rattle.grid_codes.specs.Editions.{unknown_edition}
 use Rattle.grid_codes.specs.declared.classes.Class.TheVariants.{Unknown}
 use Rattle.grid_codes.proofs.Apart.{place}
-use Rattle.sheet_write.specs.SheetOf.{sheet-of}
-use Rattle.sheet_write.specs.Write.{no-sheet-refusal, some-mode-refused, edition-refusal, write-refusal}
+use Rattle.sheet_write.specs.SheetOf.{sheet_of}
+use Rattle.sheet_write.specs.Write.{no_sheet_refusal, some_mode_refused, edition_refusal, write_refusal}
 
 -- a number whose class is one of those before Unknown
 record Told (number : ℕ) : Type 0 where
@@ -38,38 +38,38 @@ tested : (test : Bool) {number later : ℕ} → Told number → Told later → T
 tested true n l = n
 tested false n l = l
 
-one-or-other : (first : ℕ) {later : ℕ} → Told first → Told later → Told (or_else first later)
-one-or-other zero f l = l
-one-or-other (suc first) f l = f
+one_or_other : (first : ℕ) {later : ℕ} → Told first → Told later → Told (or_else first later)
+one_or_other zero f l = l
+one_or_other (suc first) f l = f
 
-of_parts : (g : Grid) (samples : List Float) → Told (no-sheet-refusal g samples)
-unfolding no-sheet-refusal class
+of_parts : (g : Grid) (samples : List Float) → Told (no_sheet_refusal g samples)
+unfolding no_sheet_refusal class
 of_parts g samples =
-    tested (axes-refused g) (record { few = lit< tt })
-    (tested (some-points-refused g) (record { few = lit< tt })
-    (tested (tensor-refused g) (record { few = lit< tt })
-    (tested (length-refused (length g.flat-knots) (knots-length g) || length-refused (length samples) (samples-length g))
+    tested (axes_refused g) (record { few = lit< tt })
+    (tested (some_points_refused g) (record { few = lit< tt })
+    (tested (tensor_refused g) (record { few = lit< tt })
+    (tested (length_refused (length g.flat_knots) (knots_length g) || length_refused (length samples) (samples_length g))
     (record { few = lit< tt })
-    (tested (some-number-refused g.flat-knots || some-ends-refused g || some-number-refused samples) (record { few = lit< tt })
-    (tested (some-knots-refused g) (record { few = lit< tt })
-    (tested (some-fewness-refused g) (record { few = lit< tt }) none))))))
+    (tested (some_number_refused g.flat_knots || some_ends_refused g || some_number_refused samples) (record { few = lit< tt })
+    (tested (some_knots_refused g) (record { few = lit< tt })
+    (tested (some_fewness_refused g) (record { few = lit< tt }) none))))))
 
-of-edition : (edition : ℕ) (g : Grid) → Told (edition-refusal edition g)
-unfolding edition-refusal class
-of-edition edition g =
-    tested (unknown-edition edition) (record { few = lit< tt }) (tested (some-mode-refused edition g) (record { few = lit< tt }) none)
+of_edition : (edition : ℕ) (g : Grid) → Told (edition_refusal edition g)
+unfolding edition_refusal class
+of_edition edition g =
+    tested (unknown_edition edition) (record { few = lit< tt }) (tested (some_mode_refused edition g) (record { few = lit< tt }) none)
 
-of-buffer : (edition : ℕ) (g : Grid) (samples : List Float) (buffer : List ℕ)
-    → Told (cond (ltb (length buffer) (length (sheet-of edition g samples))) 15 0)
+of_buffer : (edition : ℕ) (g : Grid) (samples : List Float) (buffer : List ℕ)
+    → Told (cond (ltb (length buffer) (length (sheet_of edition g samples))) 15 0)
 unfolding class
-of-buffer edition g samples buffer = tested (ltb (length buffer) (length (sheet-of edition g samples))) (record { few = lit< tt }) none
+of_buffer edition g samples buffer = tested (ltb (length buffer) (length (sheet_of edition g samples))) (record { few = lit< tt }) none
 
-told : (edition : ℕ) (g : Grid) (samples : List Float) (buffer : List ℕ) → Told (write-refusal edition g samples buffer)
-unfolding write-refusal
+told : (edition : ℕ) (g : Grid) (samples : List Float) (buffer : List ℕ) → Told (write_refusal edition g samples buffer)
+unfolding write_refusal
 told edition g samples buffer =
-    one-or-other (no-sheet-refusal g samples) (of_parts g samples)
-    (one-or-other (edition-refusal edition g) (of-edition edition g) (of-buffer edition g samples buffer))
+    one_or_other (no_sheet_refusal g samples) (of_parts g samples)
+    (one_or_other (edition_refusal edition g) (of_edition edition g) (of_buffer edition g samples buffer))
 
-pub write-refusal-known : (edition : ℕ) (g : Grid) (samples : List Float) (buffer : List ℕ)
-    → class (write-refusal edition g samples buffer) ≡ Unknown → ⊥
-write-refusal-known edition g samples buffer e = let places = ap place e in let few = (told edition g samples buffer).few in omega arith
+pub write_refusal_known : (edition : ℕ) (g : Grid) (samples : List Float) (buffer : List ℕ)
+    → class (write_refusal edition g samples buffer) ≡ Unknown → ⊥
+write_refusal_known edition g samples buffer e = let places = ap place e in let few = (told edition g samples buffer).few in omega arith

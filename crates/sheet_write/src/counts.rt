@@ -1,9 +1,9 @@
 // How many bits the fields of a sheet have. None of these is a public call: `part_bits` requires what refusals 1 and 2 leave, `all_values`
 // at most four axes.
 ghost use Rattle.std.specs.Prelude.{◌≡◌, ◌≤◌};
-ghost use Rattle.rules.specs.Sizes.{knots-length};
-ghost use Rattle.grid.specs.GridOfCall.{sizes-of, points-of, condition-of, InRange};
-ghost use Rattle.sheet_write.specs.PartsWithRoom.{values, values-below, parts-bits};
+ghost use Rattle.rules.specs.Sizes.{knots_length};
+ghost use Rattle.grid.specs.GridOfCall.{sizes_of, points_of, condition_of, InRange};
+ghost use Rattle.sheet_write.specs.PartsWithRoom.{values, values_below, parts_bits};
 
 use grid::{knots_length, samples_length};
 use grid_codes::editions::mode_width;
@@ -20,7 +20,7 @@ fn values(condition: Condition) -> usize
 // How many of the ends of the axes in use have a number.
 fn all_values(axes: usize, all: [Axis; 4]) -> usize
     requires { axes ≤ 4 }
-    ensures { (result ≡ values-below all axes) × (result ≤ 8) }
+    ensures { (result ≡ values_below all axes) × (result ≤ 8) }
 {
     let mut sum = 0;
     let mut i = 0;
@@ -35,8 +35,8 @@ fn all_values(axes: usize, all: [Axis; 4]) -> usize
 
 // How many bits the parts have: edition and number of axes, each axis with its mode, its ends and knots, and the samples.
 pub fn part_bits(edition: usize, axes: usize, all: [Axis; 4]) -> usize
-    requires { InRange axes (points-of all) }
-    ensures { result ≡ parts-bits edition axes all }
+    requires { InRange axes (points_of all) }
+    ensures { result ≡ parts_bits edition axes all }
 {
     7 + 12 * axes
         + mode_width(edition) * axes

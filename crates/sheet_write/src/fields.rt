@@ -2,12 +2,12 @@
 // field. None of these is a public call: each requires that its bits are there, and all but `put_head`, which writes no float, that their
 // numbers are finite.
 ghost use Rattle.std.specs.Prelude.{◌≡◌, false, ◌+◌};
-ghost use Rattle.rules.specs.Refusals.{end_refused, ends-refused};
+ghost use Rattle.rules.specs.Refusals.{end_refused, ends_refused};
 ghost use Rattle.grid.specs.GridOfCall.{grid};
 ghost use Rattle.base_bits.specs.BitsThere.{Within};
-ghost use Rattle.base_bits.specs.Written.{bits_in, with-fields};
-ghost use Rattle.sheet_write.specs.SheetOf.{end-fields, ends-fields, axis-fields, axes-fields, sheet-fields};
-ghost use Rattle.sheet_write.specs.PartsWithRoom.{HeadGiven, with-head, AxisGiven, AxesGiven, SheetGiven};
+ghost use Rattle.base_bits.specs.Written.{bits_in, with_fields};
+ghost use Rattle.sheet_write.specs.SheetOf.{end_fields, ends_fields, axis_fields, axes_fields, sheet_fields};
+ghost use Rattle.sheet_write.specs.PartsWithRoom.{HeadGiven, with_head, AxisGiven, AxesGiven, SheetGiven};
 
 use base_bits::writing::{put_field, put_number, put_numbers};
 use grid_codes::editions::mode_width;
@@ -17,8 +17,8 @@ use rules::{Axis, Condition, End};
 
 // The number of an end, where it has one.
 fn put_end(bytes: &mut [u8], at: usize, end: End) -> usize
-    requires { (end_refused end ≡ false) × Within bytes.old at (bits_in (end-fields end)) }
-    ensures { (result ≡ at + bits_in (end-fields end)) × (bytes.new ≡ with-fields bytes.old at (end-fields end)) }
+    requires { (end_refused end ≡ false) × Within bytes.old at (bits_in (end_fields end)) }
+    ensures { (result ≡ at + bits_in (end_fields end)) × (bytes.new ≡ with_fields bytes.old at (end_fields end)) }
 {
     match end {
         End::NotAKnot => at,
@@ -35,8 +35,8 @@ fn put_end(bytes: &mut [u8], at: usize, end: End) -> usize
 
 // The numbers of both ends, the lower first.
 fn put_ends(bytes: &mut [u8], at: usize, condition: Condition) -> usize
-    requires { (ends-refused condition ≡ false) × Within bytes.old at (bits_in (ends-fields condition)) }
-    ensures { (result ≡ at + bits_in (ends-fields condition)) × (bytes.new ≡ with-fields bytes.old at (ends-fields condition)) }
+    requires { (ends_refused condition ≡ false) × Within bytes.old at (bits_in (ends_fields condition)) }
+    ensures { (result ≡ at + bits_in (ends_fields condition)) × (bytes.new ≡ with_fields bytes.old at (ends_fields condition)) }
 {
     match condition {
         Condition::Endpoints(lower, upper) => {
@@ -50,7 +50,7 @@ fn put_ends(bytes: &mut [u8], at: usize, condition: Condition) -> usize
 // What an axis has before its numbers: its points less 1, the kinds of its ends, and its mode in `width` bits.
 fn put_head(bytes: &mut [u8], at: usize, width: usize, axis: Axis)
     requires { HeadGiven bytes.old at width axis }
-    ensures { bytes.new ≡ with-head bytes.old at width axis }
+    ensures { bytes.new ≡ with_head bytes.old at width axis }
 {
     let condition = axis.condition;
     let mode = axis.mode;
@@ -63,8 +63,8 @@ fn put_head(bytes: &mut [u8], at: usize, width: usize, axis: Axis)
 // An axis: what it has before its numbers, the numbers of its ends, its knots.
 fn put_axis(bytes: &mut [u8], at: usize, width: usize, axis: Axis, knots: &[f64]) -> usize
     requires { AxisGiven bytes.old at width axis knots.now }
-    ensures { (result ≡ at + bits_in (axis-fields width axis knots.now))
-        × (bytes.new ≡ with-fields bytes.old at (axis-fields width axis knots.now)) }
+    ensures { (result ≡ at + bits_in (axis_fields width axis knots.now))
+        × (bytes.new ≡ with_fields bytes.old at (axis_fields width axis knots.now)) }
 {
     let condition = axis.condition;
     put_head(bytes, at, width, axis);
@@ -76,8 +76,8 @@ fn put_axis(bytes: &mut [u8], at: usize, width: usize, axis: Axis, knots: &[f64]
 // The axes in use, from bit 7 on, each with its part of the knots.
 fn put_axes(bytes: &mut [u8], width: usize, axes: usize, all: [Axis; 4], knots: &[f64]) -> usize
     requires { AxesGiven bytes.old width (grid axes all knots.now) }
-    ensures { (result ≡ 7 + bits_in (axes-fields width (grid axes all knots.now) axes))
-        × (bytes.new ≡ with-fields bytes.old 7 (axes-fields width (grid axes all knots.now) axes)) }
+    ensures { (result ≡ 7 + bits_in (axes_fields width (grid axes all knots.now) axes))
+        × (bytes.new ≡ with_fields bytes.old 7 (axes_fields width (grid axes all knots.now) axes)) }
 {
     let mut at = 7;
     let mut from = 0;
@@ -102,8 +102,8 @@ pub fn put_sheet(
     samples: &[f64],
 )
     requires { SheetGiven bytes.old edition (grid axes all knots.now) samples.now }
-    ensures { bytes.new ≡ with-fields bytes.old 0
-        (sheet-fields edition (grid axes all knots.now) samples.now) }
+    ensures { bytes.new ≡ with_fields bytes.old 0
+        (sheet_fields edition (grid axes all knots.now) samples.now) }
 {
     put_field(bytes, 0, 4, edition as u64);
     put_field(bytes, 4, 3, axes as u64);

@@ -1,7 +1,7 @@
 // The writer of packed sheets.
 ghost use Rattle.std.specs.Prelude.{◌≡◌, ◌≤◌};
-ghost use Rattle.grid.specs.GridOfCall.{grid, sizes-of};
-ghost use Rattle.sheet_write.specs.Write.{no-sheet-refusal, some-mode-refused, edition-refusal, WritePromise};
+ghost use Rattle.grid.specs.GridOfCall.{grid, sizes_of};
+ghost use Rattle.sheet_write.specs.Write.{no_sheet_refusal, some_mode_refused, edition_refusal, WritePromise};
 
 use crate::counts::part_bits;
 use crate::fields::put_sheet;
@@ -23,7 +23,7 @@ pub struct WriteAnswer {
 
 // What is refused of the parts: 1, 2, 3, 4, 7, 8, 9, or 0. The build's own tests, told of a tensor and scratch that have their lengths.
 fn no_sheet_refusal(axes: usize, all: [Axis; 4], knots: &[f64], samples: &[f64]) -> usize
-    ensures { result ≡ no-sheet-refusal (grid axes all knots.now) samples.now }
+    ensures { result ≡ no_sheet_refusal (grid axes all knots.now) samples.now }
 {
     let refusal = sizes_refusal(axes, all);
     if refusal != 0 {
@@ -43,7 +43,7 @@ fn no_sheet_refusal(axes: usize, all: [Axis; 4], knots: &[f64], samples: &[f64])
 // Whether the mode of an axis in use is refused by 23.
 fn some_mode_refused(edition: usize, axes: usize, all: [Axis; 4]) -> bool
     requires { axes ≤ 4 }
-    ensures { result ≡ some-mode-refused edition (sizes-of axes all) }
+    ensures { result ≡ some_mode_refused edition (sizes_of axes all) }
 {
     let mut i = 0;
     while i < axes {
@@ -60,7 +60,7 @@ fn some_mode_refused(edition: usize, axes: usize, all: [Axis; 4]) -> bool
 // What is refused of the edition: 12, 23, or 0.
 fn edition_refusal(edition: usize, axes: usize, all: [Axis; 4]) -> usize
     requires { axes ≤ 4 }
-    ensures { result ≡ edition-refusal edition (sizes-of axes all) }
+    ensures { result ≡ edition_refusal edition (sizes_of axes all) }
 {
     if is_unknown_edition(edition) {
         return 12;

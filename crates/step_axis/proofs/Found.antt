@@ -10,7 +10,7 @@ use Rattle.rules.specs.Numbers.{◌⊖◌, ◌⊘◌, at}
 use Rattle.rules.specs.Steps.{h}
 use Rattle.rules.specs.Locate.{locate}
 use Rattle.rules.specs.Query.{fraction}
-use Rattle.rules.specs.Step.{exact-index, location, locate-axis, lower-step, upper-step}
+use Rattle.rules.specs.Step.{exact_index, location, locate_axis, lower_step, upper_step}
 use Rattle.rules.specs.declared.StepDirection.TheVariants.{Lower, Upper}
 use Rattle.rules.specs.declared.ExactIndex.{ExactIndex}
 use Rattle.rules.specs.declared.ExactIndex.TheVariants.{Found, NotFound}
@@ -22,55 +22,55 @@ use Rattle.step_axis.specs.AmongKnots.{AxisLocated, Stepped}
 -- ---- which of two knots equals the point
 
 module _ (x : List Float) (lower : ℕ) (p : Float) where
-  pub exact-lower : eq (at x lower) p ≡ true → Found lower ≡ exact-index x lower p
-  unfolding exact-index
-  exact-lower e = rw e
+  pub exact_lower : eq (at x lower) p ≡ true → Found lower ≡ exact_index x lower p
+  unfolding exact_index
+  exact_lower e = rw e
 
-  pub exact-upper : eq (at x lower) p ≡ false → eq (at x (lower + 1)) p ≡ true → Found (lower + 1) ≡ exact-index x lower p
-  unfolding exact-index
-  exact-upper f e = rw (f, e)
+  pub exact_upper : eq (at x lower) p ≡ false → eq (at x (lower + 1)) p ≡ true → Found (lower + 1) ≡ exact_index x lower p
+  unfolding exact_index
+  exact_upper f e = rw (f, e)
 
-  pub exact_none : eq (at x lower) p ≡ false → eq (at x (lower + 1)) p ≡ false → NotFound ≡ exact-index x lower p
-  unfolding exact-index
+  pub exact_none : eq (at x lower) p ≡ false → eq (at x (lower + 1)) p ≡ false → NotFound ≡ exact_index x lower p
+  unfolding exact_index
   exact_none f g = rw (f, g)
 
 -- ---- the location and the step, from the cell that the search found
 
 module _ (x : List Float) (p : Float) (lower : ℕ) (given : PointGiven (length x) x p) (searched : Located x p lower) where
   cell : locate x (length x - 1) p ≡ lower
-  cell = sym (searched.rising given.rising given.point-finite)
+  cell = sym (searched.rising given.rising given.point_finite)
 
-  located-by : locate-axis x (length x - 1) p ≡ location x lower p (exact-index x lower p)
-  unfolding locate-axis
-  located-by = ap (λ (l : ℕ). location x l p (exact-index x l p)) cell
+  located_by : locate_axis x (length x - 1) p ≡ location x lower p (exact_index x lower p)
+  unfolding locate_axis
+  located_by = ap (λ (l : ℕ). location x l p (exact_index x l p)) cell
 
-  pub on-knot : {found : ExactIndex} → found ≡ exact-index x lower p → (index : ℕ) → found ≡ Found index → AxisLocated x p (Exact index)
+  pub on_knot : {found : ExactIndex} → found ≡ exact_index x lower p → (index : ℕ) → found ≡ Found index → AxisLocated x p (Exact index)
   unfolding location
-  on-knot e index is = sym (located-by ∙ ap (location x lower p) (sym e ∙ is))
+  on_knot e index is = sym (located_by ∙ ap (location x lower p) (sym e ∙ is))
 
-  pub in_cell : {found : ExactIndex} → found ≡ exact-index x lower p → found ≡ NotFound
+  pub in_cell : {found : ExactIndex} → found ≡ exact_index x lower p → found ≡ NotFound
       → AxisLocated x p (Between lower ((p ⊖ at x lower) ⊘ (at x (lower + 1) ⊖ at x lower)))
   unfolding location fraction h
-  in_cell e is = sym (located-by ∙ ap (location x lower p) (sym e ∙ is))
+  in_cell e is = sym (located_by ∙ ap (location x lower p) (sym e ∙ is))
 
-  lower_by : lower-step x (length x - 1) p
+  lower_by : lower_step x (length x - 1) p
       ≡ cond (eq p (at x (length x - 1))) (length x - 1) (cond (eq p (at x (lower + 1))) (lower + 1) lower)
-  unfolding lower-step
+  unfolding lower_step
   lower_by = ap (λ (l : ℕ). cond (eq p (at x (length x - 1))) (length x - 1) (cond (eq p (at x (l + 1))) (l + 1) l)) cell
 
-  pub down-to-last : eq p (at x (length x - 1)) ≡ true → Stepped Lower x p (length x - 1)
-  down-to-last e = record { found = sym (lower_by ∙ rw e refl); among = let some = given.some-points in omega arith }
+  pub down_to_last : eq p (at x (length x - 1)) ≡ true → Stepped Lower x p (length x - 1)
+  down_to_last e = record { found = sym (lower_by ∙ rw e refl); among = let some = given.some_points in omega arith }
 
-  pub down-to-upper : eq p (at x (length x - 1)) ≡ false → eq p (at x (lower + 1)) ≡ true → Stepped Lower x p (lower + 1)
-  down-to-upper f e = record { found = sym (lower_by ∙ rw (f, e) refl); among = searched.inside }
+  pub down_to_upper : eq p (at x (length x - 1)) ≡ false → eq p (at x (lower + 1)) ≡ true → Stepped Lower x p (lower + 1)
+  down_to_upper f e = record { found = sym (lower_by ∙ rw (f, e) refl); among = searched.inside }
 
-  pub down-to-lower : eq p (at x (length x - 1)) ≡ false → eq p (at x (lower + 1)) ≡ false → Stepped Lower x p lower
-  down-to-lower f g = record { found = sym (lower_by ∙ rw (f, g) refl); among = let inside = searched.inside in omega arith }
+  pub down_to_lower : eq p (at x (length x - 1)) ≡ false → eq p (at x (lower + 1)) ≡ false → Stepped Lower x p lower
+  down_to_lower f g = record { found = sym (lower_by ∙ rw (f, g) refl); among = let inside = searched.inside in omega arith }
 
-  pub up-to-upper : eq p (at x 0) ≡ false → Stepped Upper x p (lower + 1)
-  unfolding upper-step
-  up-to-upper f = record { found = sym (ap (λ (l : ℕ). cond (eq p (at x 0)) 0 (l + 1)) cell ∙ rw f refl); among = searched.inside }
+  pub up_to_upper : eq p (at x 0) ≡ false → Stepped Upper x p (lower + 1)
+  unfolding upper_step
+  up_to_upper f = record { found = sym (ap (λ (l : ℕ). cond (eq p (at x 0)) 0 (l + 1)) cell ∙ rw f refl); among = searched.inside }
 
-pub up-to-first : (x : List Float) (p : Float) → PointGiven (length x) x p → eq p (at x 0) ≡ true → Stepped Upper x p 0
-unfolding upper-step
-up-to-first x p given e = record { found = rw e refl; among = let some = given.some-points in omega arith }
+pub up_to_first : (x : List Float) (p : Float) → PointGiven (length x) x p → eq p (at x 0) ≡ true → Stepped Upper x p 0
+unfolding upper_step
+up_to_first x p given e = record { found = rw e refl; among = let some = given.some_points in omega arith }

@@ -1,8 +1,8 @@
 // A point among knots that were accepted. None of these is a public call: all but `location_refused` require what the refusals leave, or a
 // part of it.
 ghost use Rattle.std.specs.Prelude.{◌≡◌, ◌+◌, ◌<◌, length};
-ghost use Rattle.rules.specs.Refusals.{location-refused};
-ghost use Rattle.rules.specs.Step.{exact-index};
+ghost use Rattle.rules.specs.Refusals.{location_refused};
+ghost use Rattle.rules.specs.Step.{exact_index};
 ghost use Rattle.rules.specs.declared.StepDirection as StepDirection;
 ghost use Rattle.step_checks.specs.StepsChecked.{PointGiven};
 ghost use Rattle.step_axis.specs.AmongKnots.{AxisLocated, Stepped};
@@ -12,7 +12,7 @@ use rules::{AxisLocation, ExactIndex, StepDirection};
 // Which of the knots at a lower index and after it equals the point.
 pub fn exact_index(knots: &[f64], lower: usize, point: f64) -> ExactIndex
     requires { lower + 1 < length knots.now }
-    ensures { result ≡ exact-index knots.now lower point }
+    ensures { result ≡ exact_index knots.now lower point }
 {
     if knots[lower] == point {
         return ExactIndex::Found(lower);
@@ -40,7 +40,7 @@ pub fn locate_axis(knots: &[f64], point: f64) -> AxisLocation
 
 // Whether a location has a fraction that is infinite or NaN.
 pub fn location_refused(location: AxisLocation) -> bool
-    ensures { result ≡ location-refused location }
+    ensures { result ≡ location_refused location }
 {
     match location {
         AxisLocation::Exact(_) => false,

@@ -5,32 +5,32 @@ use mathlib.Core.List.{List}
 use Prim.Native.Nat.{ℕ}
 use lib.ListN.{length}
 use lib.Ieee.{Float}
-use Rattle.rules.specs.Refusals.{points-refused}
+use Rattle.rules.specs.Refusals.{points_refused}
 use Rattle.grid_checks.specs.Tables.{lowest}
-use Rattle.grid_checks.proofs.Rows.{none-applies, rows-stop, rows_pass, exact}
-use Rattle.step_checks.specs.StepChecks.{axis-rows, axis-check, numbers-rows, numbers-check}
+use Rattle.grid_checks.proofs.Rows.{none_applies, rows_stop, rows_pass, exact}
+use Rattle.step_checks.specs.StepChecks.{axis_rows, axis_check, numbers_rows, numbers_check}
 
-module _ (n : ℕ) (x : List Float) {number : ℕ} (e : number ≡ axis-check n (length x)) where
-  pub axis-stop : (later : ℕ) → (number ≡ 0 → ⊥) → number ≡ lowest (axis-rows n (length x)) later
-  unfolding axis-check
-  axis-stop = rows-stop (axis-rows n (length x)) tt e
+module _ (n : ℕ) (x : List Float) {number : ℕ} (e : number ≡ axis_check n (length x)) where
+  pub axis_stop : (later : ℕ) → (number ≡ 0 → ⊥) → number ≡ lowest (axis_rows n (length x)) later
+  unfolding axis_check
+  axis_stop = rows_stop (axis_rows n (length x)) tt e
 
-  pub axis-pass : {answer : ℕ} (later : ℕ) → number ≡ 0 → answer ≡ later → answer ≡ lowest (axis-rows n (length x)) later
-  unfolding axis-check
-  axis-pass = rows_pass (axis-rows n (length x)) tt e
+  pub axis_pass : {answer : ℕ} (later : ℕ) → number ≡ 0 → answer ≡ later → answer ≡ lowest (axis_rows n (length x)) later
+  unfolding axis_check
+  axis_pass = rows_pass (axis_rows n (length x)) tt e
 
   -- where they give no number, there are 2 to 256 points and as many knots
-  pub axis-fits : number ≡ 0 → (points-refused n ≡ false) × (length x ≡ n)
-  unfolding axis-check
-  axis-fits z =
-      let none = none-applies (axis-rows n (length x)) tt (sym e ∙ z) in
+  pub axis_fits : number ≡ 0 → (points_refused n ≡ false) × (length x ≡ n)
+  unfolding axis_check
+  axis_fits z =
+      let none = none_applies (axis_rows n (length x)) tt (sym e ∙ z) in
       (none.0, exact (length x) n none.1.0)
 
-  pub knots-fit : number ≡ 0 → points-refused (length x) ≡ false
-  knots-fit z = ap points-refused (axis-fits z).1 ∙ (axis-fits z).0
+  pub knots_fit : number ≡ 0 → points_refused (length x) ≡ false
+  knots_fit z = ap points_refused (axis_fits z).1 ∙ (axis_fits z).0
 
   -- what the knots give by their own number is what they give by the points
-  pub numbers-of-points : {answer : ℕ} (point : Float) → number ≡ 0 → answer ≡ numbers-check (length x) x point
-      → answer ≡ lowest (numbers-rows n x point) 0
-  unfolding numbers-check
-  numbers-of-points point z a = a ∙ ap (λ (m : ℕ). lowest (numbers-rows m x point) 0) (axis-fits z).1
+  pub numbers_of_points : {answer : ℕ} (point : Float) → number ≡ 0 → answer ≡ numbers_check (length x) x point
+      → answer ≡ lowest (numbers_rows n x point) 0
+  unfolding numbers_check
+  numbers_of_points point z a = a ∙ ap (λ (m : ℕ). lowest (numbers_rows m x point) 0) (axis_fits z).1

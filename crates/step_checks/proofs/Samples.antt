@@ -4,5 +4,5 @@ use Prim.Native.Nat.{ℕ, ◌*◌, ◌/◌, ◌^◌}
 use native.Mathlib.Nat.{mul-div_cancel}
 use lib.Pow.{pow_pos}
 
-pub samples-told : (axes places : ℕ) {numbers : ℕ} → numbers ≡ places * 2 ^ axes → numbers / 2 ^ axes ≡ places
-samples-told axes places e = ap (λ (k : ℕ). k / 2 ^ axes) e ∙ mul-div_cancel places (pow_pos axes)
+pub samples_told : (axes places : ℕ) {numbers : ℕ} → numbers ≡ places * 2 ^ axes → numbers / 2 ^ axes ≡ places
+samples_told axes places e = ap (λ (k : ℕ). k / 2 ^ axes) e ∙ mul-div_cancel places (pow_pos axes)

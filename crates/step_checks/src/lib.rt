@@ -3,15 +3,15 @@
 // in `grid_checks`.
 ghost use Rattle.std.specs.Prelude.{◌≡◌, false, ◌||◌, ◌/◌, ◌^◌, ◌≤◌, length};
 ghost use Rattle.rules.specs.Sizes.{place_of};
-ghost use Rattle.rules.specs.Refusals.{points-refused, length-refused};
-ghost use Rattle.step_checks.specs.StepChecks.{axis-check, numbers-check, point-check, exact-check, stepped-sizes-check};
+ghost use Rattle.rules.specs.Refusals.{points_refused, length_refused};
+ghost use Rattle.step_checks.specs.StepChecks.{axis_check, numbers_check, point_check, exact_check, stepped_sizes_check};
 
 use grid_checks::sizes::Sizes;
 use grid_checks::{lengths, numbers, rising, sizes};
 
 // What the points and the number of knots of an axis meet: 2, 4, or 0.
 fn axis_refusal(points: usize, knots: usize) -> usize
-    ensures { result ≡ axis-check points knots }
+    ensures { result ≡ axis_check points knots }
 {
     if sizes::points_refused(points) {
         return 2;
@@ -24,8 +24,8 @@ fn axis_refusal(points: usize, knots: usize) -> usize
 
 // What the knots and a point meet: 7, 8, or 0. Not a public call: what refusals 2 and 4 leave is required.
 fn numbers_refusal(knots: &[f64], point: f64) -> usize
-    requires { points-refused (length knots.now) ≡ false }
-    ensures { result ≡ numbers-check (length knots.now) knots.now point }
+    requires { points_refused (length knots.now) ≡ false }
+    ensures { result ≡ numbers_check (length knots.now) knots.now point }
 {
     let knots_refused = rising::knots_refused(knots);
     if numbers::some_knot_refused(knots_refused, knots) {
@@ -42,7 +42,7 @@ fn numbers_refusal(knots: &[f64], point: f64) -> usize
 
 // What the location of a point and its step meet: 2, 4, 7, 8, or 0.
 pub fn point_refusal(points: usize, knots: &[f64], point: f64) -> usize
-    ensures { result ≡ point-check points knots.now point }
+    ensures { result ≡ point_check points knots.now point }
 {
     let refusal = axis_refusal(points, knots.len());
     if refusal != 0 {
@@ -53,7 +53,7 @@ pub fn point_refusal(points: usize, knots: &[f64], point: f64) -> usize
 
 // What the exact index meets: 2, 4, 6, 7, 8, or 0.
 pub fn exact_refusal(points: usize, knots: &[f64], lower: usize, point: f64) -> usize
-    ensures { result ≡ exact-check points knots.now lower point }
+    ensures { result ≡ exact_check points knots.now lower point }
 {
     let refusal = axis_refusal(points, knots.len());
     if refusal != 0 {
@@ -76,7 +76,7 @@ pub fn stepped_lengths_refused(
 ) -> bool
     requires { axes ≤ 4 }
     ensures { result ≡
-        (length-refused knots sizes.knots || length-refused samples (sizes.numbers / 2 ^ axes) || length-refused coordinates axes) }
+        (length_refused knots sizes.knots || length_refused samples (sizes.numbers / 2 ^ axes) || length_refused coordinates axes) }
 {
     if lengths::length_refused(knots, sizes.knots) {
         return true;
@@ -96,7 +96,7 @@ pub fn stepped_sizes_refusal(
     coordinates: usize,
 ) -> usize
     requires { length points.now ≡ 4 }
-    ensures { result ≡ stepped-sizes-check axes (place_of points.now) knots samples coordinates }
+    ensures { result ≡ stepped_sizes_check axes (place_of points.now) knots samples coordinates }
 {
     if sizes::axes_refused(axes) {
         return 1;

@@ -2,7 +2,7 @@
 ghost use Rattle.std.specs.Prelude.{◌≡◌, length};
 ghost use Rattle.rules.specs.Sizes.{place_of};
 ghost use Rattle.many_points.specs.PointByPoint.{PointsFit, FirstStand};
-ghost use Rattle.step_checks.specs.StepChecks.{stepped-sizes-check};
+ghost use Rattle.step_checks.specs.StepChecks.{stepped_sizes_check};
 ghost use Rattle.step_many.specs.StepByStep.{SteppedAmong};
 
 use many_points::store_answer;
@@ -22,7 +22,7 @@ pub fn answer_each(
     refusals: &mut [usize],
 )
     requires { (length points.now ≡ 4)
-        × (stepped-sizes-check axes (place_of points.now) (length knots.now) (length samples.now) axes ≡ 0)
+        × (stepped_sizes_check axes (place_of points.now) (length knots.now) (length samples.now) axes ≡ 0)
         × PointsFit (λ p. length p ≡ axes) axes coordinates.now values.old indices.old (length refusals.old) }
     ensures { FirstStand (SteppedAmong axes points.now directions knots.now samples.now) axes
         coordinates.now (length refusals.old) (length refusals.old) values.new

@@ -4,8 +4,8 @@ ghost use Rattle.std.specs.Prelude.{◌≡◌, cond, length};
 ghost use Rattle.rules.specs.Sizes.{place_of};
 ghost use Rattle.rules.specs.Calls.{or_else};
 ghost use Rattle.grid.specs.GridOfCall.{grid};
-ghost use Rattle.many_points.specs.ManyPoints.{points-lengths-refused};
-ghost use Rattle.step_checks.specs.StepChecks.{stepped-sizes-check};
+ghost use Rattle.many_points.specs.ManyPoints.{points_lengths_refused};
+ghost use Rattle.step_checks.specs.StepChecks.{stepped_sizes_check};
 ghost use Rattle.step_many.specs.ManySteps.{SteppedManyPromise};
 
 use many_points::lengths;
@@ -25,8 +25,8 @@ fn many_refusal(
     count: usize,
 ) -> usize
     requires { length points.now ≡ 4 }
-    ensures { result ≡ or_else (stepped-sizes-check axes (place_of points.now) knots samples axes)
-        (cond (points-lengths-refused axes coordinates values indices count) 4 0) }
+    ensures { result ≡ or_else (stepped_sizes_check axes (place_of points.now) knots samples axes)
+        (cond (points_lengths_refused axes coordinates values indices count) 4 0) }
 {
     let refusal = step_checks::stepped_sizes_refusal(axes, points, knots, samples, axes);
     if refusal != 0 {

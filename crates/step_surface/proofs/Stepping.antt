@@ -11,14 +11,14 @@ use lib.Pow.{pow_pos}
 use lib.Ieee.{Float}
 use borrow.Author.Count.{below_more}
 use Rattle.rules.specs.Numbers.{at}
-use Rattle.rules.specs.Sizes.{sum_below, product-below, place_of, flat}
-use Rattle.rules.specs.Step.{step-index}
+use Rattle.rules.specs.Sizes.{sum_below, product_below, place_of, flat}
+use Rattle.rules.specs.Step.{step_index}
 use Rattle.rules.specs.StepCalls.{direction}
 use Rattle.rules.specs.declared.StepDirection.{StepDirection}
-use Rattle.rules.proofs.Places.{flat-ext}
+use Rattle.rules.proofs.Places.{flat_ext}
 use Rattle.grid.specs.GridOfCall.{SizesGiven}
-use Rattle.grid.proofs.Products.{sum-none, sum_more, sum-within, sizes-fewer}
-use Rattle.grid.proofs.Placing.{number-none, number_more, number_fits}
+use Rattle.grid.proofs.Products.{sum_none, sum_more, sum_within, sizes_fewer}
+use Rattle.grid.proofs.Placing.{number_none, number_more, number_fits}
 use Rattle.step_checks.specs.StepsChecked.{PointGiven, AxesGiven}
 use Rattle.step_axis.specs.AmongKnots.{Stepped}
 use Rattle.step_surface.specs.Indices.{OnAxes}
@@ -29,92 +29,92 @@ module _ (axes : ℕ) (n : ℕ → ℕ) (x : List Float) (directions : List Step
     pub given : AxesGiven axes n x coordinates
     pub most : i ≤ axes
     pub begun : begin ≡ sum_below n i
-    pub on-axes : OnAxes n x directions coordinates i number indices
+    pub on_axes : OnAxes n x directions coordinates i number indices
 
-  pub turn-first : AxesGiven axes n x coordinates → Turn (replicate 4 0) 0 0 0
-  turn-first given = record {
+  pub turn_first : AxesGiven axes n x coordinates → Turn (replicate 4 0) 0 0 0
+  turn_first given = record {
     given = given;
     most = omega arith;
-    begun = sym (sum-none n);
-    on-axes = record {
+    begun = sym (sum_none n);
+    on_axes = record {
       four = refl;
       found = λ j h. absurd (omega arith);
       inside = λ j h. absurd (omega arith);
       unused = λ j h l. get_or-replicate 4 j 0 _ l;
-      numbered = number-none n (place_of (replicate 4 0));
+      numbered = number_none n (place_of (replicate 4 0));
     };
   }
 
   module _ (indices : List ℕ) (number begin i : ℕ) (turn : Turn indices number begin i) where
-    pub end-within : i < axes → begin + n i ≤ length x
-    end-within lt = omega (arith, turn.begun, turn.given.knots-exact, sum-within n i axes lt)
+    pub end_within : i < axes → begin + n i ≤ length x
+    end_within lt = omega (arith, turn.begun, turn.given.knots_exact, sum_within n i axes lt)
 
     abbrev part : List Float
     part = take (begin + n i - begin) (drop begin x)
 
-    part-is : part ≡ take (n i) (drop (sum_below n i) x)
-    part-is = rw (add-sub_cancel_left, turn.begun) refl
+    part_is : part ≡ take (n i) (drop (sum_below n i) x)
+    part_is = rw (add-sub_cancel_left, turn.begun) refl
 
     -- no place has a number that a tensor has not
     sizes : SizesGiven axes n
     sizes = record {
-      few-axes = turn.given.in-range.few-axes;
-      some-points = λ j l. omega (arith, turn.given.in-range.some-points j l);
-      small = le_trans (le-mul_of_pos_right (product-below n axes) (pow_pos axes)) turn.given.small;
+      few_axes = turn.given.in_range.few_axes;
+      some_points = λ j l. omega (arith, turn.given.in_range.some_points j l);
+      small = le_trans (le-mul_of_pos_right (product_below n axes) (pow_pos axes)) turn.given.small;
     }
 
     module _ (lt : i < axes) where
-      on-axis : PointGiven (n i) (take (n i) (drop (sum_below n i) x)) (at coordinates i)
-      on-axis = turn.given.on-axis i lt
+      on_axis : PointGiven (n i) (take (n i) (drop (sum_below n i) x)) (at coordinates i)
+      on_axis = turn.given.on_axis i lt
 
       exact : length part ≡ n i
-      exact = rw part-is on-axis.rising.count
+      exact = rw part_is on_axis.rising.count
 
-      pub part-given : PointGiven (length part) part (at coordinates i)
-      part-given = rw (exact, part-is) on-axis
+      pub part_given : PointGiven (length part) part (at coordinates i)
+      part_given = rw (exact, part_is) on_axis
 
       module _ (index : ℕ) (stepped : Stepped (direction directions i) part (at coordinates i) index) where
         abbrev later : List ℕ
         later = set indices i index
 
         stored : place_of later i ≡ index
-        stored = get_or-set_same indices i index _ (omega (arith, turn.on-axes.four, turn.given.in-range.few-axes))
+        stored = get_or-set_same indices i index _ (omega (arith, turn.on_axes.four, turn.given.in_range.few_axes))
 
         other : (j : ℕ) → (j ≡ i → ⊥) → place_of later j ≡ place_of indices j
         other j ne = get_or-set_other indices i j index _ ne
 
-        is : index ≡ step-index (direction directions i) (take (n i) (drop (sum_below n i) x)) (n i - 1) (at coordinates i)
-        is = stepped.found ∙ rw (exact, part-is) refl
+        is : index ≡ step_index (direction directions i) (take (n i) (drop (sum_below n i) x)) (n i - 1) (at coordinates i)
+        is = stepped.found ∙ rw (exact, part_is) refl
 
         inside : (j : ℕ) → j < i + 1 → place_of later j < n j
         inside =
-            below_more _ i (λ j h. rw (other j (omega arith)) (turn.on-axes.inside j h))
+            below_more _ i (λ j h. rw (other j (omega arith)) (turn.on_axes.inside j h))
             (rw stored (omega (arith, stepped.among, exact)))
 
         -- the number so far, and with this axis
         so_far : number ≡ flat n i (place_of later)
         so_far =
-            turn.on-axes.numbered
-            ∙ flat-ext n i (place_of indices) (place_of later) (λ j h. sym (other j (omega arith)))
+            turn.on_axes.numbered
+            ∙ flat_ext n i (place_of indices) (place_of later) (λ j h. sym (other j (omega arith)))
 
-        pub number-within : number * n i + index < 4096
-        number-within =
-            let fewer = sizes-fewer sizes (i + 1) (omega arith) in
+        pub number_within : number * n i + index < 4096
+        number_within =
+            let fewer = sizes_fewer sizes (i + 1) (omega arith) in
             rw stored at (number_fits n (place_of later) number i so_far (i + 1) fewer inside (omega arith))
 
-        pub turn-next : Turn later (number * n i + index) (begin + n i) (i + 1)
-        turn-next = record {
+        pub turn_next : Turn later (number * n i + index) (begin + n i) (i + 1)
+        turn_next = record {
           given = turn.given;
           most = omega arith;
           begun = rw (sum_more, turn.begun) refl;
-          on-axes = record {
-            four = simp length-set turn.on-axes.four;
-            found = below_more _ i (λ j h. other j (omega arith) ∙ turn.on-axes.found j h) (stored ∙ is);
+          on_axes = record {
+            four = simp length-set turn.on_axes.four;
+            found = below_more _ i (λ j h. other j (omega arith) ∙ turn.on_axes.found j h) (stored ∙ is);
             inside = inside;
-            unused = λ j h l. rw (other j (omega arith)) (turn.on-axes.unused j (omega arith) l);
+            unused = λ j h l. rw (other j (omega arith)) (turn.on_axes.unused j (omega arith) l);
             numbered = ap (λ (k : ℕ). number * n i + k) (sym stored) ∙ number_more n (place_of later) number i so_far;
           };
         }
 
     pub turn_last : axes ≤ i → OnAxes n x directions coordinates axes number indices
-    turn_last h = let e : i ≡ axes = omega (arith, turn.most) in rw e at turn.on-axes
+    turn_last h = let e : i ≡ axes = omega (arith, turn.most) in rw e at turn.on_axes

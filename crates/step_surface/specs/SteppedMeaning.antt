@@ -19,6 +19,6 @@ pub record SteppedMeaning
     (g : Grid) (directions : List StepDirection) (samples coordinates : List Float) (indices : List ℕ) (value : Float)
     : Type 0 where
   pub steps : (i : ℕ) → i < g.axes → InDirection (direction directions i) (knots g i) (points g i) (at coordinates i) (place_of indices i)
-  pub on-grid : On g (place_of indices)
+  pub on_grid : On g (place_of indices)
   pub unused : (i : ℕ) → g.axes ≤ i → place_of indices i ≡ 0
   pub sample : value ≡ at samples (flat (points g) g.axes (place_of indices))

@@ -3,9 +3,9 @@ ghost use Rattle.std.specs.Prelude.{◌≡◌, length};
 ghost use Rattle.rules.specs.Sizes.{place_of};
 ghost use Rattle.rules.specs.StepCalls.{SteppedPromise};
 ghost use Rattle.grid.specs.GridOfCall.{grid};
-ghost use Rattle.grid_checks.specs.Check.{knots-and-coordinates-check};
+ghost use Rattle.grid_checks.specs.Check.{knots_and_coordinates_check};
 ghost use Rattle.step_checks.specs.StepsChecked.{AxesGiven};
-ghost use Rattle.step_surface.specs.OnPoints.{SurfaceFits, OfAnyPoints, refused-with};
+ghost use Rattle.step_surface.specs.OnPoints.{SurfaceFits, OfAnyPoints, refused_with};
 ghost use Rattle.step_surface.specs.Indices.{OnAxes};
 
 use rules::{Axis, StepDirection, SteppedAnswer};
@@ -46,7 +46,7 @@ fn steps_on_axes(
 
 // A refusal: its number, +0.0, and indices 0.
 fn refused(refusal: usize) -> SteppedAnswer
-    ensures { result ≡ refused-with refusal }
+    ensures { result ≡ refused_with refusal }
 {
     SteppedAnswer {
         refusal,
@@ -67,7 +67,7 @@ pub fn answer(
     coordinates: &[f64],
 ) -> SteppedAnswer
     requires { SurfaceFits axes points.now knots.now samples.now coordinates.now
-        × (met ≡ knots-and-coordinates-check axes (place_of points.now) knots.now samples.now) }
+        × (met ≡ knots_and_coordinates_check axes (place_of points.now) knots.now samples.now) }
     ensures { OfAnyPoints axes points.now knots.now
         (λ g. SteppedPromise g directions samples.now coordinates.now result) }
 {

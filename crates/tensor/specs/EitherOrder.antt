@@ -12,7 +12,7 @@ use Rattle.std.specs.Prelude.{◌≡◌, ◌≢◌, List, [], ◌∷◌, ◌++�
 use Rattle.rules.specs.Sizes.{Grid, Place}
 use Rattle.rules.specs.Calls.{BuildPromise}
 use Rattle.rules.specs.declared.ChangeAnswer.{ChangeAnswer}
-use Rattle.tensor.specs.Changes.{OneChange, Kept, tensor-after, samples-after}
+use Rattle.tensor.specs.Changes.{OneChange, Kept, tensor_after, samples_after}
 
 -- ---- what the statements speak of
 
@@ -61,8 +61,8 @@ abbrev pub SameSamplesSameTensor : Type 0
 SameSamplesSameTensor =
     (g : Grid) (samples out scratch t cleared : List Float) → BuildPromise g samples out scratch 0 t cleared
     → (changes others : List OneChange) → Kept g t changes → Kept g t others
-    → samples-after g samples changes ≡ samples-after g samples others
-    → tensor-after t changes ≡ tensor-after t others
+    → samples_after g samples changes ≡ samples_after g samples others
+    → tensor_after t changes ≡ tensor_after t others
 
 -- a then b, and b' then a'
 abbrev pub EitherOrder : Type 0
@@ -72,7 +72,7 @@ EitherOrder =
     → SameChange g a a' → SameChange g b b'
     → DifferentPlaces g a.place b.place
     → AllAccepted (a ∷ b ∷ []) → AllAccepted (b' ∷ a' ∷ [])
-    → (tensor-after t (a ∷ b ∷ []) ≡ tensor-after t (b' ∷ a' ∷ [])) × (answers (a ∷ b ∷ []) ≡ answers (b' ∷ a' ∷ []))
+    → (tensor_after t (a ∷ b ∷ []) ≡ tensor_after t (b' ∷ a' ∷ [])) × (answers (a ∷ b ∷ []) ≡ answers (b' ∷ a' ∷ []))
 
 abbrev pub LaterAlone : Type 0
 LaterAlone =
@@ -81,7 +81,7 @@ LaterAlone =
     → SamePlace g earlier.place later.place
     → SameChange g later alone
     → AllAccepted (earlier ∷ later ∷ []) → AllAccepted (alone ∷ [])
-    → (tensor-after t (earlier ∷ later ∷ []) ≡ tensor-after t (alone ∷ [])) × (later.answer ≡ alone.answer)
+    → (tensor_after t (earlier ∷ later ∷ []) ≡ tensor_after t (alone ∷ [])) × (later.answer ≡ alone.answer)
 
 abbrev pub AnyOrder : Type 0
 AnyOrder =
@@ -90,4 +90,4 @@ AnyOrder =
     → SameChanges g changes others
     → AllDifferent g changes
     → AllAccepted changes → AllAccepted others
-    → (tensor-after t changes ≡ tensor-after t others) × (answers changes ≡ answers others)
+    → (tensor_after t changes ≡ tensor_after t others) × (answers changes ≡ answers others)

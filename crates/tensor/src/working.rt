@@ -1,7 +1,7 @@
 // The working tensor in the scratch: what is stored there before the passes, and what is done after them. None of these is a public call.
 ghost use Rattle.std.specs.Prelude.{◌+◌, ◌<◌, ◌≤◌, length};
 ghost use Rattle.rules.specs.Numbers.{at};
-ghost use Rattle.grid_scratch.specs.Layout.{tensor-begin};
+ghost use Rattle.grid_scratch.specs.Layout.{tensor_begin};
 ghost use Rattle.tensor_lane.specs.LaneInScratch.{Lies, Stored};
 ghost use Rattle.tensor.specs.Working.{Loaded, Finished};
 
@@ -9,8 +9,8 @@ use grid_scratch::TENSOR;
 
 // The samples go to mask 0.
 pub fn store_samples(w: &mut [f64], samples: &[f64], masks: usize)
-    requires { Lies w.old (length samples.now) tensor-begin masks × (1 ≤ masks) }
-    ensures { Stored w.old w.new (at samples.now) (length samples.now) tensor-begin masks }
+    requires { Lies w.old (length samples.now) tensor_begin masks × (1 ≤ masks) }
+    ensures { Stored w.old w.new (at samples.now) (length samples.now) tensor_begin masks }
 {
     let mut k = 0;
     while k < samples.len() {
@@ -21,7 +21,7 @@ pub fn store_samples(w: &mut [f64], samples: &[f64], masks: usize)
 
 // The tensor is copied to the scratch, and then one of its numbers stored there.
 pub fn load(w: &mut [f64], tensor: &[f64], spot: usize, number: f64)
-    requires { (tensor-begin + length tensor.now ≤ length w.old) × (spot < length tensor.now) }
+    requires { (tensor_begin + length tensor.now ≤ length w.old) × (spot < length tensor.now) }
     ensures { Loaded w.old w.new tensor.now spot number }
 {
     let end = TENSOR + tensor.len();
@@ -32,7 +32,7 @@ pub fn load(w: &mut [f64], tensor: &[f64], spot: usize, number: f64)
 // What came out is looked at, and stored when all of it is finite; then the scratch is cleared. It answers 10, or 0 where the tensor was
 // stored.
 pub fn finish(tensor: &mut [f64], w: &mut [f64]) -> usize
-    requires { tensor-begin + length tensor.old ≤ length w.old }
+    requires { tensor_begin + length tensor.old ≤ length w.old }
     ensures { Finished tensor.old w.old result tensor.new w.new }
 {
     let end = TENSOR + tensor.len();

@@ -11,25 +11,25 @@ use Rattle.rules.specs.Numbers.{at, ◌⊖◌, ◌⊗◌}
 use Rattle.tensor_fours.specs.Fours.{Lanewise, in_row, RowSet}
 use Rattle.tensor_plan.specs.PlanOfEnds.{Room}
 use Rattle.tensor_four_lanes.specs.Sweeps.{Back}
-use Rattle.tensor_fours.proofs.Fours.{lane, number, row_other, row-there}
+use Rattle.tensor_fours.proofs.Fours.{lane, number, row_other, row_there}
 
 pub record Turn (w₀ w : List Float) (low from : ℕ) (m : List Float) (k : ℕ) : Type 0 where
   pub given : Room w₀ from
   pub least : low ≤ k
   pub most : k ≤ from
   pub same_length : length w ≡ length w₀
-  pub m-is : (l : ℕ) → l < 4 → at m l ≡ in_row w 1536 k l
+  pub m_is : (l : ℕ) → l < 4 → at m l ≡ in_row w 1536 k l
   pub done : Back w₀ w k from
 
-pub turn-first :
+pub turn_first :
     (w : List Float) (low from : ℕ) (m : List Float) → Room w from → low ≤ from → Lanewise m (λ l. in_row w 1536 from l)
     → Turn w w low from m from
-turn-first w low from m room le e = record {
+turn_first w low from m room le e = record {
   given = room;
   least = le;
   most = omega arith;
   same_length = refl;
-  m-is = number e;
+  m_is = number e;
   done = record {
     same_length = refl;
     top = λ l lt. refl;
@@ -41,8 +41,8 @@ turn-first w low from m room le e = record {
 
 module _
     (w₀ w w₁ : List Float) (low from : ℕ) (m : List Float) (k : ℕ) (t : Turn w₀ w low from m k) (more : low < k)
-    (d c next : List Float) (d-is : Lanewise d (λ l. in_row w 1536 (k - 1) l)) (c-is : Lanewise c (λ l. at w (256 + (k - 1)) ⊗ at m l))
-    (next-is : Lanewise next (λ l. at d l ⊖ at c l)) (put : RowSet w w₁ 1536 (k - 1) next)
+    (d c next : List Float) (d_is : Lanewise d (λ l. in_row w 1536 (k - 1) l)) (c_is : Lanewise c (λ l. at w (256 + (k - 1)) ⊗ at m l))
+    (next_is : Lanewise next (λ l. at d l ⊖ at c l)) (put : RowSet w w₁ 1536 (k - 1) next)
   where
     rows : Room w₀ from
     rows = t.given
@@ -52,22 +52,22 @@ module _
         let e : k - 1 + 1 ≡ k = omega arith in
         rw e
         (cc (
-          row-there put next-is l lt,
-          number d-is l lt,
-          number c-is l lt,
+          row_there put next_is l lt,
+          number d_is l lt,
+          number c_is l lt,
           t.done.below l lt (k - 1) (omega arith),
-          t.m-is l lt,
+          t.m_is l lt,
           row_other put k (omega arith) l lt,
           t.done.kept (256 + (k - 1)) (λ i h. omega (arith, rows, t.most)),
         ))
 
-    pub turn-next : Turn w₀ w₁ low from next (k - 1)
-    turn-next = record {
+    pub turn_next : Turn w₀ w₁ low from next (k - 1)
+    turn_next = record {
       given = t.given;
       least = omega arith;
       most = omega (arith, t.most);
       same_length = put.same_length ∙ t.same_length;
-      m-is = λ l lt. sym (lane put.numbers l lt);
+      m_is = λ l lt. sym (lane put.numbers l lt);
       done = record {
         same_length = put.same_length ∙ t.same_length;
         top = λ l lt. row_other put from (omega (arith, t.most)) l lt ∙ t.done.top l lt;

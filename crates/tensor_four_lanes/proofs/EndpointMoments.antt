@@ -11,7 +11,7 @@ use lib.Ieee.{Float}
 use Rattle.rules.specs.Numbers.{at}
 use Rattle.rules.specs.Ends.{dropped}
 use Rattle.rules.specs.Steps.{h}
-use Rattle.rules.specs.Moments.{inner, first-moment, last-moment, moment}
+use Rattle.rules.specs.Moments.{inner, first_moment, last_moment, moment}
 use Rattle.rules.specs.declared.End.{End}
 use Rattle.rules.specs.declared.End.TheVariants.{NotAKnot, FirstDerivative, SecondDerivative}
 use Rattle.rules.specs.declared.Condition.TheVariants.{Endpoints}
@@ -19,10 +19,10 @@ use Rattle.grid_scratch.specs.Layout.{Outside}
 use Rattle.tensor_fours.specs.Fours.{Lanewise, in_row, RowSet}
 use Rattle.tensor_plan.specs.PlanOfEnds.{EndsGiven}
 use Rattle.tensor_plan.specs.declared.EndsPlan.{EndsPlan}
-use Rattle.rules.proofs.Cases.{zero-or-more}
-use Rattle.rules.proofs.Ends.{dropped-most}
-use Rattle.tensor_four_lanes.specs.Groups.{lower-moment, upper-moment, samples, EndsGroup, InnerSolved, MomentsSolved}
-use Rattle.tensor_fours.proofs.Fours.{row_other, row-there}
+use Rattle.rules.proofs.Cases.{zero_or_more}
+use Rattle.rules.proofs.Ends.{dropped_most}
+use Rattle.tensor_four_lanes.specs.Groups.{lower_moment, upper_moment, samples, EndsGroup, InnerSolved, MomentsSolved}
+use Rattle.tensor_fours.proofs.Fours.{row_other, row_there}
 
 -- row j stands at knot (dropped lower) + j
 abbrev OwnMoments : List Float → List Float → List Float → End → End → ℕ → Type 0
@@ -34,43 +34,43 @@ abbrev StepsIn : List Float → List Float → Type 0
 StepsIn w x = (k : ℕ) → k + 1 < length x → at w k ≡ h x k
 
 -- where the lower end drops nothing, its moment stands as it was
-nothing-dropped : (w : List Float) (a : ℕ) (lower : End) → dropped lower ≡ 0 → lower-moment w lower a ≡ in_row w 1536 0 a
-unfolding lower-moment
-nothing-dropped w a NotAKnot e = absurd (omega arith)
-nothing-dropped w a (FirstDerivative v) e = refl
-nothing-dropped w a (SecondDerivative v) e = refl
+nothing_dropped : (w : List Float) (a : ℕ) (lower : End) → dropped lower ≡ 0 → lower_moment w lower a ≡ in_row w 1536 0 a
+unfolding lower_moment
+nothing_dropped w a NotAKnot e = absurd (omega arith)
+nothing_dropped w a (FirstDerivative v) e = refl
+nothing_dropped w a (SecondDerivative v) e = refl
 
-first-is :
+first_is :
     (w x y : List Float) (a : ℕ) (lower upper : End) → 2 + dropped lower + dropped upper ≤ length x
-    → StepsIn w x → OwnMoments w x y lower upper a → lower-moment w lower a ≡ first-moment x y (length x - 1) lower upper
-unfolding lower-moment first-moment
-first-is w x y a NotAKnot upper enough steps own =
+    → StepsIn w x → OwnMoments w x y lower upper a → lower_moment w lower a ≡ first_moment x y (length x - 1) lower upper
+unfolding lower_moment first_moment
+first_is w x y a NotAKnot upper enough steps own =
     cc (steps 0 (omega arith), steps 1 (omega arith), own 1 0 (omega arith) (omega arith), own 2 1 (omega arith) (omega arith))
-first-is w x y a (FirstDerivative v) upper enough steps own = own 0 0 (omega arith) (omega arith)
-first-is w x y a (SecondDerivative v) upper enough steps own = own 0 0 (omega arith) (omega arith)
+first_is w x y a (FirstDerivative v) upper enough steps own = own 0 0 (omega arith) (omega arith)
+first_is w x y a (SecondDerivative v) upper enough steps own = own 0 0 (omega arith) (omega arith)
 
-last-is :
+last_is :
     (w x y : List Float) (a : ℕ) (lower upper : End) → 2 + dropped lower + dropped upper ≤ length x
-    → StepsIn w x → OwnMoments w x y lower upper a → upper-moment w (length x - 1) upper a ≡ last-moment x y (length x - 1) lower upper
-unfolding upper-moment last-moment
-last-is w x y a lower NotAKnot enough steps own =
+    → StepsIn w x → OwnMoments w x y lower upper a → upper_moment w (length x - 1) upper a ≡ last_moment x y (length x - 1) lower upper
+unfolding upper_moment last_moment
+last_is w x y a lower NotAKnot enough steps own =
     cc (
       steps (length x - 1 - 2) (omega arith),
       steps (length x - 1 - 1) (omega arith),
       own (length x - 1 - 1) (length x - 1 - dropped lower - 1) (omega arith) (omega arith),
       own (length x - 1 - 2) (length x - 1 - dropped lower - 1 - 1) (omega arith) (omega arith),
     )
-last-is w x y a lower (FirstDerivative v) enough steps own =
+last_is w x y a lower (FirstDerivative v) enough steps own =
     own (length x - 1) (length x - 1 - dropped lower - 0) (omega arith) (omega arith)
-last-is w x y a lower (SecondDerivative v) enough steps own =
+last_is w x y a lower (SecondDerivative v) enough steps own =
     own (length x - 1) (length x - 1 - dropped lower - 0) (omega arith) (omega arith)
 
 module _
     (w w₁ w₂ w₃ x : List Float) (lower upper : End) (plan : EndsPlan) (p : List ℕ) (step : ℕ)
     (given : EndsGroup w x lower upper plan p step)
     (solved : InnerSolved w w₁ x lower upper p step) (first last : List Float)
-    (first-moment-is : Lanewise first (lower-moment w₁ lower)) (put_first : RowSet w₁ w₂ 1536 0 first)
-    (last-moment-is : Lanewise last (upper-moment w₂ (length x - 1) upper)) (put_last : RowSet w₂ w₃ 1536 (length x - 1) last)
+    (first_moment_is : Lanewise first (lower_moment w₁ lower)) (put_first : RowSet w₁ w₂ 1536 0 first)
+    (last_moment_is : Lanewise last (upper_moment w₂ (length x - 1) upper)) (put_last : RowSet w₂ w₃ 1536 (length x - 1) last)
   where
     axis : EndsGiven w x lower upper
     axis = given.axis
@@ -102,12 +102,12 @@ module _
           ⊎_elim
           (λ none.
           ap (λ (i : ℕ). in_row w₂ 1536 i a) none
-          ∙ row-there put_first first-moment-is a lt
-          ∙ nothing-dropped w₁ a lower (omega arith)
+          ∙ row_there put_first first_moment_is a lt
+          ∙ nothing_dropped w₁ a lower (omega arith)
           ∙ ap (λ (i : ℕ). in_row w₁ 1536 i a) (sym none)
           ∙ own₁ k j e le)
           (λ some. row_other put_first k (omega arith) a lt ∙ own₁ k j e le)
-          (zero-or-more k)
+          (zero_or_more k)
 
       later : (k : ℕ) → k ≢ n → in_row w₃ 1536 k a ≡ in_row w₂ 1536 k a
       later k off = row_other put_last k off a lt
@@ -118,24 +118,24 @@ module _
           ⊎_elim
           (λ none.
           rw none
-          (later 0 (omega (arith, axis.enough)) ∙ row-there put_first first-moment-is a lt
-          ∙ first-is w₁ x y a lower upper axis.enough steps₁ own₁))
+          (later 0 (omega (arith, axis.enough)) ∙ row_there put_first first_moment_is a lt
+          ∙ first_is w₁ x y a lower upper axis.enough steps₁ own₁))
           (λ some.
           rw (ne_eqb k 0 (omega arith))
           (⊎_elim
           (λ end.
           rw (eq-eqb k n end)
-          (ap (λ (i : ℕ). in_row w₃ 1536 i a) end ∙ row-there put_last last-moment-is a lt
-          ∙ last-is w₂ x y a lower upper axis.enough steps₂ own₂))
+          (ap (λ (i : ℕ). in_row w₃ 1536 i a) end ∙ row_there put_last last_moment_is a lt
+          ∙ last_is w₂ x y a lower upper axis.enough steps₂ own₂))
           (λ inside.
           rw (ne_eqb k n (omega arith))
           (later k (omega arith)
-          ∙ own₂ k (k - dropped lower) (omega (arith, dropped-most lower)) (omega (arith, dropped-most lower, dropped-most upper))))
+          ∙ own₂ k (k - dropped lower) (omega (arith, dropped_most lower)) (omega (arith, dropped_most lower, dropped_most upper))))
           (eq-or-lt_of_le (let le : k ≤ n = omega arith in le))))
-          (zero-or-more k)
+          (zero_or_more k)
 
-    pub moments-solved : MomentsSolved w w₃ x (Endpoints lower upper) p step
-    moments-solved = record {
+    pub moments_solved : MomentsSolved w w₃ x (Endpoints lower upper) p step
+    moments_solved = record {
       same_length = put_last.same_length ∙ put_first.same_length ∙ solved.same_length;
       slopes = λ a lt k less.
           put_last.kept (1024 + 4 * k + a) (λ i b. omega (arith, axis))

@@ -12,7 +12,7 @@ use borrow.Author.Tests.{lt-ltb, le-ltb}
 use Rattle.rules.specs.Numbers.{at}
 use Rattle.rules.specs.Steps.{h}
 use Rattle.rules.specs.Moments.{moment, moments}
-use Rattle.rules.specs.Curve.{knot-slope, lane-slope}
+use Rattle.rules.specs.Curve.{knot_slope, lane_slope}
 use Rattle.rules.specs.declared.End.{End}
 use Rattle.rules.specs.declared.Condition.{Condition}
 use Rattle.rules.specs.declared.Condition.TheVariants.{Endpoints, Periodic}
@@ -20,15 +20,15 @@ use Rattle.rules.proofs.Tables.{at_table}
 use Rattle.tensor_fours.specs.Fours.{in_row}
 use Rattle.tensor_plan.specs.Plans.{PlanStands}
 use Rattle.tensor_plan.specs.declared.AxisPlan.{AxisPlan}
-use Rattle.tensor_four_lanes.specs.Groups.{samples, MomentsSolved, four-slope, FourGiven, EndsFour, CycleGroup}
-use Rattle.tensor_four_lanes.specs.Sweeps.{Lanes, slope-at, Laid}
+use Rattle.tensor_four_lanes.specs.Groups.{samples, MomentsSolved, four_slope, FourGiven, EndsFour, CycleGroup}
+use Rattle.tensor_four_lanes.specs.Sweeps.{Lanes, slope_at, Laid}
 use Rattle.tensor_fours.proofs.Fours.{lane, each}
-use Rattle.tensor_plan.proofs.Plans.{ends-given, cycle-given}
+use Rattle.tensor_plan.proofs.Plans.{ends_given, cycle_given}
 
 -- the lanes lie as before in a list as long, and so does a front part of them
-pub still-lies :
+pub still_lies :
     (w w' : List Float) (n m : ℕ) (p : List ℕ) (o step : ℕ) → length w' ≡ length w → m ≤ n → Lanes w n p o step → Lanes w' m p o step
-still-lies w w' n m p o step long le lanes = record {
+still_lies w w' n m p o step long le lanes = record {
   rows = record { room = omega (arith, lanes.rows.room); few = omega (arith, lanes.rows.few) };
   behind = lanes.behind;
   within = each (λ l lt k most. omega (arith, lane lanes.within l lt k (omega arith)));
@@ -38,7 +38,7 @@ module _
     (w w₁ w₂ x : List Float) (condition : Condition) (p : List ℕ) (to step : ℕ)
     (enough : 2 ≤ length x) (few : length x ≤ 128) (steps : (k : ℕ) → k + 1 < length x → at w k ≡ h x k)
     (solved : MomentsSolved w w₁ x condition p step)
-    (laid : Laid w₁ w₂ p to step (length x - 1 + 1) (slope-at w₁ (length x - 1)))
+    (laid : Laid w₁ w₂ p to step (length x - 1 + 1) (slope_at w₁ (length x - 1)))
   where
     abbrev n : ℕ
     n = length x - 1
@@ -50,35 +50,35 @@ module _
       abbrev y : List Float
       y = samples w x p step a
 
-      moment-is : (k : ℕ) → k < length x → in_row w₁ 1536 k a ≡ at (moments x n condition y) k
+      moment_is : (k : ℕ) → k < length x → in_row w₁ 1536 k a ≡ at (moments x n condition y) k
       unfolding moments
-      moment-is k less = solved.result a lt k less ∙ sym (at_table (n + 1) (moment x y n condition) k nan (omega arith))
+      moment_is k less = solved.result a lt k less ∙ sym (at_table (n + 1) (moment x y n condition) k nan (omega arith))
 
-      slope-is : (k : ℕ) → k < length x → slope-at w₁ n k a ≡ four-slope w x condition p step k a
-      unfolding lane-slope knot-slope
-      slope-is k less =
+      slope_is : (k : ℕ) → k < length x → slope_at w₁ n k a ≡ four_slope w x condition p step k a
+      unfolding lane_slope knot_slope
+      slope_is k less =
           ⊎_elim
           (λ end.
           rw (le-ltb k n (omega arith))
           (cc (
             solved.slopes a lt (n - 1) (omega (arith, enough)),
             steps₁ (n - 1) (omega (arith, enough)),
-            moment-is (n - 1) (omega (arith, enough)),
-            moment-is n (omega (arith, enough)),
+            moment_is (n - 1) (omega (arith, enough)),
+            moment_is n (omega (arith, enough)),
           )))
           (λ inside.
           rw (lt-ltb k n inside)
-          (cc (solved.slopes a lt k inside, steps₁ k (omega arith), moment-is k less, moment-is (k + 1) (omega arith))))
+          (cc (solved.slopes a lt k inside, steps₁ k (omega arith), moment_is k less, moment_is (k + 1) (omega arith))))
           (eq-or-lt_of_le (let le : k ≤ n = omega arith in le))
 
-    pub group-solved : Laid w w₂ p to step (length x) (four-slope w x condition p step)
-    group-solved = record {
+    pub group_solved : Laid w w₂ p to step (length x) (four_slope w x condition p step)
+    group_solved = record {
       same_length = laid.same_length ∙ solved.same_length;
       there = λ G same l lt k less.
-          laid.there G (λ a b c d. slope-is a b c (omega (arith, enough)) ∙ same a b c (omega (arith, enough))) l lt k
+          laid.there G (λ a b c d. slope_is a b c (omega (arith, enough)) ∙ same a b c (omega (arith, enough))) l lt k
           (omega (arith, enough));
       still = λ G same j ge e.
-          laid.still G (λ a b c d. slope-is a b c (omega (arith, enough)) ∙ same a b c (omega (arith, enough))) j ge
+          laid.still G (λ a b c d. slope_is a b c (omega (arith, enough)) ∙ same a b c (omega (arith, enough))) j ge
           (solved.kept j (λ i b. omega arith) ∙ e);
       rows = λ j less. laid.rows j less ∙ solved.kept j (λ i b. omega arith);
       kept = λ j ge none. laid.kept j ge (λ l lt k less. none l lt k (omega (arith, enough))) ∙ solved.kept j (λ i b. omega arith);
@@ -88,18 +88,18 @@ module _
 
 module _ (w x : List Float) (condition : Condition) (plan : AxisPlan) (p : List ℕ) (to step : ℕ)
     (given : FourGiven w x condition plan p to step) where
-  pub ends-group : (lower upper : End) → condition ≡ Endpoints lower upper → EndsFour w x lower upper plan.ends p to step
-  ends-group lower upper e =
+  pub ends_group : (lower upper : End) → condition ≡ Endpoints lower upper → EndsFour w x lower upper plan.ends p to step
+  ends_group lower upper e =
       let stands : PlanStands w x (Endpoints lower upper) plan = rw e at given.stands in
       record {
-        rows = record { axis = ends-given w x condition lower upper e given.axis; planned = stands; numbers = given.numbers };
+        rows = record { axis = ends_given w x condition lower upper e given.axis; planned = stands; numbers = given.numbers };
         slopes = given.slopes;
       }
 
-  pub cycle-group : condition ≡ Periodic → CycleGroup w x plan.cycle.ratio plan.cycle.rest p step × Lanes w (length x - 1) p to step
-  cycle-group e =
+  pub cycle_group : condition ≡ Periodic → CycleGroup w x plan.cycle.ratio plan.cycle.rest p step × Lanes w (length x - 1) p to step
+  cycle_group e =
       let stands : PlanStands w x Periodic plan = rw e at given.stands in
-      let axis = cycle-given w x condition e given.axis in (
+      let axis = cycle_given w x condition e given.axis in (
         record { room = axis.room; few = axis.few; enough = axis.enough; planned = stands; numbers = given.numbers },
         given.slopes,
       )

@@ -13,46 +13,46 @@ use Rattle.rules.specs.Ends.{dropped}
 use Rattle.rules.specs.Steps.{h, s, u}
 use Rattle.rules.specs.Solve as Solve
 use Rattle.rules.specs.Solve.{dp, before_last, thomas}
-use Rattle.rules.specs.Moments.{lower-row, upper-row, inner}
+use Rattle.rules.specs.Moments.{lower_row, upper_row, inner}
 use Rattle.rules.specs.declared.End.{End}
 use Rattle.rules.specs.declared.End.TheVariants.{NotAKnot, FirstDerivative, SecondDerivative}
 use Rattle.rules.proofs.Tables.{at_table}
 use Rattle.grid_scratch.specs.Layout.{Outside}
 use Rattle.tensor_fours.specs.Fours.{Lanewise, in_row, place, RowSet}
-use Rattle.tensor_plan.specs.PlanOfEnds.{of-ends, EndsPlanned, EndsGiven}
+use Rattle.tensor_plan.specs.PlanOfEnds.{of_ends, EndsPlanned, EndsGiven}
 use Rattle.tensor_plan.specs.declared.EndsPlan.{EndsPlan}
-use Rattle.tensor_four_lanes.specs.Groups.{lower-right, upper-right, samples, SlopesOf, EndsGroup, InnerSolved}
-use Rattle.tensor_four_lanes.specs.Sweeps.{step-slope, Sloped, Forward, Back}
-use Rattle.tensor_fours.proofs.Fours.{below_or_not, lane, number, row_other, row-there}
+use Rattle.tensor_four_lanes.specs.Groups.{lower_right, upper_right, samples, SlopesOf, EndsGroup, InnerSolved}
+use Rattle.tensor_four_lanes.specs.Sweeps.{step_slope, Sloped, Forward, Back}
+use Rattle.tensor_fours.proofs.Fours.{below_or_not, lane, number, row_other, row_there}
 use Rattle.tensor_plan.proofs.EndRows as EndRows
 
 -- the rules' right sides of the two ends
-lower-right-is :
+lower_right_is :
     (w x y : List Float) (n a : ℕ) (lower : End) → 2 + dropped lower ≤ length x → ((k : ℕ) → k + 1 < length x → at w k ≡ h x k)
-    → SlopesOf w x y (dropped lower + 1) a → lower-right w lower a ≡ (lower-row x y n lower).right
-unfolding lower-right lower-row u
-lower-right-is w x y n a NotAKnot enough steps slopes = cc (steps 1 (omega arith), slopes 0 (omega arith), slopes 1 (omega arith))
-lower-right-is w x y n a (FirstDerivative v) enough steps slopes = cc (slopes 0 (omega arith))
-lower-right-is w x y n a (SecondDerivative v) enough steps slopes = refl
+    → SlopesOf w x y (dropped lower + 1) a → lower_right w lower a ≡ (lower_row x y n lower).right
+unfolding lower_right lower_row u
+lower_right_is w x y n a NotAKnot enough steps slopes = cc (steps 1 (omega arith), slopes 0 (omega arith), slopes 1 (omega arith))
+lower_right_is w x y n a (FirstDerivative v) enough steps slopes = cc (slopes 0 (omega arith))
+lower_right_is w x y n a (SecondDerivative v) enough steps slopes = refl
 
-upper-right-is :
+upper_right_is :
     (w x y : List Float) (a : ℕ) (upper : End) → 2 + dropped upper ≤ length x → ((k : ℕ) → k + 1 < length x → at w k ≡ h x k)
-    → SlopesOf w x y (length x - 1) a → upper-right w (length x - 1) upper a ≡ (upper-row x y (length x - 1) upper).right
-unfolding upper-right upper-row u
-upper-right-is w x y a NotAKnot enough steps slopes =
+    → SlopesOf w x y (length x - 1) a → upper_right w (length x - 1) upper a ≡ (upper_row x y (length x - 1) upper).right
+unfolding upper_right upper_row u
+upper_right_is w x y a NotAKnot enough steps slopes =
     let e : length x - 1 - 2 + 1 ≡ length x - 1 - 1 = omega arith in
     rw e (cc (steps (length x - 1 - 2) (omega arith), slopes (length x - 1 - 2) (omega arith), slopes (length x - 1 - 1) (omega arith)))
-upper-right-is w x y a (FirstDerivative v) enough steps slopes = cc (slopes (length x - 1 - 1) (omega arith))
-upper-right-is w x y a (SecondDerivative v) enough steps slopes = refl
+upper_right_is w x y a (FirstDerivative v) enough steps slopes = cc (slopes (length x - 1 - 1) (omega arith))
+upper_right_is w x y a (SecondDerivative v) enough steps slopes = refl
 
 -- what `slopes` stores is the slope of a lane's samples
-pub slope-of-samples :
+pub slope_of_samples :
     (w v x : List Float) (p : List ℕ) (step k a : ℕ) → k + 1 < length x
     → at v (place p a + (k + 1) * step) ≡ at w (place p a + (k + 1) * step) → at v (place p a + k * step) ≡ at w (place p a + k * step)
     → at v k ≡ h x k
-    → step-slope v p step k a ≡ s x (samples w x p step a) k
+    → step_slope v p step k a ≡ s x (samples w x p step a) k
 unfolding s
-slope-of-samples w v x p step k a less above here e =
+slope_of_samples w v x p step k a less above here e =
     cc (
       above,
       here,
@@ -65,18 +65,18 @@ module _
     (w w₁ w₂ w₃ w₄ w₅ w₆ x : List Float) (lower upper : End) (plan : EndsPlan) (p : List ℕ) (step : ℕ)
     (given : EndsGroup w x lower upper plan p step)
     (right first end before product difference top : List Float)
-    (sloped-first : Sloped w w₁ 0 (plan.low + 1) p step)
-    (right_is : Lanewise right (lower-right w₁ lower))
-    (first-is : Lanewise first (λ a. at right a ⊘ at w₁ (128 + plan.low)))
+    (sloped_first : Sloped w w₁ 0 (plan.low + 1) p step)
+    (right_is : Lanewise right (lower_right w₁ lower))
+    (first_is : Lanewise first (λ a. at right a ⊘ at w₁ (128 + plan.low)))
     (put_first : RowSet w₁ w₂ 1536 plan.low first)
     (forth : Forward w₂ w₃ plan.low plan.last p step)
-    (sloped-last : Sloped w₃ w₄ plan.last (length x - 1) p step)
-    (end_is : Lanewise end (upper-right w₄ (length x - 1) upper))
-    (before-is : Lanewise before (λ a. in_row w₄ 1536 (plan.last - 1) a))
+    (sloped_last : Sloped w₃ w₄ plan.last (length x - 1) p step)
+    (end_is : Lanewise end (upper_right w₄ (length x - 1) upper))
+    (before_is : Lanewise before (λ a. in_row w₄ 1536 (plan.last - 1) a))
     (product_is : Lanewise product (λ a. plan.sub ⊗ at before a))
-    (difference-is : Lanewise difference (λ a. at end a ⊖ at product a))
-    (top-is : Lanewise top (λ a. at difference a ⊘ at w₄ (128 + plan.last)))
-    (put-top : RowSet w₄ w₅ 1536 plan.last top)
+    (difference_is : Lanewise difference (λ a. at end a ⊖ at product a))
+    (top_is : Lanewise top (λ a. at difference a ⊘ at w₄ (128 + plan.last)))
+    (put_top : RowSet w₄ w₅ 1536 plan.last top)
     (back : Back w₅ w₆ plan.low plan.last)
   where
     axis : EndsGiven w x lower upper
@@ -91,187 +91,187 @@ module _
     abbrev l : ℕ
     l = n - dropped lower - dropped upper
 
-    low-is : plan.low ≡ dropped lower
-    low-is = planned.low-is
+    low_is : plan.low ≡ dropped lower
+    low_is = planned.low_is
 
-    last-is : plan.last ≡ dropped lower + l
-    last-is = omega (arith, planned.last-is, axis.enough)
+    last_is : plan.last ≡ dropped lower + l
+    last_is = omega (arith, planned.last_is, axis.enough)
 
     -- nothing is stored but in the two blocks
     same₁ : (j : ℕ) → Outside 1024 1024 j → at w₁ j ≡ at w j
-    same₁ j out = sloped-first.kept j (λ k i a b c. omega (arith, axis, low-is, out (4 * k + i) (omega (arith, axis, low-is))))
+    same₁ j out = sloped_first.kept j (λ k i a b c. omega (arith, axis, low_is, out (4 * k + i) (omega (arith, axis, low_is))))
 
     same₂ : (j : ℕ) → Outside 1024 1024 j → at w₂ j ≡ at w j
     same₂ j out =
-        put_first.kept j (λ i lt. omega (arith, axis, low-is, out (512 + 4 * plan.low + i) (omega (arith, axis, low-is)))) ∙ same₁ j out
+        put_first.kept j (λ i lt. omega (arith, axis, low_is, out (512 + 4 * plan.low + i) (omega (arith, axis, low_is)))) ∙ same₁ j out
 
     same₃ : (j : ℕ) → Outside 1024 1024 j → at w₃ j ≡ at w j
     same₃ j out =
         forth.kept j
         (λ i lt. omega (arith, out (512 + i) (omega arith)))
-        (λ k i a b c. omega (arith, axis, last-is, out (4 * k + i) (omega (arith, axis, last-is))))
+        (λ k i a b c. omega (arith, axis, last_is, out (4 * k + i) (omega (arith, axis, last_is))))
         ∙ same₂ j out
 
     same₄ : (j : ℕ) → Outside 1024 1024 j → at w₄ j ≡ at w j
-    same₄ j out = sloped-last.kept j (λ k i a b c. omega (arith, axis, out (4 * k + i) (omega (arith, axis)))) ∙ same₃ j out
+    same₄ j out = sloped_last.kept j (λ k i a b c. omega (arith, axis, out (4 * k + i) (omega (arith, axis)))) ∙ same₃ j out
 
     same₅ : (j : ℕ) → Outside 1024 1024 j → at w₅ j ≡ at w j
     same₅ j out =
-        put-top.kept j (λ i lt. omega (arith, axis, last-is, out (512 + 4 * plan.last + i) (omega (arith, axis, last-is)))) ∙ same₄ j out
+        put_top.kept j (λ i lt. omega (arith, axis, last_is, out (512 + 4 * plan.last + i) (omega (arith, axis, last_is)))) ∙ same₄ j out
 
     module _ (a : ℕ) (lt : a < 4) where
       abbrev y : List Float
       y = samples w x p step a
 
       -- so numbers and steps are still there when a slope is made
-      slope-from :
-          (v : List Float) → ((j : ℕ) → Outside 1024 1024 j → at v j ≡ at w j) → (k : ℕ) → k < n → step-slope v p step k a ≡ s x y k
-      slope-from v same k less =
+      slope_from :
+          (v : List Float) → ((j : ℕ) → Outside 1024 1024 j → at v j ≡ at w j) → (k : ℕ) → k < n → step_slope v p step k a ≡ s x y k
+      slope_from v same k less =
           let far = lane given.numbers.behind a lt in
-          slope-of-samples w v x p step k a (omega arith)
+          slope_of_samples w v x p step k a (omega arith)
           (same (place p a + (k + 1) * step) (λ i b. omega arith))
           (same (place p a + k * step) (λ i b. omega arith))
           (same k (λ i b. omega (arith, axis)) ∙ planned.steps k (omega arith))
 
       slopes₁ : SlopesOf w₁ x y (dropped lower + 1) a
       slopes₁ k less =
-          sloped-first.slopes a lt k (omega (arith, low-is)) (omega arith) ∙ slope-from w (λ j out. refl) k (omega (arith, axis.enough))
+          sloped_first.slopes a lt k (omega (arith, low_is)) (omega arith) ∙ slope_from w (λ j out. refl) k (omega (arith, axis.enough))
 
       slopes₂ : SlopesOf w₂ x y (dropped lower + 1) a
-      slopes₂ k less = put_first.kept (1024 + 4 * k + a) (λ i b. omega (arith, axis, low-is)) ∙ slopes₁ k less
+      slopes₂ k less = put_first.kept (1024 + 4 * k + a) (λ i b. omega (arith, axis, low_is)) ∙ slopes₁ k less
 
       slopes₃ : SlopesOf w₃ x y (dropped lower + l) a
       slopes₃ k less =
           ⊎_elim
           (λ low.
-          forth.kept (1024 + 4 * k + a) (λ i b. omega (arith, axis)) (λ m i b c d. omega (arith, low-is))
+          forth.kept (1024 + 4 * k + a) (λ i b. omega (arith, axis)) (λ m i b c d. omega (arith, low_is))
           ∙ slopes₂ k low)
-          (λ more. forth.slopes a lt k (omega (arith, last-is)) (omega (arith, low-is)) ∙ slope-from w₂ same₂ k (omega arith))
+          (λ more. forth.slopes a lt k (omega (arith, last_is)) (omega (arith, low_is)) ∙ slope_from w₂ same₂ k (omega arith))
           (below_or_not k (dropped lower + 1))
 
       slopes₄ : SlopesOf w₄ x y n a
       slopes₄ k less =
           ⊎_elim
-          (λ low. sloped-last.kept (1024 + 4 * k + a) (λ m i b c d. omega (arith, last-is)) ∙ slopes₃ k low)
-          (λ more. sloped-last.slopes a lt k less (omega (arith, last-is)) ∙ slope-from w₃ same₃ k less)
+          (λ low. sloped_last.kept (1024 + 4 * k + a) (λ m i b c d. omega (arith, last_is)) ∙ slopes₃ k low)
+          (λ more. sloped_last.slopes a lt k less (omega (arith, last_is)) ∙ slope_from w₃ same₃ k less)
           (below_or_not k (dropped lower + l))
 
       -- the second helper row by induction, up to the row before the last
-      helper-first : 0 < l → in_row w₃ 1536 (dropped lower + 0) a ≡ of-ends dp x y n lower upper 0
+      helper_first : 0 < l → in_row w₃ 1536 (dropped lower + 0) a ≡ of_ends dp x y n lower upper 0
       unfolding dp Solve.w
-      helper-first less =
-          let e : dropped lower + 0 ≡ plan.low = omega (arith, low-is) in
+      helper_first less =
+          let e : dropped lower + 0 ≡ plan.low = omega (arith, low_is) in
           rw e
           (cc (
-            forth.first-is a lt,
-            row-there put_first first-is a lt,
+            forth.first_is a lt,
+            row_there put_first first_is a lt,
             number right_is a lt,
-            lower-right-is w₁ x y n a lower (omega (arith, axis.enough)) (λ k b. same₁ k (λ i c. omega (arith, axis)) ∙ planned.steps k b)
+            lower_right_is w₁ x y n a lower (omega (arith, axis.enough)) (λ k b. same₁ k (λ i c. omega (arith, axis)) ∙ planned.steps k b)
                 slopes₁,
-            EndRows.rhs-first x y n lower upper,
-            same₁ (128 + plan.low) (λ i b. omega (arith, axis, low-is)),
-            ap (λ (k : ℕ). at w (128 + k)) (let f : plan.low ≡ dropped lower + 0 = omega (arith, low-is) in f),
+            EndRows.rhs_first x y n lower upper,
+            same₁ (128 + plan.low) (λ i b. omega (arith, axis, low_is)),
+            ap (λ (k : ℕ). at w (128 + k)) (let f : plan.low ≡ dropped lower + 0 = omega (arith, low_is) in f),
             planned.divisors y 0 (omega arith),
           ))
 
-      helper-next : (j : ℕ) → suc j < l → in_row w₃ 1536 (dropped lower + j) a ≡ of-ends dp x y n lower upper j
-          → in_row w₃ 1536 (dropped lower + suc j) a ≡ of-ends dp x y n lower upper (suc j)
+      helper_next : (j : ℕ) → suc j < l → in_row w₃ 1536 (dropped lower + j) a ≡ of_ends dp x y n lower upper j
+          → in_row w₃ 1536 (dropped lower + suc j) a ≡ of_ends dp x y n lower upper (suc j)
       unfolding dp
-      helper-next j less is =
+      helper_next j less is =
           let e : dropped lower + j + 1 ≡ dropped lower + suc j = omega arith in
           cc (
-            forth.next a lt (dropped lower + j) (omega (arith, last-is)) (omega (arith, low-is)),
+            forth.next a lt (dropped lower + j) (omega (arith, last_is)) (omega (arith, low_is)),
             slopes₃ (dropped lower + j + 1) (omega arith),
             slopes₃ (dropped lower + j) (omega arith),
             same₂ (dropped lower + j) (λ i b. omega (arith, axis)),
             planned.steps (dropped lower + j) (omega (arith, axis)),
             same₂ (128 + (dropped lower + j + 1)) (λ i b. omega (arith, axis)),
             planned.divisors y (suc j) (omega arith),
-            EndRows.rhs-inside x y n lower upper j less,
-            EndRows.sub-inside x y n lower upper j less,
+            EndRows.rhs_inside x y n lower upper j less,
+            EndRows.sub_inside x y n lower upper j less,
           )
 
-      helper₃ : (j : ℕ) → j < l → in_row w₃ 1536 (dropped lower + j) a ≡ of-ends dp x y n lower upper j
-      helper₃ zero less = helper-first less
-      helper₃ (suc j) less = helper-next j less (helper₃ j (omega arith))
+      helper₃ : (j : ℕ) → j < l → in_row w₃ 1536 (dropped lower + j) a ≡ of_ends dp x y n lower upper j
+      helper₃ zero less = helper_first less
+      helper₃ (suc j) less = helper_next j less (helper₃ j (omega arith))
 
-      helper : (j : ℕ) → j < l → in_row w₄ 1536 (dropped lower + j) a ≡ of-ends dp x y n lower upper j
-      helper j less = sloped-last.kept (1536 + 4 * (dropped lower + j) + a) (λ m i b c d. omega (arith, axis)) ∙ helper₃ j less
+      helper : (j : ℕ) → j < l → in_row w₄ 1536 (dropped lower + j) a ≡ of_ends dp x y n lower upper j
+      helper j less = sloped_last.kept (1536 + 4 * (dropped lower + j) + a) (λ m i b c d. omega (arith, axis)) ∙ helper₃ j less
 
       -- the last row's
-      helper-last : (j : ℕ) → suc j ≡ l → in_row w₅ 1536 plan.last a ≡ of-ends dp x y n lower upper (suc j)
+      helper_last : (j : ℕ) → suc j ≡ l → in_row w₅ 1536 plan.last a ≡ of_ends dp x y n lower upper (suc j)
       unfolding dp
-      helper-last j e =
-          let f : plan.last - 1 ≡ dropped lower + j = omega (arith, last-is) in
-          let g : plan.last ≡ dropped lower + suc j = omega (arith, last-is) in
+      helper_last j e =
+          let f : plan.last - 1 ≡ dropped lower + j = omega (arith, last_is) in
+          let g : plan.last ≡ dropped lower + suc j = omega (arith, last_is) in
           cc (
-            row-there put-top top-is a lt,
-            number difference-is a lt,
+            row_there put_top top_is a lt,
+            number difference_is a lt,
             number product_is a lt,
-            number before-is a lt,
+            number before_is a lt,
             number end_is a lt,
-            upper-right-is w₄ x y a upper (omega (arith, axis.enough)) (λ k b. same₄ k (λ i c. omega (arith, axis)) ∙ planned.steps k b)
+            upper_right_is w₄ x y a upper (omega (arith, axis.enough)) (λ k b. same₄ k (λ i c. omega (arith, axis)) ∙ planned.steps k b)
                 slopes₄,
-            EndRows.rhs-last x y n lower upper j e,
-            EndRows.sub-last x y n lower upper j e,
+            EndRows.rhs_last x y n lower upper j e,
+            EndRows.sub_last x y n lower upper j e,
             planned.sub_is y,
             helper j (omega arith),
-            same₄ (128 + plan.last) (λ i b. omega (arith, axis, last-is)),
+            same₄ (128 + plan.last) (λ i b. omega (arith, axis, last_is)),
             planned.divisors y (suc j) (omega arith),
           )
 
-      helpers : (j : ℕ) → j ≤ l → in_row w₅ 1536 (dropped lower + j) a ≡ of-ends dp x y n lower upper j
+      helpers : (j : ℕ) → j ≤ l → in_row w₅ 1536 (dropped lower + j) a ≡ of_ends dp x y n lower upper j
       helpers j le =
           ⊎_elim
-          (λ e. at-end j e)
-          (λ less. row_other put-top (dropped lower + j) (omega (arith, last-is)) a lt ∙ helper j less)
+          (λ e. at_end j e)
+          (λ less. row_other put_top (dropped lower + j) (omega (arith, last_is)) a lt ∙ helper j less)
           (eq-or-lt_of_le le)
         where
-          at-end : (j : ℕ) → j ≡ l → in_row w₅ 1536 (dropped lower + j) a ≡ of-ends dp x y n lower upper j
-          at-end zero e = absurd (omega (arith, axis.enough))
-          at-end (suc j) e =
-              ap (λ (k : ℕ). in_row w₅ 1536 k a) (let f : dropped lower + suc j ≡ plan.last = omega (arith, last-is) in f)
-              ∙ helper-last j e
+          at_end : (j : ℕ) → j ≡ l → in_row w₅ 1536 (dropped lower + j) a ≡ of_ends dp x y n lower upper j
+          at_end zero e = absurd (omega (arith, axis.enough))
+          at_end (suc j) e =
+              ap (λ (k : ℕ). in_row w₅ 1536 k a) (let f : dropped lower + suc j ≡ plan.last = omega (arith, last_is) in f)
+              ∙ helper_last j e
 
       -- the moments by induction, from the last row down
-      back-first : in_row w₆ 1536 (dropped lower + (l - 0)) a ≡ of-ends before_last x y n lower upper l 0
+      back_first : in_row w₆ 1536 (dropped lower + (l - 0)) a ≡ of_ends before_last x y n lower upper l 0
       unfolding before_last
-      back-first =
-          let e : dropped lower + (l - 0) ≡ plan.last = omega (arith, last-is) in
-          let f : dropped lower + l ≡ plan.last = omega (arith, last-is) in
+      back_first =
+          let e : dropped lower + (l - 0) ≡ plan.last = omega (arith, last_is) in
+          let f : dropped lower + l ≡ plan.last = omega (arith, last_is) in
           rw e (back.top a lt ∙ ap (λ (k : ℕ). in_row w₅ 1536 k a) (sym f) ∙ helpers l (omega arith))
 
-      back-next : (j : ℕ) → suc j ≤ l → in_row w₆ 1536 (dropped lower + (l - j)) a ≡ of-ends before_last x y n lower upper l j
-          → in_row w₆ 1536 (dropped lower + (l - suc j)) a ≡ of-ends before_last x y n lower upper l (suc j)
+      back_next : (j : ℕ) → suc j ≤ l → in_row w₆ 1536 (dropped lower + (l - j)) a ≡ of_ends before_last x y n lower upper l j
+          → in_row w₆ 1536 (dropped lower + (l - suc j)) a ≡ of_ends before_last x y n lower upper l (suc j)
       unfolding before_last
-      back-next j le is =
+      back_next j le is =
           let e : dropped lower + (l - suc j) + 1 ≡ dropped lower + (l - j) = omega arith in
           cc (
-            back.next a lt (dropped lower + (l - suc j)) (omega (arith, low-is)) (omega (arith, last-is)),
+            back.next a lt (dropped lower + (l - suc j)) (omega (arith, low_is)) (omega (arith, last_is)),
             helpers (l - suc j) (omega arith),
             same₅ (256 + (dropped lower + (l - suc j))) (λ i b. omega (arith, axis)),
             planned.helpers y (l - suc j) (omega arith),
           )
 
-      before-the-last : (j : ℕ) → j ≤ l → in_row w₆ 1536 (dropped lower + (l - j)) a ≡ of-ends before_last x y n lower upper l j
-      before-the-last zero le = back-first
-      before-the-last (suc j) le = back-next j le (before-the-last j (omega arith))
+      before_the_last : (j : ℕ) → j ≤ l → in_row w₆ 1536 (dropped lower + (l - j)) a ≡ of_ends before_last x y n lower upper l j
+      before_the_last zero le = back_first
+      before_the_last (suc j) le = back_next j le (before_the_last j (omega arith))
 
       moments : (j : ℕ) → j ≤ l → in_row w₆ 1536 (dropped lower + j) a ≡ inner x y n lower upper j
       unfolding inner thomas
-      moments j le = let e : l - (l - j) ≡ j = omega arith in rw e at (before-the-last (l - j) (omega arith))
+      moments j le = let e : l - (l - j) ≡ j = omega arith in rw e at (before_the_last (l - j) (omega arith))
 
       slopes₆ : SlopesOf w₆ x y n a
       slopes₆ k less =
           back.kept (1024 + 4 * k + a) (λ i b. omega (arith, axis))
-          ∙ put-top.kept (1024 + 4 * k + a) (λ i b. omega (arith, axis))
+          ∙ put_top.kept (1024 + 4 * k + a) (λ i b. omega (arith, axis))
           ∙ slopes₄ k less
 
-    pub rows-solved : InnerSolved w w₆ x lower upper p step
-    rows-solved = record {
+    pub rows_solved : InnerSolved w w₆ x lower upper p step
+    rows_solved = record {
       same_length =
-          back.same_length ∙ put-top.same_length ∙ sloped-last.same_length ∙ forth.same_length ∙ put_first.same_length
-          ∙ sloped-first.same_length;
+          back.same_length ∙ put_top.same_length ∙ sloped_last.same_length ∙ forth.same_length ∙ put_first.same_length
+          ∙ sloped_first.same_length;
       slopes = slopes₆;
       result = moments;
       kept = λ j out. back.kept j (λ i lt. omega (arith, out (512 + i) (omega arith))) ∙ same₅ j out;

@@ -9,15 +9,15 @@ use Rattle.rules.specs.Numbers.{at, ◌⊖◌, ◌⊗◌}
 use Rattle.tensor_fours.specs.Fours.{Lanewise, in_row, RowSet}
 use Rattle.tensor_plan.specs.PlanOfEnds.{Room}
 use Rattle.tensor_four_lanes.specs.Groups.{Subtracted}
-use Rattle.tensor_fours.proofs.Fours.{number, row_other, row-there}
+use Rattle.tensor_fours.proofs.Fours.{number, row_other, row_there}
 
 pub record Turn (w₀ w : List Float) (n : ℕ) (factor : List Float) (k : ℕ) : Type 0 where
   pub given : Room w₀ n
   pub most : k ≤ n
   pub done : Subtracted w₀ w k factor
 
-pub turn-first : (w : List Float) (n : ℕ) (factor : List Float) → Room w n → Turn w w n factor 0
-turn-first w n factor given = record {
+pub turn_first : (w : List Float) (n : ℕ) (factor : List Float) → Room w n → Turn w w n factor 0
+turn_first w n factor given = record {
   given = given;
   most = omega arith;
   done = record { same_length = refl; result = λ l lt k h. absurd (omega arith); later = λ l lt k h. refl; kept = λ j o. refl };
@@ -25,8 +25,8 @@ turn-first w n factor given = record {
 
 module _
     (w₀ w w₁ : List Float) (n : ℕ) (factor : List Float) (k : ℕ) (t : Turn w₀ w n factor k) (below : k < n)
-    (y c m : List Float) (y-is : Lanewise y (λ l. in_row w 1536 k l)) (c-is : Lanewise c (λ l. at factor l ⊗ at w (384 + k)))
-    (m-is : Lanewise m (λ l. at y l ⊖ at c l)) (put : RowSet w w₁ 1536 k m)
+    (y c m : List Float) (y_is : Lanewise y (λ l. in_row w 1536 k l)) (c_is : Lanewise c (λ l. at factor l ⊗ at w (384 + k)))
+    (m_is : Lanewise m (λ l. at y l ⊖ at c l)) (put : RowSet w w₁ 1536 k m)
   where
     given : Room w₀ n
     given = t.given
@@ -34,15 +34,15 @@ module _
     here : (l : ℕ) → l < 4 → in_row w₁ 1536 k l ≡ in_row w₀ 1536 k l ⊖ at factor l ⊗ at w₀ (384 + k)
     here l lt =
         cc (
-          row-there put m-is l lt,
-          number y-is l lt,
-          number c-is l lt,
+          row_there put m_is l lt,
+          number y_is l lt,
+          number c_is l lt,
           t.done.later l lt k (omega arith),
           t.done.kept (384 + k) (λ i h. omega (arith, given)),
         )
 
-    pub turn-next : Turn w₀ w₁ n factor (k + 1)
-    turn-next = record {
+    pub turn_next : Turn w₀ w₁ n factor (k + 1)
+    turn_next = record {
       given = given;
       most = omega arith;
       done = record {

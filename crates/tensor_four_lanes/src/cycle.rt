@@ -3,7 +3,7 @@ ghost use Rattle.std.specs.Prelude.{◌-◌, length};
 ghost use Rattle.rules.specs.declared.Condition.TheVariants.{Periodic};
 ghost use Rattle.tensor_plan.specs.PlanOfEnds.{Room};
 ghost use Rattle.tensor_four_lanes.specs.Sweeps.{Lanes, Laid};
-ghost use Rattle.tensor_four_lanes.specs.Groups.{MomentsSolved, four-slope, CycleGroup, Subtracted};
+ghost use Rattle.tensor_four_lanes.specs.Groups.{MomentsSolved, four_slope, CycleGroup, Subtracted};
 
 use crate::sweeps::{back, forward, slopes, store_slopes};
 use grid_scratch::{DIVISORS, FOUR_MOMENTS, FOUR_SLOPES, SECOND};
@@ -58,7 +58,7 @@ pub fn solve_periodic(
 )
     requires { CycleGroup w.old x.now ratio rest places step × Lanes w.old (length x.now - 1) places to step }
     ensures { Laid w.old w.new places to step (length x.now)
-        (four-slope w.old x.now Periodic places step) }
+        (four_slope w.old x.now Periodic places step) }
 {
     let n = x.len() - 1;
     cyclic_moments(w, x, ratio, rest, places, step);

@@ -1,21 +1,21 @@
 // Four lanes under two ends. None of these is a public call.
 ghost use Rattle.std.specs.Prelude.{◌+◌, ◌≤◌, length};
 ghost use Rattle.rules.specs.Ends.{dropped};
-ghost use Rattle.rules.specs.Sizes.{scratch-of-rows};
+ghost use Rattle.rules.specs.Sizes.{scratch_of_rows};
 ghost use Rattle.rules.specs.declared.Condition.TheVariants.{Endpoints};
 ghost use Rattle.tensor_fours.specs.Fours.{Lanewise};
 ghost use Rattle.tensor_plan.specs.PlanOfEnds.{Room};
 ghost use Rattle.tensor_four_lanes.specs.Sweeps.{Laid};
 ghost use Rattle.tensor_four_lanes.specs.Groups.{
-  lower-right,
-  upper-right,
-  lower-moment,
-  upper-moment,
+  lower_right,
+  upper_right,
+  lower_moment,
+  upper_moment,
   EndsGroup,
   InnerSolved,
   MomentsSolved,
   EndsFour,
-  four-slope,
+  four_slope,
 };
 
 use crate::sweeps::{back, forward, slopes, store_slopes};
@@ -26,8 +26,8 @@ use tensor_plan::EndsPlan;
 
 // The right side of the first row, which is the lower end's.
 fn lower_right(w: &[f64], lower: End) -> [f64; 4]
-    requires { scratch-of-rows ≤ length w.now }
-    ensures { Lanewise result (lower-right w.now lower) }
+    requires { scratch_of_rows ≤ length w.now }
+    ensures { Lanewise result (lower_right w.now lower) }
 {
     match lower {
         End::NotAKnot => times(
@@ -45,7 +45,7 @@ fn lower_right(w: &[f64], lower: End) -> [f64; 4]
 // The right side of the last row, which is the upper end's.
 fn upper_right(w: &[f64], n: usize, upper: End) -> [f64; 4]
     requires { Room w.now n × (1 + dropped upper ≤ n) }
-    ensures { Lanewise result (upper-right w.now n upper) }
+    ensures { Lanewise result (upper_right w.now n upper) }
 {
     match upper {
         End::NotAKnot => times(
@@ -65,8 +65,8 @@ fn upper_right(w: &[f64], n: usize, upper: End) -> [f64; 4]
 
 // The moment at knot 0: from the two behind it where the lower end dropped it, else as it stands.
 fn lower_moment(w: &[f64], lower: End) -> [f64; 4]
-    requires { scratch-of-rows ≤ length w.now }
-    ensures { Lanewise result (lower-moment w.now lower) }
+    requires { scratch_of_rows ≤ length w.now }
+    ensures { Lanewise result (lower_moment w.now lower) }
 {
     match lower {
         End::NotAKnot => over(
@@ -84,7 +84,7 @@ fn lower_moment(w: &[f64], lower: End) -> [f64; 4]
 // The moment at knot n: its mirror.
 fn upper_moment(w: &[f64], n: usize, upper: End) -> [f64; 4]
     requires { Room w.now n × (1 + dropped upper ≤ n) }
-    ensures { Lanewise result (upper-moment w.now n upper) }
+    ensures { Lanewise result (upper_moment w.now n upper) }
 {
     match upper {
         End::NotAKnot => over(
@@ -162,7 +162,7 @@ pub fn solve_under_ends(
 )
     requires { EndsFour w.old x.now lower upper plan places to step }
     ensures { Laid w.old w.new places to step (length x.now)
-        (four-slope w.old x.now (Endpoints lower upper) places step) }
+        (four_slope w.old x.now (Endpoints lower upper) places step) }
 {
     let n = x.len() - 1;
     endpoint_moments(w, x, lower, upper, plan, places, step);

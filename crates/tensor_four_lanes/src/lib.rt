@@ -2,7 +2,7 @@
 // call: it requires that the plan of the axis stands in its rows, and that all lanes lie behind the rows of the scratch.
 ghost use Rattle.std.specs.Prelude.{length};
 ghost use Rattle.tensor_four_lanes.specs.Sweeps.{Laid};
-ghost use Rattle.tensor_four_lanes.specs.Groups.{four-slope, FourGiven};
+ghost use Rattle.tensor_four_lanes.specs.Groups.{four_slope, FourGiven};
 
 use crate::cycle::solve_periodic;
 use crate::ends::solve_under_ends;
@@ -25,7 +25,7 @@ pub fn solve_four(
 )
     requires { FourGiven w.old x.now condition plan places to step }
     ensures { Laid w.old w.new places to step (length x.now)
-        (four-slope w.old x.now condition places step) }
+        (four_slope w.old x.now condition places step) }
 {
     match condition {
         Condition::Endpoints(lower, upper) => {

@@ -3,7 +3,7 @@ ghost use Rattle.std.specs.Prelude.{◌+◌, ◌<◌, ◌≤◌};
 ghost use Rattle.rules.specs.Numbers.{at, ◌⊕◌, ◌⊖◌, ◌⊗◌, ◌⊘◌, two, six};
 ghost use Rattle.tensor_fours.specs.Fours.{Lanewise};
 ghost use Rattle.tensor_plan.specs.PlanOfEnds.{Room};
-ghost use Rattle.tensor_four_lanes.specs.Sweeps.{Lanes, Sloped, Forward, Back, inner-slope, slope-at, Laid};
+ghost use Rattle.tensor_four_lanes.specs.Sweeps.{Lanes, Sloped, Forward, Back, inner_slope, slope_at, Laid};
 
 use grid_scratch::{DIVISORS, FOUR_MOMENTS, FOUR_SLOPES, HELPERS};
 use tensor_fours::{get_row, load, minus, over, plus, set_row, store, times};
@@ -86,7 +86,7 @@ fn last_slope(s: [f64; 4], h: f64, before: [f64; 4], m: [f64; 4]) -> [f64; 4]
 // that store the compiler computes the lanes one by one.
 fn store_inner_slopes(w: &mut [f64], n: usize, places: [usize; 4], to: usize, step: usize)
     requires { Lanes w.old n places to step }
-    ensures { Laid w.old w.new places to step n (inner-slope w.old) }
+    ensures { Laid w.old w.new places to step n (inner_slope w.old) }
 {
     let mut m = get_row(w, FOUR_MOMENTS, 0);
     let mut k = 0;
@@ -104,7 +104,7 @@ fn store_inner_slopes(w: &mut [f64], n: usize, places: [usize; 4], to: usize, st
 // The knot slopes of all n + 1 knots go to their places.
 pub fn store_slopes(w: &mut [f64], n: usize, places: [usize; 4], to: usize, step: usize)
     requires { Lanes w.old n places to step × (0 < n) }
-    ensures { Laid w.old w.new places to step (n + 1) (slope-at w.old n) }
+    ensures { Laid w.old w.new places to step (n + 1) (slope_at w.old n) }
 {
     let s = get_row(w, FOUR_SLOPES, n - 1);
     let before = get_row(w, FOUR_MOMENTS, n - 1);

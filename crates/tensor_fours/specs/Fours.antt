@@ -10,10 +10,10 @@ pub record Lanewise (r : List Float) (f : ℕ → Float) : Type 0 where
 
 -- what holds of each of four lanes, written out; proofs/Fours.antt goes from it to every l < 4 and back
 pub record Four (p : ℕ → Type 0) : Type 0 where
-  pub of-0 : p 0
-  pub of-1 : p 1
-  pub of-2 : p 2
-  pub of-3 : p 3
+  pub of_0 : p 0
+  pub of_1 : p 1
+  pub of_2 : p 2
+  pub of_3 : p 3
 
 -- lane l's number in row k of a block
 abbrev pub in_row : List Float → ℕ → ℕ → ℕ → Float

@@ -17,8 +17,8 @@ pub record Turn (w₀ w : List Float) (n from step k : ℕ) : Type 0 where
   pub same_length : length w ≡ length w₀
   pub done : Gathered w₀ w k from step
 
-pub turn-first : (w : List Float) (n from step : ℕ) → Lies w n from step → n ≤ 256 → Turn w w n from step 0
-turn-first w n from step l few = record {
+pub turn_first : (w : List Float) (n from step : ℕ) → Lies w n from step → n ≤ 256 → Turn w w n from step 0
+turn_first w n from step l few = record {
   lies = l;
   few = few;
   most = omega arith;
@@ -26,10 +26,10 @@ turn-first w n from step l few = record {
   done = record { same_length = refl; samples = λ k h. absurd (omega arith); kept = λ j h. refl };
 }
 
-pub turn-next :
+pub turn_next :
     (w₀ w : List Float) (n from step k : ℕ) → Turn w₀ w n from step k → k < n
     → Turn w₀ (set w k (at w (from + k * step))) n from step (k + 1)
-turn-next w₀ w n from step k t lt =
+turn_next w₀ w n from step k t lt =
     let l = t.lies in
     let here : Float = at w (from + k * step) in
     record {

@@ -16,8 +16,8 @@ module _ (w : List Float) (a n : ℕ) (inside : a + n ≤ length w) where
   pub part_at : (k : ℕ) → k < n → at (take n (drop a w)) k ≡ at w (a + k)
   part_at k lt = rw (get_or-take, get_or-drop)
 
-  pub part-is-table : (f : ℕ → Float) → ((k : ℕ) → k < n → at w (a + k) ≡ f k) → take n (drop a w) ≡ table n f
-  part-is-table f same = table_is nan (take n (drop a w)) n f part_length (λ k lt. part_at k lt ∙ same k lt)
+  pub part_is_table : (f : ℕ → Float) → ((k : ℕ) → k < n → at w (a + k) ≡ f k) → take n (drop a w) ≡ table n f
+  part_is_table f same = table_is nan (take n (drop a w)) n f part_length (λ k lt. part_at k lt ∙ same k lt)
 
 -- two lists with the same numbers there have the same part
 pub part_ext :

@@ -9,8 +9,8 @@ use lib.Seq.{get_or-set_same, get_or-set_other}
 use lib.Ieee.{Float, nan}
 use borrow.Author.Count.{below_more}
 use Rattle.rules.specs.Numbers.{at}
-use Rattle.rules.specs.Curve.{knot-slope}
-use Rattle.tensor_lane.specs.LaneInScratch.{Lies, Stored, slope-of-rows}
+use Rattle.rules.specs.Curve.{knot_slope}
+use Rattle.tensor_lane.specs.LaneInScratch.{Lies, Stored, slope_of_rows}
 use Rattle.tensor_lane.proofs.Parts.{part_ext}
 
 pub record Turn (w₀ w : List Float) (numbers : ℕ → Float) (n to step k : ℕ) : Type 0 where
@@ -20,8 +20,8 @@ pub record Turn (w₀ w : List Float) (numbers : ℕ → Float) (n to step k : �
   pub same_length : length w ≡ length w₀
   pub done : Stored w₀ w numbers k to step
 
-pub turn-first : (w : List Float) (numbers : ℕ → Float) (n to step : ℕ) → Lies w n to step → 1 ≤ step → Turn w w numbers n to step 0
-turn-first w numbers n to step l a = record {
+pub turn_first : (w : List Float) (numbers : ℕ → Float) (n to step : ℕ) → Lies w n to step → 1 ≤ step → Turn w w numbers n to step 0
+turn_first w numbers n to step l a = record {
   lies = l;
   apart = a;
   most = omega arith;
@@ -29,10 +29,10 @@ turn-first w numbers n to step l a = record {
   done = record { same_length = refl; values = λ k h. absurd (omega arith); kept = λ j h. refl };
 }
 
-pub turn-next :
+pub turn_next :
     (w₀ w : List Float) (numbers : ℕ → Float) (n to step k : ℕ) (v : Float) → Turn w₀ w numbers n to step k → k < n → v ≡ numbers k
     → Turn w₀ (set w (to + k * step) v) numbers n to step (k + 1)
-turn-next w₀ w numbers n to step k v t lt e = record {
+turn_next w₀ w numbers n to step k v t lt e = record {
   lies = t.lies;
   apart = t.apart;
   most = omega arith;
@@ -54,11 +54,11 @@ pub turn_last : (w₀ w : List Float) (numbers : ℕ → Float) (n to step k : �
 turn_last w₀ w numbers n to step k t ge = let e : k ≡ n = omega (arith, t.most) in rw e at t.done
 
 -- the slopes are read from rows that stay
-pub slope-kept :
-    (w₀ w x : List Float) (n to step k j : ℕ) → Lies w₀ n to step → length x ≤ 256 → Stored w₀ w (slope-of-rows w₀ x) k to step
-    → slope-of-rows w x j ≡ slope-of-rows w₀ x j
-slope-kept w₀ w x n to step k j lies few done =
-    ap₂ (λ (y m : List Float). knot-slope x (length x - 1) y m j) (row_kept 0 (omega arith)) (row_kept 1792 (omega arith))
+pub slope_kept :
+    (w₀ w x : List Float) (n to step k j : ℕ) → Lies w₀ n to step → length x ≤ 256 → Stored w₀ w (slope_of_rows w₀ x) k to step
+    → slope_of_rows w x j ≡ slope_of_rows w₀ x j
+slope_kept w₀ w x n to step k j lies few done =
+    ap₂ (λ (y m : List Float). knot_slope x (length x - 1) y m j) (row_kept 0 (omega arith)) (row_kept 1792 (omega arith))
   where
     row_kept : (a : ℕ) → a + length x ≤ 2048 → take (length x) (drop a w) ≡ take (length x) (drop a w₀)
     row_kept a h =

@@ -1,8 +1,8 @@
 // One lane of the working tensor: its numbers gathered, its moments computed, its knot slopes stored. None of these is a public call.
 ghost use Rattle.std.specs.Prelude.{◌≡◌, ◌<◌, ◌≤◌, length};
-ghost use Rattle.rules.specs.Sizes.{scratch-of-rows};
-ghost use Rattle.grid_scratch.specs.Layout.{row-length};
-ghost use Rattle.tensor_lane.specs.LaneInScratch.{Lies, Gathered, slope-of-rows, Stored, LaneGiven, LaneSolved};
+ghost use Rattle.rules.specs.Sizes.{scratch_of_rows};
+ghost use Rattle.grid_scratch.specs.Layout.{row_length};
+ghost use Rattle.tensor_lane.specs.LaneInScratch.{Lies, Gathered, slope_of_rows, Stored, LaneGiven, LaneSolved};
 
 use axis_moments::curve::knot_slope;
 use grid_scratch::MOMENTS;
@@ -10,7 +10,7 @@ use rules::Condition;
 
 // The lane's n numbers go to the row of samples.
 fn gather(w: &mut [f64], n: usize, from: usize, step: usize)
-    requires { Lies w.old n from step × (n ≤ row-length) }
+    requires { Lies w.old n from step × (n ≤ row_length) }
     ensures { Gathered w.old w.new n from step }
 {
     let mut k = 0;
@@ -22,8 +22,8 @@ fn gather(w: &mut [f64], n: usize, from: usize, step: usize)
 
 // The knot slope at k, from the samples and the moments in their rows.
 fn slope(w: &[f64], x: &[f64], k: usize) -> f64
-    requires { (scratch-of-rows ≤ length w.now) × (2 ≤ length x.now) × (length x.now ≤ row-length) × (k < length x.now) }
-    ensures { result ≡ slope-of-rows w.now x.now k }
+    requires { (scratch_of_rows ≤ length w.now) × (2 ≤ length x.now) × (length x.now ≤ row_length) × (k < length x.now) }
+    ensures { result ≡ slope_of_rows w.now x.now k }
 {
     let n = x.len();
     knot_slope(x, &w[0..n], &w[MOMENTS..MOMENTS + n], k)
@@ -31,8 +31,8 @@ fn slope(w: &[f64], x: &[f64], k: usize) -> f64
 
 // The knot slopes go to `to`, to + step, ..
 fn store_slopes(w: &mut [f64], x: &[f64], to: usize, step: usize)
-    requires { Lies w.old (length x.now) to step × (1 ≤ step) × (2 ≤ length x.now) × (length x.now ≤ row-length) }
-    ensures { Stored w.old w.new (slope-of-rows w.old x.now) (length x.now) to step }
+    requires { Lies w.old (length x.now) to step × (1 ≤ step) × (2 ≤ length x.now) × (length x.now ≤ row_length) }
+    ensures { Stored w.old w.new (slope_of_rows w.old x.now) (length x.now) to step }
 {
     let mut k = 0;
     while k < x.len() {

@@ -11,10 +11,10 @@ use lib.Dec.{ltb}
 use lib.Ieee.{Float}
 use borrow.Author.Tests.{ltb-true, ltb-false, lt-ltb, le-ltb}
 use Rattle.rules.specs.Sizes.{Grid, points, masks, Place, moved}
-use Rattle.rules.specs.Tensor.{slope-along}
-use Rattle.rules.proofs.Cases.{arms, arms-one, not-both}
-use Rattle.rules.proofs.Places.{moved-on-grid}
-use Rattle.rules.proofs.Locality.{slope-along-ext}
+use Rattle.rules.specs.Tensor.{slope_along}
+use Rattle.rules.proofs.Cases.{arms, arms_one, not_both}
+use Rattle.rules.proofs.Places.{moved_on_grid}
+use Rattle.rules.proofs.Locality.{slope_along_ext}
 use Rattle.tensor_passes.specs.Passes.{solves, working, Passed, AxisPassed, refreshed, Refreshed}
 use Rattle.grid.specs.GridOfCall.{On}
 use Rattle.tensor_passes.proofs.Pass.{target_below}
@@ -22,30 +22,30 @@ use Rattle.tensor_passes.proofs.Pass.{target_below}
 module _ (g : Grid) (whole : Bool) (place : Place) where
   -- ---- along one axis
 
-  pub no-pass : (w : List Float) (i : ℕ) → AxisPassed g w w whole place i 0
-  no-pass w i = record { same_length = refl; slopes = λ p mask on lt. absurd (omega arith); kept = λ p m on small h. refl }
+  pub no_pass : (w : List Float) (i : ℕ) → AxisPassed g w w whole place i 0
+  no_pass w i = record { same_length = refl; slopes = λ p mask on lt. absurd (omega arith); kept = λ p m on small h. refl }
 
   module _
       (w₀ w w' : List Float) (i mask : ℕ) (in_use : i < g.axes) (low : mask < 2 ^ i)
       (before : AxisPassed g w₀ w whole place i mask) (pass : Passed g w w' whole place i mask)
     where
       -- the numbers that a pass reads are as they stood
-      lane-kept : (p : Place) (k : ℕ) → On g p → k < points g i → working g w (moved p i k) mask ≡ working g w₀ (moved p i k) mask
-      lane-kept p k on h =
-          before.kept (moved p i k) mask (moved-on-grid (points g) g.axes i k p on h)
+      lane_kept : (p : Place) (k : ℕ) → On g p → k < points g i → working g w (moved p i k) mask ≡ working g w₀ (moved p i k) mask
+      lane_kept p k on h =
+          before.kept (moved p i k) mask (moved_on_grid (points g) g.axes i k p on h)
           (omega (arith, target_below i mask g.axes in_use low)) (λ other lt e. absurd (omega arith))
 
-      pub one-pass-more : AxisPassed g w₀ w' whole place i (mask + 1)
-      one-pass-more = record {
+      pub one_pass_more : AxisPassed g w₀ w' whole place i (mask + 1)
+      one_pass_more = record {
         same_length = pass.same_length ∙ before.same_length;
         slopes = λ p m on lt e. ⊎_elim
             (λ is.
             subst
             (λ (m : ℕ). solves g whole place (m + 2 ^ i) p ≡ true
-            → working g w' p (m + 2 ^ i) ≡ slope-along g i m (λ q. working g w₀ q m) p)
+            → working g w' p (m + 2 ^ i) ≡ slope_along g i m (λ q. working g w₀ q m) p)
             (sym is)
             (λ e. pass.slopes p on e
-            ∙ slope-along-ext g i mask (λ q. working g w q mask) (λ q. working g w₀ q mask) p p refl (λ k h. lane-kept p k on h)) e)
+            ∙ slope_along_ext g i mask (λ q. working g w q mask) (λ q. working g w₀ q mask) p p refl (λ k h. lane_kept p k on h)) e)
             (λ less.
             pass.kept p (m + 2 ^ i) on (target_below i m g.axes in_use (omega arith)) (λ same. absurd (omega arith))
             ∙ before.slopes p m on less e)
@@ -57,25 +57,25 @@ module _ (g : Grid) (whole : Bool) (place : Place) where
   -- ---- axis after axis
 
   module _ (old : Place → ℕ → Float) (i : ℕ) (p : Place) where
-    refreshed-low : (mask : ℕ) → mask < 2 ^ i → refreshed g whole place old (suc i) mask p ≡ refreshed g whole place old i mask p
+    refreshed_low : (mask : ℕ) → mask < 2 ^ i → refreshed g whole place old (suc i) mask p ≡ refreshed g whole place old i mask p
     unfolding refreshed
-    refreshed-low mask lt =
+    refreshed_low mask lt =
         let e = lt-ltb mask (2 ^ i) lt in
-        arms-one (ltb mask (2 ^ i)) (λ f. refl) (λ f. not-both (ltb mask (2 ^ i)) e f)
+        arms_one (ltb mask (2 ^ i)) (λ f. refl) (λ f. not_both (ltb mask (2 ^ i)) e f)
 
-    refreshed-high :
+    refreshed_high :
         (mask : ℕ) → 2 ^ i ≤ mask
         → refreshed g whole place old (suc i) mask p
         ≡ arms (solves g whole place (mask - 2 ^ i + 2 ^ i) p)
-        (slope-along g i (mask - 2 ^ i) (refreshed g whole place old i (mask - 2 ^ i)) p) (old p mask)
+        (slope_along g i (mask - 2 ^ i) (refreshed g whole place old i (mask - 2 ^ i)) p) (old p mask)
     unfolding refreshed
-    refreshed-high mask le =
+    refreshed_high mask le =
         let e = le-ltb mask (2 ^ i) le in
-        arms-one (ltb mask (2 ^ i)) (λ f. not-both (ltb mask (2 ^ i)) f e) (λ f. refl)
+        arms_one (ltb mask (2 ^ i)) (λ f. not_both (ltb mask (2 ^ i)) f e) (λ f. refl)
 
-  pub no-axis : (w : List Float) → Refreshed g w w whole place 0
+  pub no_axis : (w : List Float) → Refreshed g w w whole place 0
   unfolding refreshed
-  no-axis w = record {
+  no_axis w = record {
     same_length = refl;
     done = λ p mask on small lt. ap (working g w p) (let e : mask ≡ 0 = omega arith in e);
     rest = λ p mask on small le. refl;
@@ -90,24 +90,24 @@ module _ (g : Grid) (whole : Bool) (place : Place) where
 
       high : (p : Place) (mask rest : ℕ) → On g p → mask < masks g → rest < 2 ^ i → mask ≡ rest + 2 ^ i → (b : Bool)
           → solves g whole place (rest + 2 ^ i) p ≡ b
-          → working g w' p mask ≡ arms b (slope-along g i rest (refreshed g whole place old i rest) p) (old p mask)
+          → working g w' p mask ≡ arms b (slope_along g i rest (refreshed g whole place old i rest) p) (old p mask)
       high p mask rest on small lt e true solved =
           ap (working g w' p) e ∙ axis.slopes p rest on lt solved
-          ∙ slope-along-ext g i rest (λ q. working g w q rest) (refreshed g whole place old i rest) p p refl
-          (λ k h. before.done (moved p i k) rest (moved-on-grid (points g) g.axes i k p on h) (omega arith) lt)
+          ∙ slope_along_ext g i rest (λ q. working g w q rest) (refreshed g whole place old i rest) p p refl
+          (λ k h. before.done (moved p i k) rest (moved_on_grid (points g) g.axes i k p on h) (omega arith) lt)
       high p mask rest on small lt e false left =
           axis.kept p mask on small
           (λ other l same. subst (λ (m : ℕ). solves g whole place (m + 2 ^ i) p ≡ false) (let s : rest ≡ other = omega arith in s) left)
           ∙ before.rest p mask on small (omega arith)
 
-      low-kept : (p : Place) (mask : ℕ) → On g p → mask < masks g → mask < 2 ^ i
+      low_kept : (p : Place) (mask : ℕ) → On g p → mask < masks g → mask < 2 ^ i
           → working g w' p mask ≡ refreshed g whole place old (suc i) mask p
-      low-kept p mask on small lt =
+      low_kept p mask on small lt =
           axis.kept p mask on small (λ other l same. absurd (omega arith))
-          ∙ before.done p mask on small lt ∙ sym (refreshed-low old i p mask lt)
+          ∙ before.done p mask on small lt ∙ sym (refreshed_low old i p mask lt)
 
-      pub one-axis-more : Refreshed g w₀ w' whole place (i + 1)
-      one-axis-more = rw add-one (record {
+      pub one_axis_more : Refreshed g w₀ w' whole place (i + 1)
+      one_axis_more = rw add-one (record {
         same_length = axis.same_length ∙ before.same_length;
         done = λ p mask on small lt. go p mask on small lt (ltb mask (2 ^ i)) refl;
         rest = λ p mask on small le.
@@ -117,9 +117,9 @@ module _ (g : Grid) (whole : Bool) (place : Place) where
         where
           go : (p : Place) (mask : ℕ) → On g p → mask < masks g → mask < 2 ^ suc i → (b : Bool) → ltb mask (2 ^ i) ≡ b
               → working g w' p mask ≡ refreshed g whole place old (suc i) mask p
-          go p mask on small lt true e = low-kept p mask on small (ltb-true mask (2 ^ i) e)
+          go p mask on small lt true e = low_kept p mask on small (ltb-true mask (2 ^ i) e)
           go p mask on small lt false e =
               let le = ltb-false mask (2 ^ i) e in
               let rest : mask - 2 ^ i < 2 ^ i = omega (arith, two-pow-succ i) in
               high p mask (mask - 2 ^ i) on small rest (omega arith) (solves g whole place (mask - 2 ^ i + 2 ^ i) p) refl
-              ∙ sym (refreshed-high old i p mask le)
+              ∙ sym (refreshed_high old i p mask le)

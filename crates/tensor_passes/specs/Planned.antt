@@ -3,7 +3,7 @@ use Rattle.std.specs.Prelude.{◌≡◌, true, List, ℕ, ◌≤◌, length, Flo
 use Rattle.rules.specs.Numbers.{at}
 use Rattle.rules.specs.Sizes.{Grid, condition, knots}
 use Rattle.rules.specs.declared.Condition.{Condition}
-use Rattle.grid_scratch.specs.Layout.{plan-end}
+use Rattle.grid_scratch.specs.Layout.{plan_end}
 use Rattle.tensor_plan.specs.declared.AxisPlan.{AxisPlan}
 use Rattle.tensor_walks.specs.ByFour.{AxisStands}
 
@@ -15,4 +15,4 @@ pub record Planned (g : Grid) (w : List Float) (i : ℕ) (plan : AxisPlan) : Typ
 pub record PlannedFor (w w' x : List Float) (ends : Condition) (plan : AxisPlan) : Type 0 where
   pub same_length : length w' ≡ length w
   pub stands : plan.made ≡ true → AxisStands w' x ends plan
-  pub kept : (j : ℕ) → plan-end ≤ j → at w' j ≡ at w j
+  pub kept : (j : ℕ) → plan_end ≤ j → at w' j ≡ at w j

@@ -2,17 +2,17 @@
 // the whole of them for a build, for a change those that agree with its place on every axis outside the target. None of these is a public
 // call.
 ghost use Rattle.std.specs.Prelude.{◌≡◌, true, ◌^◌, ◌≤◌, length};
-ghost use Rattle.rules.specs.Ends.{condition-at, fewest-points};
-ghost use Rattle.rules.specs.Sizes.{scratch-of-rows, place_of};
-ghost use Rattle.grid_scratch.specs.Layout.{plan-row-length};
-ghost use Rattle.grid.specs.GridOfCall.{grid, points-of, On};
-ghost use Rattle.tensor_plan.specs.Plans.{fewest-planned};
+ghost use Rattle.rules.specs.Ends.{condition_at, fewest_points};
+ghost use Rattle.rules.specs.Sizes.{scratch_of_rows, place_of};
+ghost use Rattle.grid_scratch.specs.Layout.{plan_row_length};
+ghost use Rattle.grid.specs.GridOfCall.{grid, points_of, On};
+ghost use Rattle.tensor_plan.specs.Plans.{fewest_planned};
 ghost use Rattle.tensor_walks.specs.ByFour.{PlanKept};
 ghost use Rattle.tensor_passes.specs.Planned.{Planned, PlannedFor};
 ghost use Rattle.tensor_passes.specs.Passes.{
-  lanes-solved,
-  lanes-on-axis,
-  lanes-solved-below,
+  lanes_solved,
+  lanes_on_axis,
+  lanes_solved_below,
   PassGiven,
   WorkGiven,
   Passed,
@@ -28,7 +28,7 @@ use tensor_walks::solve_walk;
 
 // The condition of an axis for the numbers at a mask: its own for samples, which stand at mask 0, and for derivatives the crossed one.
 fn condition_at(mask: usize, condition: Condition) -> Condition
-    ensures { result ≡ condition-at mask condition }
+    ensures { result ≡ condition_at mask condition }
 {
     if mask == 0 {
         condition
@@ -52,7 +52,7 @@ fn solve_lanes(
     requires { PassGiven (grid axes all knots.now) w.old (place_of place) axis mask
         × Planned (grid axes all knots.now) w.old axis plan }
     ensures { Passed (grid axes all knots.now) w.old w.new whole (place_of place) axis mask
-        × (result ≡ lanes-solved (points-of all) axes whole axis mask) × (plan.made ≡ true → PlanKept w.old w.new) }
+        × (result ≡ lanes_solved (points_of all) axes whole axis mask) × (plan.made ≡ true → PlanKept w.old w.new) }
 {
     let entry = all[axis];
     let n = entry.points;
@@ -80,7 +80,7 @@ fn solve_masks(
     requires { PassGiven (grid axes all knots.now) w.old (place_of place) axis 0
         × Planned (grid axes all knots.now) w.old axis plan }
     ensures { AxisPassed (grid axes all knots.now) w.old w.new whole (place_of place) axis (2 ^ axis)
-        × (result ≡ lanes-on-axis (points-of all) axes whole axis) }
+        × (result ≡ lanes_on_axis (points_of all) axes whole axis) }
 {
     let limit = masks(axis);
     let mut lanes = 0;
@@ -95,7 +95,7 @@ fn solve_masks(
 // Whether the lanes along an axis of n points are solved by four. A grid of one axis has a single lane, and no plan is longer than 128
 // points; two points of a periodic axis leave nothing to solve.
 fn goes_by_four(axes: usize, n: usize, ends: Condition) -> bool
-    ensures { result ≡ true → fewest-points ends ≤ n → (n ≤ plan-row-length) × (fewest-planned ends ≤ n) }
+    ensures { result ≡ true → fewest_points ends ≤ n → (n ≤ plan_row_length) × (fewest_planned ends ≤ n) }
 {
     if axes == 1 {
         return false;
@@ -111,7 +111,7 @@ fn goes_by_four(axes: usize, n: usize, ends: Condition) -> bool
 
 // The plan of an axis whose lanes are solved by four; of another, that there is none.
 fn plan_for(w: &mut [f64], x: &[f64], axes: usize, ends: Condition) -> AxisPlan
-    requires { (scratch-of-rows ≤ length w.old) × (fewest-points ends ≤ length x.now) }
+    requires { (scratch_of_rows ≤ length w.old) × (fewest_points ends ≤ length x.now) }
     ensures { PlannedFor w.old w.new x.now ends result }
 {
     if goes_by_four(axes, x.len(), ends) {
@@ -132,7 +132,7 @@ fn solve_along(
 ) -> usize
     requires { PassGiven (grid axes all knots.now) w.old (place_of place) axis 0 }
     ensures { AxisPassed (grid axes all knots.now) w.old w.new whole (place_of place) axis (2 ^ axis)
-        × (result ≡ lanes-on-axis (points-of all) axes whole axis) }
+        × (result ≡ lanes_on_axis (points_of all) axes whole axis) }
 {
     let entry = all[axis];
     let n = entry.points;
@@ -154,7 +154,7 @@ pub fn solve_axes(
 ) -> usize
     requires { WorkGiven (grid axes all knots.now) w.old × On (grid axes all knots.now) (place_of place) }
     ensures { Refreshed (grid axes all knots.now) w.old w.new whole (place_of place) axes
-        × (result ≡ lanes-solved-below (points-of all) axes whole axes) }
+        × (result ≡ lanes_solved_below (points_of all) axes whole axes) }
 {
     let mut lanes = 0;
     let mut axis = 0;

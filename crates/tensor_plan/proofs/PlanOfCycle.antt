@@ -9,13 +9,13 @@ use lib.ListN.{length, set, length-set}
 use lib.Seq.{get_or-set_same, get_or-set_other}
 use lib.Ieee.{Float, nan, neg}
 use borrow.Author.Tests.{eq-eqb, ne_eqb}
-use Rattle.rules.specs.Numbers.{at, ◌⊕◌, ◌⊖◌, ◌⊗◌, ◌⊘◌, two, one, plus-zero}
+use Rattle.rules.specs.Numbers.{at, ◌⊕◌, ◌⊖◌, ◌⊗◌, ◌⊘◌, two, one, plus_zero}
 use Rattle.rules.specs.Steps.{h}
 use Rattle.rules.specs.Solve as Solve
-use Rattle.rules.specs.Solve.{cp, dp, before_last, thomas, gamma, diag-mod, u-vec}
-use Rattle.rules.specs.Moments.{periodic-diag}
+use Rattle.rules.specs.Solve.{cp, dp, before_last, thomas, gamma, diag_mod, u_vec}
+use Rattle.rules.specs.Moments.{periodic_diag}
 use Rattle.grid_scratch.specs.Layout.{Outside}
-use Rattle.tensor_plan.specs.Cycle.{of-cycle, of-open, SecondForth, SecondBack, CycleGiven, CyclePlanMade}
+use Rattle.tensor_plan.specs.Cycle.{of_cycle, of_open, SecondForth, SecondBack, CycleGiven, CyclePlanMade}
 use Rattle.tensor_plan.specs.PlanOfEnds.{Stepped, Divided}
 
 module _ (x : List Float) where
@@ -33,87 +33,87 @@ module _ (x : List Float) where
   d = two ⊗ (h x l ⊕ h x 0)
 
   module _ (y : List Float) where
-    gamma-is : of-cycle gamma x y n ≡ neg d
-    unfolding periodic-diag
-    gamma-is = refl
+    gamma_is : of_cycle gamma x y n ≡ neg d
+    unfolding periodic_diag
+    gamma_is = refl
 
-    diag-first : of-cycle diag-mod x y n l 0 ≡ d ⊖ neg d
-    unfolding diag-mod periodic-diag
-    diag-first = refl
+    diag_first : of_cycle diag_mod x y n l 0 ≡ d ⊖ neg d
+    unfolding diag_mod periodic_diag
+    diag_first = refl
 
-    diag-inside : (k : ℕ) → suc k < l → of-cycle diag-mod x y n l (suc k) ≡ two ⊗ (h x k ⊕ h x (suc k))
-    unfolding diag-mod periodic-diag
-    diag-inside k lt =
+    diag_inside : (k : ℕ) → suc k < l → of_cycle diag_mod x y n l (suc k) ≡ two ⊗ (h x k ⊕ h x (suc k))
+    unfolding diag_mod periodic_diag
+    diag_inside k lt =
         let e : suc k - 1 ≡ k = omega arith in
         rw (ne_eqb (suc k) 0 (omega arith), ne_eqb (suc k) l (omega arith), e)
 
-    diag-last : (k : ℕ) → suc k ≡ l → of-cycle diag-mod x y n l (suc k) ≡ two ⊗ (h x k ⊕ h x (suc k)) ⊖ corner ⊗ corner ⊘ neg d
-    unfolding diag-mod periodic-diag
-    diag-last k e =
+    diag_last : (k : ℕ) → suc k ≡ l → of_cycle diag_mod x y n l (suc k) ≡ two ⊗ (h x k ⊕ h x (suc k)) ⊖ corner ⊗ corner ⊘ neg d
+    unfolding diag_mod periodic_diag
+    diag_last k e =
         let f : suc k - 1 ≡ k = omega arith in
         rw (ne_eqb (suc k) 0 (omega arith), eq-eqb (suc k) l e, f)
 
-    u-first : of-cycle u-vec x y n l 0 ≡ neg d
-    unfolding u-vec periodic-diag
-    u-first = refl
+    u_first : of_cycle u_vec x y n l 0 ≡ neg d
+    unfolding u_vec periodic_diag
+    u_first = refl
 
-    u-inside : (k : ℕ) → suc k < l → of-cycle u-vec x y n l (suc k) ≡ plus-zero
-    unfolding u-vec
-    u-inside k lt = rw (ne_eqb (suc k) 0 (omega arith), ne_eqb (suc k) l (omega arith))
+    u_inside : (k : ℕ) → suc k < l → of_cycle u_vec x y n l (suc k) ≡ plus_zero
+    unfolding u_vec
+    u_inside k lt = rw (ne_eqb (suc k) 0 (omega arith), ne_eqb (suc k) l (omega arith))
 
-    u-last : (k : ℕ) → suc k ≡ l → of-cycle u-vec x y n l (suc k) ≡ corner
-    unfolding u-vec
-    u-last k e = rw (ne_eqb (suc k) 0 (omega arith), eq-eqb (suc k) l e)
+    u_last : (k : ℕ) → suc k ≡ l → of_cycle u_vec x y n l (suc k) ≡ corner
+    unfolding u_vec
+    u_last k e = rw (ne_eqb (suc k) 0 (omega arith), eq-eqb (suc k) l e)
 
     -- the second solve: its right side is u-vec, its matrix the first's
-    abbrev of-second : {A : Type 0} → ((ℕ → Float) → (ℕ → Float) → (ℕ → Float) → (ℕ → Float) → A) → A
-    of-second f = f (h x) (of-cycle diag-mod x y n l) (h x) (of-cycle u-vec x y n l)
+    abbrev of_second : {A : Type 0} → ((ℕ → Float) → (ℕ → Float) → (ℕ → Float) → (ℕ → Float) → A) → A
+    of_second f = f (h x) (of_cycle diag_mod x y n l) (h x) (of_cycle u_vec x y n l)
 
     -- so it has the first's divisors and helpers
-    same-divisor : (k : ℕ) → of-open Solve.w x y n k ≡ of-second Solve.w k
+    same_divisor : (k : ℕ) → of_open Solve.w x y n k ≡ of_second Solve.w k
     unfolding Solve.w
-    same-divisor zero = refl
-    same-divisor (suc k) = cc (same-divisor k)
+    same_divisor zero = refl
+    same_divisor (suc k) = cc (same_divisor k)
 
-    same-helper : (k : ℕ) → of-open cp x y n k ≡ of-second cp k
+    same_helper : (k : ℕ) → of_open cp x y n k ≡ of_second cp k
     unfolding cp
-    same-helper k = cc (same-divisor k)
+    same_helper k = cc (same_divisor k)
 
     module _
         (w₁ w₂ : List Float) (enough : 3 ≤ length x) (steps : (k : ℕ) → k + 1 < length x → at w₁ k ≡ h x k)
         (divided : Divided w₁ w₂ 0 l (d ⊖ neg d) (h x 0 ⊘ (d ⊖ neg d)))
       where
-        both_first : (at w₂ (128 + 0) ≡ of-open Solve.w x y n 0) × (at w₂ (256 + 0) ≡ of-open cp x y n 0)
+        both_first : (at w₂ (128 + 0) ≡ of_open Solve.w x y n 0) × (at w₂ (256 + 0) ≡ of_open cp x y n 0)
         unfolding Solve.w cp
-        both_first = (cc (divided.first-divisor, diag-first), cc (divided.first-helper, diag-first))
+        both_first = (cc (divided.first_divisor, diag_first), cc (divided.first_helper, diag_first))
 
-        both-next : (k : ℕ) → suc k < l → at w₂ (256 + k) ≡ of-open cp x y n k
-            → (at w₂ (128 + suc k) ≡ of-open Solve.w x y n (suc k)) × (at w₂ (256 + suc k) ≡ of-open cp x y n (suc k))
+        both_next : (k : ℕ) → suc k < l → at w₂ (256 + k) ≡ of_open cp x y n k
+            → (at w₂ (128 + suc k) ≡ of_open Solve.w x y n (suc k)) × (at w₂ (256 + suc k) ≡ of_open cp x y n (suc k))
         unfolding Solve.w cp
-        both-next k lt is =
+        both_next k lt is =
             let e : k + 1 ≡ suc k = omega arith in
-            let divisor : at w₂ (128 + suc k) ≡ of-open Solve.w x y n (suc k) =
+            let divisor : at w₂ (128 + suc k) ≡ of_open Solve.w x y n (suc k) =
             cc (
-              divided.next-divisor k (omega arith) (omega arith),
+              divided.next_divisor k (omega arith) (omega arith),
               is,
               steps k (omega arith),
               steps (k + 1) (omega arith),
-              diag-inside k lt,
+              diag_inside k lt,
             ) in
-            (divisor, cc (divided.next-helper k (omega arith) (omega arith), divisor, steps (k + 1) (omega arith)))
+            (divisor, cc (divided.next_helper k (omega arith) (omega arith), divisor, steps (k + 1) (omega arith)))
 
-        both : (k : ℕ) → k < l → (at w₂ (128 + k) ≡ of-open Solve.w x y n k) × (at w₂ (256 + k) ≡ of-open cp x y n k)
+        both : (k : ℕ) → k < l → (at w₂ (128 + k) ≡ of_open Solve.w x y n k) × (at w₂ (256 + k) ≡ of_open cp x y n k)
         both zero lt = both_first
-        both (suc k) lt = both-next k lt (both k (omega arith)).1
+        both (suc k) lt = both_next k lt (both k (omega arith)).1
 
-        last-divisor : (k : ℕ) → suc k ≡ l
-            → two ⊗ (h x k ⊕ corner) ⊖ corner ⊗ corner ⊘ neg d ⊖ h x k ⊗ at w₂ (256 + k) ≡ of-open Solve.w x y n (suc k)
+        last_divisor : (k : ℕ) → suc k ≡ l
+            → two ⊗ (h x k ⊕ corner) ⊖ corner ⊗ corner ⊘ neg d ⊖ h x k ⊗ at w₂ (256 + k) ≡ of_open Solve.w x y n (suc k)
         unfolding Solve.w cp
-        last-divisor k e = cc ((both k (omega arith)).1, diag-last k e, ap (h x) e)
+        last_divisor k e = cc ((both k (omega arith)).1, diag_last k e, ap (h x) e)
 
   module _
       (w w₁ w₂ w₄ w₆ : List Float) (g : Float) (axis : CycleGiven w x) (stepped : Stepped w w₁ x)
-      (divided : Divided w₁ w₂ 0 l (d ⊖ neg d) (h x 0 ⊘ (d ⊖ neg d))) (g-is : g ≡ h x (l - 1))
+      (divided : Divided w₁ w₂ 0 l (d ⊖ neg d) (h x 0 ⊘ (d ⊖ neg d))) (g_is : g ≡ h x (l - 1))
     where
       enough : 3 ≤ length x
       enough = axis.enough
@@ -149,104 +149,104 @@ module _ (x : List Float) where
           steps₃ k less = same₃ k (omega (arith, few)) ∙ divided.kept k (λ i b. omega (arith, few)) ∙ stepped.steps k less
 
           module _ (y : List Float) where
-            at_last : (k : ℕ) → suc k ≡ l → at w₃ (128 + l) ≡ of-open Solve.w x y n (suc k)
+            at_last : (k : ℕ) → suc k ≡ l → at w₃ (128 + l) ≡ of_open Solve.w x y n (suc k)
             at_last k e =
                 let f : l - 1 ≡ k = omega arith in
                 get_or-set_same w₂ (128 + l) v nan (omega (arith, few, axis.room, divided.same_length, stepped.same_length))
-                ∙ cc (g-is, last-divisor y w₁ w₂ enough stepped.steps divided k e)
+                ∙ cc (g_is, last_divisor y w₁ w₂ enough stepped.steps divided k e)
 
-            divisors₃ : (k : ℕ) → k ≤ l → at w₃ (128 + k) ≡ of-open Solve.w x y n k
+            divisors₃ : (k : ℕ) → k ≤ l → at w₃ (128 + k) ≡ of_open Solve.w x y n k
             divisors₃ k le =
                 ⊎_elim (λ e. ending k e) (λ less. same₃ (128 + k) (omega arith) ∙ (both y w₁ w₂ enough stepped.steps divided k less).0)
                 (eq-or-lt_of_le le)
               where
-                ending : (k : ℕ) → k ≡ l → at w₃ (128 + k) ≡ of-open Solve.w x y n k
+                ending : (k : ℕ) → k ≡ l → at w₃ (128 + k) ≡ of_open Solve.w x y n k
                 ending zero e = absurd (omega (arith, enough))
                 ending (suc k) e = ap (λ (i : ℕ). at w₃ (128 + i)) e ∙ at_last k e
 
-            helpers₃ : (k : ℕ) → k < l → at w₃ (256 + k) ≡ of-open cp x y n k
+            helpers₃ : (k : ℕ) → k < l → at w₃ (256 + k) ≡ of_open cp x y n k
             helpers₃ k less = same₃ (256 + k) (omega (arith, few)) ∙ (both y w₁ w₂ enough stepped.steps divided k less).1
 
-            z-first : at w₄ (384 + 0) ≡ of-second y dp 0
+            z_first : at w₄ (384 + 0) ≡ of_second y dp 0
             unfolding dp
-            z-first = cc (forth.first, u-first y, diag-first y)
+            z_first = cc (forth.first, u_first y, diag_first y)
 
-            z-next : (k : ℕ) → suc k < l → at w₄ (384 + k) ≡ of-second y dp k → at w₄ (384 + suc k) ≡ of-second y dp (suc k)
+            z_next : (k : ℕ) → suc k < l → at w₄ (384 + k) ≡ of_second y dp k → at w₄ (384 + suc k) ≡ of_second y dp (suc k)
             unfolding dp
-            z-next k lt is =
+            z_next k lt is =
                 let e : k + 1 ≡ suc k = omega arith in
                 cc (
                   forth.next k (omega arith),
                   steps₃ k (omega arith),
                   divisors₃ (suc k) (omega arith),
-                  same-divisor y (suc k),
-                  u-inside y k lt,
+                  same_divisor y (suc k),
+                  u_inside y k lt,
                 )
 
-            z-row : (k : ℕ) → k < l → at w₄ (384 + k) ≡ of-second y dp k
-            z-row zero lt = z-first
-            z-row (suc k) lt = z-next k lt (z-row k (omega arith))
+            z_row : (k : ℕ) → k < l → at w₄ (384 + k) ≡ of_second y dp k
+            z_row zero lt = z_first
+            z_row (suc k) lt = z_next k lt (z_row k (omega arith))
 
-            z-last : (k : ℕ) → suc k ≡ l → at w₅ (384 + l) ≡ of-second y dp (suc k)
+            z_last : (k : ℕ) → suc k ≡ l → at w₅ (384 + l) ≡ of_second y dp (suc k)
             unfolding dp
-            z-last k e =
+            z_last k e =
                 let f : l - 1 ≡ k = omega arith in
                 get_or-set_same w₄ (384 + l) q nan (omega (arith, few, axis.room, long₄))
                 ∙ cc (
-                  g-is,
-                  z-row k (omega arith),
+                  g_is,
+                  z_row k (omega arith),
                   forth.kept (128 + l) (λ i b. omega (arith, few)),
                   at_last k e,
-                  same-divisor y (suc k),
-                  u-last y k e,
+                  same_divisor y (suc k),
+                  u_last y k e,
                 )
 
-            z-rows : (k : ℕ) → k ≤ l → at w₅ (384 + k) ≡ of-second y dp k
-            z-rows k le =
-                ⊎_elim (λ e. ending k e) (λ less. get_or-set_other w₄ (384 + l) (384 + k) q nan (omega arith) ∙ z-row k less)
+            z_rows : (k : ℕ) → k ≤ l → at w₅ (384 + k) ≡ of_second y dp k
+            z_rows k le =
+                ⊎_elim (λ e. ending k e) (λ less. get_or-set_other w₄ (384 + l) (384 + k) q nan (omega arith) ∙ z_row k less)
                 (eq-or-lt_of_le le)
               where
-                ending : (k : ℕ) → k ≡ l → at w₅ (384 + k) ≡ of-second y dp k
+                ending : (k : ℕ) → k ≡ l → at w₅ (384 + k) ≡ of_second y dp k
                 ending zero e = absurd (omega (arith, enough))
-                ending (suc k) e = ap (λ (i : ℕ). at w₅ (384 + i)) e ∙ z-last k e
+                ending (suc k) e = ap (λ (i : ℕ). at w₅ (384 + i)) e ∙ z_last k e
 
-            back-first : at w₆ (384 + (l - 0)) ≡ of-second y before_last l 0
+            back_first : at w₆ (384 + (l - 0)) ≡ of_second y before_last l 0
             unfolding before_last
-            back-first = let e : l - 0 ≡ l = omega arith in rw e (back.top ∙ z-rows l (omega arith))
+            back_first = let e : l - 0 ≡ l = omega arith in rw e (back.top ∙ z_rows l (omega arith))
 
-            back-next : (j : ℕ) → suc j ≤ l → at w₆ (384 + (l - j)) ≡ of-second y before_last l j
-                → at w₆ (384 + (l - suc j)) ≡ of-second y before_last l (suc j)
+            back_next : (j : ℕ) → suc j ≤ l → at w₆ (384 + (l - j)) ≡ of_second y before_last l j
+                → at w₆ (384 + (l - suc j)) ≡ of_second y before_last l (suc j)
             unfolding before_last
-            back-next j le is =
+            back_next j le is =
                 let e : l - suc j + 1 ≡ l - j = omega arith in
                 cc (
                   back.next (l - suc j) (omega arith) (omega arith),
-                  z-rows (l - suc j) (omega arith),
+                  z_rows (l - suc j) (omega arith),
                   get_or-set_other w₄ (384 + l) (256 + (l - suc j)) q nan (omega arith),
                   forth.kept (256 + (l - suc j)) (λ i b. omega (arith, few)),
                   helpers₃ (l - suc j) (omega arith),
-                  same-helper y (l - suc j),
+                  same_helper y (l - suc j),
                 )
 
-            before-the-last : (j : ℕ) → j ≤ l → at w₆ (384 + (l - j)) ≡ of-second y before_last l j
-            before-the-last zero le = back-first
-            before-the-last (suc j) le = back-next j le (before-the-last j (omega arith))
+            before_the_last : (j : ℕ) → j ≤ l → at w₆ (384 + (l - j)) ≡ of_second y before_last l j
+            before_the_last zero le = back_first
+            before_the_last (suc j) le = back_next j le (before_the_last j (omega arith))
 
-            z-is : (k : ℕ) → k ≤ l → at w₆ (384 + k) ≡ of-cycle Solve.z x y n l k
+            z_is : (k : ℕ) → k ≤ l → at w₆ (384 + k) ≡ of_cycle Solve.z x y n l k
             unfolding Solve.z thomas
-            z-is k le = let e : l - (l - k) ≡ k = omega arith in rw e at (before-the-last (l - k) (omega arith))
+            z_is k le = let e : l - (l - k) ≡ k = omega arith in rw e at (before_the_last (l - k) (omega arith))
 
-          pub cycle-planned :
+          pub cycle_planned :
               CyclePlanMade w w₆ x (record { ratio = corner ⊘ neg d; rest = one ⊕ (at w₆ 384 ⊕ corner ⊘ neg d ⊗ at w₆ (384 + l)) })
-          cycle-planned = record {
+          cycle_planned = record {
             same_length = back.same_length ∙ simp length-set long₄;
             planned = record {
               steps = λ k less. same₆ k (λ i b. omega (arith, few)) ∙ steps₃ k less;
               divisors = λ y k le. same₆ (128 + k) (λ i b. omega (arith, few)) ∙ divisors₃ y k le;
               helpers = λ y k lt. same₆ (256 + k) (λ i b. omega (arith, few)) ∙ helpers₃ y k lt;
-              second = z-is;
-              ratio-is = λ y. cc (gamma-is y);
-              rest-is = λ y. cc (gamma-is y, z-is y 0 (omega arith), z-is y l (omega arith));
+              second = z_is;
+              ratio_is = λ y. cc (gamma_is y);
+              rest_is = λ y. cc (gamma_is y, z_is y 0 (omega arith), z_is y l (omega arith));
             };
             kept = λ j ge.
                 same₆ j (λ i b. omega arith)
@@ -256,7 +256,7 @@ module _ (x : List Float) where
           }
 
 -- with the steps as the code reads them
-pub cycle-plan-made :
+pub cycle_plan_made :
     (w w₁ w₂ w₄ w₆ x : List Float) (a c g : Float) → CycleGiven w x → Stepped w w₁ x → a ≡ h x 0 → c ≡ h x (length x - 1 - 1)
     → g ≡ h x (length x - 1 - 1 - 1)
     → Divided w₁ w₂ 0 (length x - 1 - 1) (two ⊗ (c ⊕ a) ⊖ neg (two ⊗ (c ⊕ a))) (a ⊘ (two ⊗ (c ⊕ a) ⊖ neg (two ⊗ (c ⊕ a))))
@@ -272,5 +272,5 @@ pub cycle-plan-made :
       ratio = c ⊘ neg (two ⊗ (c ⊕ a));
       rest = one ⊕ (at w₆ 384 ⊕ c ⊘ neg (two ⊗ (c ⊕ a)) ⊗ at w₆ (384 + (length x - 1 - 1)));
     })
-cycle-plan-made w w₁ w₂ w₄ w₆ x a c g axis stepped e f i divided forth back =
-    rw (e, f) (cycle-planned x w w₁ w₂ w₄ w₆ g axis stepped (rw (e, f) at divided) i (rw (e, f) at forth) (rw f at back))
+cycle_plan_made w w₁ w₂ w₄ w₆ x a c g axis stepped e f i divided forth back =
+    rw (e, f) (cycle_planned x w w₁ w₂ w₄ w₆ g axis stepped (rw (e, f) at divided) i (rw (e, f) at forth) (rw f at back))

@@ -9,49 +9,49 @@ use Rattle.rules.specs.Ends.{dropped, crossed}
 use Rattle.rules.specs.declared.End.{End}
 use Rattle.rules.specs.declared.Condition.{Condition}
 use Rattle.rules.specs.declared.Condition.TheVariants.{Endpoints, Periodic}
-use Rattle.grid_scratch.specs.Layout.{plan-end}
+use Rattle.grid_scratch.specs.Layout.{plan_end}
 use Rattle.tensor_plan.specs.PlanOfEnds.{EndsGiven, EndsPlanMade}
 use Rattle.tensor_plan.specs.Cycle.{CycleGiven, CyclePlanMade}
-use Rattle.tensor_plan.specs.Plans.{fewest-planned, PlanGiven, PlanStands, AxisPlanned}
+use Rattle.tensor_plan.specs.Plans.{fewest_planned, PlanGiven, PlanStands, AxisPlanned}
 use Rattle.tensor_plan.specs.declared.AxisPlan.{AxisPlan}
-use Rattle.tensor_plan.proofs.PlanOfEnds.{plan-crossed}
+use Rattle.tensor_plan.proofs.PlanOfEnds.{plan_crossed}
 
 module _ (w x : List Float) (condition : Condition) (lower upper : End) (e : condition ≡ Endpoints lower upper) where
-  pub ends-given : PlanGiven w x condition → EndsGiven w x lower upper
-  ends-given given = record { room = given.room; few = given.few; enough = omega (arith, given.enough, ap fewest-planned e) }
+  pub ends_given : PlanGiven w x condition → EndsGiven w x lower upper
+  ends_given given = record { room = given.room; few = given.few; enough = omega (arith, given.enough, ap fewest_planned e) }
 
-  pub ends-planned : (w' : List Float) (plan : AxisPlan) → EndsPlanMade w w' x lower upper plan.ends → AxisPlanned w w' x condition plan
-  ends-planned w' plan made =
+  pub ends_planned : (w' : List Float) (plan : AxisPlan) → EndsPlanMade w w' x lower upper plan.ends → AxisPlanned w w' x condition plan
+  ends_planned w' plan made =
       rw e (record { same_length = made.same_length; stands = made.planned; kept = λ j ge. made.kept j (omega arith) })
 
 module _ (w x : List Float) (condition : Condition) (e : condition ≡ Periodic) where
-  pub cycle-given : PlanGiven w x condition → CycleGiven w x
-  cycle-given given = record { room = given.room; few = given.few; enough = omega (arith, given.enough, ap fewest-planned e) }
+  pub cycle_given : PlanGiven w x condition → CycleGiven w x
+  cycle_given given = record { room = given.room; few = given.few; enough = omega (arith, given.enough, ap fewest_planned e) }
 
-  pub cycle-planned : (w' : List Float) (plan : AxisPlan) → CyclePlanMade w w' x plan.cycle → AxisPlanned w w' x condition plan
-  cycle-planned w' plan made = rw e (record { same_length = made.same_length; stands = made.planned; kept = made.kept })
+  pub cycle_planned : (w' : List Float) (plan : AxisPlan) → CyclePlanMade w w' x plan.cycle → AxisPlanned w w' x condition plan
+  cycle_planned w' plan made = rw e (record { same_length = made.same_length; stands = made.planned; kept = made.kept })
 
-pub crossed-stands : (w x : List Float) (condition : Condition) (plan : AxisPlan) → PlanStands w x condition plan
+pub crossed_stands : (w x : List Float) (condition : Condition) (plan : AxisPlan) → PlanStands w x condition plan
     → PlanStands w x (crossed condition) plan
-crossed-stands w x (Endpoints lower upper) plan stands = plan-crossed w x lower upper plan.ends stands
-crossed-stands w x Periodic plan stands = stands
+crossed_stands w x (Endpoints lower upper) plan stands = plan_crossed w x lower upper plan.ends stands
+crossed_stands w x Periodic plan stands = stands
 
-pub still-stands :
-    (w w' x : List Float) (condition : Condition) (plan : AxisPlan) → PlanGiven w x condition → ((j : ℕ) → j < plan-end → at w' j ≡ at w j)
+pub still_stands :
+    (w w' x : List Float) (condition : Condition) (plan : AxisPlan) → PlanGiven w x condition → ((j : ℕ) → j < plan_end → at w' j ≡ at w j)
     → PlanStands w x condition plan → PlanStands w' x condition plan
-still-stands w w' x (Endpoints lower upper) plan given same stands = record {
-  low-is = stands.low-is;
-  last-is = stands.last-is;
+still_stands w w' x (Endpoints lower upper) plan given same stands = record {
+  low_is = stands.low_is;
+  last_is = stands.last_is;
   sub_is = stands.sub_is;
   steps = λ k less. same k (omega (arith, given.few)) ∙ stands.steps k less;
   divisors = λ y j le. same (128 + (dropped lower + j)) (omega (arith, given.few, given.enough)) ∙ stands.divisors y j le;
   helpers = λ y j less. same (256 + (dropped lower + j)) (omega (arith, given.few, given.enough)) ∙ stands.helpers y j less;
 }
-still-stands w w' x Periodic plan given same stands = record {
+still_stands w w' x Periodic plan given same stands = record {
   steps = λ k less. same k (omega (arith, given.few)) ∙ stands.steps k less;
   divisors = λ y k le. same (128 + k) (omega (arith, given.few, given.enough)) ∙ stands.divisors y k le;
   helpers = λ y k less. same (256 + k) (omega (arith, given.few)) ∙ stands.helpers y k less;
   second = λ y k le. same (384 + k) (omega (arith, given.few, given.enough)) ∙ stands.second y k le;
-  ratio-is = stands.ratio-is;
-  rest-is = stands.rest-is;
+  ratio_is = stands.ratio_is;
+  rest_is = stands.rest_is;
 }

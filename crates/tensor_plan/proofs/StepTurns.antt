@@ -19,8 +19,8 @@ pub record Turn (w₀ w x : List Float) (k : ℕ) : Type 0 where
   pub steps : (i : ℕ) → i < k → at w i ≡ h x i
   pub kept : (j : ℕ) → 128 ≤ j → at w j ≡ at w₀ j
 
-pub turn-first : (w x : List Float) → 2048 ≤ length w → length x ≤ 128 → 0 < length x → Turn w w x 0
-turn-first w x room few some = record {
+pub turn_first : (w x : List Float) → 2048 ≤ length w → length x ≤ 128 → 0 < length x → Turn w w x 0
+turn_first w x room few some = record {
   room = room;
   few = few;
   most = omega arith;
@@ -29,10 +29,10 @@ turn-first w x room few some = record {
   kept = λ j ge. refl;
 }
 
-pub turn-next :
+pub turn_next :
     (w₀ w x : List Float) (k : ℕ) → Turn w₀ w x k → k + 1 < length x → Turn w₀ (set w k (at x (k + 1) ⊖ at x k)) x (k + 1)
 unfolding h
-turn-next w₀ w x k t lt = record {
+turn_next w₀ w x k t lt = record {
   room = t.room;
   few = t.few;
   most = omega arith;

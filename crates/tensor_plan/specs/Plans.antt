@@ -2,24 +2,24 @@
 use Rattle.std.specs.Prelude.{◌≡◌, List, ℕ, ◌+◌, ◌≤◌, length, Float}
 use Rattle.rules.specs.Numbers.{at}
 use Rattle.rules.specs.Ends.{dropped}
-use Rattle.rules.specs.Sizes.{scratch-of-rows}
+use Rattle.rules.specs.Sizes.{scratch_of_rows}
 use Rattle.rules.specs.declared.Condition.{Condition}
 use Rattle.rules.specs.declared.Condition.TheVariants.{Endpoints, Periodic}
-use Rattle.grid_scratch.specs.Layout.{plan-row-length, plan-end}
+use Rattle.grid_scratch.specs.Layout.{plan_row_length, plan_end}
 use Rattle.tensor_plan.specs.PlanOfEnds.{EndsPlanned}
 use Rattle.tensor_plan.specs.Cycle.{CyclePlanned}
 use Rattle.tensor_plan.specs.declared.AxisPlan.{AxisPlan}
 
 -- the fewest points that are planned: on a periodic axis of one interval there is nothing to solve
-abbrev pub fewest-planned : Condition → ℕ
-fewest-planned (Endpoints lower upper) = 2 + dropped lower + dropped upper
-fewest-planned Periodic = 3
+abbrev pub fewest_planned : Condition → ℕ
+fewest_planned (Endpoints lower upper) = 2 + dropped lower + dropped upper
+fewest_planned Periodic = 3
 
 -- what is asked for
 pub record PlanGiven (w x : List Float) (condition : Condition) : Type 0 where
-  pub room : scratch-of-rows ≤ length w
-  pub few : length x ≤ plan-row-length
-  pub enough : fewest-planned condition ≤ length x
+  pub room : scratch_of_rows ≤ length w
+  pub few : length x ≤ plan_row_length
+  pub enough : fewest_planned condition ≤ length x
 
 -- the plan stands in its rows
 abbrev pub PlanStands : List Float → List Float → Condition → AxisPlan → Type 0
@@ -30,4 +30,4 @@ PlanStands w x Periodic plan = CyclePlanned w x plan.cycle.ratio plan.cycle.rest
 pub record AxisPlanned (w w' x : List Float) (condition : Condition) (plan : AxisPlan) : Type 0 where
   pub same_length : length w' ≡ length w
   pub stands : PlanStands w' x condition plan
-  pub kept : (j : ℕ) → plan-end ≤ j → at w' j ≡ at w j
+  pub kept : (j : ℕ) → plan_end ≤ j → at w' j ≡ at w j

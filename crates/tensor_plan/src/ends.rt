@@ -1,8 +1,8 @@
 // The plan under two ends. None of these is a public call.
 ghost use Rattle.std.specs.Prelude.{◌<◌, ◌≤◌, length};
 ghost use Rattle.rules.specs.Numbers.{◌⊘◌};
-ghost use Rattle.rules.specs.Sizes.{scratch-of-rows};
-ghost use Rattle.grid_scratch.specs.Layout.{plan-row-length};
+ghost use Rattle.rules.specs.Sizes.{scratch_of_rows};
+ghost use Rattle.grid_scratch.specs.Layout.{plan_row_length};
 ghost use Rattle.tensor_plan.specs.PlanOfEnds.{Room, Stepped, Divided, EndsGiven, EndsPlanMade};
 
 use crate::EndsPlan;
@@ -11,7 +11,7 @@ use rules::{End, Row};
 
 // The steps between the knots.
 pub fn steps(w: &mut [f64], x: &[f64])
-    requires { (scratch-of-rows ≤ length w.old) × (length x.now ≤ plan-row-length) × (0 < length x.now) }
+    requires { (scratch_of_rows ≤ length w.old) × (length x.now ≤ plan_row_length) × (0 < length x.now) }
     ensures { Stepped w.old w.new x.now }
 {
     let mut k = 0;

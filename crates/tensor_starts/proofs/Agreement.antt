@@ -8,17 +8,17 @@ use lib.Dec.{eqb}
 use borrow.Author.Tests.{eqb-true, eq-eqb, ne_eqb}
 use Rattle.rules.specs.Sizes.{Place}
 use Rattle.rules.specs.Change.{agree}
-use Rattle.rules.proofs.Cases.{not-both}
-use Rattle.rules.proofs.Places.{below-or-last}
-use Rattle.rules.proofs.Mask.{in-mask-top}
+use Rattle.rules.proofs.Cases.{not_both}
+use Rattle.rules.proofs.Places.{below_or_last}
+use Rattle.rules.proofs.Mask.{in_mask_top}
 use Rattle.tensor_starts.specs.Starts.{free, varies}
 
 -- ---- two places that agree
 
 split : (a b c : Bool) → (a || b) && c ≡ true → (a ≡ false → b ≡ true) × (c ≡ true)
-split true b c e = ((λ f. not-both true refl f), e)
+split true b c e = ((λ f. not_both true refl f), e)
 split false true c e = ((λ f. refl), e)
-split false false c e = not-both false e refl
+split false false c e = not_both false e refl
 
 join : (a b c : Bool) → (a ≡ false → b ≡ true) → c ≡ true → (a || b) && c ≡ true
 join true b c h e = e
@@ -31,35 +31,35 @@ module _ (free : ℕ → Bool) (p q : Place) where
   agree_at zero e j below = absurd (omega arith)
   agree_at (suc d) e j below =
       let both = split (free d) (eqb (p d) (q d)) (agree free d p q) e in
-      below-or-last (λ (j : ℕ). free j ≡ false → p j ≡ q j) d j
+      below_or_last (λ (j : ℕ). free j ≡ false → p j ≡ q j) d j
       (λ off. eqb-true (p d) (q d) (both.0 off))
       (λ before. agree_at d both.1 j before)
       below
 
-  pub agree-all : (d : ℕ) → ((j : ℕ) → j < d → free j ≡ false → p j ≡ q j) → agree free d p q ≡ true
+  pub agree_all : (d : ℕ) → ((j : ℕ) → j < d → free j ≡ false → p j ≡ q j) → agree free d p q ≡ true
   unfolding agree
-  agree-all zero same = refl
-  agree-all (suc d) same =
+  agree_all zero same = refl
+  agree_all (suc d) same =
       join (free d) (eqb (p d) (q d)) (agree free d p q) (λ off. eq-eqb (p d) (q d) (same d (omega arith) off))
-      (agree-all d (λ j below. same j (omega arith)))
+      (agree_all d (λ j below. same j (omega arith)))
 
 -- ---- free axes and those that vary
 
 module _ (whole : Bool) (target i : ℕ) where
-  pub varies-own : varies whole target i i ≡ false
+  pub varies_own : varies whole target i i ≡ false
   unfolding varies
-  varies-own = ap (λ (b : Bool). cond b false (free whole target i)) (eq-eqb i i refl)
+  varies_own = ap (λ (b : Bool). cond b false (free whole target i)) (eq-eqb i i refl)
 
-  pub varies-other : (j : ℕ) → j ≢ i → varies whole target i j ≡ free whole target j
+  pub varies_other : (j : ℕ) → j ≢ i → varies whole target i j ≡ free whole target j
   unfolding varies
-  varies-other j other = ap (λ (b : Bool). cond b false (free whole target j)) (ne_eqb j i other)
+  varies_other j other = ap (λ (b : Bool). cond b false (free whole target j)) (ne_eqb j i other)
 
   -- an axis that varies is not the lanes' own
-  pub varies-not-own : (j : ℕ) → varies whole target i j ≡ true → j ≢ i
-  varies-not-own j e is = not-both (varies whole target i i) (ap (varies whole target i) (sym is) ∙ e) varies-own
+  pub varies_not_own : (j : ℕ) → varies whole target i j ≡ true → j ≢ i
+  varies_not_own j e is = not_both (varies whole target i i) (ap (varies whole target i) (sym is) ∙ e) varies_own
 
 -- the lanes' own axis is free
 pub free_own : (whole : Bool) (i mask : ℕ) → mask < 2 ^ i → free whole (mask + 2 ^ i) i ≡ true
 unfolding free
 free_own true i mask lt = refl
-free_own false i mask lt = in-mask-top i mask lt
+free_own false i mask lt = in_mask_top i mask lt

@@ -2,9 +2,9 @@
 // whole of them, or those that agree with a place on every axis outside the target, a mask. None of these is a public call.
 ghost use Rattle.std.specs.Prelude.{◌≡◌, ◌<◌, ◌≤◌};
 ghost use Rattle.rules.specs.Sizes.{place_of, moved};
-ghost use Rattle.grid.specs.GridOfCall.{points-of};
+ghost use Rattle.grid.specs.GridOfCall.{points_of};
 ghost use Rattle.tensor_starts.specs.Starts.{varies};
-ghost use Rattle.tensor_starts.specs.Walks.{Small, on-one-more, LanesGiven, Walks};
+ghost use Rattle.tensor_starts.specs.Walks.{Small, on_one_more, LanesGiven, Walks};
 
 use rules::Axis;
 
@@ -64,7 +64,7 @@ fn start_index(place: [usize; 4], axis: usize, j: usize) -> usize
 // The walk with one axis more, of n points, whose index is the fastest: through all of them, or at one index.
 fn on_one_more(walk: Walk, n: usize, through: bool, index: usize) -> Walk
     requires { Small walk × (n ≤ 256) × (index ≤ 256) }
-    ensures { result ≡ on-one-more walk n through index }
+    ensures { result ≡ on_one_more walk n through index }
 {
     if through {
         return Walk {
@@ -99,8 +99,8 @@ pub fn walk_over(
     axis: usize,
     mask: usize,
 ) -> Walk
-    requires { LanesGiven axes (points-of all) (place_of place) axis mask }
-    ensures { Walks (points-of all) axes (varies whole target axis) (moved (place_of place) axis 0) mask result }
+    requires { LanesGiven axes (points_of all) (place_of place) axis mask }
+    ensures { Walks (points_of all) axes (varies whole target axis) (moved (place_of place) axis 0) mask result }
 {
     let mut walk = Walk {
         lanes: 1,

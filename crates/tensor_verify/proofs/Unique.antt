@@ -7,7 +7,7 @@ use Rattle.rules.proofs.Unique.{same}
 use Rattle.tensor_verify.specs.Verify.{VerifyPromise}
 use Rattle.tensor_verify.specs.declared.VerifyAnswer.{VerifyAnswer}
 
-pub verify-unique :
+pub verify_unique :
     (g : Grid) (tensor scratch : List Float) (a a' : VerifyAnswer) (s s' : List Float)
     → VerifyPromise g tensor scratch a s → VerifyPromise g tensor scratch a' s' → (a ≡ a') × (s ≡ s')
-verify-unique g tensor scratch a a' s s' p q = (same p.answer q.answer, same p.scratch q.scratch)
+verify_unique g tensor scratch a a' s s' p q = (same p.answer q.answer, same p.scratch q.scratch)

@@ -1,15 +1,15 @@
 // Numbers held against others, bit by bit. None of these is a public call: finite numbers, and as many of the others, are required.
 ghost use Rattle.std.specs.Prelude.{◌≡◌, true, cond, length};
 ghost use Rattle.std.specs.Float.Ieee.Scale.{finite};
-ghost use Rattle.rules.specs.Refusals.{some-number-refused};
-ghost use Rattle.rules.specs.Even.{first-that};
-ghost use Rattle.tensor_verify.specs.Verify.{other-bits, count-that};
+ghost use Rattle.rules.specs.Refusals.{some_number_refused};
+ghost use Rattle.rules.specs.Even.{first_that};
+ghost use Rattle.tensor_verify.specs.Verify.{other_bits, count_that};
 ghost use Rattle.tensor_verify.specs.Compared.{Comparable, differs_at};
 
 // Whether two numbers have other bits.
 fn differs(one: f64, other: f64) -> bool
     requires { (finite one ≡ true) × (finite other ≡ true) }
-    ensures { result ≡ other-bits one other }
+    ensures { result ≡ other_bits one other }
 {
     base_numbers::pattern_of(one) != base_numbers::pattern_of(other)
 }
@@ -17,7 +17,7 @@ fn differs(one: f64, other: f64) -> bool
 // 1 where they have, else 0.
 fn one_if_differs(one: f64, other: f64) -> usize
     requires { (finite one ≡ true) × (finite other ≡ true) }
-    ensures { result ≡ cond (other-bits one other) 1 0 }
+    ensures { result ≡ cond (other_bits one other) 1 0 }
 {
     if differs(one, other) { 1 } else { 0 }
 }
@@ -25,7 +25,7 @@ fn one_if_differs(one: f64, other: f64) -> usize
 // How many differ.
 pub fn count_differing(ours: &[f64], others: &[f64]) -> usize
     requires { Comparable ours.now others.now }
-    ensures { result ≡ count-that (differs_at ours.now others.now) (length ours.now) }
+    ensures { result ≡ count_that (differs_at ours.now others.now) (length ours.now) }
 {
     let mut count = 0;
     let mut i = 0;
@@ -39,7 +39,7 @@ pub fn count_differing(ours: &[f64], others: &[f64]) -> usize
 // The first that differs, and 0 where none does.
 fn first_differing(ours: &[f64], others: &[f64]) -> usize
     requires { Comparable ours.now others.now }
-    ensures { result ≡ first-that (differs_at ours.now others.now) (length ours.now) 0 }
+    ensures { result ≡ first_that (differs_at ours.now others.now) (length ours.now) 0 }
 {
     let mut i = 0;
     while i < ours.len() {
@@ -53,8 +53,8 @@ fn first_differing(ours: &[f64], others: &[f64]) -> usize
 
 // The same where it is known how many differ: in a whole tensor none is looked for. Not a public call: the count is required.
 pub fn first_of_counted(count: usize, ours: &[f64], others: &[f64]) -> usize
-    requires { Comparable ours.now others.now × (count ≡ count-that (differs_at ours.now others.now) (length ours.now)) }
-    ensures { result ≡ first-that (differs_at ours.now others.now) (length ours.now) 0 }
+    requires { Comparable ours.now others.now × (count ≡ count_that (differs_at ours.now others.now) (length ours.now)) }
+    ensures { result ≡ first_that (differs_at ours.now others.now) (length ours.now) 0 }
 {
     if count == 0 {
         return 0;

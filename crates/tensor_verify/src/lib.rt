@@ -1,8 +1,8 @@
 // Whether a tensor is whole: its samples are built anew in the scratch, and every number is held against the fresh one, bit by bit.
 ghost use Rattle.std.specs.Prelude.{◌≡◌, true, false, length};
-ghost use Rattle.rules.specs.Refusals.{some-number-refused};
-ghost use Rattle.grid.specs.GridOfCall.{grid, points-of, InRange};
-ghost use Rattle.tensor_verify.specs.Verify.{refused-with, VerifyPromise};
+ghost use Rattle.rules.specs.Refusals.{some_number_refused};
+ghost use Rattle.grid.specs.GridOfCall.{grid, points_of, InRange};
+ghost use Rattle.tensor_verify.specs.Verify.{refused_with, VerifyPromise};
 ghost use Rattle.tensor_verify.specs.Compared.{compared};
 
 use grid_scratch::TENSOR;
@@ -25,7 +25,7 @@ pub struct VerifyAnswer {
 
 // The answer of a refusal.
 pub fn refused(refusal: usize) -> VerifyAnswer
-    ensures { result ≡ refused-with refusal }
+    ensures { result ≡ refused_with refusal }
 {
     VerifyAnswer {
         refusal,
@@ -39,8 +39,8 @@ pub fn refused(refusal: usize) -> VerifyAnswer
 // What is answered of a tensor and of the one that came out of a fresh build: 10 where a number of this is not finite. Not a public call:
 // sizes in range, the same lengths and finite numbers of the tensor are required.
 fn held_against(axes: usize, all: [Axis; 4], tensor: &[f64], fresh: &[f64]) -> VerifyAnswer
-    requires { InRange axes (points-of all) × (length fresh.now ≡ length tensor.now) × (some-number-refused tensor.now ≡ false) }
-    ensures { result ≡ compared axes (points-of all) tensor.now fresh.now }
+    requires { InRange axes (points_of all) × (length fresh.now ≡ length tensor.now) × (some_number_refused tensor.now ≡ false) }
+    ensures { result ≡ compared axes (points_of all) tensor.now fresh.now }
 {
     if base_numbers::any_of_many_not_finite(fresh) {
         return refused(10);

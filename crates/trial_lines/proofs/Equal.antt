@@ -24,5 +24,5 @@ all_one xs y i l h =
     (λ k b. h k (omega arith) ∙ sym (get_or-replicate (length xs) k y nan b))
 
 -- what is false is not true
-pub not-true : {A : Type 0} → false ≡ true → A
-not-true e = absurd (subst T (sym e) tt)
+pub not_true : {A : Type 0} → false ≡ true → A
+not_true e = absurd (subst T (sym e) tt)

@@ -1,6 +1,6 @@
 // Words of the list, and places in it.
 ghost use Rattle.std.specs.Prelude.{◌≡◌, ◌+◌, ◌<◌, ◌≤◌, length};
-ghost use Rattle.trial_replay_items.specs.Words.{bytes-from, word_at};
+ghost use Rattle.trial_replay_items.specs.Words.{bytes_from, word_at};
 
 pub fn wide(byte: u8) -> u64
     ensures { (result ≡ byte) × (result < 256) }
@@ -11,7 +11,7 @@ pub fn wide(byte: u8) -> u64
 // The number of four bytes, most significant first.
 fn half_word(bytes: &[u8], at: usize) -> u64
     requires { at + 4 ≤ length bytes.now }
-    ensures { (result ≡ bytes-from bytes.now at 4) × (result < 4294967296) }
+    ensures { (result ≡ bytes_from bytes.now at 4) × (result < 4294967296) }
 {
     let high = wide(bytes[at]) * 256 + wide(bytes[at + 1]);
     let low = wide(bytes[at + 2]) * 256 + wide(bytes[at + 3]);

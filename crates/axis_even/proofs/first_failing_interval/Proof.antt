@@ -3,8 +3,8 @@
 use Rattle.std.proofs.Common.{◌-◌, length, refl, ◌∙◌, arith, rules}
 use Rattle.rules.specs.Steps.{h}
 use Rattle.rules.specs.Even.{fails}
-use Rattle.axis_even.proofs.Spacing.{fails-is, failing-is}
-use Rattle.axis_even.proofs.First.{Turn, turn-first, turn-next, turn-found, turn_last}
+use Rattle.axis_even.proofs.Spacing.{fails_is, failing_is}
+use Rattle.axis_even.proofs.First.{Turn, turn_first, turn_next, turn_found, turn_last}
 use Rattle.axis_even.proofs.first_failing_interval.Statement.{statement}
 use Rattle.axis_even.proofs.first_failing_interval.Tie as tie
 
@@ -14,29 +14,29 @@ invariant-loop knots step tolerance i₀ i = Turn (fails knots) 1 (length knots 
 abbrev decreases-loop : tie.decreases-loop
 decreases-loop knots step tolerance i₀ i = length knots - i
 
-loop-holds : tie.Need-loop-init invariant-loop decreases-loop
-loop-holds c = turn-first _ _ _ (omega arith)
+loop_holds : tie.Need-loop-init invariant-loop decreases-loop
+loop_holds c = turn_first _ _ _ (omega arith)
 
 returns : tie.Need-returns invariant-loop decreases-loop
 unfolding h
 returns c =
     let l = c.before.before.before.before.before in
-    turn-found _ _ _ _ l.loop.invariant (omega arith)
-    (fails-is _ _ _ _ _ refl refl l.before.tolerance.ensures _ c.before.fails.ensures ∙ c.if1.true)
-    ∙ failing-is _ _
+    turn_found _ _ _ _ l.loop.invariant (omega arith)
+    (fails_is _ _ _ _ _ refl refl l.before.tolerance.ensures _ c.before.fails.ensures ∙ c.if1.true)
+    ∙ failing_is _ _
 
-loop-again : tie.Need-loop-preserved invariant-loop decreases-loop
+loop_again : tie.Need-loop-preserved invariant-loop decreases-loop
 unfolding h
-loop-again c =
+loop_again c =
     let l = c.before.before.before.before.before in
-    turn-next _ _ _ _ l.loop.invariant (omega arith)
-    (fails-is _ _ _ _ _ refl refl l.before.tolerance.ensures _ c.before.fails.ensures ∙ c.if1.false)
+    turn_next _ _ _ _ l.loop.invariant (omega arith)
+    (fails_is _ _ _ _ _ refl refl l.before.tolerance.ensures _ c.before.fails.ensures ∙ c.if1.false)
 
 returns-2 : tie.Need-returns-2 invariant-loop decreases-loop
-returns-2 c = turn_last _ _ _ _ c.before.loop.invariant (omega arith) ∙ failing-is _ _
+returns-2 c = turn_last _ _ _ _ c.before.loop.invariant (omega arith) ∙ failing_is _ _
 
-pub first-failing-interval-spec : {M : Type 1} → statement M
-first-failing-interval-spec =
+pub first_failing_interval_spec : {M : Type 1} → statement M
+first_failing_interval_spec =
     tie.close
     (tie.spec
     invariant-loop
@@ -44,7 +44,7 @@ first-failing-interval-spec =
     (λ c. search rules)
     (λ c. search rules)
     (λ c κs. search rules)
-    loop-holds
+    loop_holds
     (λ c. search rules)
     (λ c. search rules)
     (λ c. search rules)
@@ -55,5 +55,5 @@ first-failing-interval-spec =
     returns
     (λ c. search rules)
     (λ c. search rules)
-    loop-again
+    loop_again
     returns-2)

@@ -3,8 +3,8 @@ use Rattle.std.proofs.Common.{◌≡◌, ◌-◌, ◌≤◌, false, length, sym,
 use Rattle.base_numbers.proofs.Scan.{neither}
 use Rattle.rules.specs.Steps.{h}
 use Rattle.rules.specs.Even.{fails}
-use Rattle.axis_even.proofs.Spacing.{fails-is, failing-is, neither-above}
-use Rattle.axis_even.proofs.First.{Turn, turn-first, turn-next, turn_last}
+use Rattle.axis_even.proofs.Spacing.{fails_is, failing_is, neither_above}
+use Rattle.axis_even.proofs.First.{Turn, turn_first, turn_next, turn_last}
 use Rattle.axis_even.proofs.some_interval_may_fail.Statement.{statement}
 use Rattle.axis_even.proofs.some_interval_may_fail.Tie as tie
 
@@ -15,27 +15,27 @@ invariant-loop knots step tolerance last found₀ interval₀ found interval =
 abbrev decreases-loop : tie.decreases-loop
 decreases-loop knots step tolerance last found₀ interval₀ found interval = length knots - interval
 
-loop-holds : tie.Need-loop-init invariant-loop decreases-loop
-loop-holds c = (omega arith, omega arith, λ down. turn-first _ _ _ (omega arith))
+loop_holds : tie.Need-loop-init invariant-loop decreases-loop
+loop_holds c = (omega arith, omega arith, λ down. turn_first _ _ _ (omega arith))
 
-loop-again : tie.Need-loop-preserved invariant-loop decreases-loop
+loop_again : tie.Need-loop-preserved invariant-loop decreases-loop
 unfolding h
-loop-again c =
+loop_again c =
     let l = c.before.before.before.before in (
       omega arith,
       omega arith,
       λ down.
           let none = neither _ _ down in
-          turn-next _ _ _ _ (l.loop.invariant.2 none.0) (omega arith)
-          (fails-is _ _ _ _ _ refl refl l.before.tolerance.ensures _ refl
-          ∙ neither-above _ _ _ (sym c.may_fail.ensures ∙ none.1)),
+          turn_next _ _ _ _ (l.loop.invariant.2 none.0) (omega arith)
+          (fails_is _ _ _ _ _ refl refl l.before.tolerance.ensures _ refl
+          ∙ neither_above _ _ _ (sym c.may_fail.ensures ∙ none.1)),
     )
 
 returns : tie.Need-returns invariant-loop decreases-loop
-returns c = λ down. sym (turn_last _ _ _ _ (c.before.loop.invariant.2 down) (omega arith) ∙ failing-is _ _)
+returns c = λ down. sym (turn_last _ _ _ _ (c.before.loop.invariant.2 down) (omega arith) ∙ failing_is _ _)
 
-pub some-interval-may-fail-spec : {M : Type 1} → statement M
-some-interval-may-fail-spec =
+pub some_interval_may_fail_spec : {M : Type 1} → statement M
+some_interval_may_fail_spec =
     tie.close
     (tie.spec
     invariant-loop
@@ -44,7 +44,7 @@ some-interval-may-fail-spec =
     (λ c. search rules)
     (λ c κs. search rules)
     (λ c. search rules)
-    loop-holds
+    loop_holds
     (λ c. search rules)
     (λ c. search rules)
     (λ c. search rules)
@@ -53,5 +53,5 @@ some-interval-may-fail-spec =
     (λ c κs. search rules)
     (λ c. search rules)
     (λ c. search rules)
-    loop-again
+    loop_again
     returns)

@@ -5,8 +5,8 @@ use Prim.Native.Nat.{◌+◌, ◌-◌}
 use lib.ListN.{length}
 use borrow.Author.Rules.{rules}
 use Rattle.rules.specs.Ends.{dropped}
-use Rattle.axis_moments.specs.SolvedMoments.{upper-moment}
-use Rattle.axis_moments.proofs.Stores.{one-stored, none-stored}
+use Rattle.axis_moments.specs.SolvedMoments.{upper_moment}
+use Rattle.axis_moments.proofs.Stores.{one_stored, none_stored}
 use Rattle.axis_moments.proofs.drop_upper.Statement.{statement}
 use Rattle.axis_moments.proofs.drop_upper.Tie as tie
 use Rattle.axis_moments.proofs.drop_upper.Reads as reads
@@ -15,133 +15,133 @@ use Rattle.axis_moments.proofs.drop_upper.Lts as lts
 enum_told : tie.Need-enum-told
 enum_told c = search rules
 
-sub-n : tie.Need-overflow-sub-n
-sub-n c = search rules
+sub_n : tie.Need-overflow-sub-n
+sub_n c = search rules
 
-sub-last : tie.Need-overflow-sub-last
-sub-last c = search rules
+sub_last : tie.Need-overflow-sub-last
+sub_last c = search rules
 
-sub-before : tie.Need-overflow-sub-before
-sub-before c = omega (arith, ap dropped c.enum_told.given.1)
+sub_before : tie.Need-overflow-sub-before
+sub_before c = omega (arith, ap dropped c.enum_told.given.1)
 
-add-h-last : tie.Need-overflow-add-h-last
-add-h-last c = search rules
+add_h_last : tie.Need-overflow-add-h-last
+add_h_last c = search rules
 
-mul-h-last : tie.Need-overflow-mul-h-last
-mul-h-last c = search rules
+mul_h_last : tie.Need-overflow-mul-h-last
+mul_h_last c = search rules
 
-shared-slice-read-h-last : tie.Need-shared-slice-read-h-last
-shared-slice-read-h-last c = search rules
+shared_slice_read_h_last : tie.Need-shared-slice-read-h-last
+shared_slice_read_h_last c = search rules
 
-mul-h-last-2 : tie.Need-overflow-mul-h-last-2
-mul-h-last-2 c = search rules
+mul_h_last_2 : tie.Need-overflow-mul-h-last-2
+mul_h_last_2 c = search rules
 
-shared-slice-read-h-last-2 : tie.Need-shared-slice-read-h-last-2
-shared-slice-read-h-last-2 c = search rules
+shared_slice_read_h_last_2 : tie.Need-shared-slice-read-h-last-2
+shared_slice_read_h_last_2 c = search rules
 
-add-h-before : tie.Need-overflow-add-h-before
-add-h-before c = search rules
+add_h_before : tie.Need-overflow-add-h-before
+add_h_before c = search rules
 
-mul-h-before : tie.Need-overflow-mul-h-before
-mul-h-before c = search rules
+mul_h_before : tie.Need-overflow-mul-h-before
+mul_h_before c = search rules
 
-shared-slice-read-h-before : tie.Need-shared-slice-read-h-before
-shared-slice-read-h-before c = search rules
+shared_slice_read_h_before : tie.Need-shared-slice-read-h-before
+shared_slice_read_h_before c = search rules
 
-mul-h-before-2 : tie.Need-overflow-mul-h-before-2
-mul-h-before-2 c = search rules
+mul_h_before_2 : tie.Need-overflow-mul-h-before-2
+mul_h_before_2 c = search rules
 
-shared-slice-read-h-before-2 : tie.Need-shared-slice-read-h-before-2
-shared-slice-read-h-before-2 c = search rules
+shared_slice_read_h_before_2 : tie.Need-shared-slice-read-h-before-2
+shared_slice_read_h_before_2 c = search rules
 
-add-m : tie.Need-overflow-add-m
-add-m c = search rules
+add_m : tie.Need-overflow-add-m
+add_m c = search rules
 
-mul-m : tie.Need-overflow-mul-m
-mul-m c = search rules
+mul_m : tie.Need-overflow-mul-m
+mul_m c = search rules
 
-slice-read-m : tie.Need-slice-read-m
-slice-read-m c = search rules
+slice_read_m : tie.Need-slice-read-m
+slice_read_m c = search rules
 
-add-m-2 : tie.Need-overflow-add-m-2
-add-m-2 c = search rules
+add_m_2 : tie.Need-overflow-add-m-2
+add_m_2 c = search rules
 
-mul-m-2 : tie.Need-overflow-mul-m-2
-mul-m-2 c = search rules
+mul_m_2 : tie.Need-overflow-mul-m-2
+mul_m_2 c = search rules
 
-slice-read-m-2 : tie.Need-slice-read-m-2
-slice-read-m-2 c = search rules
+slice_read_m_2 : tie.Need-slice-read-m-2
+slice_read_m_2 c = search rules
 
-add-w : tie.Need-overflow-add-w
-add-w c = search rules
+add_w : tie.Need-overflow-add-w
+add_w c = search rules
 
-mul-w : tie.Need-overflow-mul-w
-mul-w c = search rules
+mul_w : tie.Need-overflow-mul-w
+mul_w c = search rules
 
-slice-write-w : tie.Need-slice-write-w
-slice-write-w c = search rules
+slice_write_w : tie.Need-slice-write-w
+slice_write_w c = search rules
 
-enum-told-2 : tie.Need-enum-told-2
-enum-told-2 c = search rules
+enum_told_2 : tie.Need-enum-told-2
+enum_told_2 c = search rules
 
-enum-told-3 : tie.Need-enum-told-3
-enum-told-3 c = search rules
+enum_told_3 : tie.Need-enum-told-3
+enum_told_3 c = search rules
 
 same_length : tie.Need-same-length
 same_length c = search rules
 
 returns : tie.Need-returns
-unfolding upper-moment
+unfolding upper_moment
 returns c =
-    let at-enum-told = c.before.before.before.before.before.before in
-    let start = at-enum-told.before.before in
+    let at_enum_told = c.before.before.before.before.before.before in
+    let start = at_enum_told.before.before in
     let a = start.args in
-    one-stored a.w.now (1792 + (length a.x.now - 1)) _ _ (omega arith)
-    (sym (ap (upper-moment a.w.now a.x.now (length a.x.now - 1)) at-enum-told.enum_told.given.1))
+    one_stored a.w.now (1792 + (length a.x.now - 1)) _ _ (omega arith)
+    (sym (ap (upper_moment a.w.now a.x.now (length a.x.now - 1)) at_enum_told.enum_told.given.1))
 
 returns-2 : tie.Need-returns-2
-unfolding upper-moment
+unfolding upper_moment
 returns-2 c =
     let a = c.before.before.args in
-    none-stored a.w.now (1792 + (length a.x.now - 1)) _
-    (sym (ap (upper-moment a.w.now a.x.now (length a.x.now - 1)) c.enum-told2.given.1))
+    none_stored a.w.now (1792 + (length a.x.now - 1)) _
+    (sym (ap (upper_moment a.w.now a.x.now (length a.x.now - 1)) c.enum_told2.given.1))
 
 returns-3 : tie.Need-returns-3
-unfolding upper-moment
+unfolding upper_moment
 returns-3 c =
     let a = c.before.before.args in
-    none-stored a.w.now (1792 + (length a.x.now - 1)) _
-    (sym (ap (upper-moment a.w.now a.x.now (length a.x.now - 1)) c.enum-told3.given.1))
+    none_stored a.w.now (1792 + (length a.x.now - 1)) _
+    (sym (ap (upper_moment a.w.now a.x.now (length a.x.now - 1)) c.enum_told3.given.1))
 
-pub drop-upper-spec : {M : Type 1} → statement M
-drop-upper-spec =
+pub drop_upper_spec : {M : Type 1} → statement M
+drop_upper_spec =
     tie.close
     (tie.spec
     enum_told
-    sub-n
-    sub-last
-    sub-before
-    add-h-last
-    mul-h-last
-    shared-slice-read-h-last
-    mul-h-last-2
-    shared-slice-read-h-last-2
-    add-h-before
-    mul-h-before
-    shared-slice-read-h-before
-    mul-h-before-2
-    shared-slice-read-h-before-2
-    add-m
-    mul-m
-    slice-read-m
-    add-m-2
-    mul-m-2
-    slice-read-m-2
-    add-w
-    mul-w
-    slice-write-w
-    enum-told-2
-    enum-told-3
+    sub_n
+    sub_last
+    sub_before
+    add_h_last
+    mul_h_last
+    shared_slice_read_h_last
+    mul_h_last_2
+    shared_slice_read_h_last_2
+    add_h_before
+    mul_h_before
+    shared_slice_read_h_before
+    mul_h_before_2
+    shared_slice_read_h_before_2
+    add_m
+    mul_m
+    slice_read_m
+    add_m_2
+    mul_m_2
+    slice_read_m_2
+    add_w
+    mul_w
+    slice_write_w
+    enum_told_2
+    enum_told_3
     same_length
     returns
     returns-2

@@ -3,7 +3,7 @@
 use borrow.Author.Rules.{rules}
 use Rattle.axis_solve.proofs.cyclic_thomas.Statement.{statement}
 use Rattle.axis_solve.proofs.cyclic_thomas.Tie as tie
-use Rattle.axis_solve.proofs.Cyclic.{cyclic-solved}
+use Rattle.axis_solve.proofs.Cyclic.{cyclic_solved}
 
 returns : tie.Need-returns
 returns c =
@@ -14,17 +14,17 @@ returns c =
     let first = right.before.before.before.before in
     let modified = first.before.before.before.before in
     let start = modified.before.before.before.before in
-    cyclic-solved _ _ _ _ _ _ _ _ _
+    cyclic_solved _ _ _ _ _ _ _ _ _
     start.requires.0
-    modified.diag-mod.ensures
+    modified.diag_mod.ensures
     first.thomas.ensures
-    right.u-vec.ensures
+    right.u_vec.ensures
     second.thomas2.ensures
     factor.factor.ensures
     subtract.subtract.ensures
 
-pub cyclic-thomas-spec : {M : Type 1} → statement M
-cyclic-thomas-spec =
+pub cyclic_thomas_spec : {M : Type 1} → statement M
+cyclic_thomas_spec =
     tie.close
     (tie.spec
     (λ c. search rules)

@@ -4,28 +4,28 @@ use native.Mathlib.Omega.{arith}
 use lib.ListN.{length-set}
 use Rattle.axis_solve.proofs.diag_mod.Statement.{statement}
 use Rattle.axis_solve.proofs.diag_mod.Tie as tie
-use Rattle.axis_solve.proofs.Corners.{without-corners}
+use Rattle.axis_solve.proofs.Corners.{without_corners}
 
-slice-read-w-2 : tie.Need-slice-read-w-2
-slice-read-w-2 c = simp length-set (omega arith)
+slice_read_w_2 : tie.Need-slice-read-w-2
+slice_read_w_2 c = simp length-set (omega arith)
 
-slice-write-w-2 : tie.Need-slice-write-w-2
-slice-write-w-2 c = simp length-set (omega arith)
+slice_write_w_2 : tie.Need-slice-write-w-2
+slice_write_w_2 c = simp length-set (omega arith)
 
 returns : tie.Need-returns
-returns c = let start = c.before.before in without-corners _ _ _ _ start.requires.0 start.requires.1
+returns c = let start = c.before.before in without_corners _ _ _ _ start.requires.0 start.requires.1
 
-pub diag-mod-spec : {M : Type 1} → statement M
-diag-mod-spec =
+pub diag_mod_spec : {M : Type 1} → statement M
+diag_mod_spec =
     tie.close
     (tie.spec
     (λ c. search rules)
     (λ c. search rules)
     (λ c. search rules)
     (λ c. search rules)
-    slice-read-w-2
+    slice_read_w_2
     (λ c. search rules)
     (λ c. search rules)
-    slice-write-w-2
+    slice_write_w_2
     (λ c. search rules)
     returns)

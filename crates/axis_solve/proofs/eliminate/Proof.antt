@@ -6,7 +6,7 @@ use borrow.Author.Rules.{rules}
 use native.Mathlib.Omega.{arith}
 use Prim.Native.Nat.{◌-◌}
 use lib.ListN.{length-set}
-use Rattle.axis_solve.proofs.Elimination.{Turn, turn-first, turn-next, turn_last}
+use Rattle.axis_solve.proofs.Elimination.{Turn, turn_first, turn_next, turn_last}
 
 abbrev invariant-loop : tie.invariant-loop
 invariant-loop w₀ l to divisor₀ d₀ k₀ w divisor d k = Turn w₀ w l to divisor d k
@@ -14,35 +14,35 @@ invariant-loop w₀ l to divisor₀ d₀ k₀ w divisor d k = Turn w₀ w l to d
 abbrev decreases-loop : tie.decreases-loop
 decreases-loop w₀ l to divisor₀ d₀ k₀ w divisor d k = l - k
 
-loop-holds : tie.Need-loop-init invariant-loop decreases-loop
-loop-holds c = turn-first _ _ _ c.before.before.requires.0 c.before.before.requires.1
+loop_holds : tie.Need-loop-init invariant-loop decreases-loop
+loop_holds c = turn_first _ _ _ c.before.before.requires.0 c.before.before.requires.1
 
-slice-write-w-2 : tie.Need-slice-write-w-2 invariant-loop decreases-loop
-slice-write-w-2 c = simp length-set (omega arith)
+slice_write_w_2 : tie.Need-slice-write-w-2 invariant-loop decreases-loop
+slice_write_w_2 c = simp length-set (omega arith)
 
-slice-read-divisor-2 : tie.Need-slice-read-divisor-2 invariant-loop decreases-loop
-slice-read-divisor-2 c = simp length-set (omega arith)
+slice_read_divisor_2 : tie.Need-slice-read-divisor-2 invariant-loop decreases-loop
+slice_read_divisor_2 c = simp length-set (omega arith)
 
-slice-read-d-2 : tie.Need-slice-read-d-2 invariant-loop decreases-loop
-slice-read-d-2 c = simp length-set (omega arith)
+slice_read_d_2 : tie.Need-slice-read-d-2 invariant-loop decreases-loop
+slice_read_d_2 c = simp length-set (omega arith)
 
-loop-again : tie.Need-loop-preserved invariant-loop decreases-loop
-loop-again c =
+loop_again : tie.Need-loop-preserved invariant-loop decreases-loop
+loop_again c =
     let turn = c.before.before.before.before in
-    turn-next _ _ _ _ _ _ _ turn.before.loop.invariant turn.loop-test.true
+    turn_next _ _ _ _ _ _ _ turn.before.loop.invariant turn.loop_test.true
 
 returns : tie.Need-returns invariant-loop decreases-loop
-returns c = turn_last _ _ _ _ _ _ _ c.before.loop.invariant c.loop-test.false
+returns c = turn_last _ _ _ _ _ _ _ c.before.loop.invariant c.loop_test.false
 
-pub eliminate-spec : {M : Type 1} → statement M
-eliminate-spec =
+pub eliminate_spec : {M : Type 1} → statement M
+eliminate_spec =
     tie.close
     (tie.spec
     invariant-loop
     decreases-loop
     (λ c. search rules)
     (λ c. search rules)
-    loop-holds
+    loop_holds
     (λ c. search rules)
     (λ c. search rules)
     (λ c. search rules)
@@ -54,15 +54,15 @@ eliminate-spec =
     (λ c. search rules)
     (λ c. search rules)
     (λ c. search rules)
-    slice-write-w-2
+    slice_write_w_2
     (λ c. search rules)
     (λ c. search rules)
     (λ c. search rules)
-    slice-read-divisor-2
+    slice_read_divisor_2
     (λ c. search rules)
     (λ c. search rules)
-    slice-read-d-2
+    slice_read_d_2
     (λ c. search rules)
-    loop-again
+    loop_again
     (λ c. search rules)
     returns)

@@ -9,5 +9,5 @@ returns c =
     let back = c.before.before in
     solved _ _ _ _ _ _ back.before.before.before.before.eliminate.ensures back.substitute.ensures
 
-pub thomas-spec : {M : Type 1} → statement M
-thomas-spec = tie.close (tie.spec (λ c κs. search rules) (λ c κs. search rules) (λ c. search rules) returns)
+pub thomas_spec : {M : Type 1} → statement M
+thomas_spec = tie.close (tie.spec (λ c κs. search rules) (λ c κs. search rules) (λ c. search rules) returns)

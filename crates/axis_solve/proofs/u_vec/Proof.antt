@@ -6,7 +6,7 @@ use Prim.Native.Nat.{◌-◌}
 use lib.ListN.{length-set}
 use Rattle.axis_solve.proofs.u_vec.Statement.{statement}
 use Rattle.axis_solve.proofs.u_vec.Tie as tie
-use Rattle.axis_solve.proofs.Corners.{Turn, turn-first, turn-next, turn_last}
+use Rattle.axis_solve.proofs.Corners.{Turn, turn_first, turn_next, turn_last}
 
 abbrev invariant-loop : tie.invariant-loop
 invariant-loop w₀ l gamma corner k₀ w k = Turn w₀ w l k
@@ -14,37 +14,37 @@ invariant-loop w₀ l gamma corner k₀ w k = Turn w₀ w l k
 abbrev decreases-loop : tie.decreases-loop
 decreases-loop w₀ l gamma corner k₀ w k = l - k
 
-loop-holds : tie.Need-loop-init invariant-loop decreases-loop
-loop-holds c = turn-first _ _ c.requires.0 c.requires.1
+loop_holds : tie.Need-loop-init invariant-loop decreases-loop
+loop_holds c = turn_first _ _ c.requires.0 c.requires.1
 
-loop-again : tie.Need-loop-preserved invariant-loop decreases-loop
-loop-again c = turn-next _ _ _ _ c.before.loop.invariant c.loop-test.true
+loop_again : tie.Need-loop-preserved invariant-loop decreases-loop
+loop_again c = turn_next _ _ _ _ c.before.loop.invariant c.loop_test.true
 
-slice-write-w-3 : tie.Need-slice-write-w-3 invariant-loop decreases-loop
-slice-write-w-3 c = simp length-set (omega arith)
+slice_write_w_3 : tie.Need-slice-write-w-3 invariant-loop decreases-loop
+slice_write_w_3 c = simp length-set (omega arith)
 
 same_length : tie.Need-same-length invariant-loop decreases-loop
 same_length c = simp length-set c.before.loop.invariant.same_length
 
 returns : tie.Need-returns invariant-loop decreases-loop
-returns c = turn_last _ _ _ _ _ _ c.before.loop.invariant c.loop-test.false
+returns c = turn_last _ _ _ _ _ _ c.before.loop.invariant c.loop_test.false
 
-pub u-vec-spec : {M : Type 1} → statement M
-u-vec-spec =
+pub u_vec_spec : {M : Type 1} → statement M
+u_vec_spec =
     tie.close
     (tie.spec
     invariant-loop
     decreases-loop
-    loop-holds
+    loop_holds
     (λ c. search rules)
     (λ c. search rules)
     (λ c. search rules)
     (λ c. search rules)
     (λ c. search rules)
-    loop-again
+    loop_again
     (λ c. search rules)
     (λ c. search rules)
     (λ c. search rules)
-    slice-write-w-3
+    slice_write_w_3
     same_length
     returns)

@@ -2,7 +2,7 @@
 use mathlib.Core.Path.{◌≡◌, sym, ap, ◌∙◌}
 use native.Mathlib.Omega.{arith}
 use Rattle.base_bits.specs.Bits.{field}
-use Rattle.base_bits.proofs.Runs.{field-none}
+use Rattle.base_bits.proofs.Runs.{field_none}
 use borrow.Author.Rules.{rules}
 use Rattle.base_bits.proofs.field_at.Statement.{statement}
 use Rattle.base_bits.proofs.field_at.Tie as tie
@@ -11,15 +11,15 @@ returns : tie.Need-returns
 returns c =
     let args = c.before.before.args in
     let none : 0 ≡ args.width = omega arith in
-    sym (field-none args.bytes.now args.at) ∙ ap (field args.bytes.now args.at) none
+    sym (field_none args.bytes.now args.at) ∙ ap (field args.bytes.now args.at) none
 
 returns-3 : tie.Need-returns-3
 returns-3 c =
     let args = c.before.before.before.before.before.args in
-    let all : 64 ≡ args.width = omega arith in c.pattern-at.ensures ∙ rw all
+    let all : 64 ≡ args.width = omega arith in c.pattern_at.ensures ∙ rw all
 
-pub field-at-spec : {M : Type 1} → statement M
-field-at-spec =
+pub field_at_spec : {M : Type 1} → statement M
+field_at_spec =
     tie.close
     (tie.spec
     returns

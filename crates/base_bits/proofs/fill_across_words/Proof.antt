@@ -6,8 +6,8 @@ use native.Mathlib.Omega.{arith}
 use lib.ListN.{length, length-set}
 use lib.Ieee.{binary64, of_bits}
 use Rattle.base_bits.specs.Bits.{field}
-use Rattle.base_bits.proofs.Numbers.{stored, stored-none, stored_more, stored-all}
-use Rattle.base_bits.proofs.WordsRead.{across-word, across-byte}
+use Rattle.base_bits.proofs.Numbers.{stored, stored_none, stored_more, stored_all}
+use Rattle.base_bits.proofs.WordsRead.{across_word, across_byte}
 use borrow.Author.Rules.{rules}
 use Rattle.base_bits.proofs.fill_across_words.Statement.{statement}
 use Rattle.base_bits.proofs.fill_across_words.Tie as tie
@@ -20,54 +20,54 @@ invariant-loop bytes place shift to₀ word₀ k₀ to word k =
 abbrev decreases-loop : tie.decreases-loop
 decreases-loop bytes place shift to₀ word₀ k₀ to word k = length to₀ - k
 
-loop-holds : tie.Need-loop-init invariant-loop decreases-loop
-loop-holds c =
+loop_holds : tie.Need-loop-init invariant-loop decreases-loop
+loop_holds c =
     let args = c.before.before.before.args in
     let first : 8 * args.place ≡ 8 * (args.place + 8 * 0) = omega arith in
-    (omega arith, stored-none _ _ _, refl, c.word_at.ensures ∙ rw first)
+    (omega arith, stored_none _ _ _, refl, c.word_at.ensures ∙ rw first)
 
-loop-again : tie.Need-loop-preserved invariant-loop decreases-loop
-loop-again c =
-    let at-across = c.before in
-    let at_next = at-across.before in
-    let at-loop = at_next.before.before in
-    let args = at-loop.before.before.before.before.args in
-    let turn = at-loop.loop in
+loop_again : tie.Need-loop-preserved invariant-loop decreases-loop
+loop_again c =
+    let at_across = c.before in
+    let at_next = at_across.before in
+    let at_loop = at_next.before.before in
+    let args = at_loop.before.before.before.before.args in
+    let turn = at_loop.loop in
     let place = args.place + 8 * turn.k in
     let behind : 8 * (place + 8) ≡ 8 * (args.place + 8 * (turn.k + 1)) = omega arith in
-    let pattern : at-across.across-words.result ≡ field args.bytes.now (8 * place + args.shift) 64 =
-    at-across.across-words.ensures
-    ∙ rw (turn.invariant.3, at_next.word-at2.ensures) (across-word args.bytes.now place args.shift (omega arith)) in (
+    let pattern : at_across.across_words.result ≡ field args.bytes.now (8 * place + args.shift) 64 =
+    at_across.across_words.ensures
+    ∙ rw (turn.invariant.3, at_next.word_at2.ensures) (across_word args.bytes.now place args.shift (omega arith)) in (
       omega arith,
       stored_more args.bytes.now (8 * args.place + args.shift) args.to.now _ _ (8 * place + args.shift) _ turn.invariant.1
           (c.float_of.ensures ∙ ap (of_bits binary64) pattern) (omega arith) (omega arith),
       simp length-set turn.invariant.2,
-      at_next.word-at2.ensures ∙ rw behind,
+      at_next.word_at2.ensures ∙ rw behind,
     )
 
 returns : tie.Need-returns invariant-loop decreases-loop
 returns c =
-    let at-across = c.before in
-    let at-loop = at-across.before.before.before in
-    let args = at-loop.before.before.before.before.args in
-    let turn = at-loop.loop in
+    let at_across = c.before in
+    let at_loop = at_across.before.before.before in
+    let args = at_loop.before.before.before.before.args in
+    let turn = at_loop.loop in
     let place = args.place + 8 * turn.k in
     let at = 8 * args.place + args.shift in
-    let pattern : at-across.across-to-byte.result ≡ field args.bytes.now (8 * place + args.shift) 64 =
-    at-across.across-to-byte.ensures ∙ rw turn.invariant.3 (across-byte args.bytes.now place args.shift (omega arith)) in
+    let pattern : at_across.across_to_byte.result ≡ field args.bytes.now (8 * place + args.shift) 64 =
+    at_across.across_to_byte.ensures ∙ rw turn.invariant.3 (across_byte args.bytes.now place args.shift (omega arith)) in
     let last =
     stored_more args.bytes.now at args.to.now _ turn.k (8 * place + args.shift) _ turn.invariant.1
-    (c.float-of2.ensures ∙ ap (of_bits binary64) pattern) (omega arith) (omega arith) in
-    stored-all args.bytes.now at args.to.now _ (turn.k + 1) last (omega arith)
+    (c.float_of2.ensures ∙ ap (of_bits binary64) pattern) (omega arith) (omega arith) in
+    stored_all args.bytes.now at args.to.now _ (turn.k + 1) last (omega arith)
 
-pub fill-across-words-spec : {M : Type 1} → statement M
-fill-across-words-spec =
+pub fill_across_words_spec : {M : Type 1} → statement M
+fill_across_words_spec =
     tie.close
     (tie.spec
     invariant-loop
     decreases-loop
     (λ c κs. search rules)
-    loop-holds
+    loop_holds
     (λ c. search rules)
     (λ c. search rules)
     (λ c. search rules)
@@ -79,7 +79,7 @@ fill-across-words-spec =
     (λ c. search rules)
     (λ c. search rules)
     (λ c. search rules)
-    loop-again
+    loop_again
     (λ c. search rules)
     (λ c. search rules)
     (λ c. search rules)

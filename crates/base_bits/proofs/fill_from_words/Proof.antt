@@ -5,7 +5,7 @@ use Prim.Native.Nat.{◌≤◌, ◌-◌, ◌+◌, ◌*◌}
 use native.Mathlib.Omega.{arith}
 use lib.ListN.{length, length-set}
 use lib.Ieee.{binary64, of_bits}
-use Rattle.base_bits.proofs.Numbers.{stored, stored-none, stored_more, stored-all}
+use Rattle.base_bits.proofs.Numbers.{stored, stored_none, stored_more, stored_all}
 use borrow.Author.Rules.{rules}
 use Rattle.base_bits.proofs.fill_from_words.Statement.{statement}
 use Rattle.base_bits.proofs.fill_from_words.Tie as tie
@@ -16,34 +16,34 @@ invariant-loop bytes place to₀ k₀ to k = (k ≤ length to₀) × (to ≡ sto
 abbrev decreases-loop : tie.decreases-loop
 decreases-loop bytes place to₀ k₀ to k = length to₀ - k
 
-loop-holds : tie.Need-loop-init invariant-loop decreases-loop
-loop-holds c = (search rules, stored-none _ _ _, refl)
+loop_holds : tie.Need-loop-init invariant-loop decreases-loop
+loop_holds c = (search rules, stored_none _ _ _, refl)
 
-loop-again : tie.Need-loop-preserved invariant-loop decreases-loop
-loop-again c =
-    let at-word-at = c.before in
-    let at-loop = at-word-at.before.before in
-    let args = at-loop.before.before.before.args in
-    let turn = at-loop.loop in (
+loop_again : tie.Need-loop-preserved invariant-loop decreases-loop
+loop_again c =
+    let at_word_at = c.before in
+    let at_loop = at_word_at.before.before in
+    let args = at_loop.before.before.before.args in
+    let turn = at_loop.loop in (
       omega arith,
       stored_more args.bytes.now (8 * args.place) args.to.now _ _ (8 * (args.place + 8 * turn.k)) _ turn.invariant.1
-          (c.float_of.ensures ∙ ap (of_bits binary64) at-word-at.word_at.ensures) (omega arith) (omega arith),
+          (c.float_of.ensures ∙ ap (of_bits binary64) at_word_at.word_at.ensures) (omega arith) (omega arith),
       simp length-set turn.invariant.2,
     )
 
 returns : tie.Need-returns invariant-loop decreases-loop
 returns c =
-    let at-loop = c.before in
-    let args = at-loop.before.before.before.args in
-    stored-all args.bytes.now (8 * args.place) args.to.now _ at-loop.loop.k at-loop.loop.invariant.1 (omega arith)
+    let at_loop = c.before in
+    let args = at_loop.before.before.before.args in
+    stored_all args.bytes.now (8 * args.place) args.to.now _ at_loop.loop.k at_loop.loop.invariant.1 (omega arith)
 
-pub fill-from-words-spec : {M : Type 1} → statement M
-fill-from-words-spec =
+pub fill_from_words_spec : {M : Type 1} → statement M
+fill_from_words_spec =
     tie.close
     (tie.spec
     invariant-loop
     decreases-loop
-    loop-holds
+    loop_holds
     (λ c. search rules)
     (λ c. search rules)
     (λ c κs. search rules)
@@ -52,6 +52,6 @@ fill-from-words-spec =
     (λ c. search rules)
     (λ c. search rules)
     (λ c. search rules)
-    loop-again
+    loop_again
     (λ c. search rules)
     returns)

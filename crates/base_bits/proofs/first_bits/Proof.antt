@@ -15,5 +15,5 @@ returns c =
     let few : args.byte / 2 ^ (8 - args.count) < 2 ^ args.count = shr_lt args.count (8 - args.count) (rw all (omega arith)) in
     (sym (mod-eq_of_lt few), few)
 
-pub first-bits-spec : {M : Type 1} → statement M
-first-bits-spec = tie.close (tie.spec (λ c. search rules) (λ c. search rules) returns)
+pub first_bits_spec : {M : Type 1} → statement M
+first_bits_spec = tie.close (tie.spec (λ c. search rules) (λ c. search rules) returns)

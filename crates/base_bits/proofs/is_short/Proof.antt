@@ -9,5 +9,5 @@ use Rattle.base_bits.proofs.is_short.Tie as tie
 returns : tie.Need-returns
 returns c = by_bytes (length c.args.bytes.now) (c.args.at + c.args.width)
 
-pub is-short-spec : {M : Type 1} → statement M
-is-short-spec = tie.close (tie.spec (λ c. search rules) (λ c. search rules) returns)
+pub is_short_spec : {M : Type 1} → statement M
+is_short_spec = tie.close (tie.spec (λ c. search rules) (λ c. search rules) returns)

@@ -6,5 +6,5 @@ use Rattle.base_bits.proofs.number_at.Tie as tie
 returns : tie.Need-returns
 returns c = cc
 
-pub number-at-spec : {M : Type 1} → statement M
-number-at-spec = tie.close (tie.spec (λ c κs. search rules) (λ c κs. search rules) returns)
+pub number_at_spec : {M : Type 1} → statement M
+number_at_spec = tie.close (tie.spec (λ c κs. search rules) (λ c κs. search rules) returns)

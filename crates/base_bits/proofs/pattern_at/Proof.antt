@@ -2,7 +2,7 @@
 use mathlib.Core.Path.{◌≡◌, ◌∙◌}
 use Prim.Native.Nat.{◌+◌, ◌*◌, ◌/◌, ◌%◌}
 use native.Mathlib.Omega.{arith}
-use Rattle.base_bits.proofs.WordsRead.{across-byte}
+use Rattle.base_bits.proofs.WordsRead.{across_byte}
 use borrow.Author.Rules.{rules}
 use Rattle.base_bits.proofs.pattern_at.Statement.{statement}
 use Rattle.base_bits.proofs.pattern_at.Tie as tie
@@ -15,14 +15,14 @@ returns c =
 
 returns-2 : tie.Need-returns-2
 returns-2 c =
-    let at-word-at = c.before.before in
-    let args = at-word-at.before.before.before.args in
+    let at_word_at = c.before.before in
+    let args = at_word_at.before.before.before.args in
     let here : 8 * (args.at / 8) + args.at % 8 ≡ args.at = omega arith in
-    c.across-to-byte.ensures
-    ∙ rw (at-word-at.word-at2.ensures, across-byte args.bytes.now (args.at / 8) (args.at % 8) (omega arith), here)
+    c.across_to_byte.ensures
+    ∙ rw (at_word_at.word_at2.ensures, across_byte args.bytes.now (args.at / 8) (args.at % 8) (omega arith), here)
 
-pub pattern-at-spec : {M : Type 1} → statement M
-pattern-at-spec =
+pub pattern_at_spec : {M : Type 1} → statement M
+pattern_at_spec =
     tie.close
     (tie.spec
     (λ c κs. search rules)

@@ -1,6 +1,6 @@
 -- The shift loses no bit, so it is the product, and below it is room for a number of `count` bits within 64.
 use lib.Pow.{shl_exact}
-use Rattle.base_bits.proofs.Shifts.{raised-room}
+use Rattle.base_bits.proofs.Shifts.{raised_room}
 use borrow.Author.Rules.{rules}
 use Rattle.base_bits.proofs.raised.Statement.{statement}
 use Rattle.base_bits.proofs.raised.Tie as tie
@@ -8,7 +8,7 @@ use Rattle.base_bits.proofs.raised.Tie as tie
 returns : tie.Need-returns
 returns c =
     let same = shl_exact _ _ 64 c.requires.0 c.requires.1 in
-    (same, rw same (raised-room _ _ _ c.requires.0 c.requires.1))
+    (same, rw same (raised_room _ _ _ c.requires.0 c.requires.1))
 
-pub raised-spec : {M : Type 1} → statement M
-raised-spec = tie.close (tie.spec (λ c. search rules) returns)
+pub raised_spec : {M : Type 1} → statement M
+raised_spec = tie.close (tie.spec (λ c. search rules) returns)

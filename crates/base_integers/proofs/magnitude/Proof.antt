@@ -25,28 +25,28 @@ neg_small c = rw (neg c).is at c.before.ranges.number.sfits
 not : (c : tie.Else1) → Above c.before.args.number
 not c = above c.before.args.number (rw (read c.before) at c.if1.false)
 
-not-small : (c : tie.Else1) → (not c).n < 2147483648
-not-small c = rw (not c).is at c.before.ranges.number.sfits
+not_small : (c : tie.Else1) → (not c).n < 2147483648
+not_small c = rw (not c).is at c.before.ranges.number.sfits
 
 -- what −1 − number reads back as
 turned : (c : tie.Then1) → to_z w32 (of_z w32 (pos (neg c).n)) ≡ pos (neg c).n
 turned c = to_z-of_z w32 (pos (neg c).n) (record { sfits = neg_small c })
 
-sub-result : tie.Need-overflow-sub-result
-sub-result c = rw (read c.before, (neg c).is, back) (record { sfits = neg_small c })
+sub_result : tie.Need-overflow-sub-result
+sub_result c = rw (read c.before, (neg c).is, back) (record { sfits = neg_small c })
 
-cast-result : tie.Need-overflow-cast-result
-cast-result c = rw (read c.before, (neg c).is, back, turned c) (let h = neg_small c in (tt, omega arith))
+cast_result : tie.Need-overflow-cast-result
+cast_result c = rw (read c.before, (neg c).is, back, turned c) (let h = neg_small c in (tt, omega arith))
 
-add-result : tie.Need-overflow-add-result
-add-result c = rw (read c.before, (neg c).is, back, turned c) (let h = neg_small c in omega arith)
+add_result : tie.Need-overflow-add-result
+add_result c = rw (read c.before, (neg c).is, back, turned c) (let h = neg_small c in omega arith)
 
-cast-result-2 : tie.Need-overflow-cast-result-2
-cast-result-2 c = rw (read c.before, (not c).is) (let h = not-small c in (tt, omega arith))
+cast_result_2 : tie.Need-overflow-cast-result-2
+cast_result_2 c = rw (read c.before, (not c).is) (let h = not_small c in (tt, omega arith))
 
 returns : tie.Need-returns
 returns c = rw (read c.before, (neg c).is, back, turned c, one-add)
 
-pub magnitude-spec : {M : Type 1} → statement M
-magnitude-spec =
-    tie.close (tie.spec sub-result cast-result add-result cast-result-2 returns (λ c. search rules))
+pub magnitude_spec : {M : Type 1} → statement M
+magnitude_spec =
+    tie.close (tie.spec sub_result cast_result add_result cast_result_2 returns (λ c. search rules))

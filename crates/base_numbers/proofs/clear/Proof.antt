@@ -4,8 +4,8 @@ use mathlib.Core.Path.{◌≡◌, refl, sym, ◌∙◌}
 use native.Mathlib.Omega.{arith}
 use lib.ListN.{length, length-set, length-replicate, get_or-replicate}
 use lib.Ieee.{nan}
-use Rattle.rules.specs.Numbers.{zeros, plus-zero}
-use Rattle.base_numbers.proofs.Front.{front, front-none, front-more, front-all}
+use Rattle.rules.specs.Numbers.{zeros, plus_zero}
+use Rattle.base_numbers.proofs.Front.{front, front_none, front_more, front_all}
 use borrow.Author.Rules.{rules}
 use Rattle.base_numbers.proofs.clear.Statement.{statement}
 use Rattle.base_numbers.proofs.clear.Tie as tie
@@ -16,14 +16,14 @@ invariant-loop s₀ i₀ s i = (i ≤ length s₀) × (s ≡ front (zeros (lengt
 abbrev decreases-loop : tie.decreases-loop
 decreases-loop s₀ i₀ s i = length s₀ - i
 
-loop-holds : tie.Need-loop-init invariant-loop decreases-loop
-loop-holds c = (search rules, front-none _ _, refl)
+loop_holds : tie.Need-loop-init invariant-loop decreases-loop
+loop_holds c = (search rules, front_none _ _, refl)
 
-loop-again : tie.Need-loop-preserved invariant-loop decreases-loop
-loop-again c =
-    let n = length-replicate (length c.before.before.args.s.now) plus-zero in (
+loop_again : tie.Need-loop-preserved invariant-loop decreases-loop
+loop_again c =
+    let n = length-replicate (length c.before.before.args.s.now) plus_zero in (
       omega arith,
-      front-more
+      front_more
           _
           _
           _
@@ -39,8 +39,8 @@ loop-again c =
 
 returns : tie.Need-returns invariant-loop decreases-loop
 returns c =
-    let n = length-replicate (length c.before.before.args.s.now) plus-zero in
-    c.before.loop.invariant.1 ∙ front-all _ _ _ (omega arith) (omega arith)
+    let n = length-replicate (length c.before.before.args.s.now) plus_zero in
+    c.before.loop.invariant.1 ∙ front_all _ _ _ (omega arith) (omega arith)
 
 pub clear_spec : {M : Type 1} → statement M
 clear_spec =
@@ -48,11 +48,11 @@ clear_spec =
     (tie.spec
     invariant-loop
     decreases-loop
-    loop-holds
+    loop_holds
     (λ c. search rules)
     (λ c. search rules)
     (λ c. search rules)
     (λ c. search rules)
-    loop-again
+    loop_again
     (λ c. search rules)
     returns)

@@ -10,6 +10,6 @@ returns c = simp (lt-ltb _ _ c.if1.true)
 returns-2 : tie.Need-returns-2
 returns-2 c = simp (le-ltb _ _ c.if1.false)
 
-pub hex-digit-spec : {M : Type 1} → statement M
-hex-digit-spec =
+pub hex_digit_spec : {M : Type 1} → statement M
+hex_digit_spec =
     tie.close (tie.spec (λ c. search rules) (λ c. search rules) (λ c. search rules) (λ c. search rules) returns returns-2)

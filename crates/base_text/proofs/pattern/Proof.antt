@@ -7,8 +7,8 @@ use Rattle.base_text.proofs.pattern.Tie as tie
 returns : tie.Need-returns
 returns c = quiet _ c.if1.true
 
-float-to-bits-result : tie.Need-float-to-bits-result
-float-to-bits-result c = no_nan _ c.if1.false
+float_to_bits_result : tie.Need-float-to-bits-result
+float_to_bits_result c = no_nan _ c.if1.false
 
-pub pattern-spec : {M : Type 1} → statement M
-pattern-spec = tie.close (tie.spec float-to-bits-result returns (λ c. search rules))
+pub pattern_spec : {M : Type 1} → statement M
+pattern_spec = tie.close (tie.spec float_to_bits_result returns (λ c. search rules))

@@ -2,7 +2,7 @@
 use Prim.Native.Nat.{◌-◌}
 use native.Mathlib.Omega.{arith}
 use lib.ListN.{length}
-use Rattle.base_text.proofs.Puts.{Turn, turn-first, turn-place, turn-next, turn_last}
+use Rattle.base_text.proofs.Puts.{Turn, turn_first, turn_place, turn_next, turn_last}
 use borrow.Author.Rules.{rules}
 use Rattle.base_text.proofs.put_word.Statement.{statement}
 use Rattle.base_text.proofs.put_word.Tie as tie
@@ -13,36 +13,36 @@ invariant-loop word text₀ at end₀ i₀ text end i = Turn word text₀ at i t
 abbrev decreases-loop : tie.decreases-loop
 decreases-loop word text₀ at end₀ i₀ text end i = length word - i
 
-loop-holds : tie.Need-loop-init invariant-loop decreases-loop
-loop-holds c = turn-first _ _ _
+loop_holds : tie.Need-loop-init invariant-loop decreases-loop
+loop_holds c = turn_first _ _ _
 
-put-byte-requires : tie.Need-put-byte-requires invariant-loop decreases-loop
-put-byte-requires c κs = let t = turn-place c.before.before.before.loop.invariant in omega (arith, t.0, t.1)
+put_byte_requires : tie.Need-put-byte-requires invariant-loop decreases-loop
+put_byte_requires c κs = let t = turn_place c.before.before.before.loop.invariant in omega (arith, t.0, t.1)
 
-loop-again : tie.Need-loop-preserved invariant-loop decreases-loop
-loop-again c =
-    let at-put-byte = c.before.before in
-    let at-loop = at-put-byte.before.before.before.before in
-    let l = at-loop.loop in
-    turn-next l.invariant (omega arith) at-put-byte.put_byte.ensures
+loop_again : tie.Need-loop-preserved invariant-loop decreases-loop
+loop_again c =
+    let at_put_byte = c.before.before in
+    let at_loop = at_put_byte.before.before.before.before in
+    let l = at_loop.loop in
+    turn_next l.invariant (omega arith) at_put_byte.put_byte.ensures
 
 same_length : tie.Need-same-length invariant-loop decreases-loop
-same_length c = (turn-place c.before.loop.invariant).1
+same_length c = (turn_place c.before.loop.invariant).1
 
 returns : tie.Need-returns invariant-loop decreases-loop
 returns c = turn_last c.before.loop.invariant (omega arith)
 
-pub put-word-spec : {M : Type 1} → statement M
-put-word-spec =
+pub put_word_spec : {M : Type 1} → statement M
+put_word_spec =
     tie.close
     (tie.spec
     invariant-loop
     decreases-loop
-    loop-holds
+    loop_holds
     (λ c. search rules)
-    put-byte-requires
+    put_byte_requires
     (λ c. search rules)
     (λ c. search rules)
-    loop-again
+    loop_again
     same_length
     returns)

@@ -1,15 +1,15 @@
 -- The table of the four entries of a call without ends, entry by entry.
-use Rattle.c_axes.specs.Axes.{axes-without-ends}
+use Rattle.c_axes.specs.Axes.{axes_without_ends}
 use borrow.Author.Rules.{rules}
 use Rattle.c_axes.proofs.axes_without_ends.Statement.{statement}
 use Rattle.c_axes.proofs.axes_without_ends.Tie as tie
 
 returns : tie.Need-returns
-unfolding axes-without-ends
+unfolding axes_without_ends
 returns c = search rules
 
-pub axes-without-ends-spec : {M : Type 1} → statement M
-axes-without-ends-spec =
+pub axes_without_ends_spec : {M : Type 1} → statement M
+axes_without_ends_spec =
     tie.close
     (tie.spec
     (λ c κs. search rules)

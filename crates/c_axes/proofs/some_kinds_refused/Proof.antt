@@ -5,48 +5,48 @@ use mathlib.Core.Path.{◌≡◌, sym}
 use mathlib.Core.Bool.{true, false}
 use native.Mathlib.Omega.{arith}
 use Rattle.rules.specs.Numbers.{any}
-use Rattle.base_numbers.proofs.Scan.{any_none, any-more, any_found, any-end}
-use Rattle.grid_codes.specs.Kinds.{kinds-refused}
-use Rattle.c_axes.specs.Axes.{lower-kind, upper-kind, some-kinds-refused}
+use Rattle.base_numbers.proofs.Scan.{any_none, any_more, any_found, any_end}
+use Rattle.grid_codes.specs.Kinds.{kinds_refused}
+use Rattle.c_axes.specs.Axes.{lower_kind, upper_kind, some_kinds_refused}
 use borrow.Author.Rules.{rules}
 use Rattle.c_axes.proofs.some_kinds_refused.Statement.{statement}
 use Rattle.c_axes.proofs.some_kinds_refused.Tie as tie
 
 abbrev invariant-loop : tie.invariant-loop
-invariant-loop axes kinds i₀ i = (i ≤ axes) × (any (λ k. kinds-refused (lower-kind kinds k) (upper-kind kinds k)) i ≡ false)
+invariant-loop axes kinds i₀ i = (i ≤ axes) × (any (λ k. kinds_refused (lower_kind kinds k) (upper_kind kinds k)) i ≡ false)
 
 abbrev decreases-loop : tie.decreases-loop
 decreases-loop axes kinds i₀ i = axes - i
 
-loop-holds : tie.Need-loop-init invariant-loop decreases-loop
-loop-holds c = (search rules, any_none _)
+loop_holds : tie.Need-loop-init invariant-loop decreases-loop
+loop_holds c = (search rules, any_none _)
 
 returns : tie.Need-returns invariant-loop decreases-loop
-unfolding some-kinds-refused
+unfolding some_kinds_refused
 returns c =
-    let at-loop = c.before.before.before.before.before.before.before in
-    let start = at-loop.before.before in
-    let l = at-loop.loop in
-    let found : kinds-refused (lower-kind start.args.kinds.now l.i) (upper-kind start.args.kinds.now l.i) ≡ true = cc in
+    let at_loop = c.before.before.before.before.before.before.before in
+    let start = at_loop.before.before in
+    let l = at_loop.loop in
+    let found : kinds_refused (lower_kind start.args.kinds.now l.i) (upper_kind start.args.kinds.now l.i) ≡ true = cc in
     sym (any_found _ l.i _ (omega arith) found)
 
-loop-again : tie.Need-loop-preserved invariant-loop decreases-loop
-loop-again c =
-    let at-loop = c.before.before.before.before.before.before.before in
-    let l = at-loop.loop in
-    (search rules, any-more _ _ l.invariant.1 (cc))
+loop_again : tie.Need-loop-preserved invariant-loop decreases-loop
+loop_again c =
+    let at_loop = c.before.before.before.before.before.before.before in
+    let l = at_loop.loop in
+    (search rules, any_more _ _ l.invariant.1 (cc))
 
 returns-2 : tie.Need-returns-2 invariant-loop decreases-loop
-unfolding some-kinds-refused
-returns-2 c = sym (any-end _ _ _ c.before.loop.invariant.1 (omega arith))
+unfolding some_kinds_refused
+returns-2 c = sym (any_end _ _ _ c.before.loop.invariant.1 (omega arith))
 
-pub some-kinds-refused-spec : {M : Type 1} → statement M
-some-kinds-refused-spec =
+pub some_kinds_refused_spec : {M : Type 1} → statement M
+some_kinds_refused_spec =
     tie.close
     (tie.spec
     invariant-loop
     decreases-loop
-    loop-holds
+    loop_holds
     (λ c. search rules)
     (λ c. search rules)
     (λ c κs. search rules)
@@ -58,5 +58,5 @@ some-kinds-refused-spec =
     returns
     (λ c. search rules)
     (λ c. search rules)
-    loop-again
+    loop_again
     returns-2)

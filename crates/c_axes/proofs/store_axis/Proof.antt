@@ -6,17 +6,17 @@ use borrow.Author.Rules.{rules}
 use Rattle.c_axes.proofs.store_axis.Statement.{statement}
 use Rattle.c_axes.proofs.store_axis.Tie as tie
 
-slice-write-kinds-2 : tie.Need-slice-write-kinds-2
-slice-write-kinds-2 c = simp length-set (omega arith)
+slice_write_kinds_2 : tie.Need-slice-write-kinds-2
+slice_write_kinds_2 c = simp length-set (omega arith)
 
-slice-write-values-2 : tie.Need-slice-write-values-2
-slice-write-values-2 c = simp length-set (omega arith)
+slice_write_values_2 : tie.Need-slice-write-values-2
+slice_write_values_2 c = simp length-set (omega arith)
 
 returns : tie.Need-returns
 returns c = record { point = refl; both-kinds = cc; both_values = cc }
 
-pub store-axis-spec : {M : Type 1} → statement M
-store-axis-spec =
+pub store_axis_spec : {M : Type 1} → statement M
+store_axis_spec =
     tie.close
     (tie.spec
     (λ c. search rules)
@@ -27,7 +27,7 @@ store-axis-spec =
     (λ c κs. search rules)
     (λ c. search rules)
     (λ c. search rules)
-    slice-write-kinds-2
+    slice_write_kinds_2
     (λ c κs. search rules)
     (λ c. search rules)
     (λ c. search rules)
@@ -36,7 +36,7 @@ store-axis-spec =
     (λ c. search rules)
     (λ c. search rules)
     (λ c. search rules)
-    slice-write-values-2
+    slice_write_values_2
     (λ c. search rules)
     (λ c. search rules)
     (λ c. search rules)

@@ -6,5 +6,5 @@ use Rattle.c_axes.proofs.store_mode.Tie as tie
 returns : tie.Need-returns
 returns c = cc
 
-pub store-mode-spec : {M : Type 1} → statement M
-store-mode-spec = tie.close (tie.spec (λ c κs. search rules) (λ c. search rules) (λ c. search rules) returns)
+pub store_mode_spec : {M : Type 1} → statement M
+store_mode_spec = tie.close (tie.spec (λ c κs. search rules) (λ c. search rules) (λ c. search rules) returns)

@@ -2,33 +2,33 @@
 -- both buffers, the axes as numbers, their modes and the edition are what the reader gives of the bytes (`read-called`).
 use mathlib.Core.Path.{sym, ◌∙◌}
 use native.Mathlib.Omega.{arith}
-use Rattle.c_refusals.proofs.Lengths.{read-lengths}
-use Rattle.c_sheet.proofs.Exported.{read-refused, read-called}
+use Rattle.c_refusals.proofs.Lengths.{read_lengths}
+use Rattle.c_sheet.proofs.Exported.{read_refused, read_called}
 use borrow.Author.Rules.{rules}
 use Rattle.c_sheet.proofs.read.Statement.{statement}
 use Rattle.c_sheet.proofs.read.Tie as tie
 
 returns : tie.Need-returns
-returns c = read-refused _ _ _ _ _ _ _ _ _ c.before.read-own-refusal.ensures c.if1.true
+returns c = read_refused _ _ _ _ _ _ _ _ _ c.before.read_own_refusal.ensures c.if1.true
 
-slice-write-axes : tie.Need-slice-write-axes
-slice-write-axes c =
+slice_write_axes : tie.Need-slice-write-axes
+slice_write_axes c =
     let e = c.before.before.before.before.before.before.before in
-    let lengths = read-lengths _ _ _ _ _ _ (sym e.before.read-own-refusal.ensures ∙ e.if1.false) in
-    let one = lengths.one-slot in omega arith
+    let lengths = read_lengths _ _ _ _ _ _ (sym e.before.read_own_refusal.ensures ∙ e.if1.false) in
+    let one = lengths.one_slot in omega arith
 
-store-axes-requires : tie.Need-store-axes-requires
-store-axes-requires c κs =
+store_axes_requires : tie.Need-store-axes-requires
+store_axes_requires c κs =
     let e = c.before.before.before.before.before.before.before.before.before.before.before in
-    let lengths = read-lengths _ _ _ _ _ _ (sym e.before.read-own-refusal.ensures ∙ e.if1.false) in
-    lengths.for-axes
+    let lengths = read_lengths _ _ _ _ _ _ (sym e.before.read_own_refusal.ensures ∙ e.if1.false) in
+    lengths.for_axes
 
-store-told-requires : tie.Need-store-told-requires
-store-told-requires c κs =
+store_told_requires : tie.Need-store-told-requires
+store_told_requires c κs =
     let e =
     c.before.before.before.before.before.before.before.before.before.before.before.before.before.before.before.before.before.before.before.before in
-    let lengths = read-lengths _ _ _ _ _ _ (sym e.before.read-own-refusal.ensures ∙ e.if1.left) in
-    (lengths.four-modes, lengths.one-edition)
+    let lengths = read_lengths _ _ _ _ _ _ (sym e.before.read_own_refusal.ensures ∙ e.if1.left) in
+    (lengths.four_modes, lengths.one_edition)
 
 returns-2 : tie.Need-returns-2
 returns-2 c =
@@ -36,8 +36,8 @@ returns-2 c =
     let stored = told.before.before.before.before.before.before.before.before.before in
     let done = stored.before.before.before.before.before.before.before.before.before in
     let e = done.before.before.before in
-    read-called _ _ _ _ _ _ _ _ _ e.before.read-own-refusal.ensures e.if1.false _ done.read.ensures
-    stored.store-axes.ensures told.store_told.ensures
+    read_called _ _ _ _ _ _ _ _ _ e.before.read_own_refusal.ensures e.if1.false _ done.read.ensures
+    stored.store_axes.ensures told.store_told.ensures
 
 pub read_spec : {M : Type 1} → statement M
 read_spec =
@@ -52,9 +52,9 @@ read_spec =
     (λ c. search rules)
     returns
     (λ c κs. search rules)
-    slice-write-axes
-    store-axes-requires
-    store-told-requires
+    slice_write_axes
+    store_axes_requires
+    store_told_requires
     (λ c. search rules)
     (λ c. search rules)
     (λ c. search rules)

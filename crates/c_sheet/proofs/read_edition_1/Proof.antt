@@ -2,25 +2,25 @@
 -- points, kinds and values stand in slices whose lengths `read-edition-1-lengths` gives.
 use mathlib.Core.Path.{sym, ◌∙◌}
 use native.Mathlib.Omega.{arith}
-use Rattle.c_refusals.proofs.Lengths.{read-edition-1-lengths}
-use Rattle.c_sheet.proofs.Exported.{read-edition-1-refused, read-edition-1-called}
+use Rattle.c_refusals.proofs.Lengths.{read_edition_1_lengths}
+use Rattle.c_sheet.proofs.Exported.{read_edition_1_refused, read_edition_1_called}
 use borrow.Author.Rules.{rules}
 use Rattle.c_sheet.proofs.read_edition_1.Statement.{statement}
 use Rattle.c_sheet.proofs.read_edition_1.Tie as tie
 
 returns : tie.Need-returns
-returns c = read-edition-1-refused _ _ _ _ _ _ _ c.before.read-edition-1-own-refusal.ensures c.if1.true
+returns c = read_edition_1_refused _ _ _ _ _ _ _ c.before.read_edition_1_own_refusal.ensures c.if1.true
 
-slice-write-axes : tie.Need-slice-write-axes
-slice-write-axes c =
+slice_write_axes : tie.Need-slice-write-axes
+slice_write_axes c =
     let e = c.before.before.before.before.before.before.before in
-    let lengths = read-edition-1-lengths _ _ _ _ (sym e.before.read-edition-1-own-refusal.ensures ∙ e.if1.false) in
+    let lengths = read_edition_1_lengths _ _ _ _ (sym e.before.read_edition_1_own_refusal.ensures ∙ e.if1.false) in
     omega arith
 
-store-axes-requires : tie.Need-store-axes-requires
-store-axes-requires c κs =
+store_axes_requires : tie.Need-store-axes-requires
+store_axes_requires c κs =
     let e = c.before.before.before.before.before.before.before.before.before.before.before in
-    let lengths = read-edition-1-lengths _ _ _ _ (sym e.before.read-edition-1-own-refusal.ensures ∙ e.if1.false) in
+    let lengths = read_edition_1_lengths _ _ _ _ (sym e.before.read_edition_1_own_refusal.ensures ∙ e.if1.false) in
     (lengths.1, lengths.2, lengths.3)
 
 returns-2 : tie.Need-returns-2
@@ -28,11 +28,11 @@ returns-2 c =
     let stored = c.before.before.before.before.before.before in
     let done = stored.before.before.before.before.before.before.before.before.before in
     let e = done.before.before.before in
-    read-edition-1-called _ _ _ _ _ _ _ e.before.read-edition-1-own-refusal.ensures e.if1.false _ done.read-edition-1.ensures
-    stored.store-axes.ensures
+    read_edition_1_called _ _ _ _ _ _ _ e.before.read_edition_1_own_refusal.ensures e.if1.false _ done.read_edition_1.ensures
+    stored.store_axes.ensures
 
-pub read-edition-1-spec : {M : Type 1} → statement M
-read-edition-1-spec =
+pub read_edition_1_spec : {M : Type 1} → statement M
+read_edition_1_spec =
     tie.close
     (tie.spec
     (λ c κs. search rules)
@@ -42,8 +42,8 @@ read-edition-1-spec =
     (λ c. search rules)
     returns
     (λ c κs. search rules)
-    slice-write-axes
-    store-axes-requires
+    slice_write_axes
+    store_axes_requires
     (λ c. search rules)
     (λ c. search rules)
     (λ c. search rules)

@@ -18,5 +18,5 @@ returns-2 c =
     let s = c.before in
     rw (rw (to_z-of_z w64 s.args.number s.ranges.number, to_z-of_z w64 s.args.low s.ranges.low) at c.if1.false)
 
-pub in-range-spec : {M : Type 1} → statement M
-in-range-spec = tie.close (tie.spec returns returns-2)
+pub in_range_spec : {M : Type 1} → statement M
+in_range_spec = tie.close (tie.spec returns returns-2)

@@ -11,18 +11,18 @@ returns c =
     let e = d.before in
     let f = e.before in
     rw (
-      to_z-of_z w64 c.number-at4.result (record { sfits = c.number-at4.type-inv }),
-      to_z-of_z w64 d.number-at3.result (record { sfits = d.number-at3.type-inv }),
-      to_z-of_z w64 e.number-at2.result (record { sfits = e.number-at2.type-inv }),
+      to_z-of_z w64 c.number_at4.result (record { sfits = c.number_at4.type-inv }),
+      to_z-of_z w64 d.number_at3.result (record { sfits = d.number_at3.type-inv }),
+      to_z-of_z w64 e.number_at2.result (record { sfits = e.number_at2.type-inv }),
       to_z-of_z w64 f.number_at.result (record { sfits = f.number_at.type-inv }),
-      c.number-at4.ensures,
-      d.number-at3.ensures,
-      e.number-at2.ensures,
+      c.number_at4.ensures,
+      d.number_at3.ensures,
+      e.number_at2.ensures,
       f.number_at.ensures,
     )
 
-pub cell-at-spec : {M : Type 1} → statement M
-cell-at-spec =
+pub cell_at_spec : {M : Type 1} → statement M
+cell_at_spec =
     tie.close
     (tie.spec
     (λ c. search rules)

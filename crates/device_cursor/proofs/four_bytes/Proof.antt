@@ -13,8 +13,8 @@ returns c =
     let e = d.before.before in
     (rw (c.wide4.ensures.0, b.wide3.ensures.0, d.wide2.ensures.0, e.wide.ensures.0), omega arith)
 
-pub four-bytes-spec : {M : Type 1} → statement M
-four-bytes-spec =
+pub four_bytes_spec : {M : Type 1} → statement M
+four_bytes_spec =
     tie.close
     (tie.spec
     (λ c. search rules)

@@ -8,10 +8,10 @@ returns c =
     let third = c.before in
     let second = third.before in
     let first = second.before in
-    rw (c.slope-refused4.ensures, third.slope-refused3.ensures, second.slope-refused2.ensures, first.slope-refused.ensures)
+    rw (c.slope_refused4.ensures, third.slope_refused3.ensures, second.slope_refused2.ensures, first.slope_refused.ensures)
 
-pub four-slopes-refused-spec : {M : Type 1} → statement M
-four-slopes-refused-spec =
+pub four_slopes_refused_spec : {M : Type 1} → statement M
+four_slopes_refused_spec =
     tie.close
     (tie.spec
     (λ c κs. search rules)

@@ -8,10 +8,10 @@ returns c =
     let third = c.before in
     let second = third.before in
     let first = second.before in
-    rw (c.value-refused4.ensures, third.value-refused3.ensures, second.value-refused2.ensures, first.value-refused.ensures)
+    rw (c.value_refused4.ensures, third.value_refused3.ensures, second.value_refused2.ensures, first.value_refused.ensures)
 
-pub four-values-refused-spec : {M : Type 1} → statement M
-four-values-refused-spec =
+pub four_values_refused_spec : {M : Type 1} → statement M
+four_values_refused_spec =
     tie.close
     (tie.spec
     (λ c κs. search rules)

@@ -6,7 +6,7 @@ use lib.IntN.{pos, ◌-ℤ◌}
 use mir.Syntax.{w64}
 use mir.Val.{SFits, to_z}
 use mir.ValLaws.{to_z_pos, to_z-of_z}
-use Rattle.base_integers.proofs.Sizes.{sized-pos, sized-sub, sized-fits}
+use Rattle.base_integers.proofs.Sizes.{sized_pos, sized_sub, sized_fits}
 use Rattle.device_cursor.specs.DeviceCurve.{signed}
 use Rattle.device_cursor.proofs.Judged.{low, high}
 use borrow.Author.Rules.{rules}
@@ -16,14 +16,14 @@ use Rattle.device_cursor.proofs.number_at.Tie as tie
 read : (c : tie.Else1) → to_z w64 c.before.four_bytes.result ≡ pos c.before.four_bytes.result
 read c = to_z_pos w64 _ (omega arith)
 
-room : (c : tie.Else1) → SFits w64 (pos c.before.four_bytes.result -ℤ pos 4294967296)
+room : (c : tie.Else1) → SFits w64 (pos c.before.four_bytes.result _ℤ pos 4294967296)
 room c =
     let n = c.before.four_bytes.result in
     let h : n + 4294967296 < 9223372036854775808 = omega arith in
-    sized-fits w64 (sized-sub (sized-pos n) (sized-pos 4294967296)) h
+    sized_fits w64 (sized_sub (sized_pos n) (sized_pos 4294967296)) h
 
-sub-result : tie.Need-overflow-sub-result
-sub-result c = rw (read c) (room c)
+sub_result : tie.Need-overflow-sub-result
+sub_result c = rw (read c) (room c)
 
 returns : tie.Need-returns
 returns c =
@@ -35,7 +35,7 @@ returns-2 c =
     let n = c.before.four_bytes.result in
     rw (read c, to_z-of_z w64 _ (room c)) (high n c.if1.false ∙ ap signed c.before.four_bytes.ensures.0)
 
-pub number-at-spec : {M : Type 1} → statement M
-number-at-spec =
+pub number_at_spec : {M : Type 1} → statement M
+number_at_spec =
     tie.close
-    (tie.spec (λ c κs. search rules) (λ c. search rules) (λ c. search rules) sub-result returns returns-2)
+    (tie.spec (λ c κs. search rules) (λ c. search rules) (λ c. search rules) sub_result returns returns-2)

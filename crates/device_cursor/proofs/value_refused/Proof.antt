@@ -3,9 +3,9 @@ use mathlib.Core.Path.{ap, ◌∙◌}
 use mathlib.Core.Bool.{not}
 use Prim.Native.Nat.{ℕ}
 use native.Mathlib.Omega.{arith}
-use Rattle.device_cell.specs.DeviceCell.{value-in-range}
+use Rattle.device_cell.specs.DeviceCell.{value_in_range}
 use Rattle.device_cursor.specs.DeviceCurve.{signed}
-use Rattle.device_cursor.proofs.Lifted.{lifted-above}
+use Rattle.device_cursor.proofs.Lifted.{lifted_above}
 use borrow.Author.Rules.{rules}
 use Rattle.device_cursor.proofs.value_refused.Statement.{statement}
 use Rattle.device_cursor.proofs.value_refused.Tie as tie
@@ -13,8 +13,8 @@ use Rattle.device_cursor.proofs.value_refused.Tie as tie
 returns : tie.Need-returns
 returns c =
     let bytes = c.four_bytes in
-    lifted-above 32767 bytes.result (omega arith) bytes.ensures.1
-    ∙ ap (λ (n : ℕ). not (value-in-range (signed n))) bytes.ensures.0
+    lifted_above 32767 bytes.result (omega arith) bytes.ensures.1
+    ∙ ap (λ (n : ℕ). not (value_in_range (signed n))) bytes.ensures.0
 
-pub value-refused-spec : {M : Type 1} → statement M
-value-refused-spec = tie.close (tie.spec (λ c κs. search rules) (λ c. search rules) returns)
+pub value_refused_spec : {M : Type 1} → statement M
+value_refused_spec = tie.close (tie.spec (λ c κs. search rules) (λ c. search rules) returns)

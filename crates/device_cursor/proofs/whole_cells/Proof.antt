@@ -16,5 +16,5 @@ returns-3 : tie.Need-returns-3
 unfolding whole_cells
 returns-3 c = rw (ne_eqb _ _ c.if1.false)
 
-pub whole-cells-spec : {M : Type 1} → statement M
-whole-cells-spec = tie.close (tie.spec returns returns-2 returns-3)
+pub whole_cells_spec : {M : Type 1} → statement M
+whole_cells_spec = tie.close (tie.spec returns returns-2 returns-3)

@@ -13,5 +13,5 @@ returns-2 c = λ e. absurd (false≢true e)
 returns-4 : tie.Need-returns-4
 returns-4 c = λ e. absurd (false≢true e)
 
-pub both-normal-spec : {M : Type 1} → statement M
-both-normal-spec = tie.close (tie.spec returns returns-2 (λ c. search rules) returns-4)
+pub both_normal_spec : {M : Type 1} → statement M
+both_normal_spec = tie.close (tie.spec returns returns-2 (λ c. search rules) returns-4)

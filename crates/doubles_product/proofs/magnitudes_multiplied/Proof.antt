@@ -2,26 +2,26 @@
 -- in its place it stands for the product of the units (`product_is`).
 use mathlib.Core.Path.{◌∙◌}
 use native.Mathlib.Omega.{arith}
-use Rattle.doubles_product.proofs.Products.{product-large, product_is}
+use Rattle.doubles_product.proofs.Products.{product_large, product_is}
 use borrow.Author.Rules.{rules}
 use Rattle.doubles_product.proofs.magnitudes_multiplied.Statement.{statement}
 use Rattle.doubles_product.proofs.magnitudes_multiplied.Tie as tie
 
-placed-requires : tie.Need-placed-requires
-placed-requires c κs =
+placed_requires : tie.Need-placed-requires
+placed_requires c κs =
     let w = c.before.before in
     let s = w.before.before.before in
-    (product-large _ _ _ _ _ _ _ s.before.parts-of.ensures s.parts-of2.ensures w.upper-product.ensures, omega arith)
+    (product_large _ _ _ _ _ _ _ s.before.parts_of.ensures s.parts_of2.ensures w.upper_product.ensures, omega arith)
 
 returns : tie.Need-returns
 returns c =
     let w = c.before.before.before in
     let s = w.before.before.before in
-    let is = product_is _ _ _ _ _ _ _ s.before.parts-of.ensures s.parts-of2.ensures w.upper-product.ensures in
+    let is = product_is _ _ _ _ _ _ _ s.before.parts_of.ensures s.parts_of2.ensures w.upper_product.ensures in
     (c.placed.ensures.0 ∙ is, c.placed.ensures.1)
 
-pub magnitudes-multiplied-spec : {M : Type 1} → statement M
-magnitudes-multiplied-spec =
+pub magnitudes_multiplied_spec : {M : Type 1} → statement M
+magnitudes_multiplied_spec =
     tie.close
     (tie.spec
     (λ c κs. search rules)
@@ -30,5 +30,5 @@ magnitudes-multiplied-spec =
     (λ c. search rules)
     (λ c κs. search rules)
     (λ c. search rules)
-    placed-requires
+    placed_requires
     returns)

@@ -1,7 +1,7 @@
 -- By zero: NaN for zero (`quotient-zeros`), else an infinity (`quotient-by-zero`). Zero by another number is zero (`quotient-nothing`);
 -- else the magnitudes are divided. The sign is a minus where the signs are unlike.
 use native.Mathlib.Omega.{arith}
-use Rattle.doubles_quotient.proofs.Answers.{quotient-zeros, quotient-by-zero, quotient-nothing, quotient_signed}
+use Rattle.doubles_quotient.proofs.Answers.{quotient_zeros, quotient_by_zero, quotient_nothing, quotient_signed}
 use borrow.Author.Rules.{rules}
 use Rattle.doubles_quotient.proofs.finite_quotient.Statement.{statement}
 use Rattle.doubles_quotient.proofs.finite_quotient.Tie as tie
@@ -10,29 +10,29 @@ returns : tie.Need-returns
 returns c =
     let a = c.before.before.args.a in
     let b = c.before.before.args.b in
-    quotient-zeros a b (omega arith) (omega arith)
+    quotient_zeros a b (omega arith) (omega arith)
 
 returns-2 : tie.Need-returns-2
 returns-2 c =
     let a = c.before.before.before.args.a in
     let b = c.before.before.before.args.b in
-    quotient-by-zero a b _ c.sign_of.ensures.0 (omega arith) (omega arith) (omega arith)
+    quotient_by_zero a b _ c.sign_of.ensures.0 (omega arith) (omega arith) (omega arith)
 
 returns-3 : tie.Need-returns-3
 returns-3 c =
     let a = c.before.before.before.args.a in
     let b = c.before.before.before.args.b in
-    quotient-nothing a b _ c.sign-of2.ensures.0 (omega arith) (omega arith) (omega arith)
+    quotient_nothing a b _ c.sign_of2.ensures.0 (omega arith) (omega arith) (omega arith)
 
 returns-4 : tie.Need-returns-4
 returns-4 c =
     let s = c.before.before.before.before in
     let a = s.args.a in
     let b = s.args.b in
-    quotient_signed a b _ c.before.sign-of3.ensures.0 _ (omega arith) (omega arith) (omega arith) c.magnitudes-divided.ensures.0
+    quotient_signed a b _ c.before.sign_of3.ensures.0 _ (omega arith) (omega arith) (omega arith) c.magnitudes_divided.ensures.0
 
-pub finite-quotient-spec : {M : Type 1} → statement M
-finite-quotient-spec =
+pub finite_quotient_spec : {M : Type 1} → statement M
+finite_quotient_spec =
     tie.close
     (tie.spec
     (λ c κs. search rules)

@@ -8,5 +8,5 @@ use Rattle.doubles_rounding.proofs.eleven_off.Tie as tie
 returns : tie.Need-returns
 returns c = (eleven _, omega arith)
 
-pub eleven-off-spec : {M : Type 1} → statement M
-eleven-off-spec = tie.close (tie.spec (λ c. search rules) (λ c. search rules) (λ c. search rules) returns)
+pub eleven_off_spec : {M : Type 1} → statement M
+eleven_off_spec = tie.close (tie.spec (λ c. search rules) (λ c. search rules) (λ c. search rules) returns)

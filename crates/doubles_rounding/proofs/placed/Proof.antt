@@ -4,20 +4,20 @@ use mathlib.Core.Path.{sym, ◌∙◌}
 use native.Mathlib.Omega.{arith}
 use lib.Dec.{lit<}
 use lib.Ieee.{binary64}
-use Rattle.doubles_rounding.proofs.Placing.{place-above, placed-down}
+use Rattle.doubles_rounding.proofs.Placing.{place_above, placed_down}
 use borrow.Author.Rules.{rules}
 use Rattle.doubles_rounding.proofs.placed.Statement.{statement}
 use Rattle.doubles_rounding.proofs.placed.Tie as tie
 
 returns : tie.Need-returns
-returns c = (c.top-rounded.ensures.0 ∙ sym (place-above binary64 _ 1024 _ _ (lit< tt) (omega arith)), c.top-rounded.ensures.1)
+returns c = (c.top_rounded.ensures.0 ∙ sym (place_above binary64 _ 1024 _ _ (lit< tt) (omega arith)), c.top_rounded.ensures.1)
 
 returns-2 : tie.Need-returns-2
 returns-2 c =
-    (c.top-rounded2.ensures.0 ∙ placed-down _ _ _ _ c.before.moved_down.ensures (omega arith), c.top-rounded2.ensures.1)
+    (c.top_rounded2.ensures.0 ∙ placed_down _ _ _ _ c.before.moved_down.ensures (omega arith), c.top_rounded2.ensures.1)
 
-pub placed-spec : {M : Type 1} → statement M
-placed-spec =
+pub placed_spec : {M : Type 1} → statement M
+placed_spec =
     tie.close
     (tie.spec
     (λ c κs. (λ h. omega arith, omega arith))

@@ -8,8 +8,8 @@ use Rattle.doubles_rounding.proofs.rounded.Tie as tie
 returns : tie.Need-returns
 returns c = (c.packed.ensures.0 ∙ sym (moved_to _ _ _ _ c.before.shift.ensures refl), c.packed.ensures.1)
 
-pub rounded-spec : {M : Type 1} → statement M
-rounded-spec =
+pub rounded_spec : {M : Type 1} → statement M
+rounded_spec =
     tie.close
     (tie.spec
     (λ c κs. search rules)

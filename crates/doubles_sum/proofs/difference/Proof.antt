@@ -8,5 +8,5 @@ use Rattle.doubles_sum.proofs.difference.Tie as tie
 returns : tie.Need-returns
 returns c = c.sum.ensures ∙ sub_is _ _ _ c.before.opposite.ensures
 
-pub difference-spec : {M : Type 1} → statement M
-difference-spec = tie.close (tie.spec (λ c κs. search rules) (λ c κs. search rules) returns)
+pub difference_spec : {M : Type 1} → statement M
+difference_spec = tie.close (tie.spec (λ c κs. search rules) (λ c κs. search rules) returns)

@@ -3,8 +3,8 @@ use borrow.Author.Rules.{rules}
 use Rattle.grid.proofs.knots_length.Statement.{statement}
 use Rattle.grid.proofs.knots_length.Tie as tie
 
-knots-before-requires : tie.Need-knots-before-requires
-knots-before-requires c κs = (c.requires.few-axes, c.requires.few-points)
+knots_before_requires : tie.Need-knots-before-requires
+knots_before_requires c κs = (c.requires.few_axes, c.requires.few_points)
 
-pub knots-length-spec : {M : Type 1} → statement M
-knots-length-spec = tie.close (tie.spec knots-before-requires (λ c. search rules))
+pub knots_length_spec : {M : Type 1} → statement M
+knots_length_spec = tie.close (tie.spec knots_before_requires (λ c. search rules))

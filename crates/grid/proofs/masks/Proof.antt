@@ -17,5 +17,5 @@ shifted i h = rw one-mul (mod-eq_of_lt (lt_of_le_of_lt (most i h) (lit< tt)))
 returns : tie.Need-returns
 returns c = (shifted _ c.requires, rw (shifted _ c.requires) (most _ c.requires))
 
-pub masks-spec : {M : Type 1} → statement M
-masks-spec = tie.close (tie.spec (λ c. search rules) returns)
+pub masks_spec : {M : Type 1} → statement M
+masks_spec = tie.close (tie.spec (λ c. search rules) returns)

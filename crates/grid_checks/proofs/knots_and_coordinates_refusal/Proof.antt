@@ -2,43 +2,43 @@
 -- `points-finite`.
 use mathlib.Core.Path.{refl}
 use Rattle.rules.specs.Sizes.{place_of}
-use Rattle.grid_checks.specs.Check.{knots-and-coordinates-check}
+use Rattle.grid_checks.specs.Check.{knots_and_coordinates_check}
 use Rattle.grid_checks.proofs.Rows.{stop, pass}
-use Rattle.grid_checks.proofs.FiniteKnots.{points-finite}
+use Rattle.grid_checks.proofs.FiniteKnots.{points_finite}
 use borrow.Author.Rules.{rules}
 use Rattle.grid_checks.proofs.knots_and_coordinates_refusal.Statement.{statement}
 use Rattle.grid_checks.proofs.knots_and_coordinates_refusal.Tie as tie
 
-slices-refused-requires : tie.Need-slices-refused-requires
-slices-refused-requires c κs =
+slices_refused_requires : tie.Need-slices-refused-requires
+slices_refused_requires c κs =
     let s = c.before.before.before.before in
-    points-finite s.args.axes (place_of s.args.points.now) s.args.knots.now s.requires.0 s.requires.2
-    c.knots-of-points-refused.ensures
+    points_finite s.args.axes (place_of s.args.points.now) s.args.knots.now s.requires.0 s.requires.2
+    c.knots_of_points_refused.ensures
 
 returns : tie.Need-returns
-unfolding knots-and-coordinates-check
-returns c = stop _ c.before.slices-refused.ensures c.if1.true
+unfolding knots_and_coordinates_check
+returns c = stop _ c.before.slices_refused.ensures c.if1.true
 
 returns-2 : tie.Need-returns-2
-unfolding knots-and-coordinates-check
+unfolding knots_and_coordinates_check
 returns-2 c =
     let numbers = c.before.before in
-    pass _ numbers.slices-refused.ensures c.before.if1.false
-    (stop _ numbers.before.knots-of-points-refused.ensures c.if2.true)
+    pass _ numbers.slices_refused.ensures c.before.if1.false
+    (stop _ numbers.before.knots_of_points_refused.ensures c.if2.true)
 
 returns-3 : tie.Need-returns-3
-unfolding knots-and-coordinates-check
+unfolding knots_and_coordinates_check
 returns-3 c =
     let numbers = c.before.before in
-    pass _ numbers.slices-refused.ensures c.before.if1.false
-    (pass _ numbers.before.knots-of-points-refused.ensures c.if2.false refl)
+    pass _ numbers.slices_refused.ensures c.before.if1.false
+    (pass _ numbers.before.knots_of_points_refused.ensures c.if2.false refl)
 
-pub knots-and-coordinates-refusal-spec : {M : Type 1} → statement M
-knots-and-coordinates-refusal-spec =
+pub knots_and_coordinates_refusal_spec : {M : Type 1} → statement M
+knots_and_coordinates_refusal_spec =
     tie.close
     (tie.spec
     (λ c κs. search rules)
-    slices-refused-requires
+    slices_refused_requires
     returns
     returns-2
     returns-3)

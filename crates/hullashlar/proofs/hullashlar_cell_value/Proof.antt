@@ -14,7 +14,7 @@ returns c =
       to_z-of_z w32 s.args.d0 s.ranges.d0,
       to_z-of_z w32 s.args.d1 s.ranges.d1,
       to_z-of_z w32 s.args.k s.ranges.k,
-    ) at c.before.cell-value.ensures
+    ) at c.before.cell_value.ensures
 
-pub hullashlar-cell-value-spec : {M : Type 1} → statement M
-hullashlar-cell-value-spec = tie.close (tie.spec (λ c κs. search rules) (λ c. search rules) returns)
+pub hullashlar_cell_value_spec : {M : Type 1} → statement M
+hullashlar_cell_value_spec = tie.close (tie.spec (λ c κs. search rules) (λ c. search rules) returns)

@@ -10,5 +10,5 @@ returns c = record { answer = as_one _ _ c.before.at_most.ensures c.if1.true }
 returns-2 : tie.Need-returns-2
 returns-2 c = record { answer = as_none _ _ c.before.at_most.ensures c.if1.false }
 
-pub hullashlar-soft-le-spec : {M : Type 1} → statement M
-hullashlar-soft-le-spec = tie.close (tie.spec (λ c κs. search rules) returns returns-2)
+pub hullashlar_soft_le_spec : {M : Type 1} → statement M
+hullashlar_soft_le_spec = tie.close (tie.spec (λ c κs. search rules) returns returns-2)

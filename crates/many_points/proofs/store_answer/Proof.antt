@@ -7,10 +7,10 @@ use Rattle.many_points.proofs.store_answer.Statement.{statement}
 use Rattle.many_points.proofs.store_answer.Tie as tie
 
 returns : tie.Need-returns
-returns c = record { value = refl; its-labels = refl; refusal = refl }
+returns c = record { value = refl; its_labels = refl; refusal = refl }
 
-pub store-answer-spec : {M : Type 1} → statement M
-store-answer-spec =
+pub store_answer_spec : {M : Type 1} → statement M
+store_answer_spec =
     tie.close
     (tie.spec
     (λ c. search rules)

@@ -5,18 +5,18 @@ use borrow.Author.Rules.{rules}
 use Rattle.program_device_print.proofs.print_text.Statement.{statement}
 use Rattle.program_device_print.proofs.print_text.Tie as tie
 
-part-write-output-end : tie.Need-slice-bounds-write-output-end
-part-write-output-end c =
-    let most = length_most _ _ _ _ c.before.before.device-text.ensures in omega arith
+part_write_output_end : tie.Need-slice-bounds-write-output-end
+part_write_output_end c =
+    let most = length_most _ _ _ _ c.before.before.device_text.ensures in omega arith
 
-pub print-text-spec : {M : Type 1} → statement M
-print-text-spec =
+pub print_text_spec : {M : Type 1} → statement M
+print_text_spec =
     tie.close
     (tie.spec
     (λ c. search rules)
     (λ c κs. search rules)
     (λ c. search rules)
     (λ c. search rules)
-    part-write-output-end
+    part_write_output_end
     (λ c κs. search rules)
     (λ c. search rules))

@@ -6,7 +6,7 @@ use mir.Syntax.{w32}
 use mir.Val.{to_z, of_z}
 use mir.ValLaws.{to_z-of_z}
 use Rattle.base_integers.proofs.Signs.{Below, Above, below, above}
-use Rattle.program_device_text.proofs.Lines.{line-below, line-above}
+use Rattle.program_device_text.proofs.Lines.{line_below, line_above}
 use borrow.Author.Rules.{rules}
 use Rattle.program_device_text.proofs.put_signed_line.Statement.{statement}
 use Rattle.program_device_text.proofs.put_signed_line.Tie as tie
@@ -23,34 +23,34 @@ neg c = below _ (rw (read c.before.before.before) at c.if1.true)
 not : (c : tie.Else1) → Above c.before.before.before.args.number
 not c = above _ (rw (read c.before.before.before) at c.if1.false)
 
-put-word-line-requires : tie.Need-put-word-line-requires
-put-word-line-requires c κs =
-    let t = c.before.before in rw (size t.before, line-below _ (neg t)) t.before.before.before.requires
+put_word_line_requires : tie.Need-put-word-line-requires
+put_word_line_requires c κs =
+    let t = c.before.before in rw (size t.before, line_below _ (neg t)) t.before.before.before.requires
 
 returns : tie.Need-returns
 returns c =
     let t = c.before.before.before.before.before in
-    rw (size t.before, line-below _ (neg t)) at c.before.before.put-word-line.ensures
+    rw (size t.before, line_below _ (neg t)) at c.before.before.put_word_line.ensures
 
-put-word-line-requires-2 : tie.Need-put-word-line-requires-2
-put-word-line-requires-2 c κs =
-    let t = c.before.before in rw (size t.before, line-above _ (not t)) t.before.before.before.requires
+put_word_line_requires_2 : tie.Need-put-word-line-requires-2
+put_word_line_requires_2 c κs =
+    let t = c.before.before in rw (size t.before, line_above _ (not t)) t.before.before.before.requires
 
 returns-2 : tie.Need-returns-2
 returns-2 c =
     let t = c.before.before.before.before.before in
-    rw (size t.before, line-above _ (not t)) at c.before.before.put-word-line2.ensures
+    rw (size t.before, line_above _ (not t)) at c.before.before.put_word_line2.ensures
 
-pub put-signed-line-spec : {M : Type 1} → statement M
-put-signed-line-spec =
+pub put_signed_line_spec : {M : Type 1} → statement M
+put_signed_line_spec =
     tie.close
     (tie.spec
     (λ c κs. search rules)
     (λ c. search rules)
-    put-word-line-requires
+    put_word_line_requires
     (λ c. search rules)
     returns
     (λ c. search rules)
-    put-word-line-requires-2
+    put_word_line_requires_2
     (λ c. search rules)
     returns-2)

@@ -3,7 +3,7 @@
 use native.Mathlib.Omega.{arith}
 use Prim.Native.Nat.{◌-◌}
 use lib.ListN.{length}
-use Rattle.program_report_print.proofs.Keeps.{Turn, turn-first, turn-next, turn_last}
+use Rattle.program_report_print.proofs.Keeps.{Turn, turn_first, turn_next, turn_last}
 use borrow.Author.Rules.{rules}
 use Rattle.program_report_print.proofs.keep.Statement.{statement}
 use Rattle.program_report_print.proofs.keep.Tie as tie
@@ -14,11 +14,11 @@ invariant-loop buffer₀ from i₀ buffer i = Turn from buffer₀ buffer i
 abbrev decreases-loop : tie.decreases-loop
 decreases-loop buffer₀ from i₀ buffer i = length buffer₀ - from - i
 
-loop-holds : tie.Need-loop-init invariant-loop decreases-loop
-loop-holds c = turn-first _ _
+loop_holds : tie.Need-loop-init invariant-loop decreases-loop
+loop_holds c = turn_first _ _
 
-loop-again : tie.Need-loop-preserved invariant-loop decreases-loop
-loop-again c = turn-next _ _ _ _ c.before.before.loop.invariant (omega arith)
+loop_again : tie.Need-loop-preserved invariant-loop decreases-loop
+loop_again c = turn_next _ _ _ _ c.before.before.loop.invariant (omega arith)
 
 returns : tie.Need-returns invariant-loop decreases-loop
 returns c = turn_last _ _ _ _ c.before.loop.invariant c.before.before.requires (omega arith)
@@ -29,13 +29,13 @@ keep_spec =
     (tie.spec
     invariant-loop
     decreases-loop
-    loop-holds
+    loop_holds
     (λ c. search rules)
     (λ c. search rules)
     (λ c. search rules)
     (λ c. search rules)
     (λ c. search rules)
     (λ c. search rules)
-    loop-again
+    loop_again
     (λ c. search rules)
     returns)

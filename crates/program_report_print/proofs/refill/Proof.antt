@@ -10,13 +10,13 @@ use Rattle.program_report_print.proofs.refill.Tie as tie
 returns : tie.Need-returns
 returns c =
     let start = c.before.before.before.before.before in
-    let input = c.before.before.read-input in
+    let input = c.before.before.read_input in
     let parts = Post-is start.args.kept (length start.args.buffer.now) start.args.buffer.now start.requires in
     let end = drop-length start.args.buffer.now in
     rw (parts, end) (refilled start.args.buffer.now input.new.0 _ _ start.requires input.ensures)
 
-pub refill-spec : {M : Type 1} → statement M
-refill-spec =
+pub refill_spec : {M : Type 1} → statement M
+refill_spec =
     tie.close
     (tie.spec
     (λ c. search rules)

@@ -2,16 +2,16 @@
 use mathlib.Core.Path.{◌∙◌}
 use native.Mathlib.Omega.{arith}
 use Prim.Native.Nat.{◌-◌}
-use Rattle.report_totals.specs.Totals.{most-sheets}
+use Rattle.report_totals.specs.Totals.{most_sheets}
 use Rattle.program_report_print.proofs.Turns.{
   Turn,
-  turn-first,
-  turn-ends,
-  turn-stops,
-  turn-fails,
-  turn-next,
-  turn-less,
-  brought-fits,
+  turn_first,
+  turn_ends,
+  turn_stops,
+  turn_fails,
+  turn_next,
+  turn_less,
+  brought_fits,
 }
 use borrow.Author.Rules.{rules}
 use Rattle.program_report_print.proofs.report_through.Statement.{statement}
@@ -21,16 +21,16 @@ abbrev invariant-loop : tie.invariant-loop
 invariant-loop buffer₀ sum₀ filled₀ brought₀ buffer sum filled brought = Turn buffer₀ filled₀ buffer sum filled brought
 
 abbrev decreases-loop : tie.decreases-loop
-decreases-loop buffer₀ sum₀ filled₀ brought₀ buffer sum filled brought = most-sheets - sum.sheets
+decreases-loop buffer₀ sum₀ filled₀ brought₀ buffer sum filled brought = most_sheets - sum.sheets
 
-loop-holds : tie.Need-loop-init invariant-loop decreases-loop
-loop-holds c = turn-first _ _ _ c.before.before.requires c.none.ensures
+loop_holds : tie.Need-loop-init invariant-loop decreases-loop
+loop_holds c = turn_first _ _ _ c.before.before.requires c.none.ensures
 
-part-feed-end : tie.Need-slice-bounds-feed-end invariant-loop decreases-loop
-part-feed-end c = let short = c.before.if1.true in omega arith
+part_feed_end : tie.Need-slice-bounds-feed-end invariant-loop decreases-loop
+part_feed_end c = let short = c.before.if1.true in omega arith
 
-feed-requires : tie.Need-feed-requires invariant-loop decreases-loop
-feed-requires c κs = (c.before.before.before.loop.invariant.running, omega arith)
+feed_requires : tie.Need-feed-requires invariant-loop decreases-loop
+feed_requires c κs = (c.before.before.before.loop.invariant.running, omega arith)
 
 same_length : tie.Need-same-length invariant-loop decreases-loop
 same_length c = c.before.before.before.before.before.loop.invariant.same
@@ -38,15 +38,15 @@ same_length c = c.before.before.before.before.before.loop.invariant.same
 returns : tie.Need-returns invariant-loop decreases-loop
 returns c =
     let short = c.before.before.before.before in
-    rw c.told.ensures (turn-ends _ _ _ _ _ _ short.before.loop.invariant _ short.if1.true c.before.feed.ensures)
+    rw c.told.ensures (turn_ends _ _ _ _ _ _ short.before.loop.invariant _ short.if1.true c.before.feed.ensures)
 
-feed-requires-2 : tie.Need-feed-requires-2 invariant-loop decreases-loop
-feed-requires-2 c κs = (c.before.before.loop.invariant.running, omega arith)
+feed_requires_2 : tie.Need-feed-requires-2 invariant-loop decreases-loop
+feed_requires_2 c κs = (c.before.before.loop.invariant.running, omega arith)
 
-same-length-2 : tie.Need-same-length-2 invariant-loop decreases-loop
-same-length-2 c =
-    let at-loop = c.before.before.before.before.before.before in
-    at-loop.loop.invariant.same
+same_length_2 : tie.Need-same-length-2 invariant-loop decreases-loop
+same_length_2 c =
+    let at_loop = c.before.before.before.before.before.before in
+    at_loop.loop.invariant.same
 
 -- a place where a full buffer has been fed: that it was full, and the turn that this was
 abbrev full : tie.After-feed2 invariant-loop decreases-loop → tie.Else1 invariant-loop decreases-loop
@@ -59,20 +59,20 @@ returns-2 : tie.Need-returns-2 invariant-loop decreases-loop
 returns-2 c =
     let b = c.before.before.before in
     rw c.told2.ensures
-    (turn-stops _ _ _ _ _ _ (turn b).loop.invariant (full b).if1.false _ b.feed2.ensures c.before.if2.true)
+    (turn_stops _ _ _ _ _ _ (turn b).loop.invariant (full b).if1.false _ b.feed2.ensures c.before.if2.true)
 
-keep-requires : tie.Need-keep-requires invariant-loop decreases-loop
-keep-requires c κs = c.before.before.before.feed2.ensures.takes.inside
+keep_requires : tie.Need-keep-requires invariant-loop decreases-loop
+keep_requires c κs = c.before.before.before.feed2.ensures.takes.inside
 
-sub-kept : tie.Need-overflow-sub-kept invariant-loop decreases-loop
-sub-kept c =
-    let at-keep = c.before.before in
-    let at-feed2 = at-keep.before.before.before.before in
-    let inside = at-feed2.feed2.ensures.takes.inside in
-    let moved = at-keep.keep.auto.0 in omega arith
+sub_kept : tie.Need-overflow-sub-kept invariant-loop decreases-loop
+sub_kept c =
+    let at_keep = c.before.before in
+    let at_feed2 = at_keep.before.before.before.before in
+    let inside = at_feed2.feed2.ensures.takes.inside in
+    let moved = at_keep.keep.auto.0 in omega arith
 
-refill-requires : tie.Need-refill-requires invariant-loop decreases-loop
-refill-requires c κs = omega arith
+refill_requires : tie.Need-refill-requires invariant-loop decreases-loop
+refill_requires c κs = omega arith
 
 -- a place where the buffer was filled again: where its bytes were moved, where the report went on, and where it had been fed
 abbrev moved : tie.After-refill invariant-loop decreases-loop → tie.After-keep invariant-loop decreases-loop
@@ -84,74 +84,74 @@ on b = (moved b).before.before
 abbrev fed : tie.After-refill invariant-loop decreases-loop → tie.After-feed2 invariant-loop decreases-loop
 fed b = (on b).before.before
 
-same-length-3 : tie.Need-same-length-3 invariant-loop decreases-loop
-same-length-3 c =
+same_length_3 : tie.Need-same-length-3 invariant-loop decreases-loop
+same_length_3 c =
     let b = c.before.before.before.before in
     b.refill.auto.0 ∙ (moved b).keep.auto.0 ∙ (turn (fed b)).loop.inv.same
 
 returns-3 : tie.Need-returns-3 invariant-loop decreases-loop
 returns-3 c =
     let f = fed c.before.before.before.before in
-    turn-fails _ _ _ _ _ _ (turn f).loop.inv (full f).if1.left _ f.feed2.ensures _ _ c.unread.ensures
+    turn_fails _ _ _ _ _ _ (turn f).loop.inv (full f).if1.left _ f.feed2.ensures _ _ c.unread.ensures
 
-add-filled : tie.Need-overflow-add-filled invariant-loop decreases-loop
-add-filled c =
+add_filled : tie.Need-overflow-add-filled invariant-loop decreases-loop
+add_filled c =
     let b = c.before.before.before.before in
     let inv = (turn (fed b)).loop.inv in
     omega (arith, b.refill.ensures.most, b.refill.auto.0, (moved b).keep.auto.0, inv.same, inv.lent.long)
 
-add-brought : tie.Need-overflow-add-brought invariant-loop decreases-loop
-add-brought c =
+add_brought : tie.Need-overflow-add-brought invariant-loop decreases-loop
+add_brought c =
     let b = c.before.before.before.before.before in
     let f = fed b in
     let fits =
-    brought-fits _ _ _ _ _ _ (turn f).loop.inv (full f).if1.left _ f.feed2.ensures (on b).if2.false _ _ _
+    brought_fits _ _ _ _ _ _ (turn f).loop.inv (full f).if1.left _ f.feed2.ensures (on b).if2.false _ _ _
     (moved b).keep.auto.0
     (moved b).keep.ensures
     b.refill.auto.0
     b.refill.ensures in omega arith
 
-loop-less : tie.Need-loop-smaller invariant-loop decreases-loop
-loop-less c =
+loop_less : tie.Need-loop-smaller invariant-loop decreases-loop
+loop_less c =
     let b = c.before.before.before.before.before in
-    let f = fed b in turn-less _ _ _ _ _ _ (turn f).loop.inv (full f).if1.left _ f.feed2.ensures (on b).if2.false
+    let f = fed b in turn_less _ _ _ _ _ _ (turn f).loop.inv (full f).if1.left _ f.feed2.ensures (on b).if2.false
 
-loop-again : tie.Need-loop-preserved invariant-loop decreases-loop
-loop-again c =
+loop_again : tie.Need-loop-preserved invariant-loop decreases-loop
+loop_again c =
     let b = c.before.before.before.before.before in
     let f = fed b in
-    turn-next _ _ _ _ _ _ (turn f).loop.inv (full f).if1.left _ f.feed2.ensures (on b).if2.false _ _ _
+    turn_next _ _ _ _ _ _ (turn f).loop.inv (full f).if1.left _ f.feed2.ensures (on b).if2.false _ _ _
     (moved b).keep.auto.0
     (moved b).keep.ensures
     b.refill.auto.0
     b.refill.ensures
 
-pub report-through-spec : {M : Type 1} → statement M
-report-through-spec =
+pub report_through_spec : {M : Type 1} → statement M
+report_through_spec =
     tie.close
     (tie.spec
     invariant-loop
     decreases-loop
     (λ c κs. search rules)
-    loop-holds
+    loop_holds
     (λ c. search rules)
     (λ c. search rules)
-    part-feed-end
-    feed-requires
+    part_feed_end
+    feed_requires
     (λ c κs. search rules)
     same_length
     returns
-    feed-requires-2
+    feed_requires_2
     (λ c κs. search rules)
-    same-length-2
+    same_length_2
     returns-2
-    keep-requires
-    sub-kept
-    refill-requires
+    keep_requires
+    sub_kept
+    refill_requires
     (λ c κs. search rules)
-    same-length-3
+    same_length_3
     returns-3
-    add-filled
-    add-brought
-    loop-less
-    loop-again)
+    add_filled
+    add_brought
+    loop_less
+    loop_again)

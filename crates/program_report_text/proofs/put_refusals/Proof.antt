@@ -4,56 +4,56 @@ use Prim.Native.Nat.{suc, ◌-◌}
 use native.Mathlib.Numerals.{add-one}
 use native.Mathlib.Omega.{arith}
 use lib.ListN.{get_or}
-use Rattle.program_report_text.specs.ReportText.{occurred-line, refusal-lines}
-use Rattle.program_report_text.proofs.Lengths.{occurred-most}
-use Rattle.program_report_text.proofs.Loops.{Turn, turn-first, turn-place, turn-next, turn_last}
+use Rattle.program_report_text.specs.ReportText.{occurred_line, refusal_lines}
+use Rattle.program_report_text.proofs.Lengths.{occurred_most}
+use Rattle.program_report_text.proofs.Loops.{Turn, turn_first, turn_place, turn_next, turn_last}
 use borrow.Author.Rules.{rules}
 use Rattle.program_report_text.proofs.put_refusals.Statement.{statement}
 use Rattle.program_report_text.proofs.put_refusals.Tie as tie
 
 abbrev invariant-loop : tie.invariant-loop
-invariant-loop text₀ at refusals end₀ i₀ text end i = Turn (λ k. occurred-line (suc k) (get_or refusals (suc k) 0)) 23 text₀ at i text end
+invariant-loop text₀ at refusals end₀ i₀ text end i = Turn (λ k. occurred_line (suc k) (get_or refusals (suc k) 0)) 23 text₀ at i text end
 
 abbrev decreases-loop : tie.decreases-loop
 decreases-loop text₀ at refusals end₀ i₀ text end i = 23 - i
 
-loop-holds : tie.Need-loop-init invariant-loop decreases-loop
-loop-holds c = turn-first _ _ _ _
+loop_holds : tie.Need-loop-init invariant-loop decreases-loop
+loop_holds c = turn_first _ _ _ _
 
-put-occurred-requires : tie.Need-put-occurred-requires invariant-loop decreases-loop
-put-occurred-requires c κs =
+put_occurred_requires : tie.Need-put-occurred-requires invariant-loop decreases-loop
+put_occurred_requires c κs =
     let l = c.before.before in
-    let place = turn-place _ _ _ _ _ _ _ l.loop.invariant 32 (λ k h. occurred-most (suc k) _ (omega arith)) in
-    let more = c.before.loop-test.true in
+    let place = turn_place _ _ _ _ _ _ _ l.loop.invariant 32 (λ k h. occurred_most (suc k) _ (omega arith)) in
+    let more = c.before.loop_test.true in
     (omega (arith, more), omega (arith, more, l.before.before.requires, place.0, place.1))
 
-loop-again : tie.Need-loop-preserved invariant-loop decreases-loop
-loop-again c =
+loop_again : tie.Need-loop-preserved invariant-loop decreases-loop
+loop_again c =
     let l = c.before.before.before.before.before in
-    turn-next _ _ _ _ _ _ _ l.loop.invariant _ _ c.before.before.before.before.loop-test.true
-    (rw (add-one l.loop.i) at c.before.before.put-occurred.ensures)
+    turn_next _ _ _ _ _ _ _ l.loop.invariant _ _ c.before.before.before.before.loop_test.true
+    (rw (add-one l.loop.i) at c.before.before.put_occurred.ensures)
 
 same_length : tie.Need-same-length invariant-loop decreases-loop
-same_length c = (turn-place _ _ _ _ _ _ _ c.before.loop.invariant 32 (λ k h. occurred-most (suc k) _ (omega arith))).1
+same_length c = (turn_place _ _ _ _ _ _ _ c.before.loop.invariant 32 (λ k h. occurred_most (suc k) _ (omega arith))).1
 
 returns : tie.Need-returns invariant-loop decreases-loop
-unfolding refusal-lines
-returns c = turn_last _ _ _ _ _ _ _ c.before.loop.invariant c.loop-test.false
+unfolding refusal_lines
+returns c = turn_last _ _ _ _ _ _ _ c.before.loop.invariant c.loop_test.false
 
-pub put-refusals-spec : {M : Type 1} → statement M
-put-refusals-spec =
+pub put_refusals_spec : {M : Type 1} → statement M
+put_refusals_spec =
     tie.close
     (tie.spec
     invariant-loop
     decreases-loop
-    loop-holds
+    loop_holds
     (λ c. search rules)
     (λ c. search rules)
     (λ c. search rules)
     (λ c. search rules)
-    put-occurred-requires
+    put_occurred_requires
     (λ c. search rules)
     (λ c. search rules)
-    loop-again
+    loop_again
     same_length
     returns)

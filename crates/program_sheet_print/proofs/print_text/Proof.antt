@@ -5,13 +5,13 @@ use borrow.Author.Rules.{rules}
 use Rattle.program_sheet_print.proofs.print_text.Statement.{statement}
 use Rattle.program_sheet_print.proofs.print_text.Tie as tie
 
-part-write-output-end : tie.Need-slice-bounds-write-output-end
-part-write-output-end c =
-    let at-sheet-text = c.before.before.before.before.before.before in
-    let most = length_most _ _ _ _ _ _ _ _ _ _ _ _ at-sheet-text.sheet-text.ensures in omega arith
+part_write_output_end : tie.Need-slice-bounds-write-output-end
+part_write_output_end c =
+    let at_sheet_text = c.before.before.before.before.before.before in
+    let most = length_most _ _ _ _ _ _ _ _ _ _ _ _ at_sheet_text.sheet_text.ensures in omega arith
 
-pub print-text-spec : {M : Type 1} → statement M
-print-text-spec =
+pub print_text_spec : {M : Type 1} → statement M
+print_text_spec =
     tie.close
     (tie.spec
     (λ c. search rules)
@@ -22,6 +22,6 @@ print-text-spec =
     (λ c κs. search rules)
     (λ c. search rules)
     (λ c. search rules)
-    part-write-output-end
+    part_write_output_end
     (λ c κs. search rules)
     (λ c. search rules))

@@ -41,5 +41,5 @@ returns-6 c =
       le-ltb _ _ c.if5.false,
     )
 
-pub lent-refusal-spec : {M : Type 1} → statement M
-lent-refusal-spec = tie.close (tie.spec returns returns-2 returns-3 returns-4 returns-5 returns-6)
+pub lent_refusal_spec : {M : Type 1} → statement M
+lent_refusal_spec = tie.close (tie.spec returns returns-2 returns-3 returns-4 returns-5 returns-6)

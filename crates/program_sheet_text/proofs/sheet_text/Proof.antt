@@ -6,55 +6,55 @@ use native.Mathlib.Nat.{sub-zero}
 use native.Mathlib.Omega.{arith}
 use lib.ListN.{length, length-take}
 use Rattle.sheet_build.proofs.Promises.{length_most}
-use Rattle.program_sheet_text.specs.SheetText.{text-refusal}
-use Rattle.program_sheet_text.proofs.Promises.{Lent, lent, lent-refused, text-written}
+use Rattle.program_sheet_text.specs.SheetText.{text_refusal}
+use Rattle.program_sheet_text.proofs.Promises.{Lent, lent, lent_refused, text_written}
 use borrow.Author.Rules.{rules}
 use Rattle.program_sheet_text.proofs.sheet_text.Statement.{statement}
 use Rattle.program_sheet_text.proofs.sheet_text.Tie as tie
 
 returns : tie.Need-returns
-returns c = lent-refused _ _ _ _ _ _ _ c.before.lent-refusal.ensures c.if1.true
+returns c = lent_refused _ _ _ _ _ _ _ c.before.lent_refusal.ensures c.if1.true
 
 abbrev start : tie.After-tensor-of-sheet → tie.Start
 start b = b.before.before.before.before.before.before.before.before.before.before.before.before.before
 
-abbrev lent-looked-at : tie.After-tensor-of-sheet → tie.After-lent-refusal
-lent-looked-at b = b.before.before.before.before.before.before
+abbrev lent_looked_at : tie.After-tensor-of-sheet → tie.After-lent-refusal
+lent_looked_at b = b.before.before.before.before.before.before
 
-none : (b : tie.After-tensor-of-sheet) → ◌≡◌ {A = ℕ} (lent-looked-at b).lent-refusal.result 0
+none : (b : tie.After-tensor-of-sheet) → ◌≡◌ {A = ℕ} (lent_looked_at b).lent_refusal.result 0
 none b = b.before.before.before.before.before.if1.false
 
 passed : (b : tie.After-tensor-of-sheet)
-    → text-refusal (start b).args.bytes.now (start b).args.knots.now (start b).args.samples.now (start b).args.tensor.now
+    → text_refusal (start b).args.bytes.now (start b).args.knots.now (start b).args.samples.now (start b).args.tensor.now
     (start b).args.scratch.now (start b).args.text.now
     ≡ 0
-passed b = sym (lent-looked-at b).lent-refusal.ensures ∙ none b
+passed b = sym (lent_looked_at b).lent_refusal.ensures ∙ none b
 
 enough : (b : tie.After-tensor-of-sheet)
     → Lent (length (start b).args.knots.now) (length (start b).args.samples.now) (length (start b).args.tensor.now)
     (length (start b).args.scratch.now) (length (start b).args.text.now)
 enough b = lent _ _ _ _ _ (passed b)
 
-part-put-text-end : tie.Need-slice-bounds-put-text-end
-part-put-text-end c =
+part_put_text_end : tie.Need-slice-bounds-put-text-end
+part_put_text_end c =
     let b = c.before.before.before.before.before.before.before.before.before in
-    let most = length_most _ _ _ _ _ _ _ _ _ _ b.tensor-of-sheet.ensures in
+    let most = length_most _ _ _ _ _ _ _ _ _ _ b.tensor_of_sheet.ensures in
     omega (arith, most, (enough b).tensor)
 
-put-text-requires : tie.Need-put-text-requires
-put-text-requires c κs =
+put_text_requires : tie.Need-put-text-requires
+put_text_requires c κs =
     let b = c.before.before.before.before.before.before.before.before.before.before.before in
-    let most = length_most _ _ _ _ _ _ _ _ _ _ b.tensor-of-sheet.ensures in
-    (rw (length-take, sub-zero b.tensor-of-sheet.result.length) (omega (arith, most)), (enough b).text)
+    let most = length_most _ _ _ _ _ _ _ _ _ _ b.tensor_of_sheet.ensures in
+    (rw (length-take, sub-zero b.tensor_of_sheet.result.length) (omega (arith, most)), (enough b).text)
 
 returns-2 : tie.Need-returns-2
 returns-2 c =
-    let at-put-text = c.before.before in
-    let b = at-put-text.before.before.before.before.before.before.before.before.before.before.before.before in
-    text-written _ _ _ _ _ _ (passed b) _ _ _ _ _ _ _ b.tensor-of-sheet.ensures at-put-text.put-text.ensures
+    let at_put_text = c.before.before in
+    let b = at_put_text.before.before.before.before.before.before.before.before.before.before.before.before in
+    text_written _ _ _ _ _ _ (passed b) _ _ _ _ _ _ _ b.tensor_of_sheet.ensures at_put_text.put_text.ensures
 
-pub sheet-text-spec : {M : Type 1} → statement M
-sheet-text-spec =
+pub sheet_text_spec : {M : Type 1} → statement M
+sheet_text_spec =
     tie.close
     (tie.spec
     (λ c κs. search rules)
@@ -62,8 +62,8 @@ sheet-text-spec =
     (λ c κs. search rules)
     (λ c. search rules)
     (λ c. search rules)
-    part-put-text-end
-    put-text-requires
+    part_put_text_end
+    put_text_requires
     (λ c. search rules)
     (λ c. search rules)
     (λ c. search rules)

@@ -13,8 +13,8 @@ invariant-loop buffer₀ done₀ t5 buffer done = (done ≤ length buffer) × (l
 abbrev decreases-loop : tie.decreases-loop
 decreases-loop buffer₀ done₀ t5 buffer done = length buffer - done
 
-pub read-input-spec : {M : Type 1} → statement M
-read-input-spec =
+pub read_input_spec : {M : Type 1} → statement M
+read_input_spec =
     tie.close
     (tie.spec
     invariant-loop

@@ -2,7 +2,7 @@
 use Prim.Native.Nat.{◌-◌}
 use native.Mathlib.Omega.{arith}
 use lib.ListN.{length}
-use Rattle.program_tensor_text.proofs.Texts.{Turn, turn-first, turn-place, turn-next, turn_last}
+use Rattle.program_tensor_text.proofs.Texts.{Turn, turn_first, turn_place, turn_next, turn_last}
 use borrow.Author.Rules.{rules}
 use Rattle.program_tensor_text.proofs.put_numbers.Statement.{statement}
 use Rattle.program_tensor_text.proofs.put_numbers.Tie as tie
@@ -13,39 +13,39 @@ invariant-loop numbers text₀ at end₀ i₀ text end i = Turn numbers text₀ 
 abbrev decreases-loop : tie.decreases-loop
 decreases-loop numbers text₀ at end₀ i₀ text end i = length numbers - i
 
-loop-holds : tie.Need-loop-init invariant-loop decreases-loop
-loop-holds c = turn-first _ _ _
+loop_holds : tie.Need-loop-init invariant-loop decreases-loop
+loop_holds c = turn_first _ _ _
 
-put-number-line-requires : tie.Need-put-number-line-requires invariant-loop decreases-loop
-put-number-line-requires c κs =
+put_number_line_requires : tie.Need-put-number-line-requires invariant-loop decreases-loop
+put_number_line_requires c κs =
     let l = c.before.before.before in
-    let t = turn-place l.loop.invariant in
+    let t = turn_place l.loop.invariant in
     omega (arith, l.before.before.before.requires, t.0, t.1)
 
-loop-again : tie.Need-loop-preserved invariant-loop decreases-loop
-loop-again c =
-    let at-put-number-line = c.before.before in
-    let at-loop = at-put-number-line.before.before.before.before in
-    turn-next at-loop.loop.invariant (omega arith) at-put-number-line.put-number-line.ensures
+loop_again : tie.Need-loop-preserved invariant-loop decreases-loop
+loop_again c =
+    let at_put_number_line = c.before.before in
+    let at_loop = at_put_number_line.before.before.before.before in
+    turn_next at_loop.loop.invariant (omega arith) at_put_number_line.put_number_line.ensures
 
 same_length : tie.Need-same-length invariant-loop decreases-loop
-same_length c = (turn-place c.before.loop.invariant).1
+same_length c = (turn_place c.before.loop.invariant).1
 
 returns : tie.Need-returns invariant-loop decreases-loop
 returns c = turn_last c.before.loop.invariant (omega arith)
 
-pub put-numbers-spec : {M : Type 1} → statement M
-put-numbers-spec =
+pub put_numbers_spec : {M : Type 1} → statement M
+put_numbers_spec =
     tie.close
     (tie.spec
     invariant-loop
     decreases-loop
-    loop-holds
+    loop_holds
     (λ c. search rules)
     (λ c. search rules)
-    put-number-line-requires
+    put_number_line_requires
     (λ c. search rules)
     (λ c. search rules)
-    loop-again
+    loop_again
     same_length
     returns)

@@ -7,8 +7,8 @@ use Rattle.query_answer.proofs.clear_labels.Tie as tie
 returns : tie.Need-returns
 returns c = cleared c.args.labels.now c.requires
 
-pub clear-labels-spec : {M : Type 1} → statement M
-clear-labels-spec =
+pub clear_labels_spec : {M : Type 1} → statement M
+clear_labels_spec =
     tie.close
     (tie.spec
     (λ c. search rules)

@@ -5,13 +5,13 @@ use Rattle.query_answer.proofs.knots_refusal.Statement.{statement}
 use Rattle.query_answer.proofs.knots_refusal.Tie as tie
 
 returns : tie.Need-returns
-returns c = rw (c.before.before.enum_told.given.1, sym c.before.any-not-finite.ensures ∙ c.if1.true)
+returns c = rw (c.before.before.enum_told.given.1, sym c.before.any_not_finite.ensures ∙ c.if1.true)
 
 returns-2 : tie.Need-returns-2
-returns-2 c = rw (c.before.before.enum_told.given.1, sym c.before.any-not-finite.ensures ∙ c.if1.false)
+returns-2 c = rw (c.before.before.enum_told.given.1, sym c.before.any_not_finite.ensures ∙ c.if1.false)
 
-pub knots-refusal-spec : {M : Type 1} → statement M
-knots-refusal-spec =
+pub knots_refusal_spec : {M : Type 1} → statement M
+knots_refusal_spec =
     tie.close
     (tie.spec
     (λ c. search rules)

@@ -6,9 +6,9 @@ use Rattle.query_answer.proofs.refusal_found.Tie as tie
 
 returns-2 : tie.Need-returns-2
 returns-2 c =
-    let at-if2 = c.before in
-    rw (at-if2.before.if1.false, at-if2.if2.true) c.knots-refusal.ensures
+    let at_if2 = c.before in
+    rw (at_if2.before.if1.false, at_if2.if2.true) c.knots_refusal.ensures
 
-pub refusal-found-spec : {M : Type 1} → statement M
-refusal-found-spec =
+pub refusal_found_spec : {M : Type 1} → statement M
+refusal_found_spec =
     tie.close (tie.spec (λ c. search rules) (λ c κs. search rules) returns-2 (λ c. search rules) (λ c. search rules))

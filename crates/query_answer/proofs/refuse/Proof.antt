@@ -5,7 +5,7 @@ use Rattle.query_answer.proofs.refuse.Statement.{statement}
 use Rattle.query_answer.proofs.refuse.Tie as tie
 
 returns : tie.Need-returns
-returns c = rw c.before.before.clear-labels.ensures refl
+returns c = rw c.before.before.clear_labels.ensures refl
 
-pub refuse-spec : {M : Type 1} → statement M
-refuse-spec = tie.close (tie.spec (λ c κs. search rules) (λ c. search rules) returns)
+pub refuse_spec : {M : Type 1} → statement M
+refuse_spec = tie.close (tie.spec (λ c κs. search rules) (λ c. search rules) returns)

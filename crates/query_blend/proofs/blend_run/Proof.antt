@@ -4,7 +4,7 @@ use borrow.Author.Rules.{rules}
 use native.Mathlib.Omega.{arith}
 use Prim.Native.Nat.{◌-◌}
 use lib.ListN.{length}
-use Rattle.query_blend.proofs.Running.{Turn, turn-first, pairs-within, four-within, turn-next, turn_last}
+use Rattle.query_blend.proofs.Running.{Turn, turn_first, pairs_within, four_within, turn_next, turn_last}
 use Rattle.query_blend.proofs.blend_run.Statement.{statement}
 use Rattle.query_blend.proofs.blend_run.Tie as tie
 
@@ -14,46 +14,46 @@ invariant-loop run₀ numbers lower upper weights e₀ run e = Turn run₀ numbe
 abbrev decreases-loop : tie.decreases-loop
 decreases-loop run₀ numbers lower upper weights e₀ run e = length run₀ - e
 
-loop-holds : tie.Need-loop-init invariant-loop decreases-loop
-loop-holds c = turn-first _ _ _ _ _ c.before.before.requires
+loop_holds : tie.Need-loop-init invariant-loop decreases-loop
+loop_holds c = turn_first _ _ _ _ _ c.before.before.requires
 
-four-blended-requires : tie.Need-four-blended-requires invariant-loop decreases-loop
-four-blended-requires c κs = pairs-within _ _ _ _ _ _ _ c.before.loop.invariant c.loop-test.true
+four_blended_requires : tie.Need-four-blended-requires invariant-loop decreases-loop
+four_blended_requires c κs = pairs_within _ _ _ _ _ _ _ c.before.loop.invariant c.loop_test.true
 
-store-four-requires : tie.Need-store-four-requires invariant-loop decreases-loop
-store-four-requires c κs = four-within _ _ _ _ _ _ _ c.before.before.before.loop.invariant c.before.before.loop-test.true
+store_four_requires : tie.Need-store-four-requires invariant-loop decreases-loop
+store_four_requires c κs = four_within _ _ _ _ _ _ _ c.before.before.before.loop.invariant c.before.before.loop_test.true
 
-loop-less : tie.Need-loop-smaller invariant-loop decreases-loop
-loop-less c =
+loop_less : tie.Need-loop-smaller invariant-loop decreases-loop
+loop_less c =
     let turn = c.before.before.before.before.before in
-    let w = four-within _ _ _ _ _ _ _ turn.before.loop.invariant turn.loop-test.true in
+    let w = four_within _ _ _ _ _ _ _ turn.before.loop.invariant turn.loop_test.true in
     omega (arith, turn.before.loop.invariant.reached.same_length)
 
-loop-again : tie.Need-loop-preserved invariant-loop decreases-loop
-loop-again c =
+loop_again : tie.Need-loop-preserved invariant-loop decreases-loop
+loop_again c =
     let blended = c.before.before.before.before in
     let turn = blended.before in
-    rw c.before.before.store-four.ensures
-    (turn-next _ _ _ _ _ _ _ turn.before.loop.invariant turn.loop-test.true _ blended.four-blended.ensures)
+    rw c.before.before.store_four.ensures
+    (turn_next _ _ _ _ _ _ _ turn.before.loop.invariant turn.loop_test.true _ blended.four_blended.ensures)
 
 returns : tie.Need-returns invariant-loop decreases-loop
-returns c = turn_last _ _ _ _ _ _ _ c.before.loop.invariant c.loop-test.false
+returns c = turn_last _ _ _ _ _ _ _ c.before.loop.invariant c.loop_test.false
 
-pub blend-run-spec : {M : Type 1} → statement M
-blend-run-spec =
+pub blend_run_spec : {M : Type 1} → statement M
+blend_run_spec =
     tie.close
     (tie.spec
     invariant-loop
     decreases-loop
-    loop-holds
-    (λ c. let w = pairs-within _ _ _ _ _ _ _ c.before.loop.invariant c.loop-test.true in omega arith)
-    (λ c. let w = pairs-within _ _ _ _ _ _ _ c.before.loop.invariant c.loop-test.true in omega arith)
-    (λ c. let w = pairs-within _ _ _ _ _ _ _ c.before.loop.invariant c.loop-test.true in omega arith)
-    (λ c. let w = pairs-within _ _ _ _ _ _ _ c.before.loop.invariant c.loop-test.true in omega arith)
-    four-blended-requires
-    store-four-requires
+    loop_holds
+    (λ c. let w = pairs_within _ _ _ _ _ _ _ c.before.loop.invariant c.loop_test.true in omega arith)
+    (λ c. let w = pairs_within _ _ _ _ _ _ _ c.before.loop.invariant c.loop_test.true in omega arith)
+    (λ c. let w = pairs_within _ _ _ _ _ _ _ c.before.loop.invariant c.loop_test.true in omega arith)
+    (λ c. let w = pairs_within _ _ _ _ _ _ _ c.before.loop.invariant c.loop_test.true in omega arith)
+    four_blended_requires
+    store_four_requires
     (λ c. search rules)
-    loop-less
-    loop-again
+    loop_less
+    loop_again
     (λ c. search rules)
     returns)

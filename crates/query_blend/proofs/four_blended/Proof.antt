@@ -7,15 +7,15 @@ use Rattle.query_blend.proofs.four_blended.Tie as tie
 returns : tie.Need-returns
 returns c =
     rw (
-      c.one-blended4.ensures,
-      c.before.one-blended3.ensures,
-      c.before.before.one-blended2.ensures,
-      c.before.before.before.one-blended.ensures,
+      c.one_blended4.ensures,
+      c.before.one_blended3.ensures,
+      c.before.before.one_blended2.ensures,
+      c.before.before.before.one_blended.ensures,
     )
     refl
 
-pub four-blended-spec : {M : Type 1} → statement M
-four-blended-spec =
+pub four_blended_spec : {M : Type 1} → statement M
+four_blended_spec =
     tie.close
     (tie.spec
     (λ c κs. search rules)

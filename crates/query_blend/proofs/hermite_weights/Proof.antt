@@ -8,5 +8,5 @@ returns : tie.Need-returns
 unfolding hermite
 returns c = record { blended = λ p0 m0 p1 m1. refl }
 
-pub hermite-weights-spec : {M : Type 1} → statement M
-hermite-weights-spec = tie.close (tie.spec returns)
+pub hermite_weights_spec : {M : Type 1} → statement M
+hermite_weights_spec = tie.close (tie.spec returns)

@@ -6,21 +6,21 @@ use Rattle.query_blend.proofs.remove_lowest.Statement.{statement}
 use Rattle.query_blend.proofs.remove_lowest.Tie as tie
 
 returns : tie.Need-returns
-returns c = one_left _ _ _ _ c.before.before.if1.true c.one-blended.ensures c.before.before.before.before.requires.0
+returns c = one_left _ _ _ _ c.before.before.if1.true c.one_blended.ensures c.before.before.before.before.requires.0
 
-remove-by-fours-requires : tie.Need-remove-by-fours-requires
-remove-by-fours-requires c κs =
+remove_by_fours_requires : tie.Need-remove-by-fours-requires
+remove_by_fours_requires c κs =
     let given = c.before.before.before.requires in
     (given.0, given.1, given.2 c.before.if1.false)
 
-pub remove-lowest-spec : {M : Type 1} → statement M
-remove-lowest-spec =
+pub remove_lowest_spec : {M : Type 1} → statement M
+remove_lowest_spec =
     tie.close
     (tie.spec
     (λ c κs. (omega arith, omega arith))
     (λ c. search rules)
     (λ c. search rules)
     returns
-    remove-by-fours-requires
+    remove_by_fours_requires
     (λ c. search rules)
     (λ c. search rules))

@@ -5,8 +5,8 @@ use borrow.Author.Rules.{rules}
 use Rattle.query_blend.proofs.store_four.Statement.{statement}
 use Rattle.query_blend.proofs.store_four.Tie as tie
 
-pub store-four-spec : {M : Type 1} → statement M
-store-four-spec =
+pub store_four_spec : {M : Type 1} → statement M
+store_four_spec =
     tie.close
     (tie.spec
     (λ c. search rules)

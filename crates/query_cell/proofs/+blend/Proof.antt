@@ -9,40 +9,40 @@ use Rattle.query_cell.proofs.Fewer.{none_left, one_fewer}
 use Rattle.query_cell.proofs.blend.Reads as blend
 use Rattle.query_cell.proofs.blend.Kinds as blend-kinds
 use Rattle.query_cell.proofs.+blend.Lts-blend as blend-lts
-use Rattle.query_blend.proofs.weights_of.Reads as weights-of-reads
-use Rattle.query_cell.proofs.remove_lowest.Reads as remove-lowest-reads
+use Rattle.query_blend.proofs.weights_of.Reads as weights_of_reads
+use Rattle.query_cell.proofs.remove_lowest.Reads as remove_lowest_reads
 use Rattle.query_cell.proofs.+blend.{statement}
 use Rattle.query_cell.proofs.+blend.Tie.{close}
 
-abbrev μ-blend : Measures 9 blend-kinds.ps ℕ
-μ-blend κs a = a.1.1.0
+abbrev μ_blend : Measures 9 blend-kinds.ps ℕ
+μ_blend κs a = a.1.1.0
 
-abbrev blend-at : ℕ → In 9 blend-kinds.ps
-blend-at t = and 9 blend-kinds.ps (is 9 blend-kinds.ps μ-blend t) blend.Pre
+abbrev blend_at : ℕ → In 9 blend-kinds.ps
+blend_at t = and 9 blend-kinds.ps (is 9 blend-kinds.ps μ_blend t) blend.Pre
 
-abbrev blend-below : ℕ → In 9 blend-kinds.ps
-blend-below t = and 9 blend-kinds.ps (falls 9 blend-kinds.ps ◌<◌ μ-blend t) blend.Pre
+abbrev blend_below : ℕ → In 9 blend-kinds.ps
+blend_below t = and 9 blend-kinds.ps (falls 9 blend-kinds.ps ◌<◌ μ_blend t) blend.Pre
 
-pub +blend-spec : {M : Type 1} → statement M
-+blend-spec = close μ-blend λ t. blend-lts.spec (
-  weights-of-reads.Asked,
-  weights-of-reads.Learnt,
-  remove-lowest-reads.Asked,
-  remove-lowest-reads.Learnt,
-  blend-below t,
+pub +blend_spec : {M : Type 1} → statement M
++blend_spec = close μ_blend λ t. blend-lts.spec (
+  weights_of_reads.Asked,
+  weights_of_reads.Learnt,
+  remove_lowest_reads.Asked,
+  remove_lowest_reads.Learnt,
+  blend_below t,
   blend.Post,
 )
-    (blend-at t)
+    (blend_at t)
     blend.Post
     (λ c. search rules)
     (λ c.
     let s = c.before.before in
     none_left _ _ _ s.args.weights.now.now s.args.tensor.now.now _ s.args.cell.now
-    s.requires.1.0.0.some-axes
+    s.requires.1.0.0.some_axes
     c.before.if1.true)
     (λ c. let s = c.before.before in omega (arith, c.before.if1.false, s.requires.1.2))
     (λ c κs. (let s = c.before.before in
-    (omega (arith, c.before.if1.false, s.requires.1.2, s.requires.1.0.0.few-axes), s.requires.1.1)))
+    (omega (arith, c.before.if1.false, s.requires.1.2, s.requires.1.0.0.few_axes), s.requires.1.1)))
     (λ c κs. (let test = c.before.before.before.before.before.before in
     let s = test.before in
     let some = test.if1.false in
@@ -59,6 +59,6 @@ pub +blend-spec : {M : Type 1} → statement M
     one_fewer _ _ _ s.args.weights.now.now s.args.tensor.now.now s.args.left s.args.cell.now _
     test.if1.false
     s.requires.1.2
-    (rw weighed.weights-of.ensures at c.before.before.remove-lowest.ensures)
+    (rw weighed.weights_of.ensures at c.before.before.remove_lowest.ensures)
     _
     c.blend.ensures)

@@ -9,30 +9,30 @@ use Rattle.query_cell.proofs.Fewer.{none_left, one_fewer}
 use Rattle.query_cell.proofs.blend_on_two.Reads as blend
 use Rattle.query_cell.proofs.blend_on_two.Kinds as blend-kinds
 use Rattle.query_cell.proofs.+blend_on_two.Lts-blend_on_two as blend-lts
-use Rattle.query_blend.proofs.weights_of.Reads as weights-of-reads
-use Rattle.query_cell.proofs.remove_of_two.Reads as remove-of-two-reads
+use Rattle.query_blend.proofs.weights_of.Reads as weights_of_reads
+use Rattle.query_cell.proofs.remove_of_two.Reads as remove_of_two_reads
 use Rattle.query_cell.proofs.+blend_on_two.{statement}
 use Rattle.query_cell.proofs.+blend_on_two.Tie.{close}
 
-abbrev μ-blend : Measures 9 blend-kinds.ps ℕ
-μ-blend κs a = a.1.0
+abbrev μ_blend : Measures 9 blend-kinds.ps ℕ
+μ_blend κs a = a.1.0
 
-abbrev blend-at : ℕ → In 9 blend-kinds.ps
-blend-at t = and 9 blend-kinds.ps (is 9 blend-kinds.ps μ-blend t) blend.Pre
+abbrev blend_at : ℕ → In 9 blend-kinds.ps
+blend_at t = and 9 blend-kinds.ps (is 9 blend-kinds.ps μ_blend t) blend.Pre
 
-abbrev blend-below : ℕ → In 9 blend-kinds.ps
-blend-below t = and 9 blend-kinds.ps (falls 9 blend-kinds.ps ◌<◌ μ-blend t) blend.Pre
+abbrev blend_below : ℕ → In 9 blend-kinds.ps
+blend_below t = and 9 blend-kinds.ps (falls 9 blend-kinds.ps ◌<◌ μ_blend t) blend.Pre
 
-pub +blend-on-two-spec : {M : Type 1} → statement M
-+blend-on-two-spec = close μ-blend λ t. blend-lts.spec (
-  weights-of-reads.Asked,
-  weights-of-reads.Learnt,
-  remove-of-two-reads.Asked,
-  remove-of-two-reads.Learnt,
-  blend-below t,
+pub +blend_on_two_spec : {M : Type 1} → statement M
++blend_on_two_spec = close μ_blend λ t. blend-lts.spec (
+  weights_of_reads.Asked,
+  weights_of_reads.Learnt,
+  remove_of_two_reads.Asked,
+  remove_of_two_reads.Learnt,
+  blend_below t,
   blend.Post,
 )
-    (blend-at t)
+    (blend_at t)
     blend.Post
     (λ c. let s = c.before.before in omega (arith, s.requires.1.2))
     (λ c κs. (let s = c.before.before in (omega (arith, c.before.if1.true), s.requires.1.1)))
@@ -50,9 +50,9 @@ pub +blend-on-two-spec : {M : Type 1} → statement M
     one_fewer _ _ _ s.args.weights.now.now s.args.tensor.now.now s.args.left s.args.cell.now _
     (λ none. omega (arith, test.if1.true, none))
     s.requires.1.2
-    (rw weighed.weights-of.ensures at c.before.before.remove-of-two.ensures)
+    (rw weighed.weights_of.ensures at c.before.before.remove_of_two.ensures)
     _
-    c.blend-on-two.ensures)
+    c.blend_on_two.ensures)
     (λ c. search rules)
     (λ c.
     let s = c.before.before in

@@ -6,10 +6,10 @@ use Rattle.query_cell.proofs.first_of_one.Statement.{statement}
 use Rattle.query_cell.proofs.first_of_one.Tie as tie
 
 returns : tie.Need-returns
-returns c = rw c.one-blended.ensures refl
+returns c = rw c.one_blended.ensures refl
 
-pub first-of-one-spec : {M : Type 1} → statement M
-first-of-one-spec =
+pub first_of_one_spec : {M : Type 1} → statement M
+first_of_one_spec =
     tie.close
     (tie.spec
     (λ c. search rules)

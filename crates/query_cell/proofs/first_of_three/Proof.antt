@@ -2,59 +2,59 @@
 use borrow.Author.Rules.{rules}
 use native.Mathlib.Omega.{arith}
 use lib.Seq.{length-take-le}
-use Rattle.query_cell.proofs.Spotting.{spots-of-three, three-small}
-use Rattle.query_cell.proofs.Removing.{runs-given, first-removed}
+use Rattle.query_cell.proofs.Spotting.{spots_of_three, three_small}
+use Rattle.query_cell.proofs.Removing.{runs_given, first_removed}
 use Rattle.query_cell.proofs.first_of_three.Statement.{statement}
 use Rattle.query_cell.proofs.first_of_three.Tie as tie
 
-remove-runs-requires : tie.Need-remove-runs-requires
-remove-runs-requires c κs =
+remove_runs_requires : tie.Need-remove-runs-requires
+remove_runs_requires c κs =
     let s = c.before.before.before.before.before.before.before.before.before.before in (
-      runs-given 3 _ _ s.args.tensor.now _ s.requires.0.0 (omega arith) s.requires.0.2 (spots-of-three _ _),
+      runs_given 3 _ _ s.args.tensor.now _ s.requires.0.0 (omega arith) s.requires.0.2 (spots_of_three _ _),
       length-take-le 16 s.args.cell.now (omega arith),
     )
 
 returns : tie.Need-returns
 returns c =
-    let at-remove-runs = c.before.before in
-    let s = at-remove-runs.before.before.before.before.before.before.before.before.before.before.before in
-    first-removed 3 _ _ s.args.tensor.now _ s.requires.0.0 (omega arith) s.requires.0.2 (spots-of-three _ _) _
+    let at_remove_runs = c.before.before in
+    let s = at_remove_runs.before.before.before.before.before.before.before.before.before.before.before in
+    first_removed 3 _ _ s.args.tensor.now _ s.requires.0.0 (omega arith) s.requires.0.2 (spots_of_three _ _) _
     s.args.cell.now
     _
     (omega (arith, s.requires.1))
-    at-remove-runs.remove-runs.ensures
+    at_remove_runs.remove_runs.ensures
 
-pub first-of-three-spec : {M : Type 1} → statement M
-first-of-three-spec =
+pub first_of_three_spec : {M : Type 1} → statement M
+first_of_three_spec =
     tie.close
     (tie.spec
     (λ c. search rules)
-    (λ c. let s = three-small _ _ c.before.before.before.before.before.requires.0.0 in omega arith)
+    (λ c. let s = three_small _ _ c.before.before.before.before.before.requires.0.0 in omega arith)
     (λ c. search rules)
     (λ c.
     let start = c.before.before.before.before.before.before in
-    let s = three-small _ _ start.requires.0.0 in omega arith)
+    let s = three_small _ _ start.requires.0.0 in omega arith)
     (λ c. search rules)
     (λ c.
     let start = c.before.before.before.before.before.before.before in
-    let s = three-small _ _ start.requires.0.0 in omega arith)
+    let s = three_small _ _ start.requires.0.0 in omega arith)
     (λ c. search rules)
     (λ c.
     let start = c.before.before.before.before.before.before.before.before in
-    let s = three-small _ _ start.requires.0.0 in omega arith)
+    let s = three_small _ _ start.requires.0.0 in omega arith)
     (λ c.
     let start = c.before.before.before.before.before.before.before.before in
-    let s = three-small _ _ start.requires.0.0 in omega arith)
+    let s = three_small _ _ start.requires.0.0 in omega arith)
     (λ c. search rules)
     (λ c.
     let start = c.before.before.before.before.before.before.before.before.before in
-    let s = three-small _ _ start.requires.0.0 in omega arith)
+    let s = three_small _ _ start.requires.0.0 in omega arith)
     (λ c.
     let start = c.before.before.before.before.before.before.before.before.before in
-    let s = three-small _ _ start.requires.0.0 in omega arith)
+    let s = three_small _ _ start.requires.0.0 in omega arith)
     (λ c. search rules)
     (λ c. search rules)
     (λ c. search rules)
-    remove-runs-requires
+    remove_runs_requires
     (λ c. search rules)
     returns)

@@ -2,35 +2,35 @@
 -- points, for which `profile-fits` gives what is required.
 use mathlib.Core.Path.{sym, ap, ◌∙◌}
 use Prim.Native.Nat.{ℕ}
-use Rattle.query_profile.proofs.Answers.{profile-fits, sizes-answer}
+use Rattle.query_profile.proofs.Answers.{profile_fits, sizes_answer}
 use borrow.Author.Rules.{rules}
 use Rattle.query_profile.proofs.even_profile.Statement.{statement}
 use Rattle.query_profile.proofs.even_profile.Tie as tie
 
 returns : tie.Need-returns
 returns c =
-    let at-sizes = c.before.before in
-    let at-points-of = at-sizes.before.before in
-    sizes-answer _ _ _ at-points-of.points-of.result at-points-of.points-of.ensures _ at-sizes.profile-sizes-refusal.ensures
-    c.before.if1.true _ c.profile-of.ensures
+    let at_sizes = c.before.before in
+    let at_points_of = at_sizes.before.before in
+    sizes_answer _ _ _ at_points_of.points_of.result at_points_of.points_of.ensures _ at_sizes.profile_sizes_refusal.ensures
+    c.before.if1.true _ c.profile_of.ensures
 
-even-profile-of-points-requires : tie.Need-even-profile-of-points-requires
-even-profile-of-points-requires c κs =
-    let at-if1 = c.before in
-    let at-sizes = at-if1.before in
-    let at-points-of = at-sizes.before.before in
-    let start = at-points-of.before.before in
-    profile-fits start.args.axes at-points-of.points-of.result start.args.knots.now (search rules)
-    (sym at-sizes.profile-sizes-refusal.ensures ∙ at-if1.if1.false)
+even_profile_of_points_requires : tie.Need-even-profile-of-points-requires
+even_profile_of_points_requires c κs =
+    let at_if1 = c.before in
+    let at_sizes = at_if1.before in
+    let at_points_of = at_sizes.before.before in
+    let start = at_points_of.before.before in
+    profile_fits start.args.axes at_points_of.points_of.result start.args.knots.now (search rules)
+    (sym at_sizes.profile_sizes_refusal.ensures ∙ at_if1.if1.false)
 
 returns-2 : tie.Need-returns-2
 returns-2 c =
-    let at-points-of = c.before.before.before.before.before in
-    let start = at-points-of.before.before in
-    c.even-profile-of-points.ensures start.args.all (λ i l. ap (λ (n : ℕ → ℕ). n i) (sym at-points-of.points-of.ensures))
+    let at_points_of = c.before.before.before.before.before in
+    let start = at_points_of.before.before in
+    c.even_profile_of_points.ensures start.args.all (λ i l. ap (λ (n : ℕ → ℕ). n i) (sym at_points_of.points_of.ensures))
 
-pub even-profile-spec : {M : Type 1} → statement M
-even-profile-spec =
+pub even_profile_spec : {M : Type 1} → statement M
+even_profile_spec =
     tie.close
     (tie.spec
     (λ c κs. search rules)
@@ -39,5 +39,5 @@ even-profile-spec =
     (λ c κs. search rules)
     returns
     (λ c. search rules)
-    even-profile-of-points-requires
+    even_profile_of_points_requires
     returns-2)

@@ -1,5 +1,5 @@
 -- What a search answers is the quick query's answer as it stands, on any axes with these points and modes: `search-answers`.
-use Rattle.query_quick.proofs.Answers.{search-answers}
+use Rattle.query_quick.proofs.Answers.{search_answers}
 use borrow.Author.Rules.{rules}
 use Rattle.query_quick.proofs.quick_query_of_points.Statement.{statement}
 use Rattle.query_quick.proofs.quick_query_of_points.Tie as tie
@@ -7,7 +7,7 @@ use Rattle.query_quick.proofs.quick_query_of_points.Tie as tie
 returns : tie.Need-returns
 returns c =
     let start = c.before.before.before.before.before.before in
-    λ all are. search-answers _ _ _ _ _ _ start.requires all are _ (c.answer.ensures all are)
+    λ all are. search_answers _ _ _ _ _ _ start.requires all are _ (c.answer.ensures all are)
 
-pub quick-query-of-points-spec : {M : Type 1} → statement M
-quick-query-of-points-spec = tie.close (tie.spec (λ c κs. search rules) returns)
+pub quick_query_of_points_spec : {M : Type 1} → statement M
+quick_query_of_points_spec = tie.close (tie.spec (λ c κs. search rules) returns)

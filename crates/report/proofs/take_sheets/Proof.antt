@@ -6,7 +6,7 @@ use native.Mathlib.Omega.{arith}
 use Prim.Native.Nat.{◌-◌}
 use lib.ListN.{length, drop, length-drop}
 use Rattle.report.specs.Feeding.{Progressed}
-use Rattle.report.proofs.Progressing.{Alike, alike-buffers, Turn, turn-first, turn-part, turn-next, turn-stops, turn_last}
+use Rattle.report.proofs.Progressing.{Alike, alike_buffers, Turn, turn_first, turn_part, turn_next, turn_stops, turn_last}
 use Rattle.report.proofs.take_sheets.Statement.{statement}
 use Rattle.report.proofs.take_sheets.Tie as tie
 
@@ -17,22 +17,22 @@ invariant-loop bytes least knots₀ samples₀ scratch₀ sum₀ at₀ knots sam
 abbrev decreases-loop : tie.decreases-loop
 decreases-loop bytes least knots₀ samples₀ scratch₀ sum₀ at₀ knots samples scratch sum at = length bytes - at
 
-loop-holds : tie.Need-loop-init invariant-loop decreases-loop
-loop-holds c = (
-  turn-first _ _ _ c.before.before.before.before.requires.0,
-  record { knots-alike = refl; samples-alike = refl; scratch-alike = refl },
+loop_holds : tie.Need-loop-init invariant-loop decreases-loop
+loop_holds c = (
+  turn_first _ _ _ c.before.before.before.before.requires.0,
+  record { knots_alike = refl; samples_alike = refl; scratch_alike = refl },
 )
 
-take-sheet-requires : tie.Need-take-sheet-requires invariant-loop decreases-loop
-take-sheet-requires c κs =
-    let at-loop-test = c.before.before.before.before in
-    let head = at-loop-test.before in
+take_sheet_requires : tie.Need-take-sheet-requires invariant-loop decreases-loop
+take_sheet_requires c κs =
+    let at_loop_test = c.before.before.before.before in
+    let head = at_loop_test.before in
     let start = head.before.before.before.before.before in
     let turn = head.loop.invariant.0 in
-    let part = turn-part _ _ _ _ _ turn at-loop-test.loop-test.true in (
+    let part = turn_part _ _ _ _ _ turn at_loop_test.loop_test.true in (
       turn.running,
       rw part (simp length-drop (omega arith)),
-      alike-buffers _ _ _ _ _ _ start.requires.2 head.loop.invariant.1,
+      alike_buffers _ _ _ _ _ _ start.requires.2 head.loop.invariant.1,
     )
 
 -- where the loop's turn begins, of a place where its sheet was taken
@@ -41,66 +41,66 @@ head b = b.before.before.before.before.before.before
 
 progressed : (b : tie.After-take-sheet invariant-loop decreases-loop)
     → Progressed (head b).loop.sum (drop (head b).loop.at (head b).before.before.before.before.before.args.bytes.now)
-    b.take-sheet.result
+    b.take_sheet.result
 progressed b =
-    let at-loop-test = b.before.before.before.before.before in
-    rw (turn-part _ _ _ _ _ (head b).loop.invariant.0 at-loop-test.loop-test.true) at b.take-sheet.ensures
+    let at_loop_test = b.before.before.before.before.before in
+    rw (turn_part _ _ _ _ _ (head b).loop.invariant.0 at_loop_test.loop_test.true) at b.take_sheet.ensures
 
 returns : tie.Need-returns invariant-loop decreases-loop
 returns c =
     let b = c.before.before.before.before.before.before.before.before in
-    let at-loop-test = b.before.before.before.before.before in
-    turn-stops _ _ _ _ _ (head b).loop.invariant.0 at-loop-test.loop-test.true _ (progressed b) c.if1.true
+    let at_loop_test = b.before.before.before.before.before in
+    turn_stops _ _ _ _ _ (head b).loop.invariant.0 at_loop_test.loop_test.true _ (progressed b) c.if1.true
 
 add_at : tie.Need-overflow-add-at invariant-loop decreases-loop
 add_at c =
     let b = c.before.before.before.before.before.before.before.before in
-    let at-loop-test = b.before.before.before.before.before in
-    let next = turn-next _ _ _ _ _ (head b).loop.invariant.0 at-loop-test.loop-test.true _ (progressed b) c.if1.false in
+    let at_loop_test = b.before.before.before.before.before in
+    let next = turn_next _ _ _ _ _ (head b).loop.invariant.0 at_loop_test.loop_test.true _ (progressed b) c.if1.false in
     let most = next.most in
-    let good = (head b).before.before.before.before.before.well-formed in
+    let good = (head b).before.before.before.before.before.well_formed in
     let fits = (head b).before.before.before.before.before.ranges in omega arith
 
-loop-less : tie.Need-loop-smaller invariant-loop decreases-loop
-loop-less c =
+loop_less : tie.Need-loop-smaller invariant-loop decreases-loop
+loop_less c =
     let b = c.before.before.before.before.before.before.before.before in
-    let at-loop-test = b.before.before.before.before.before in
+    let at_loop_test = b.before.before.before.before.before in
     let some = (progressed b).some c.if1.false in
-    let next = turn-next _ _ _ _ _ (head b).loop.invariant.0 at-loop-test.loop-test.true _ (progressed b) c.if1.false in
+    let next = turn_next _ _ _ _ _ (head b).loop.invariant.0 at_loop_test.loop_test.true _ (progressed b) c.if1.false in
     let most = next.most in omega arith
 
-loop-again : tie.Need-loop-preserved invariant-loop decreases-loop
-loop-again c =
+loop_again : tie.Need-loop-preserved invariant-loop decreases-loop
+loop_again c =
     let b = c.before.before.before.before.before.before.before.before in
-    let at-loop-test = b.before.before.before.before.before in
+    let at_loop_test = b.before.before.before.before.before in
     let alike = (head b).loop.invariant.1 in
-    let kept = b.take-sheet.auto in (
-      turn-next _ _ _ _ _ (head b).loop.invariant.0 at-loop-test.loop-test.true _ (progressed b) c.if1.false,
-      record { knots-alike = omega arith; samples-alike = omega arith; scratch-alike = omega arith },
+    let kept = b.take_sheet.auto in (
+      turn_next _ _ _ _ _ (head b).loop.invariant.0 at_loop_test.loop_test.true _ (progressed b) c.if1.false,
+      record { knots_alike = omega arith; samples_alike = omega arith; scratch_alike = omega arith },
     )
 
 returns-2 : tie.Need-returns-2 invariant-loop decreases-loop
-returns-2 c = turn_last _ _ _ _ _ c.before.loop.invariant.0 c.loop-test.false
+returns-2 c = turn_last _ _ _ _ _ c.before.loop.invariant.0 c.loop_test.false
 
-pub take-sheets-spec : {M : Type 1} → statement M
-take-sheets-spec =
+pub take_sheets_spec : {M : Type 1} → statement M
+take_sheets_spec =
     tie.close
     (tie.spec
     invariant-loop
     decreases-loop
-    loop-holds
+    loop_holds
     (λ c. search rules)
     (λ c. search rules)
     (λ c. search rules)
     (λ c. search rules)
-    take-sheet-requires
+    take_sheet_requires
     (λ c. search rules)
     (λ c. search rules)
     (λ c. search rules)
     returns
     add_at
-    loop-less
-    loop-again
+    loop_less
+    loop_again
     (λ c. search rules)
     (λ c. search rules)
     (λ c. search rules)

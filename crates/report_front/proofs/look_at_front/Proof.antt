@@ -2,37 +2,37 @@
 -- sheet's own.
 use native.Mathlib.Omega.{arith}
 use mathlib.Core.Path.{◌≡◌, ap, sym, ◌∙◌}
-use Rattle.grid_codes.specs.Classes.{length-known}
-use Rattle.sheet_read.specs.Faults.{sheet-refusal}
-use Rattle.sheet_read.proofs.Promises.{given-refusal}
-use Rattle.report_front.proofs.Tails.{met-before}
-use Rattle.report_front.proofs.Cuts.{size-unknown, all_shown}
+use Rattle.grid_codes.specs.Classes.{length_known}
+use Rattle.sheet_read.specs.Faults.{sheet_refusal}
+use Rattle.sheet_read.proofs.Promises.{given_refusal}
+use Rattle.report_front.proofs.Tails.{met_before}
+use Rattle.report_front.proofs.Cuts.{size_unknown, all_shown}
 use borrow.Author.Rules.{rules}
 use Rattle.report_front.proofs.look_at_front.Statement.{statement}
 use Rattle.report_front.proofs.look_at_front.Tie as tie
 
 told : (c : tie.After-is-length-known)
-    → length-known (sheet-refusal c.before.before.before.args.bytes.now) ≡ c.is-length-known.result
-told c = sym (c.is-length-known.ensures ∙ ap length-known (given-refusal _ _ c.before.look.ensures))
+    → length_known (sheet_refusal c.before.before.before.args.bytes.now) ≡ c.is_length_known.result
+told c = sym (c.is_length_known.ensures ∙ ap length_known (given_refusal _ _ c.before.look.ensures))
 
-known-front-requires : tie.Need-known-front-requires
-known-front-requires c κs = told c.before ∙ c.if1.true
+known_front_requires : tie.Need-known-front-requires
+known_front_requires c κs = told c.before ∙ c.if1.true
 
 returns-2 : tie.Need-returns-2
 returns-2 c =
-    let met = met-before _ (told c.before ∙ c.if1.false) in
+    let met = met_before _ (told c.before ∙ c.if1.false) in
     record {
-      size_is = sym (size-unknown _ met);
+      size_is = sym (size_unknown _ met);
       inside = omega arith;
       looked = rw (all_shown _ met) c.before.before.look.ensures;
     }
 
-pub look-at-front-spec : {M : Type 1} → statement M
-look-at-front-spec =
+pub look_at_front_spec : {M : Type 1} → statement M
+look_at_front_spec =
     tie.close
     (tie.spec
     (λ c κs. search rules)
     (λ c κs. search rules)
-    known-front-requires
+    known_front_requires
     (λ c. search rules)
     returns-2)

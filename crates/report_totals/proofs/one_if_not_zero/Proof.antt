@@ -9,5 +9,5 @@ returns c = rw (eq-eqb _ 0 c.if1.true)
 returns-2 : tie.Need-returns-2
 returns-2 c = rw (ne_eqb _ 0 c.if1.false)
 
-pub one-if-not-zero-spec : {M : Type 1} → statement M
-one-if-not-zero-spec = tie.close (tie.spec returns returns-2)
+pub one_if_not_zero_spec : {M : Type 1} → statement M
+one_if_not_zero_spec = tie.close (tie.spec returns returns-2)

@@ -6,5 +6,5 @@ use Rattle.sheet_build.proofs.not_read.Tie as tie
 returns : tie.Need-returns
 returns c = rw c.unused.ensures
 
-pub not-read-spec : {M : Type 1} → statement M
-not-read-spec = tie.close (tie.spec (λ c κs. search rules) returns)
+pub not_read_spec : {M : Type 1} → statement M
+not_read_spec = tie.close (tie.spec (λ c κs. search rules) returns)

@@ -8,10 +8,10 @@ use lib.ListN.{length}
 use lib.Pow.{pow_pos}
 use Rattle.rules.specs.Numbers.{zeros}
 use Rattle.grid.specs.GridOfCall.{grid}
-use Rattle.grid_checks.specs.Check.{build-check}
-use Rattle.tensor_passes.proofs.MaskTurns.{given-again}
-use Rattle.tensor.proofs.Building.{origin_on, build-given-passes, samples-lie}
-use Rattle.sheet_in_scratch.proofs.Standing.{refused-before, known, numbers-few, numbers-room, outcome-bad, outcome-good}
+use Rattle.grid_checks.specs.Check.{build_check}
+use Rattle.tensor_passes.proofs.MaskTurns.{given_again}
+use Rattle.tensor.proofs.Building.{origin_on, build_given_passes, samples_lie}
+use Rattle.sheet_in_scratch.proofs.Standing.{refused_before, known, numbers_few, numbers_room, outcome_bad, outcome_good}
 use Rattle.sheet_in_scratch.proofs.build_in_scratch.Statement.{statement}
 use Rattle.sheet_in_scratch.proofs.build_in_scratch.Tie as tie
 
@@ -21,50 +21,50 @@ start c = c.before.before.before.before.before
 -- the check has found nothing
 passed : (c : tie.Else1)
     → let args = (start c).args in
-    build-check (grid args.axes args.all args.knots.now) args.samples.now args.numbers (length args.scratch.now) ≡ 0
-passed c = sym c.before.build-refusal.ensures ∙ c.if1.false
+    build_check (grid args.axes args.all args.knots.now) args.samples.now args.numbers (length args.scratch.now) ≡ 0
+passed c = sym c.before.build_refusal.ensures ∙ c.if1.false
 
 returns : tie.Need-returns
-returns c = refused-before _ _ _ _ _ c.before.build-refusal.ensures c.if1.true
+returns c = refused_before _ _ _ _ _ c.before.build_refusal.ensures c.if1.true
 
-masks-requires : tie.Need-masks-requires
-masks-requires c κs = omega (arith, (known _ _ _ (start c).args.scratch.now (passed c)).grid-given.in-range.few-axes)
+masks_requires : tie.Need-masks-requires
+masks_requires c κs = omega (arith, (known _ _ _ (start c).args.scratch.now (passed c)).grid_given.in_range.few_axes)
 
-store-samples-requires : tie.Need-store-samples-requires
-store-samples-requires c κs =
+store_samples_requires : tie.Need-store-samples-requires
+store_samples_requires c κs =
     let masks = c.before in
     let checked = masks.before in
     let args = (start checked).args in (
-      samples-lie _ _ (zeros args.numbers) args.scratch.now (known _ _ _ args.scratch.now (passed checked)) _
+      samples_lie _ _ (zeros args.numbers) args.scratch.now (known _ _ _ args.scratch.now (passed checked)) _
           masks.masks.ensures.0,
       rw masks.masks.ensures.0 (pow_pos args.axes),
     )
 
-solve-axes-requires : tie.Need-solve-axes-requires
-solve-axes-requires c κs =
+solve_axes_requires : tie.Need-solve-axes-requires
+solve_axes_requires c κs =
     let stored = c.before.before.before in
     let checked = stored.before.before.before in
     let args = (start checked).args in
-    let given = build-given-passes _ _ (zeros args.numbers) args.scratch.now (known _ _ _ args.scratch.now (passed checked)) in
-    (given-again _ stored.store-samples.ensures.same_length given, origin_on given)
+    let given = build_given_passes _ _ (zeros args.numbers) args.scratch.now (known _ _ _ args.scratch.now (passed checked)) in
+    (given_again _ stored.store_samples.ensures.same_length given, origin_on given)
 
-add-end : tie.Need-overflow-add-end
-add-end c =
+add_end : tie.Need-overflow-add-end
+add_end c =
     let solved = c.before.before in
     let stored = solved.before.before.before.before in
     let checked = stored.before.before.before in
-    omega (arith, numbers-few _ _ _ (start checked).args.scratch.now (passed checked))
+    omega (arith, numbers_few _ _ _ (start checked).args.scratch.now (passed checked))
 
-part-any-of-many-not-finite-end : tie.Need-slice-bounds-any-of-many-not-finite-end
-part-any-of-many-not-finite-end c =
+part_any_of_many_not_finite_end : tie.Need-slice-bounds-any-of-many-not-finite-end
+part_any_of_many_not_finite_end c =
     let solved = c.before.before.before in
     let stored = solved.before.before.before.before in
     let checked = stored.before.before.before in
     omega (
       arith,
-      numbers-room _ _ _ (start checked).args.scratch.now (passed checked),
-      solved.solve-axes.ensures.0.same_length,
-      stored.store-samples.ensures.same_length,
+      numbers_room _ _ _ (start checked).args.scratch.now (passed checked),
+      solved.solve_axes.ensures.0.same_length,
+      stored.store_samples.ensures.same_length,
     )
 
 returns-2 : tie.Need-returns-2
@@ -73,9 +73,9 @@ returns-2 c =
     let stored = solved.before.before.before.before in
     let masks = stored.before.before in
     let checked = masks.before in
-    outcome-bad _ _ _ (start checked).args.scratch.now (passed checked) _ _ _ _ _ _ masks.masks.ensures.0
-    stored.store-samples.ensures solved.solve-axes.ensures.0
-    (add-sub_cancel_left _ _) c.before.any-of-many-not-finite.ensures c.if2.true
+    outcome_bad _ _ _ (start checked).args.scratch.now (passed checked) _ _ _ _ _ _ masks.masks.ensures.0
+    stored.store_samples.ensures solved.solve_axes.ensures.0
+    (add-sub_cancel_left _ _) c.before.any_of_many_not_finite.ensures c.if2.true
 
 returns-3 : tie.Need-returns-3
 returns-3 c =
@@ -83,23 +83,23 @@ returns-3 c =
     let stored = solved.before.before.before.before in
     let masks = stored.before.before in
     let checked = masks.before in
-    outcome-good _ _ _ (start checked).args.scratch.now (passed checked) _ _ _ _ _ _ masks.masks.ensures.0
-    stored.store-samples.ensures solved.solve-axes.ensures.0
-    (add-sub_cancel_left _ _) c.before.any-of-many-not-finite.ensures c.if2.false
+    outcome_good _ _ _ (start checked).args.scratch.now (passed checked) _ _ _ _ _ _ masks.masks.ensures.0
+    stored.store_samples.ensures solved.solve_axes.ensures.0
+    (add-sub_cancel_left _ _) c.before.any_of_many_not_finite.ensures c.if2.false
 
-pub build-in-scratch-spec : {M : Type 1} → statement M
-build-in-scratch-spec =
+pub build_in_scratch_spec : {M : Type 1} → statement M
+build_in_scratch_spec =
     tie.close
     (tie.spec
     (λ c κs. search rules)
     returns
-    masks-requires
-    store-samples-requires
-    solve-axes-requires
-    add-end
+    masks_requires
+    store_samples_requires
+    solve_axes_requires
+    add_end
     (λ c. search rules)
     (λ c. search rules)
-    part-any-of-many-not-finite-end
+    part_any_of_many_not_finite_end
     (λ c κs. search rules)
     (λ c. search rules)
     returns-2

@@ -6,7 +6,7 @@ use native.Mathlib.Omega.{arith}
 use lib.Dec.{eqb}
 use borrow.Author.Tests.{eq-eqb, ne_eqb}
 use Rattle.rules.specs.Numbers.{any}
-use Rattle.base_numbers.proofs.Scan.{any_none, any-more, any_found, any-end}
+use Rattle.base_numbers.proofs.Scan.{any_none, any_more, any_found, any_end}
 use Rattle.sheet_patterns.specs.Patterns.{pattern}
 use borrow.Author.Rules.{rules}
 use Rattle.sheet_patterns.proofs.is_unused_refused.Statement.{statement}
@@ -18,25 +18,25 @@ invariant-loop axes patterns k₀ k = (k ≤ 4 - axes) × (any (λ j. not (eqb (
 abbrev decreases-loop : tie.decreases-loop
 decreases-loop axes patterns k₀ k = 4 - axes - k
 
-loop-holds : tie.Need-loop-init invariant-loop decreases-loop
-loop-holds c = (search rules, any_none _)
+loop_holds : tie.Need-loop-init invariant-loop decreases-loop
+loop_holds c = (search rules, any_none _)
 
 returns : tie.Need-returns invariant-loop decreases-loop
 returns c = sym (any_found _ c.before.before.loop.k _ (omega arith) (ap not (ne_eqb _ 0 c.if1.true)))
 
-loop-again : tie.Need-loop-preserved invariant-loop decreases-loop
-loop-again c = (search rules, any-more _ _ c.before.before.loop.invariant.1 (ap not (eq-eqb _ 0 c.if1.false)))
+loop_again : tie.Need-loop-preserved invariant-loop decreases-loop
+loop_again c = (search rules, any_more _ _ c.before.before.loop.invariant.1 (ap not (eq-eqb _ 0 c.if1.false)))
 
 returns-2 : tie.Need-returns-2 invariant-loop decreases-loop
-returns-2 c = sym (any-end _ _ _ c.before.loop.invariant.1 (omega arith))
+returns-2 c = sym (any_end _ _ _ c.before.loop.invariant.1 (omega arith))
 
-pub is-unused-refused-spec : {M : Type 1} → statement M
-is-unused-refused-spec =
+pub is_unused_refused_spec : {M : Type 1} → statement M
+is_unused_refused_spec =
     tie.close
     (tie.spec
     invariant-loop
     decreases-loop
-    loop-holds
+    loop_holds
     (λ c. search rules)
     (λ c. search rules)
     (λ c. search rules)
@@ -44,5 +44,5 @@ is-unused-refused-spec =
     returns
     (λ c. search rules)
     (λ c. search rules)
-    loop-again
+    loop_again
     returns-2)

@@ -6,5 +6,5 @@ use Rattle.sheet_read.proofs.without_edition.Tie as tie
 returns : tie.Need-returns
 returns c = refl
 
-pub without-edition-spec : {M : Type 1} → statement M
-without-edition-spec = tie.close (tie.spec returns)
+pub without_edition_spec : {M : Type 1} → statement M
+without_edition_spec = tie.close (tie.spec returns)

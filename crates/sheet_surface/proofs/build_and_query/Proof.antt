@@ -3,11 +3,11 @@
 use mathlib.Core.Path.{◌≡◌, ◌∙◌}
 use native.Mathlib.Nat.{add-sub_cancel_left}
 use native.Mathlib.Omega.{arith}
-use Rattle.rules.specs.Sizes.{tensor-length}
-use Rattle.sheet_read.specs.Fields.{sheet-grid}
-use Rattle.sheet_in_scratch.proofs.OfSheet.{range, tensor-is, knots-within, knots-taken}
+use Rattle.rules.specs.Sizes.{tensor_length}
+use Rattle.sheet_read.specs.Fields.{sheet_grid}
+use Rattle.sheet_in_scratch.proofs.OfSheet.{range, tensor_is, knots_within, knots_taken}
 use Rattle.sheet_surface.specs.SheetSurface.{asked}
-use Rattle.sheet_surface.proofs.Answers.{read_of, built-few, four-long, build-refused, query-asked, answer-fine, query-answered}
+use Rattle.sheet_surface.proofs.Answers.{read_of, built_few, four_long, build_refused, query_asked, answer_fine, query_answered}
 use borrow.Author.Rules.{rules}
 use Rattle.sheet_surface.proofs.build_and_query.Statement.{statement}
 use Rattle.sheet_surface.proofs.build_and_query.Tie as tie
@@ -15,24 +15,24 @@ use Rattle.sheet_surface.proofs.build_and_query.Tie as tie
 abbrev start : tie.After-tensor-in-scratch → tie.Start
 start b = b.before.before.before.before.before.before.before.before
 
-refusal-pattern-requires : tie.Need-refusal-pattern-requires
-refusal-pattern-requires c κs =
+refusal_pattern_requires : tie.Need-refusal-pattern-requires
+refusal_pattern_requires c κs =
     let b = c.before.before.before.before.before.before.before in
-    built-few _ _ b.tensor-in-scratch.ensures.refused
+    built_few _ _ b.tensor_in_scratch.ensures.refused
 
 returns : tie.Need-returns
 returns c =
     let b = c.before.before.before.before.before.before.before.before in
-    c.refusal-pattern.ensures
-    ∙ build-refused _ (start b).args.patterns _ b.tensor-in-scratch.ensures.refused c.before.if1.true
+    c.refusal_pattern.ensures
+    ∙ build_refused _ (start b).args.patterns _ b.tensor_in_scratch.ensures.refused c.before.if1.true
 
-knots-length-requires : tie.Need-knots-length-requires
-knots-length-requires c κs =
+knots_length_requires : tie.Need-knots-length-requires
+knots_length_requires c κs =
     let b = c.before.before.before.before.before.before.before in
     range _ _ _ _ _ _ (start b).requires.0
 
-tensor-length-requires : tie.Need-tensor-length-requires
-tensor-length-requires c κs =
+tensor_length_requires : tie.Need-tensor-length-requires
+tensor_length_requires c κs =
     let b = c.before.before.before.before.before.before.before.before in
     range _ _ _ _ _ _ (start b).requires.0
 
@@ -40,79 +40,79 @@ abbrev built : tie.After-tensor-length → tie.After-tensor-in-scratch
 built l = l.before.before.before.before.before.before.before.before.before
 
 -- the tensor's length, of the sheet's grid
-length-is : (l : tie.After-tensor-length) → l.tensor-length.result ≡ tensor-length (sheet-grid (start (built l)).args.bytes.now)
-length-is l = l.tensor-length.ensures.0 ∙ tensor-is _ _ _ _ _ _ (start (built l)).requires.0
+length_is : (l : tie.After-tensor-length) → l.tensor_length.result ≡ tensor_length (sheet_grid (start (built l)).args.bytes.now)
+length_is l = l.tensor_length.ensures.0 ∙ tensor_is _ _ _ _ _ _ (start (built l)).requires.0
 
-part-query-end : tie.Need-slice-bounds-query-end
-part-query-end c =
+part_query_end : tie.Need-slice-bounds-query-end
+part_query_end c =
     let l = c.before.before in
     let b = built l in
-    knots-within _ _ _ _ _ _ (start b).pre.0 _ b.tensor-in-scratch.ensures.knots _ l.before.knots-length.ensures.0
+    knots_within _ _ _ _ _ _ (start b).pre.0 _ b.tensor_in_scratch.ensures.knots _ l.before.knots_length.ensures.0
 
-part-query-end-2 : tie.Need-slice-bounds-query-end-2
-part-query-end-2 c =
+part_query_end_2 : tie.Need-slice-bounds-query-end-2
+part_query_end_2 c =
     let l = c.before.before.before.before in
     let b = built l in
-    let kept = b.tensor-in-scratch.kept in
-    omega (arith, length-is l, (start b).pre.1)
+    let kept = b.tensor_in_scratch.kept in
+    omega (arith, length_is l, (start b).pre.1)
 
-part-query-end-3 : tie.Need-slice-bounds-query-end-3
-part-query-end-3 c =
-    let at-coordinates-of = c.before.before.before.before.before in
-    let begin = start (built at-coordinates-of.before) in
-    let few = (range _ _ _ _ _ _ begin.pre.0).few-axes in
-    let long = four-long begin.args.patterns _ at-coordinates-of.coordinates-of.ensures in omega arith
+part_query_end_3 : tie.Need-slice-bounds-query-end-3
+part_query_end_3 c =
+    let at_coordinates_of = c.before.before.before.before.before in
+    let begin = start (built at_coordinates_of.before) in
+    let few = (range _ _ _ _ _ _ begin.pre.0).few_axes in
+    let long = four_long begin.args.patterns _ at_coordinates_of.coordinates_of.ensures in omega arith
 
-is-asked : (c : tie.After-query)
+is_asked : (c : tie.After-query)
     → let l = c.before.before.before.before.before.before.before.before in
     let begin = (start (built l)).args in
     c.query.result ≡ asked begin.bytes.now begin.patterns
-is-asked c =
-    let at-coordinates-of = c.before.before.before.before.before.before.before in
-    let l = at-coordinates-of.before in
+is_asked c =
+    let at_coordinates_of = c.before.before.before.before.before.before.before in
+    let l = at_coordinates_of.before in
     let b = built l in
-    let left = b.tensor-in-scratch.ensures in
+    let left = b.tensor_in_scratch.ensures in
     let s = (start b).pre.0 in
-    query-asked _ _ _ _ _ (read_of s) _ b.tensor-in-scratch.last.1.1.1.1.1.1.0 _ _ _
-    (knots-taken _ _ _ _ _ _ s _ left.knots _ l.before.knots-length.ensures.0)
-    (add-sub_cancel_left _ _ ∙ length-is l) (left.output l.before.before.if1.false)
-    at-coordinates-of.coordinates-of.ensures c.query.ensures
+    query_asked _ _ _ _ _ (read_of s) _ b.tensor_in_scratch.last.1.1.1.1.1.1.0 _ _ _
+    (knots_taken _ _ _ _ _ _ s _ left.knots _ l.before.knots_length.ensures.0)
+    (add-sub_cancel_left _ _ ∙ length_is l) (left.output l.before.before.if1.false)
+    at_coordinates_of.coordinates_of.ensures c.query.ensures
 
-answer-pattern-requires : tie.Need-answer-pattern-requires
-answer-pattern-requires c κs = answer-fine _ _ _ (is-asked c)
+answer_pattern_requires : tie.Need-answer-pattern-requires
+answer_pattern_requires c κs = answer_fine _ _ _ (is_asked c)
 
 returns-2 : tie.Need-returns-2
 returns-2 c =
     let Asked-here = c.before in
     let l = Asked-here.before.before.before.before.before.before.before.before in
-    c.answer-pattern.ensures
-    ∙ query-answered _ _ _ (is-asked Asked-here) _ (built l).tensor-in-scratch.ensures.refused l.before.before.if1.false
+    c.answer_pattern.ensures
+    ∙ query_answered _ _ _ (is_asked Asked-here) _ (built l).tensor_in_scratch.ensures.refused l.before.before.if1.false
 
-pub build-and-query-spec : {M : Type 1} → statement M
-build-and-query-spec =
+pub build_and_query_spec : {M : Type 1} → statement M
+build_and_query_spec =
     tie.close
     (tie.spec
     (λ c κs. search rules)
-    refusal-pattern-requires
+    refusal_pattern_requires
     (λ c. search rules)
     (λ c. search rules)
     (λ c. search rules)
     returns
-    knots-length-requires
-    tensor-length-requires
+    knots_length_requires
+    tensor_length_requires
     (λ c. search rules)
     (λ c κs. search rules)
     (λ c. search rules)
     (λ c. search rules)
-    part-query-end
+    part_query_end
     (λ c. search rules)
     (λ c. search rules)
-    part-query-end-2
+    part_query_end_2
     (λ c. search rules)
     (λ c. search rules)
-    part-query-end-3
+    part_query_end_3
     (λ c κs. search rules)
-    answer-pattern-requires
+    answer_pattern_requires
     (λ c. search rules)
     (λ c. search rules)
     (λ c. search rules)

@@ -6,24 +6,24 @@ use Rattle.step_checks.proofs.stepped_lengths_refused.Statement.{statement}
 use Rattle.step_checks.proofs.stepped_lengths_refused.Tie as tie
 
 returns : tie.Need-returns
-returns c = first _ (first _ c.before.length-refused.ensures c.if1.true) refl
+returns c = first _ (first _ c.before.length_refused.ensures c.if1.true) refl
 
 returns-2 : tie.Need-returns-2
 returns-2 c =
-    let at-if1 = c.before.before.before in
-    first _ (second at-if1.before.length-refused.ensures at-if1.if1.false c.before.length-refused2.ensures) c.if2.true
+    let at_if1 = c.before.before.before in
+    first _ (second at_if1.before.length_refused.ensures at_if1.if1.false c.before.length_refused2.ensures) c.if2.true
 
 returns-3 : tie.Need-returns-3
 returns-3 c =
-    let at-if2 = c.before in
-    let at-if1 = at-if2.before.before.before in
+    let at_if2 = c.before in
+    let at_if1 = at_if2.before.before.before in
     second
-    (second at-if1.before.length-refused.ensures at-if1.if1.false at-if2.before.length-refused2.ensures)
-    at-if2.if2.false
-    c.length-refused3.ensures
+    (second at_if1.before.length_refused.ensures at_if1.if1.false at_if2.before.length_refused2.ensures)
+    at_if2.if2.false
+    c.length_refused3.ensures
 
-pub stepped-lengths-refused-spec : {M : Type 1} → statement M
-stepped-lengths-refused-spec =
+pub stepped_lengths_refused_spec : {M : Type 1} → statement M
+stepped_lengths_refused_spec =
     tie.close
     (tie.spec
     (λ c κs. search rules)

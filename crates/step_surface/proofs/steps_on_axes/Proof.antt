@@ -3,7 +3,7 @@
 use native.Mathlib.Omega.{arith}
 use Prim.Native.Nat.{◌-◌}
 use Rattle.rules.specs.Sizes.{place_of}
-use Rattle.step_surface.proofs.Stepping.{Turn, turn-first, end-within, part-given, number-within, turn-next, turn_last}
+use Rattle.step_surface.proofs.Stepping.{Turn, turn_first, end_within, part_given, number_within, turn_next, turn_last}
 use borrow.Author.Rules.{rules}
 use Rattle.step_surface.proofs.steps_on_axes.Statement.{statement}
 use Rattle.step_surface.proofs.steps_on_axes.Tie as tie
@@ -15,87 +15,87 @@ invariant-loop axes points knots coordinates directions indices₀ number₀ beg
 abbrev decreases-loop : tie.decreases-loop
 decreases-loop axes points knots coordinates directions indices₀ number₀ begin₀ i₀ indices number begin i = axes - i
 
-loop-holds : tie.Need-loop-init invariant-loop decreases-loop
-loop-holds c = turn-first _ _ _ _ _ c.before.before.before.requires.1
+loop_holds : tie.Need-loop-init invariant-loop decreases-loop
+loop_holds c = turn_first _ _ _ _ _ c.before.before.before.requires.1
 
-add-end : tie.Need-overflow-add-end invariant-loop decreases-loop
-add-end c = omega (arith, end-within _ _ _ _ _ _ _ _ _ c.before.before.loop.invariant c.before.loop-test.true)
+add_end : tie.Need-overflow-add-end invariant-loop decreases-loop
+add_end c = omega (arith, end_within _ _ _ _ _ _ _ _ _ c.before.before.loop.invariant c.before.loop_test.true)
 
-mul-step-index : tie.Need-overflow-mul-step-index invariant-loop decreases-loop
-mul-step-index c =
-    omega (arith, end-within _ _ _ _ _ _ _ _ _ c.before.before.before.loop.invariant c.before.before.loop-test.true)
+mul_step_index : tie.Need-overflow-mul-step-index invariant-loop decreases-loop
+mul_step_index c =
+    omega (arith, end_within _ _ _ _ _ _ _ _ _ c.before.before.before.loop.invariant c.before.before.loop_test.true)
 
-sub-step-index : tie.Need-overflow-sub-step-index invariant-loop decreases-loop
-sub-step-index c =
-    omega (arith, end-within _ _ _ _ _ _ _ _ _ c.before.before.before.loop.invariant c.before.before.loop-test.true)
+sub_step_index : tie.Need-overflow-sub-step-index invariant-loop decreases-loop
+sub_step_index c =
+    omega (arith, end_within _ _ _ _ _ _ _ _ _ c.before.before.before.loop.invariant c.before.before.loop_test.true)
 
-part-step-index-start : tie.Need-slice-bounds-step-index-start invariant-loop decreases-loop
-part-step-index-start c =
-    omega (arith, end-within _ _ _ _ _ _ _ _ _ c.before.before.before.loop.invariant c.before.before.loop-test.true)
+part_step_index_start : tie.Need-slice-bounds-step-index-start invariant-loop decreases-loop
+part_step_index_start c =
+    omega (arith, end_within _ _ _ _ _ _ _ _ _ c.before.before.before.loop.invariant c.before.before.loop_test.true)
 
-part-step-index-end : tie.Need-slice-bounds-step-index-end invariant-loop decreases-loop
-part-step-index-end c =
-    omega (arith, end-within _ _ _ _ _ _ _ _ _ c.before.before.before.loop.invariant c.before.before.loop-test.true)
+part_step_index_end : tie.Need-slice-bounds-step-index-end invariant-loop decreases-loop
+part_step_index_end c =
+    omega (arith, end_within _ _ _ _ _ _ _ _ _ c.before.before.before.loop.invariant c.before.before.loop_test.true)
 
-step-index-requires : tie.Need-step-index-requires invariant-loop decreases-loop
-step-index-requires c κs =
-    let at-loop-test = c.before.before.before.before in
-    part-given _ _ _ _ _ _ _ _ _ at-loop-test.before.loop.invariant at-loop-test.loop-test.true
+step_index_requires : tie.Need-step-index-requires invariant-loop decreases-loop
+step_index_requires c κs =
+    let at_loop_test = c.before.before.before.before in
+    part_given _ _ _ _ _ _ _ _ _ at_loop_test.before.loop.invariant at_loop_test.loop_test.true
 
-mul-number-2 : tie.Need-overflow-mul-number-2 invariant-loop decreases-loop
-mul-number-2 c =
-    let at-step-index = c.before in
-    let at-loop-test = at-step-index.before.before.before.before.before in
+mul_number_2 : tie.Need-overflow-mul-number-2 invariant-loop decreases-loop
+mul_number_2 c =
+    let at_step_index = c.before in
+    let at_loop_test = at_step_index.before.before.before.before.before in
     omega (
       arith,
-      number-within _ _ _ _ _ _ _ _ _ at-loop-test.before.loop.invariant at-loop-test.loop-test.true _
-          at-step-index.step-index.ensures,
+      number_within _ _ _ _ _ _ _ _ _ at_loop_test.before.loop.invariant at_loop_test.loop_test.true _
+          at_step_index.step_index.ensures,
     )
 
-add-number : tie.Need-overflow-add-number invariant-loop decreases-loop
-add-number c =
-    let at-step-index = c.before in
-    let at-loop-test = at-step-index.before.before.before.before.before in
+add_number : tie.Need-overflow-add-number invariant-loop decreases-loop
+add_number c =
+    let at_step_index = c.before in
+    let at_loop_test = at_step_index.before.before.before.before.before in
     omega (
       arith,
-      number-within _ _ _ _ _ _ _ _ _ at-loop-test.before.loop.invariant at-loop-test.loop-test.true _
-          at-step-index.step-index.ensures,
+      number_within _ _ _ _ _ _ _ _ _ at_loop_test.before.loop.invariant at_loop_test.loop_test.true _
+          at_step_index.step_index.ensures,
     )
 
-loop-again : tie.Need-loop-preserved invariant-loop decreases-loop
-loop-again c =
-    let at-step-index = c.before in
-    let at-loop-test = at-step-index.before.before.before.before.before in
-    turn-next _ _ _ _ _ _ _ _ _ at-loop-test.before.loop.invariant at-loop-test.loop-test.true _ at-step-index.step-index.ensures
+loop_again : tie.Need-loop-preserved invariant-loop decreases-loop
+loop_again c =
+    let at_step_index = c.before in
+    let at_loop_test = at_step_index.before.before.before.before.before in
+    turn_next _ _ _ _ _ _ _ _ _ at_loop_test.before.loop.invariant at_loop_test.loop_test.true _ at_step_index.step_index.ensures
 
 returns : tie.Need-returns invariant-loop decreases-loop
-returns c = turn_last _ _ _ _ _ _ _ _ _ c.before.loop.invariant c.loop-test.false
+returns c = turn_last _ _ _ _ _ _ _ _ _ c.before.loop.invariant c.loop_test.false
 
-pub steps-on-axes-spec : {M : Type 1} → statement M
-steps-on-axes-spec =
+pub steps_on_axes_spec : {M : Type 1} → statement M
+steps_on_axes_spec =
     tie.close
     (tie.spec
     invariant-loop
     decreases-loop
-    loop-holds
+    loop_holds
     (λ c. search rules)
     (λ c. search rules)
-    add-end
+    add_end
     (λ c. search rules)
-    mul-step-index
-    sub-step-index
-    part-step-index-start
-    part-step-index-end
-    (λ c. search rules)
-    (λ c. search rules)
-    step-index-requires
+    mul_step_index
+    sub_step_index
+    part_step_index_start
+    part_step_index_end
     (λ c. search rules)
     (λ c. search rules)
+    step_index_requires
     (λ c. search rules)
     (λ c. search rules)
-    mul-number-2
-    add-number
     (λ c. search rules)
     (λ c. search rules)
-    loop-again
+    mul_number_2
+    add_number
+    (λ c. search rules)
+    (λ c. search rules)
+    loop_again
     returns)

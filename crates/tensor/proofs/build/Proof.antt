@@ -7,10 +7,10 @@ use lib.ListN.{length}
 use lib.Pow.{pow_pos}
 use Rattle.grid_checks.specs.Checked.{BuildGiven}
 use Rattle.grid.specs.GridOfCall.{grid}
-use Rattle.grid_checks.specs.Check.{build-check}
-use Rattle.grid_checks.proofs.Accepted.{build-given}
-use Rattle.tensor_passes.proofs.MaskTurns.{given-again}
-use Rattle.tensor.proofs.Building.{origin_on, build-refused, build-given-passes, samples-lie, build-done}
+use Rattle.grid_checks.specs.Check.{build_check}
+use Rattle.grid_checks.proofs.Accepted.{build_given}
+use Rattle.tensor_passes.proofs.MaskTurns.{given_again}
+use Rattle.tensor.proofs.Building.{origin_on, build_refused, build_given_passes, samples_lie, build_done}
 use Rattle.tensor.proofs.build.Statement.{statement}
 use Rattle.tensor.proofs.build.Tie as tie
 
@@ -19,50 +19,50 @@ abbrev start : tie.Else1 → tie.Start
 start c = c.before.before.before.before.before.before
 
 passed : (c : tie.Else1)
-    → build-check (grid (start c).args.axes (start c).args.all (start c).args.knots.now) (start c).args.samples.now
+    → build_check (grid (start c).args.axes (start c).args.all (start c).args.knots.now) (start c).args.samples.now
     (length (start c).args.tensor.now) (length (start c).args.scratch.now)
     ≡ 0
-passed c = sym c.before.build-refusal.ensures ∙ c.if1.false
+passed c = sym c.before.build_refusal.ensures ∙ c.if1.false
 
 known : (c : tie.Else1)
     → BuildGiven (grid (start c).args.axes (start c).args.all (start c).args.knots.now) (start c).args.samples.now
     (length (start c).args.tensor.now) (length (start c).args.scratch.now)
-known c = build-given _ _ _ _ (passed c)
+known c = build_given _ _ _ _ (passed c)
 
 returns : tie.Need-returns
-returns c = build-refused _ _ _ _ _ c.before.build-refusal.ensures c.if1.true
+returns c = build_refused _ _ _ _ _ c.before.build_refusal.ensures c.if1.true
 
-masks-requires : tie.Need-masks-requires
-masks-requires c κs = omega (arith, (known c).grid-given.in-range.few-axes)
+masks_requires : tie.Need-masks-requires
+masks_requires c κs = omega (arith, (known c).grid_given.in_range.few_axes)
 
-store-samples-requires : tie.Need-store-samples-requires
-store-samples-requires c κs =
+store_samples_requires : tie.Need-store-samples-requires
+store_samples_requires c κs =
     let masks = c.before in
     let checked = masks.before in
     let args = (start checked).args in (
-      samples-lie _ _ args.tensor.now args.scratch.now (known checked) _ masks.masks.ensures.0,
+      samples_lie _ _ args.tensor.now args.scratch.now (known checked) _ masks.masks.ensures.0,
       rw masks.masks.ensures.0 (pow_pos args.axes),
     )
 
-solve-axes-requires : tie.Need-solve-axes-requires
-solve-axes-requires c κs =
+solve_axes_requires : tie.Need-solve-axes-requires
+solve_axes_requires c κs =
     let stored = c.before.before.before in
     let checked = stored.before.before.before in
     let args = (start checked).args in
-    let given = build-given-passes _ _ args.tensor.now args.scratch.now (known checked) in
-    (given-again _ stored.store-samples.ensures.same_length given, origin_on given)
+    let given = build_given_passes _ _ args.tensor.now args.scratch.now (known checked) in
+    (given_again _ stored.store_samples.ensures.same_length given, origin_on given)
 
-finish-requires : tie.Need-finish-requires
-finish-requires c κs =
+finish_requires : tie.Need-finish-requires
+finish_requires c κs =
     let solved = c.before.before.before.before in
     let stored = solved.before.before.before.before in
     let checked = stored.before.before.before in
     omega (
       arith,
-      solved.solve-axes.ensures.0.same_length,
-      stored.store-samples.ensures.same_length,
-      (known checked).grid-given.tensor-exact,
-      (known checked).solve-given.scratch-enough,
+      solved.solve_axes.ensures.0.same_length,
+      stored.store_samples.ensures.same_length,
+      (known checked).grid_given.tensor_exact,
+      (known checked).solve_given.scratch_enough,
     )
 
 returns-2 : tie.Need-returns-2
@@ -73,19 +73,19 @@ returns-2 c =
     let masks = stored.before.before in
     let checked = masks.before in
     let args = (start checked).args in
-    build-done _ _ args.tensor.now args.scratch.now (known checked) _ _ _ _ _ _ _ (passed checked) masks.masks.ensures.0
-    stored.store-samples.ensures solved.solve-axes.ensures.0 finished.finish.ensures
+    build_done _ _ args.tensor.now args.scratch.now (known checked) _ _ _ _ _ _ _ (passed checked) masks.masks.ensures.0
+    stored.store_samples.ensures solved.solve_axes.ensures.0 finished.finish.ensures
 
-pub build-spec : {M : Type 1} → statement M
-build-spec =
+pub build_spec : {M : Type 1} → statement M
+build_spec =
     tie.close
     (tie.spec
     (λ c κs. search rules)
     returns
-    masks-requires
-    store-samples-requires
-    solve-axes-requires
-    finish-requires
+    masks_requires
+    store_samples_requires
+    solve_axes_requires
+    finish_requires
     (λ c. search rules)
     (λ c. search rules)
     returns-2)

@@ -7,8 +7,8 @@ use Rattle.tensor_fours.proofs.get_row.Tie as tie
 returns : tie.Need-returns
 returns c = record { is = simp add-zero }
 
-pub get-row-spec : {M : Type 1} → statement M
-get-row-spec =
+pub get_row_spec : {M : Type 1} → statement M
+get_row_spec =
     tie.close
     (tie.spec
     (λ c. search rules)

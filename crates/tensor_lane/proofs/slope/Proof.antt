@@ -5,10 +5,10 @@ use Rattle.tensor_lane.proofs.slope.Statement.{statement}
 use Rattle.tensor_lane.proofs.slope.Tie as tie
 
 returns : tie.Need-returns
-returns c = rw (sub-zero, add-sub_cancel_left) at c.knot-slope.ensures
+returns c = rw (sub-zero, add-sub_cancel_left) at c.knot_slope.ensures
 
-pub slope-spec : {M : Type 1} → statement M
-slope-spec =
+pub slope_spec : {M : Type 1} → statement M
+slope_spec =
     tie.close
     (tie.spec
     (λ c. search rules)

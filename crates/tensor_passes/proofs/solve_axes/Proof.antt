@@ -5,7 +5,7 @@ use native.Mathlib.Omega.{arith}
 use Prim.Native.Nat.{◌-◌}
 use Rattle.rules.specs.Sizes.{place_of}
 use Rattle.grid.specs.GridOfCall.{grid}
-use Rattle.tensor_passes.proofs.AxisTurns.{Turn, turn-first, pass-given, count_fits, turn-next, turn_last}
+use Rattle.tensor_passes.proofs.AxisTurns.{Turn, turn_first, pass_given, count_fits, turn_next, turn_last}
 use Rattle.tensor_passes.proofs.solve_axes.Statement.{statement}
 use Rattle.tensor_passes.proofs.solve_axes.Tie as tie
 
@@ -16,38 +16,38 @@ invariant-loop w₀ axes all knots place whole lanes₀ axis₀ w lanes axis =
 abbrev decreases-loop : tie.decreases-loop
 decreases-loop w₀ axes all knots place whole lanes₀ axis₀ w lanes axis = axes - axis
 
-loop-holds : tie.Need-loop-init invariant-loop decreases-loop
-loop-holds c = let pre = c.before.before.requires in turn-first _ _ _ _ pre.0 pre.1
+loop_holds : tie.Need-loop-init invariant-loop decreases-loop
+loop_holds c = let pre = c.before.before.requires in turn_first _ _ _ _ pre.0 pre.1
 
-solve-along-requires : tie.Need-solve-along-requires invariant-loop decreases-loop
-solve-along-requires c κs = let turn = c.before.before.loop.invariant in pass-given _ _ _ _ _ _ _ turn (omega arith)
+solve_along_requires : tie.Need-solve-along-requires invariant-loop decreases-loop
+solve_along_requires c κs = let turn = c.before.before.loop.invariant in pass_given _ _ _ _ _ _ _ turn (omega arith)
 
-add-lanes : tie.Need-overflow-add-lanes invariant-loop decreases-loop
-add-lanes c =
+add_lanes : tie.Need-overflow-add-lanes invariant-loop decreases-loop
+add_lanes c =
     let solved = c.before.before in
     let turn = solved.before.before.before.loop.invariant in
-    omega (arith, count_fits _ _ _ _ _ _ _ turn _ _ (omega arith) solved.solve-along.ensures)
+    omega (arith, count_fits _ _ _ _ _ _ _ turn _ _ (omega arith) solved.solve_along.ensures)
 
-loop-again : tie.Need-loop-preserved invariant-loop decreases-loop
-loop-again c =
+loop_again : tie.Need-loop-preserved invariant-loop decreases-loop
+loop_again c =
     let solved = c.before.before in
     let turn = solved.before.before.before.loop.invariant in
-    turn-next _ _ _ _ _ _ _ turn _ _ (omega arith) solved.solve-along.ensures
+    turn_next _ _ _ _ _ _ _ turn _ _ (omega arith) solved.solve_along.ensures
 
 returns : tie.Need-returns invariant-loop decreases-loop
-returns c = turn_last _ _ _ _ _ _ _ c.before.loop.invariant c.loop-test.false
+returns c = turn_last _ _ _ _ _ _ _ c.before.loop.invariant c.loop_test.false
 
-pub solve-axes-spec : {M : Type 1} → statement M
-solve-axes-spec =
+pub solve_axes_spec : {M : Type 1} → statement M
+solve_axes_spec =
     tie.close
     (tie.spec
     invariant-loop
     decreases-loop
-    loop-holds
-    solve-along-requires
-    add-lanes
+    loop_holds
+    solve_along_requires
+    add_lanes
     (λ c. search rules)
     (λ c. search rules)
-    loop-again
+    loop_again
     (λ c. search rules)
     returns)

@@ -6,7 +6,7 @@ use mathlib.Core.Path.{◌≡◌}
 use Prim.Native.Nat.{◌-◌, ◌^◌}
 use Rattle.rules.specs.Sizes.{place_of}
 use Rattle.grid.specs.GridOfCall.{grid}
-use Rattle.tensor_passes.proofs.MaskTurns.{Turn, turn-first, pass-given, count_fits, turn-next, turn_last}
+use Rattle.tensor_passes.proofs.MaskTurns.{Turn, turn_first, pass_given, count_fits, turn_next, turn_last}
 use Rattle.tensor_passes.proofs.solve_masks.Statement.{statement}
 use Rattle.tensor_passes.proofs.solve_masks.Tie as tie
 
@@ -17,43 +17,43 @@ invariant-loop w₀ axes all knots place whole axis plan masks lanes₀ mask₀ 
 abbrev decreases-loop : tie.decreases-loop
 decreases-loop w₀ axes all knots place whole axis plan masks lanes₀ mask₀ w lanes mask = masks - mask
 
-masks-requires : tie.Need-masks-requires invariant-loop decreases-loop
-masks-requires c κs = let pre = c.before.before.requires.0 in omega (arith, pre.in_use, pre.given.in-range.few-axes)
+masks_requires : tie.Need-masks-requires invariant-loop decreases-loop
+masks_requires c κs = let pre = c.before.before.requires.0 in omega (arith, pre.in_use, pre.given.in_range.few_axes)
 
-loop-holds : tie.Need-loop-init invariant-loop decreases-loop
-loop-holds c = (c.masks.ensures.0, turn-first _ _ _ _ _ _ c.before.before.before.requires)
+loop_holds : tie.Need-loop-init invariant-loop decreases-loop
+loop_holds c = (c.masks.ensures.0, turn_first _ _ _ _ _ _ c.before.before.before.requires)
 
-solve-lanes-requires : tie.Need-solve-lanes-requires invariant-loop decreases-loop
-solve-lanes-requires c κs =
-    let turn = c.before.before.loop.invariant in pass-given _ _ _ _ _ _ _ _ _ turn.1 (omega (arith, turn.0))
+solve_lanes_requires : tie.Need-solve-lanes-requires invariant-loop decreases-loop
+solve_lanes_requires c κs =
+    let turn = c.before.before.loop.invariant in pass_given _ _ _ _ _ _ _ _ _ turn.1 (omega (arith, turn.0))
 
-add-lanes : tie.Need-overflow-add-lanes invariant-loop decreases-loop
-add-lanes c =
+add_lanes : tie.Need-overflow-add-lanes invariant-loop decreases-loop
+add_lanes c =
     let solved = c.before.before in
     let turn = solved.before.before.before.loop.invariant in
-    omega (arith, count_fits _ _ _ _ _ _ _ _ _ turn.1 _ _ (omega (arith, turn.0)) solved.solve-lanes.ensures)
+    omega (arith, count_fits _ _ _ _ _ _ _ _ _ turn.1 _ _ (omega (arith, turn.0)) solved.solve_lanes.ensures)
 
-loop-again : tie.Need-loop-preserved invariant-loop decreases-loop
-loop-again c =
+loop_again : tie.Need-loop-preserved invariant-loop decreases-loop
+loop_again c =
     let solved = c.before.before in
     let turn = solved.before.before.before.loop.invariant in
-    (turn.0, turn-next _ _ _ _ _ _ _ _ _ turn.1 _ _ (omega (arith, turn.0)) solved.solve-lanes.ensures)
+    (turn.0, turn_next _ _ _ _ _ _ _ _ _ turn.1 _ _ (omega (arith, turn.0)) solved.solve_lanes.ensures)
 
 returns : tie.Need-returns invariant-loop decreases-loop
 returns c = let turn = c.before.loop.invariant in turn_last _ _ _ _ _ _ _ _ _ turn.1 (omega (arith, turn.0))
 
-pub solve-masks-spec : {M : Type 1} → statement M
-solve-masks-spec =
+pub solve_masks_spec : {M : Type 1} → statement M
+solve_masks_spec =
     tie.close
     (tie.spec
     invariant-loop
     decreases-loop
-    masks-requires
-    loop-holds
-    solve-lanes-requires
-    add-lanes
+    masks_requires
+    loop_holds
+    solve_lanes_requires
+    add_lanes
     (λ c. search rules)
     (λ c. search rules)
-    loop-again
+    loop_again
     (λ c. search rules)
     returns)

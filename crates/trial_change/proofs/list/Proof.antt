@@ -14,8 +14,8 @@ invariant-loop name axes all knots samples₀ tensor₀ list i₀ samples tensor
 abbrev decreases-loop : tie.decreases-loop
 decreases-loop name axes all knots samples₀ tensor₀ list i₀ samples tensor i = 6 - i
 
-pub list-spec : {M : Type 1} → statement M
-list-spec =
+pub list_spec : {M : Type 1} → statement M
+list_spec =
     tie.close
     (tie.spec
     invariant-loop

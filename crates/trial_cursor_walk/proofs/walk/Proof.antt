@@ -1,42 +1,42 @@
 -- `walk` meets its contract, which says nothing but that it ends: the measure is what is left of the curve.
 use Prim.Native.Nat.{◌+◌, ◌-◌, ◌≤◌}
 use native.Mathlib.Omega.{arith}
-use Rattle.device_cursor.specs.DeviceCurve.{last-cursor}
-use Rattle.trial_cursor_walk.proofs.Walking.{further, not-past}
+use Rattle.device_cursor.specs.DeviceCurve.{last_cursor}
+use Rattle.trial_cursor_walk.proofs.Walking.{further, not_past}
 use borrow.Author.Rules.{rules}
 use Rattle.trial_cursor_walk.proofs.walk.Statement.{statement}
 use Rattle.trial_cursor_walk.proofs.walk.Tie as tie
 
 abbrev invariant-loop : tie.invariant-loop
-invariant-loop curve cursor₀ cursor = cursor.n ≤ last-cursor curve + 1
+invariant-loop curve cursor₀ cursor = cursor.n ≤ last_cursor curve + 1
 
 abbrev decreases-loop : tie.decreases-loop
-decreases-loop curve cursor₀ cursor = last-cursor curve + 1 - cursor.n
+decreases-loop curve cursor₀ cursor = last_cursor curve + 1 - cursor.n
 
-loop-holds : tie.Need-loop-init invariant-loop decreases-loop
-loop-holds c = rw c.start.ensures.answer (omega arith)
+loop_holds : tie.Need-loop-init invariant-loop decreases-loop
+loop_holds c = rw c.start.ensures.answer (omega arith)
 
-loop-less : tie.Need-loop-smaller invariant-loop decreases-loop
-loop-less c =
+loop_less : tie.Need-loop-smaller invariant-loop decreases-loop
+loop_less c =
     let step = further _ _ _ c.before.before.before.before.next.ensures c.before.if1.false in
-    let most = not-past _ _ _ c.before.before.before.before.next.ensures c.before.if1.false in omega arith
+    let most = not_past _ _ _ c.before.before.before.before.next.ensures c.before.if1.false in omega arith
 
-loop-again : tie.Need-loop-preserved invariant-loop decreases-loop
-loop-again c =
+loop_again : tie.Need-loop-preserved invariant-loop decreases-loop
+loop_again c =
     let step = further _ _ _ c.before.before.before.before.next.ensures c.before.if1.false in
-    let most = not-past _ _ _ c.before.before.before.before.next.ensures c.before.if1.false in omega arith
+    let most = not_past _ _ _ c.before.before.before.before.next.ensures c.before.if1.false in omega arith
 
-pub walk-spec : {M : Type 1} → statement M
-walk-spec =
+pub walk_spec : {M : Type 1} → statement M
+walk_spec =
     tie.close
     (tie.spec
     invariant-loop
     decreases-loop
     (λ c κs. search rules)
-    loop-holds
+    loop_holds
     (λ c κs. search rules)
     (λ c κs. search rules)
     (λ c. search rules)
     (λ c κs. search rules)
-    loop-less
-    loop-again)
+    loop_less
+    loop_again)

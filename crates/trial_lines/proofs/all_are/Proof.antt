@@ -7,7 +7,7 @@ use lib.ListN.{length, get_or}
 use lib.Ieee.{nan}
 use denote.Floats.{passes}
 use borrow.Author.Count.{below_more}
-use Rattle.trial_lines.proofs.Equal.{same_number, all_one, not-true}
+use Rattle.trial_lines.proofs.Equal.{same_number, all_one, not_true}
 use borrow.Author.Rules.{rules}
 use Rattle.trial_lines.proofs.all_are.Statement.{statement}
 use Rattle.trial_lines.proofs.all_are.Tie as tie
@@ -18,37 +18,37 @@ invariant-loop numbers number i₀ i = (i ≤ length numbers) × ((k : ℕ) → 
 abbrev decreases-loop : tie.decreases-loop
 decreases-loop numbers number i₀ i = length numbers - i
 
-loop-holds : tie.Need-loop-init invariant-loop decreases-loop
-loop-holds c = (omega arith, λ k h. absurd (omega arith))
+loop_holds : tie.Need-loop-init invariant-loop decreases-loop
+loop_holds c = (omega arith, λ k h. absurd (omega arith))
 
-loop-again : tie.Need-loop-preserved invariant-loop decreases-loop
-loop-again c =
+loop_again : tie.Need-loop-preserved invariant-loop decreases-loop
+loop_again c =
     let p = c.before.before in
     let l = p.before.before.before in
     let start = l.before.before in
     let numbers = start.args.numbers.now in
     let number = start.args.number in
     let one : get_or numbers l.loop.i nan ≡ number
-    = same_number _ _ (p.before.shared-slice-known2.given l.loop.i) (passes _ start.well-formed.1.0.1)
+    = same_number _ _ (p.before.shared_slice_known2.given l.loop.i) (passes _ start.well_formed.1.0.1)
     (sym p.pattern.ensures ∙ c.if1.false ∙ c.before.pattern2.ensures) in
     (omega arith, below_more (λ k. get_or numbers k nan ≡ number) _ l.loop.invariant.1 one)
 
 returns-2 : tie.Need-returns-2 invariant-loop decreases-loop
 returns-2 c = λ _. all_one _ _ c.before.loop.i (omega arith) c.before.loop.invariant.1
 
-pub all-are-spec : {M : Type 1} → statement M
-all-are-spec =
+pub all_are_spec : {M : Type 1} → statement M
+all_are_spec =
     tie.close
     (tie.spec
     invariant-loop
     decreases-loop
-    loop-holds
+    loop_holds
     (λ c. search rules)
     (λ c. search rules)
     (λ c κs. search rules)
     (λ c κs. search rules)
-    (λ c. not-true)
+    (λ c. not_true)
     (λ c. search rules)
     (λ c. search rules)
-    loop-again
+    loop_again
     returns-2)

@@ -6,7 +6,7 @@ use native.Mathlib.Omega.{arith}
 use lib.ListN.{length, get_or}
 use lib.Ieee.{nan}
 use borrow.Author.Count.{below_more}
-use Rattle.trial_lines.proofs.Equal.{same_number, same_numbers, not-true}
+use Rattle.trial_lines.proofs.Equal.{same_number, same_numbers, not_true}
 use borrow.Author.Rules.{rules}
 use Rattle.trial_lines.proofs.same.Statement.{statement}
 use Rattle.trial_lines.proofs.same.Tie as tie
@@ -17,11 +17,11 @@ invariant-loop these those i₀ i = (i ≤ length these) × (length these ≡ le
 abbrev decreases-loop : tie.decreases-loop
 decreases-loop these those i₀ i = length these - i
 
-loop-holds : tie.Need-loop-init invariant-loop decreases-loop
-loop-holds c = (omega arith, omega arith, λ k h. absurd (omega arith))
+loop_holds : tie.Need-loop-init invariant-loop decreases-loop
+loop_holds c = (omega arith, omega arith, λ k h. absurd (omega arith))
 
-loop-again : tie.Need-loop-preserved invariant-loop decreases-loop
-loop-again c =
+loop_again : tie.Need-loop-preserved invariant-loop decreases-loop
+loop_again c =
     let q = c.before.before in
     let p = q.before.before in
     let l = p.before.before in
@@ -29,7 +29,7 @@ loop-again c =
     let these = start.args.these.now in
     let those = start.args.those.now in
     let one : get_or these l.loop.i nan ≡ get_or those l.loop.i nan
-    = same_number _ _ (p.shared-slice-known3.given l.loop.i) (q.shared-slice-known4.given l.loop.i)
+    = same_number _ _ (p.shared_slice_known3.given l.loop.i) (q.shared_slice_known4.given l.loop.i)
     (sym q.before.pattern.ensures ∙ c.if2.false ∙ c.before.pattern2.ensures) in
     (omega arith, l.loop.invariant.1, below_more (λ k. get_or these k nan ≡ get_or those k nan) _ l.loop.invariant.2 one)
 
@@ -42,16 +42,16 @@ same_spec =
     (tie.spec
     invariant-loop
     decreases-loop
-    (λ c. not-true)
-    loop-holds
+    (λ c. not_true)
+    loop_holds
     (λ c. search rules)
     (λ c. search rules)
     (λ c κs. search rules)
     (λ c. search rules)
     (λ c. search rules)
     (λ c κs. search rules)
-    (λ c. not-true)
+    (λ c. not_true)
     (λ c. search rules)
     (λ c. search rules)
-    loop-again
+    loop_again
     returns-3)

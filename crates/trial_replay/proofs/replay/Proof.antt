@@ -11,8 +11,8 @@ invariant-loop list cases place₀ same₀ i₀ place same i = (i ≤ cases) × 
 abbrev decreases-loop : tie.decreases-loop
 decreases-loop list cases place₀ same₀ i₀ place same i = cases - i
 
-pub replay-spec : {M : Type 1} → statement M
-replay-spec =
+pub replay_spec : {M : Type 1} → statement M
+replay_spec =
     tie.close
     (tie.spec
     invariant-loop

@@ -11,8 +11,8 @@ invariant-loop list at₀ at = (at ≤ length list)
 abbrev decreases-loop : tie.decreases-loop
 decreases-loop list at₀ at = length list - at
 
-pub print-texts-spec : {M : Type 1} → statement M
-print-texts-spec =
+pub print_texts_spec : {M : Type 1} → statement M
+print_texts_spec =
     tie.close
     (tie.spec
     invariant-loop

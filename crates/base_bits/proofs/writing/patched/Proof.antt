@@ -4,8 +4,8 @@ use Prim.Native.Nat.{◌+◌, ◌/◌, ◌^◌, ◌<◌}
 use native.Mathlib.Omega.{arith}
 use lib.Pow.{pow_pos}
 use Rattle.base_bits.specs.Written.{patch}
-use Rattle.base_bits.proofs.Shifts.{one-raised}
-use Rattle.base_bits.proofs.Patches.{patch-is, patch-below, Small, small}
+use Rattle.base_bits.proofs.Shifts.{one_raised}
+use Rattle.base_bits.proofs.Patches.{patch_is, patch_below, Small, small}
 use borrow.Author.Rules.{rules}
 use Rattle.base_bits.proofs.writing.patched.Statement.{statement}
 use Rattle.base_bits.proofs.writing.patched.Tie as tie
@@ -14,50 +14,50 @@ known : (c : tie.Start) → Small (c.args.byte / 2 ^ (c.args.low + c.args.count)
 known c = small c.args.byte c.args.low c.args.count c.args.new (omega arith) c.requires.0 c.requires.1
 
 under : (c : tie.Start) → patch c.args.byte c.args.low c.args.count c.args.new < 256
-under c = patch-below c.args.byte c.args.low c.args.count c.args.new (omega arith) c.requires.0 c.requires.1
+under c = patch_below c.args.byte c.args.low c.args.count c.args.new (omega arith) c.requires.0 c.requires.1
 
-add-result-2 : tie.Need-overflow-add-result-2
-add-result-2 c = rw (known c).first (let r = (known c).room in omega arith)
+add_result_2 : tie.Need-overflow-add-result-2
+add_result_2 c = rw (known c).first (let r = (known c).room in omega arith)
 
-rem-result : tie.Need-nonzero-rem-result
-rem-result c = rw (one-raised c.args.low (omega arith)) (pow_pos _)
+rem_result : tie.Need-nonzero-rem-result
+rem_result c = rw (one_raised c.args.low (omega arith)) (pow_pos _)
 
-add-result-3 : tie.Need-overflow-add-result-3
-add-result-3 c =
+add_result_3 : tie.Need-overflow-add-result-3
+add_result_3 c =
     rw (
-      one-raised c.args.low (omega arith),
+      one_raised c.args.low (omega arith),
       (known c).first,
       (known c).second,
-      ← patch-is c.args.byte c.args.low c.args.count c.args.new,
+      ← patch_is c.args.byte c.args.low c.args.count c.args.new,
     )
     (let u = under c in omega arith)
 
-cast-result : tie.Need-overflow-cast-result
-cast-result c =
+cast_result : tie.Need-overflow-cast-result
+cast_result c =
     rw (
-      one-raised c.args.low (omega arith),
+      one_raised c.args.low (omega arith),
       (known c).first,
       (known c).second,
-      ← patch-is c.args.byte c.args.low c.args.count c.args.new,
+      ← patch_is c.args.byte c.args.low c.args.count c.args.new,
     )
     (record { fits = under c })
 
 returns : tie.Need-returns
 returns c =
-    rw (one-raised c.args.low (omega arith), (known c).first, (known c).second)
-    (sym (patch-is c.args.byte c.args.low c.args.count c.args.new))
+    rw (one_raised c.args.low (omega arith), (known c).first, (known c).second)
+    (sym (patch_is c.args.byte c.args.low c.args.count c.args.new))
 
-pub patched-spec : {M : Type 1} → statement M
-patched-spec =
+pub patched_spec : {M : Type 1} → statement M
+patched_spec =
     tie.close
     (tie.spec
     (λ c. search rules)
     (λ c. search rules)
     (λ c. search rules)
-    add-result-2
+    add_result_2
     (λ c. search rules)
     (λ c. search rules)
-    rem-result
-    add-result-3
-    cast-result
+    rem_result
+    add_result_3
+    cast_result
     returns)

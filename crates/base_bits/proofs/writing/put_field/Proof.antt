@@ -2,7 +2,7 @@
 use mathlib.Core.Path.{◌≡◌, ap, ◌∙◌}
 use Prim.Native.Nat.{ℕ}
 use native.Mathlib.Omega.{arith}
-use Rattle.base_bits.specs.Written.{with-field}
+use Rattle.base_bits.specs.Written.{with_field}
 use Rattle.base_bits.proofs.Writes.{written_none}
 use borrow.Author.Rules.{rules}
 use Rattle.base_bits.proofs.writing.put_field.Statement.{statement}
@@ -12,18 +12,18 @@ returns : tie.Need-returns
 returns c =
     let args = c.before.before.args in
     let none : 0 ≡ args.width = omega arith in
-    written_none args.bytes.now args.at args.n ∙ ap (λ (k : ℕ). with-field args.bytes.now args.at k args.n) none
+    written_none args.bytes.now args.at args.n ∙ ap (λ (k : ℕ). with_field args.bytes.now args.at k args.n) none
 
 returns-3 : tie.Need-returns-3
 returns-3 c =
-    let at-put = c.before.before in
-    let at_test = at-put.before.before in
+    let at_put = c.before.before in
+    let at_test = at_put.before.before in
     let args = at_test.before.before.before.before.args in
     let all : 64 ≡ args.width = omega arith in
-    at-put.put-pattern.ensures ∙ rw all
+    at_put.put_pattern.ensures ∙ rw all
 
-pub put-field-spec : {M : Type 1} → statement M
-put-field-spec =
+pub put_field_spec : {M : Type 1} → statement M
+put_field_spec =
     tie.close
     (tie.spec
     returns

@@ -3,17 +3,17 @@
 use mathlib.Core.Path.{◌≡◌, ◌∙◌}
 use Prim.Native.Nat.{◌+◌, ◌-◌, ◌*◌, ◌/◌, ◌%◌}
 use native.Mathlib.Omega.{arith}
-use Rattle.base_bits.proofs.Writes.{written-add}
+use Rattle.base_bits.proofs.Writes.{written_add}
 use borrow.Author.Rules.{rules}
 use Rattle.base_bits.proofs.writing.put_narrow_field.Statement.{statement}
 use Rattle.base_bits.proofs.writing.put_narrow_field.Tie as tie
 
 returns : tie.Need-returns
 returns c =
-    let at-put = c.before.before in
-    let args = at-put.before.before.before.before.args in
+    let at_put = c.before.before in
+    let args = at_put.before.before.before.before.args in
     let here : 8 * (args.at / 8) + args.at % 8 ≡ args.at = omega arith in
-    at-put.put-in-byte.ensures ∙ rw here
+    at_put.put_in_byte.ensures ∙ rw here
 
 returns-2 : tie.Need-returns-2
 returns-2 c =
@@ -25,11 +25,11 @@ returns-2 c =
     let here : 8 * (args.at / 8) + args.at % 8 ≡ args.at = omega arith in
     let behind : 8 * (args.at / 8 + 1) + 0 ≡ args.at + first = omega arith in
     let all : first + rest ≡ args.width = omega arith in
-    at_second.put-in-byte3.ensures
-    ∙ rw (at_first.put-in-byte2.ensures, here, behind, ← written-add args.bytes.now args.at first rest args.n, all)
+    at_second.put_in_byte3.ensures
+    ∙ rw (at_first.put_in_byte2.ensures, here, behind, ← written_add args.bytes.now args.at first rest args.n, all)
 
-pub put-narrow-field-spec : {M : Type 1} → statement M
-put-narrow-field-spec =
+pub put_narrow_field_spec : {M : Type 1} → statement M
+put_narrow_field_spec =
     tie.close
     (tie.spec
     (λ c. search rules)

@@ -6,5 +6,5 @@ use Rattle.base_bits.proofs.writing.put_number.Tie as tie
 returns : tie.Need-returns
 returns c = cc
 
-pub put-number-spec : {M : Type 1} → statement M
-put-number-spec = tie.close (tie.spec (λ c κs. search rules) (λ c κs. search rules) (λ c. search rules) returns)
+pub put_number_spec : {M : Type 1} → statement M
+put_number_spec = tie.close (tie.spec (λ c κs. search rules) (λ c κs. search rules) (λ c. search rules) returns)

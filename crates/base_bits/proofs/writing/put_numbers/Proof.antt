@@ -8,20 +8,20 @@ use Rattle.base_bits.proofs.writing.put_numbers.Tie as tie
 
 returns : tie.Need-returns
 returns c =
-    let at-put = c.before.before in
-    let args = at-put.before.before.before.before.before.args in
+    let at_put = c.before.before in
+    let args = at_put.before.before.before.before.before.args in
     let here : 8 * (args.at / 8) ≡ args.at = omega arith in
-    at-put.put-words.ensures ∙ rw here
+    at_put.put_words.ensures ∙ rw here
 
 returns-2 : tie.Need-returns-2
 returns-2 c =
-    let at-put = c.before.before in
-    let args = at-put.before.before.before.before.before.args in
+    let at_put = c.before.before in
+    let args = at_put.before.before.before.before.before.args in
     let here : 8 * (args.at / 8) + args.at % 8 ≡ args.at = omega arith in
-    at-put.put-words-across.ensures ∙ rw here
+    at_put.put_words_across.ensures ∙ rw here
 
-pub put-numbers-spec : {M : Type 1} → statement M
-put-numbers-spec =
+pub put_numbers_spec : {M : Type 1} → statement M
+put_numbers_spec =
     tie.close
     (tie.spec
     (λ c κs. search rules)

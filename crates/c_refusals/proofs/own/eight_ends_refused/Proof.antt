@@ -5,13 +5,13 @@ use Rattle.c_refusals.proofs.own.eight_ends_refused.Statement.{statement}
 use Rattle.c_refusals.proofs.own.eight_ends_refused.Tie as tie
 
 returns : tie.Need-returns
-returns c = first _ c.before.length-refused.ensures c.if1.true
+returns c = first _ c.before.length_refused.ensures c.if1.true
 
 returns-2 : tie.Need-returns-2
-returns-2 c = second c.before.before.length-refused.ensures c.before.if1.false c.length-refused2.ensures
+returns-2 c = second c.before.before.length_refused.ensures c.before.if1.false c.length_refused2.ensures
 
-pub eight-ends-refused-spec : {M : Type 1} → statement M
-eight-ends-refused-spec =
+pub eight_ends_refused_spec : {M : Type 1} → statement M
+eight_ends_refused_spec =
     tie.close
     (tie.spec
     (λ c κs. search rules)

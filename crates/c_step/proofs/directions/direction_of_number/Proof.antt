@@ -7,8 +7,8 @@ use Rattle.c_step.proofs.directions.direction_of_number.Tie as tie
 returns-2 : tie.Need-returns-2
 returns-2 c = upper_of _ c.if1.false
 
-pub direction-of-number-spec : {M : Type 1} → statement M
-direction-of-number-spec =
+pub direction_of_number_spec : {M : Type 1} → statement M
+direction_of_number_spec =
     tie.close
     (tie.spec
     (λ c. search rules)

@@ -7,42 +7,42 @@ use native.Mathlib.Omega.{arith}
 use lib.ListN.{get_or}
 use borrow.Author.Tests.{lt-ltb, le-ltb}
 use Rattle.rules.specs.Numbers.{any}
-use Rattle.base_numbers.proofs.Scan.{any_none, any-more, any_found, any-end}
-use Rattle.c_step.specs.Directions.{direction-refused, some-direction-refused}
+use Rattle.base_numbers.proofs.Scan.{any_none, any_more, any_found, any_end}
+use Rattle.c_step.specs.Directions.{direction_refused, some_direction_refused}
 use borrow.Author.Rules.{rules}
 use Rattle.c_step.proofs.directions.some_direction_refused.Statement.{statement}
 use Rattle.c_step.proofs.directions.some_direction_refused.Tie as tie
 
 abbrev invariant-loop : tie.invariant-loop
-invariant-loop axes numbers i₀ i = (i ≤ axes) × (any (λ k. direction-refused (get_or numbers k 0)) i ≡ false)
+invariant-loop axes numbers i₀ i = (i ≤ axes) × (any (λ k. direction_refused (get_or numbers k 0)) i ≡ false)
 
 abbrev decreases-loop : tie.decreases-loop
 decreases-loop axes numbers i₀ i = axes - i
 
-loop-holds : tie.Need-loop-init invariant-loop decreases-loop
-loop-holds c = (search rules, any_none _)
+loop_holds : tie.Need-loop-init invariant-loop decreases-loop
+loop_holds c = (search rules, any_none _)
 
 returns : tie.Need-returns invariant-loop decreases-loop
-unfolding some-direction-refused
+unfolding some_direction_refused
 returns c = sym (any_found _ c.before.before.before.loop.i _ (omega arith) (lt-ltb _ _ c.if1.true))
 
-loop-again : tie.Need-loop-preserved invariant-loop decreases-loop
-loop-again c = (search rules, any-more _ _ c.before.before.before.loop.invariant.1 (le-ltb _ _ c.if1.false))
+loop_again : tie.Need-loop-preserved invariant-loop decreases-loop
+loop_again c = (search rules, any_more _ _ c.before.before.before.loop.invariant.1 (le-ltb _ _ c.if1.false))
 
 returns-2 : tie.Need-returns-2 invariant-loop decreases-loop
-unfolding some-direction-refused
-returns-2 c = sym (any-end _ _ _ c.before.loop.invariant.1 (omega arith))
+unfolding some_direction_refused
+returns-2 c = sym (any_end _ _ _ c.before.loop.invariant.1 (omega arith))
 
-pub some-direction-refused-spec : {M : Type 1} → statement M
-some-direction-refused-spec =
+pub some_direction_refused_spec : {M : Type 1} → statement M
+some_direction_refused_spec =
     tie.close
     (tie.spec
     invariant-loop
     decreases-loop
-    loop-holds
+    loop_holds
     (λ c. search rules)
     returns
     (λ c. search rules)
     (λ c. search rules)
-    loop-again
+    loop_again
     returns-2)

@@ -1,29 +1,29 @@
 -- Before the call that locates a point: 2 for the points, then 4 for a slot of the location or the fraction, and else 0.
 use mathlib.Core.Path.{refl}
 use Rattle.grid_checks.proofs.Rows.{stop, pass}
-use Rattle.c_step.specs.StepExports.{axis-own-refusal}
+use Rattle.c_step.specs.StepExports.{axis_own_refusal}
 use borrow.Author.Rules.{rules}
 use Rattle.c_step.proofs.own.axis_own_refusal.Statement.{statement}
 use Rattle.c_step.proofs.own.axis_own_refusal.Tie as tie
 
 returns : tie.Need-returns
-unfolding axis-own-refusal
-returns c = stop _ c.before.points-refused.ensures c.if1.true
+unfolding axis_own_refusal
+returns c = stop _ c.before.points_refused.ensures c.if1.true
 
 returns-2 : tie.Need-returns-2
-unfolding axis-own-refusal
+unfolding axis_own_refusal
 returns-2 c =
-    pass _ c.before.before.before.points-refused.ensures c.before.before.if1.false
-    (stop _ c.before.location-slots-refused.ensures c.if2.true)
+    pass _ c.before.before.before.points_refused.ensures c.before.before.if1.false
+    (stop _ c.before.location_slots_refused.ensures c.if2.true)
 
 returns-3 : tie.Need-returns-3
-unfolding axis-own-refusal
+unfolding axis_own_refusal
 returns-3 c =
-    pass _ c.before.before.before.points-refused.ensures c.before.before.if1.false
-    (pass _ c.before.location-slots-refused.ensures c.if2.false refl)
+    pass _ c.before.before.before.points_refused.ensures c.before.before.if1.false
+    (pass _ c.before.location_slots_refused.ensures c.if2.false refl)
 
-pub axis-own-refusal-spec : {M : Type 1} → statement M
-axis-own-refusal-spec =
+pub axis_own_refusal_spec : {M : Type 1} → statement M
+axis_own_refusal_spec =
     tie.close
     (tie.spec
     (λ c κs. search rules)

@@ -4,10 +4,10 @@ use mathlib.Core.Bool.{false}
 use native.Mathlib.Omega.{arith}
 use lib.ListN.{length, take}
 use lib.Seq.{length-take-le}
-use Rattle.c_refusals.proofs.Rows.{axes-stop}
-use Rattle.c_verify.specs.VerifyExports.{verify-slots-refused, verify-own-refusal}
-use Rattle.c_verify.proofs.FoundSlots.{found-lengths}
-use Rattle.c_verify.proofs.OwnRows.{slots-met, own-of-change}
+use Rattle.c_refusals.proofs.Rows.{axes_stop}
+use Rattle.c_verify.specs.VerifyExports.{verify_slots_refused, verify_own_refusal}
+use Rattle.c_verify.proofs.FoundSlots.{found_lengths}
+use Rattle.c_verify.proofs.OwnRows.{slots_met, own_of_change}
 use borrow.Author.Rules.{rules}
 use Rattle.c_verify.proofs.own.verify_own_refusal.Statement.{statement}
 use Rattle.c_verify.proofs.own.verify_own_refusal.Tie as tie
@@ -15,34 +15,34 @@ use Rattle.c_verify.proofs.own.verify_own_refusal.Tie as tie
 abbrev start : tie.Else2 → tie.Start
 start c = c.before.before.before.before.before.before.before.before.before.before.before
 
-fit : (c : tie.Else2) → verify-slots-refused (start c).args.place.now (start c).args.found.now ≡ false
-fit c = sym c.before.slots-refused.ensures ∙ c.if2.false
+fit : (c : tie.Else2) → verify_slots_refused (start c).args.place.now (start c).args.found.now ≡ false
+fit c = sym c.before.slots_refused.ensures ∙ c.if2.false
 
 returns : tie.Need-returns
-unfolding verify-own-refusal
-returns c = axes-stop _ _ c.before.axes-own-refusal.ensures _ c.if1.true
+unfolding verify_own_refusal
+returns c = axes_stop _ _ c.before.axes_own_refusal.ensures _ c.if1.true
 
 returns-2 : tie.Need-returns-2
 returns-2 c =
     let passed = c.before.before in
-    slots-met _ _ _ _ _ _ _ _ (sym passed.before.axes-own-refusal.ensures ∙ passed.if1.false)
-    (sym c.before.slots-refused.ensures ∙ c.if2.true)
+    slots_met _ _ _ _ _ _ _ _ (sym passed.before.axes_own_refusal.ensures ∙ passed.if1.false)
+    (sym c.before.slots_refused.ensures ∙ c.if2.true)
 
 lengths : (c : tie.Else2) → (length (start c).args.place.now ≡ 4) × (length (start c).args.found.now ≡ 3)
-lengths c = found-lengths (start c).args.place.now (start c).args.found.now (fit c)
+lengths c = found_lengths (start c).args.place.now (start c).args.found.now (fit c)
 
-part-change-own-refusal-end : tie.Need-slice-bounds-change-own-refusal-end
-part-change-own-refusal-end c = omega (arith, (lengths c).1)
+part_change_own_refusal_end : tie.Need-slice-bounds-change-own-refusal-end
+part_change_own_refusal_end c = omega (arith, (lengths c).1)
 
 returns-3 : tie.Need-returns-3
 returns-3 c =
     let past = c.before.before in
     let found = (start past).args.found.now in
-    c.change-own-refusal.ensures
-    ∙ own-of-change _ _ _ _ _ _ _ found (take 1 found) (length-take-le 1 found (omega (arith, (lengths past).1))) (fit past)
+    c.change_own_refusal.ensures
+    ∙ own_of_change _ _ _ _ _ _ _ found (take 1 found) (length-take-le 1 found (omega (arith, (lengths past).1))) (fit past)
 
-pub verify-own-refusal-spec : {M : Type 1} → statement M
-verify-own-refusal-spec =
+pub verify_own_refusal_spec : {M : Type 1} → statement M
+verify_own_refusal_spec =
     tie.close
     (tie.spec
     (λ c κs. search rules)
@@ -51,6 +51,6 @@ verify-own-refusal-spec =
     returns-2
     (λ c. search rules)
     (λ c. search rules)
-    part-change-own-refusal-end
+    part_change_own_refusal_end
     (λ c κs. search rules)
     returns-3)

@@ -6,8 +6,8 @@ use Rattle.grid_checks.proofs.ends.fewest_points.Tie as tie
 returns : tie.Need-returns
 returns c = cc
 
-pub fewest-points-spec : {M : Type 1} → statement M
-fewest-points-spec =
+pub fewest_points_spec : {M : Type 1} → statement M
+fewest_points_spec =
     tie.close
     (tie.spec
     (λ c. search rules)

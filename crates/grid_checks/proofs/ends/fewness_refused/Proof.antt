@@ -4,7 +4,7 @@ use Rattle.grid_checks.proofs.ends.fewness_refused.Statement.{statement}
 use Rattle.grid_checks.proofs.ends.fewness_refused.Tie as tie
 
 returns : tie.Need-returns
-returns c = rw c.fewest-points.ensures
+returns c = rw c.fewest_points.ensures
 
-pub fewness-refused-spec : {M : Type 1} → statement M
-fewness-refused-spec = tie.close (tie.spec (λ c κs. search rules) returns)
+pub fewness_refused_spec : {M : Type 1} → statement M
+fewness_refused_spec = tie.close (tie.spec (λ c κs. search rules) returns)

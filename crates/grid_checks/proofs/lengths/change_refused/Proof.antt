@@ -5,15 +5,15 @@ use Rattle.grid_checks.proofs.lengths.change_refused.Statement.{statement}
 use Rattle.grid_checks.proofs.lengths.change_refused.Tie as tie
 
 returns : tie.Need-returns
-returns c = rw (← c.before.before.knots-length.ensures.0) (first _ c.before.length-refused.ensures c.if1.true)
+returns c = rw (← c.before.before.knots_length.ensures.0) (first _ c.before.length_refused.ensures c.if1.true)
 
 returns-2 : tie.Need-returns-2
 returns-2 c =
-    rw (← c.before.before.before.before.knots-length.ensures.0, ← c.before.tensor-length.ensures.0)
-    (second c.before.before.before.length-refused.ensures c.before.before.if1.false c.length-refused2.ensures)
+    rw (← c.before.before.before.before.knots_length.ensures.0, ← c.before.tensor_length.ensures.0)
+    (second c.before.before.before.length_refused.ensures c.before.before.if1.false c.length_refused2.ensures)
 
-pub change-refused-spec : {M : Type 1} → statement M
-change-refused-spec =
+pub change_refused_spec : {M : Type 1} → statement M
+change_refused_spec =
     tie.close
     (tie.spec
     (λ c κs. search rules)

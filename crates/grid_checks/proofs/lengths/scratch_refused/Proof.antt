@@ -4,7 +4,7 @@ use Rattle.grid_checks.proofs.lengths.scratch_refused.Statement.{statement}
 use Rattle.grid_checks.proofs.lengths.scratch_refused.Tie as tie
 
 returns : tie.Need-returns
-returns c = rw c.tensor-length.ensures.0
+returns c = rw c.tensor_length.ensures.0
 
-pub scratch-refused-spec : {M : Type 1} → statement M
-scratch-refused-spec = tie.close (tie.spec (λ c κs. search rules) (λ c. search rules) returns)
+pub scratch_refused_spec : {M : Type 1} → statement M
+scratch_refused_spec = tie.close (tie.spec (λ c κs. search rules) (λ c. search rules) returns)

@@ -5,13 +5,13 @@ use Rattle.grid_checks.proofs.lengths.slopes_refused.Statement.{statement}
 use Rattle.grid_checks.proofs.lengths.slopes_refused.Tie as tie
 
 returns : tie.Need-returns
-returns c = first _ c.before.axis-refused.ensures c.if1.true
+returns c = first _ c.before.axis_refused.ensures c.if1.true
 
 returns-2 : tie.Need-returns-2
-returns-2 c = second c.before.before.axis-refused.ensures c.before.if1.false c.length-refused.ensures
+returns-2 c = second c.before.before.axis_refused.ensures c.before.if1.false c.length_refused.ensures
 
-pub slopes-refused-spec : {M : Type 1} → statement M
-slopes-refused-spec =
+pub slopes_refused_spec : {M : Type 1} → statement M
+slopes_refused_spec =
     tie.close
     (tie.spec
     (λ c κs. search rules)

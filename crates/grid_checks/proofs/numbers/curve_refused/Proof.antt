@@ -5,13 +5,13 @@ use Rattle.grid_checks.proofs.numbers.curve_refused.Statement.{statement}
 use Rattle.grid_checks.proofs.numbers.curve_refused.Tie as tie
 
 returns : tie.Need-returns
-returns c = first _ c.before.slices-refused.ensures c.if1.true
+returns c = first _ c.before.slices_refused.ensures c.if1.true
 
 returns-2 : tie.Need-returns-2
-returns-2 c = second c.before.before.slices-refused.ensures c.before.if1.false c.number-refused.ensures
+returns-2 c = second c.before.before.slices_refused.ensures c.before.if1.false c.number_refused.ensures
 
-pub curve-refused-spec : {M : Type 1} → statement M
-curve-refused-spec =
+pub curve_refused_spec : {M : Type 1} → statement M
+curve_refused_spec =
     tie.close
     (tie.spec
     (λ c κs. search rules)

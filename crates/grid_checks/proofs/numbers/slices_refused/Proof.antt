@@ -5,13 +5,13 @@ use Rattle.grid_checks.proofs.numbers.slices_refused.Statement.{statement}
 use Rattle.grid_checks.proofs.numbers.slices_refused.Tie as tie
 
 returns : tie.Need-returns
-returns c = first _ c.before.some-knot-refused.ensures c.if1.true
+returns c = first _ c.before.some_knot_refused.ensures c.if1.true
 
 returns-2 : tie.Need-returns-2
-returns-2 c = second c.before.before.some-knot-refused.ensures c.before.if1.false c.any-not-finite.ensures
+returns-2 c = second c.before.before.some_knot_refused.ensures c.before.if1.false c.any_not_finite.ensures
 
-pub slices-refused-spec : {M : Type 1} → statement M
-slices-refused-spec =
+pub slices_refused_spec : {M : Type 1} → statement M
+slices_refused_spec =
     tie.close
     (tie.spec
     (λ c κs. search rules)

@@ -5,10 +5,10 @@ use Rattle.grid_checks.proofs.numbers.some_knot_refused.Statement.{statement}
 use Rattle.grid_checks.proofs.numbers.some_knot_refused.Tie as tie
 
 returns : tie.Need-returns
-returns c = c.any-not-finite.ensures
+returns c = c.any_not_finite.ensures
 
 returns-2 : tie.Need-returns-2
 returns-2 c = sym (c.before.before.requires c.if1.false)
 
-pub some-knot-refused-spec : {M : Type 1} → statement M
-some-knot-refused-spec = tie.close (tie.spec (λ c κs. search rules) returns returns-2)
+pub some_knot_refused_spec : {M : Type 1} → statement M
+some_knot_refused_spec = tie.close (tie.spec (λ c κs. search rules) returns returns-2)

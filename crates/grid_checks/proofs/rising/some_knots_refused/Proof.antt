@@ -2,16 +2,16 @@
 use mathlib.Core.Path.{sym, ap, ◌∙◌}
 use Prim.Native.Nat.{ℕ}
 use Rattle.rules.specs.Sizes.{sum_below}
-use Rattle.grid_checks.proofs.Points.{range-of-points, knots-of-points}
+use Rattle.grid_checks.proofs.Points.{range_of_points, knots_of_points}
 use borrow.Author.Rules.{rules}
 use Rattle.grid_checks.proofs.rising.some_knots_refused.Statement.{statement}
 use Rattle.grid_checks.proofs.rising.some_knots_refused.Tie as tie
 
-knots-of-points-refused-requires : tie.Need-knots-of-points-refused-requires
-knots-of-points-refused-requires c κs =
+knots_of_points_refused_requires : tie.Need-knots-of-points-refused-requires
+knots_of_points_refused_requires c κs =
     let s = c.before.before.before in
-    let same = c.before.points-of.ensures in (
-      range-of-points s.args.axes s.args.all c.before.points-of.result same s.requires.0,
+    let same = c.before.points_of.ensures in (
+      range_of_points s.args.axes s.args.all c.before.points_of.result same s.requires.0,
       search rules,
       s.requires.1 ∙ ap (λ (n : ℕ → ℕ). sum_below n s.args.axes) (sym same),
     )
@@ -19,14 +19,14 @@ knots-of-points-refused-requires c κs =
 returns : tie.Need-returns
 returns c =
     let taken = c.before.before in
-    knots-of-points taken.before.before.args.axes taken.before.before.args.all taken.points-of.result
-    taken.points-of.ensures _ c.knots-of-points-refused.ensures
+    knots_of_points taken.before.before.args.axes taken.before.before.args.all taken.points_of.result
+    taken.points_of.ensures _ c.knots_of_points_refused.ensures
 
-pub some-knots-refused-spec : {M : Type 1} → statement M
-some-knots-refused-spec =
+pub some_knots_refused_spec : {M : Type 1} → statement M
+some_knots_refused_spec =
     tie.close
     (tie.spec
     (λ c κs. search rules)
     (λ c. search rules)
-    knots-of-points-refused-requires
+    knots_of_points_refused_requires
     returns)

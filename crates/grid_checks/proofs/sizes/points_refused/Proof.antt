@@ -9,5 +9,5 @@ returns c = simp (lt-ltb _ _ c.if1.true)
 returns-2 : tie.Need-returns-2
 returns-2 c = simp (le-ltb _ _ c.if1.false)
 
-pub points-refused-spec : {M : Type 1} → statement M
-points-refused-spec = tie.close (tie.spec returns returns-2)
+pub points_refused_spec : {M : Type 1} → statement M
+points_refused_spec = tie.close (tie.spec returns returns-2)

@@ -65,5 +65,5 @@ returns-7 c =
     let n = c.before.before.before.before.args.refusal in
     simp (ne_eqb n 0 (omega arith), above 1 4 n (omega arith) (omega arith), within 11 14 n (omega arith) (omega arith))
 
-pub class-of-spec : {M : Type 1} → statement M
-class-of-spec = tie.close (tie.spec returns returns-2 returns-3 returns-4 returns-5 returns-6 returns-7)
+pub class_of_spec : {M : Type 1} → statement M
+class_of_spec = tie.close (tie.spec returns returns-2 returns-3 returns-4 returns-5 returns-6 returns-7)

@@ -13,5 +13,5 @@ returns-2 c =
     let other = c.match.rest.1 in
     simp (ne_eqb n 0 (λ e. other (inl e)), ne_eqb n 14 (λ e. other (inr e)))
 
-pub is-length-known-spec : {M : Type 1} → statement M
-is-length-known-spec = tie.close (tie.spec returns returns-2)
+pub is_length_known_spec : {M : Type 1} → statement M
+is_length_known_spec = tie.close (tie.spec returns returns-2)

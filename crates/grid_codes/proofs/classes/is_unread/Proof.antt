@@ -1,7 +1,7 @@
 -- The class is Reading, or one of the others.
 use native.Mathlib.Omega.{arith}
 use Rattle.grid_codes.specs.Classes.{unread}
-use Rattle.grid_codes.proofs.Classed.{one-of-four, other-than-reading}
+use Rattle.grid_codes.proofs.Classed.{one_of_four, other_than_reading}
 use borrow.Author.Rules.{rules}
 use Rattle.grid_codes.proofs.classes.is_unread.Statement.{statement}
 use Rattle.grid_codes.proofs.classes.is_unread.Tie as tie
@@ -13,8 +13,8 @@ returns-2 : tie.Need-returns-2
 returns-2 c =
     let given = c.before.class_of in
     rw (← given.ensures)
-    (other-than-reading given.result
-    (λ z. one-of-four (rw z at c.match.keys2) (λ e. omega arith) (λ e. omega arith) (λ e. omega arith) (λ e. omega arith)))
+    (other_than_reading given.result
+    (λ z. one_of_four (rw z at c.match.keys2) (λ e. omega arith) (λ e. omega arith) (λ e. omega arith) (λ e. omega arith)))
 
-pub is-unread-spec : {M : Type 1} → statement M
-is-unread-spec = tie.close (tie.spec (λ c κs. search rules) (λ c. search rules) returns returns-2)
+pub is_unread_spec : {M : Type 1} → statement M
+is_unread_spec = tie.close (tie.spec (λ c κs. search rules) (λ c. search rules) returns returns-2)

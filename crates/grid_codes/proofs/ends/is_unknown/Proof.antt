@@ -11,5 +11,5 @@ returns c = sym (le-ltb 3 c.before.args.kind (omega arith))
 returns-2 : tie.Need-returns-2
 returns-2 c = sym (lt-ltb 3 c.before.args.kind (omega arith))
 
-pub is-unknown-spec : {M : Type 1} → statement M
-is-unknown-spec = tie.close (tie.spec returns returns-2)
+pub is_unknown_spec : {M : Type 1} → statement M
+is_unknown_spec = tie.close (tie.spec returns returns-2)

@@ -9,5 +9,5 @@ returns c = rw c.match.keys1
 returns-2 : tie.Need-returns-2
 returns-2 c = simp (ne_eqb _ _ c.match.rest.1)
 
-pub is-hold-spec : {M : Type 1} → statement M
-is-hold-spec = tie.close (tie.spec returns returns-2)
+pub is_hold_spec : {M : Type 1} → statement M
+is_hold_spec = tie.close (tie.spec returns returns-2)

@@ -11,5 +11,5 @@ returns c = sym (le-ltb 2 c.before.args.number (omega arith))
 returns-2 : tie.Need-returns-2
 returns-2 c = sym (lt-ltb 2 c.before.args.number (omega arith))
 
-pub is-unknown-mode-spec : {M : Type 1} → statement M
-is-unknown-mode-spec = tie.close (tie.spec returns returns-2)
+pub is_unknown_mode_spec : {M : Type 1} → statement M
+is_unknown_mode_spec = tie.close (tie.spec returns returns-2)

@@ -6,23 +6,23 @@ use Rattle.many_points.proofs.lengths.points_lengths_refused.Statement.{statemen
 use Rattle.many_points.proofs.lengths.points_lengths_refused.Tie as tie
 
 returns : tie.Need-returns
-returns c = first _ (first _ c.before.parts-refused.ensures c.if1.true) refl
+returns c = first _ (first _ c.before.parts_refused.ensures c.if1.true) refl
 
 returns-2 : tie.Need-returns-2
 returns-2 c =
-    let at-if1 = c.before.before in
-    first _ (second at-if1.before.parts-refused.ensures at-if1.if1.false c.before.length-refused.ensures) c.if2.true
+    let at_if1 = c.before.before in
+    first _ (second at_if1.before.parts_refused.ensures at_if1.if1.false c.before.length_refused.ensures) c.if2.true
 
 returns-3 : tie.Need-returns-3
 returns-3 c =
-    let at-if2 = c.before in
-    let at-if1 = at-if2.before.before in
-    second (second at-if1.before.parts-refused.ensures at-if1.if1.false at-if2.before.length-refused.ensures)
-    at-if2.if2.false
-    c.parts-refused2.ensures
+    let at_if2 = c.before in
+    let at_if1 = at_if2.before.before in
+    second (second at_if1.before.parts_refused.ensures at_if1.if1.false at_if2.before.length_refused.ensures)
+    at_if2.if2.false
+    c.parts_refused2.ensures
 
-pub points-lengths-refused-spec : {M : Type 1} → statement M
-points-lengths-refused-spec =
+pub points_lengths_refused_spec : {M : Type 1} → statement M
+points_lengths_refused_spec =
     tie.close
     (tie.spec
     (λ c κs. search rules)

@@ -4,13 +4,13 @@ use native.Mathlib.Omega.{arith}
 use Prim.Native.Nat.{◌-◌}
 use Rattle.query_answer.proofs.Finding.{
   Turn,
-  turn-first,
-  end-within,
-  size-given,
-  some-knot,
-  axis-few,
-  fewer-left,
-  turn-next,
+  turn_first,
+  end_within,
+  size_given,
+  some_knot,
+  axis_few,
+  fewer_left,
+  turn_next,
   turn_last,
 }
 use borrow.Author.Rules.{rules}
@@ -18,217 +18,217 @@ use Rattle.query_answer.proofs.searched.search_on_axes.Statement.{statement}
 use Rattle.query_answer.proofs.searched.search_on_axes.Tie as tie
 
 abbrev invariant-loop : tie.invariant-loop
-invariant-loop way axes points modes knots coordinates lower₀ weights₀ coordinates-refused₀ knots-refused₀ outside₀ begin₀ i₀ lower weights
-    coordinates-refused knots-refused outside begin i = Turn way axes points modes knots coordinates lower weights
-    (record { coordinates = coordinates-refused; knots = knots-refused; outside = outside }) begin i
+invariant-loop way axes points modes knots coordinates lower₀ weights₀ coordinates_refused₀ knots_refused₀ outside₀ begin₀ i₀ lower weights
+    coordinates_refused knots_refused outside begin i = Turn way axes points modes knots coordinates lower weights
+    (record { coordinates = coordinates_refused; knots = knots_refused; outside = outside }) begin i
 
 abbrev decreases-loop : tie.decreases-loop
-decreases-loop way axes points modes knots coordinates lower₀ weights₀ coordinates-refused₀ knots-refused₀ outside₀ begin₀ i₀ lower weights
-    coordinates-refused knots-refused outside begin i = axes - i
+decreases-loop way axes points modes knots coordinates lower₀ weights₀ coordinates_refused₀ knots_refused₀ outside₀ begin₀ i₀ lower weights
+    coordinates_refused knots_refused outside begin i = axes - i
 
-loop-holds : tie.Need-loop-init invariant-loop decreases-loop
-loop-holds c =
+loop_holds : tie.Need-loop-init invariant-loop decreases-loop
+loop_holds c =
     let start = c.before.before.before.before.before.before in
-    turn-first _ _ _ _ _ _ _ _ start.requires
+    turn_first _ _ _ _ _ _ _ _ start.requires
 
-add-end : tie.Need-overflow-add-end invariant-loop decreases-loop
-add-end c = omega (arith, end-within _ _ _ _ _ _ _ _ _ _ _ c.before.before.loop.invariant c.before.loop-test.true)
+add_end : tie.Need-overflow-add-end invariant-loop decreases-loop
+add_end c = omega (arith, end_within _ _ _ _ _ _ _ _ _ _ _ c.before.before.loop.invariant c.before.loop_test.true)
 
-mul-place-on-axis : tie.Need-overflow-mul-place-on-axis invariant-loop decreases-loop
-mul-place-on-axis c =
+mul_place_on_axis : tie.Need-overflow-mul-place-on-axis invariant-loop decreases-loop
+mul_place_on_axis c =
     omega
-    (arith, end-within _ _ _ _ _ _ _ _ _ _ _ c.before.before.before.before.loop.invariant c.before.before.before.loop-test.true)
+    (arith, end_within _ _ _ _ _ _ _ _ _ _ _ c.before.before.before.before.loop.invariant c.before.before.before.loop_test.true)
 
-sub-place-on-axis : tie.Need-overflow-sub-place-on-axis invariant-loop decreases-loop
-sub-place-on-axis c =
+sub_place_on_axis : tie.Need-overflow-sub-place-on-axis invariant-loop decreases-loop
+sub_place_on_axis c =
     omega
-    (arith, end-within _ _ _ _ _ _ _ _ _ _ _ c.before.before.before.before.loop.invariant c.before.before.before.loop-test.true)
+    (arith, end_within _ _ _ _ _ _ _ _ _ _ _ c.before.before.before.before.loop.invariant c.before.before.before.loop_test.true)
 
-part-place-on-axis-start : tie.Need-slice-bounds-place-on-axis-start invariant-loop decreases-loop
-part-place-on-axis-start c =
+part_place_on_axis_start : tie.Need-slice-bounds-place-on-axis-start invariant-loop decreases-loop
+part_place_on_axis_start c =
     omega
-    (arith, end-within _ _ _ _ _ _ _ _ _ _ _ c.before.before.before.before.loop.invariant c.before.before.before.loop-test.true)
+    (arith, end_within _ _ _ _ _ _ _ _ _ _ _ c.before.before.before.before.loop.invariant c.before.before.before.loop_test.true)
 
-part-place-on-axis-end : tie.Need-slice-bounds-place-on-axis-end invariant-loop decreases-loop
-part-place-on-axis-end c =
+part_place_on_axis_end : tie.Need-slice-bounds-place-on-axis-end invariant-loop decreases-loop
+part_place_on_axis_end c =
     omega
-    (arith, end-within _ _ _ _ _ _ _ _ _ _ _ c.before.before.before.before.loop.invariant c.before.before.before.loop-test.true)
+    (arith, end_within _ _ _ _ _ _ _ _ _ _ _ c.before.before.before.before.loop.invariant c.before.before.before.loop_test.true)
 
-place-on-axis-requires : tie.Need-place-on-axis-requires invariant-loop decreases-loop
-place-on-axis-requires c κs =
-    some-knot _ _ _ _ _ _ _ _ _ _ _ c.before.before.before.before.before.loop.invariant
-    c.before.before.before.before.loop-test.true
+place_on_axis_requires : tie.Need-place-on-axis-requires invariant-loop decreases-loop
+place_on_axis_requires c κs =
+    some_knot _ _ _ _ _ _ _ _ _ _ _ c.before.before.before.before.before.loop.invariant
+    c.before.before.before.before.loop_test.true
 
-mul-cell-on-axis : tie.Need-overflow-mul-cell-on-axis invariant-loop decreases-loop
-mul-cell-on-axis c =
-    let turn = (let at-loop = c.before.before.before.before.before.before in at-loop.loop.invariant) in
-    let inside = c.before.before.before.before.before.loop-test.true in
-    omega (arith, end-within _ _ _ _ _ _ _ _ _ _ _ turn inside)
+mul_cell_on_axis : tie.Need-overflow-mul-cell-on-axis invariant-loop decreases-loop
+mul_cell_on_axis c =
+    let turn = (let at_loop = c.before.before.before.before.before.before in at_loop.loop.invariant) in
+    let inside = c.before.before.before.before.before.loop_test.true in
+    omega (arith, end_within _ _ _ _ _ _ _ _ _ _ _ turn inside)
 
-sub-cell-on-axis : tie.Need-overflow-sub-cell-on-axis invariant-loop decreases-loop
-sub-cell-on-axis c =
-    let at-loop-test = c.before.before.before.before.before in
-    let at-loop = at-loop-test.before in
-    omega (arith, end-within _ _ _ _ _ _ _ _ _ _ _ at-loop.loop.invariant at-loop-test.loop-test.true)
+sub_cell_on_axis : tie.Need-overflow-sub-cell-on-axis invariant-loop decreases-loop
+sub_cell_on_axis c =
+    let at_loop_test = c.before.before.before.before.before in
+    let at_loop = at_loop_test.before in
+    omega (arith, end_within _ _ _ _ _ _ _ _ _ _ _ at_loop.loop.invariant at_loop_test.loop_test.true)
 
-part-cell-on-axis-start : tie.Need-slice-bounds-cell-on-axis-start invariant-loop decreases-loop
-part-cell-on-axis-start c =
-    let at-loop-test = c.before.before.before.before.before in
-    let at-loop = at-loop-test.before in
-    omega (arith, end-within _ _ _ _ _ _ _ _ _ _ _ at-loop.loop.invariant at-loop-test.loop-test.true)
+part_cell_on_axis_start : tie.Need-slice-bounds-cell-on-axis-start invariant-loop decreases-loop
+part_cell_on_axis_start c =
+    let at_loop_test = c.before.before.before.before.before in
+    let at_loop = at_loop_test.before in
+    omega (arith, end_within _ _ _ _ _ _ _ _ _ _ _ at_loop.loop.invariant at_loop_test.loop_test.true)
 
-part-cell-on-axis-end : tie.Need-slice-bounds-cell-on-axis-end invariant-loop decreases-loop
-part-cell-on-axis-end c =
-    let at-loop-test = c.before.before.before.before.before in
-    let at-loop = at-loop-test.before in
-    omega (arith, end-within _ _ _ _ _ _ _ _ _ _ _ at-loop.loop.invariant at-loop-test.loop-test.true)
+part_cell_on_axis_end : tie.Need-slice-bounds-cell-on-axis-end invariant-loop decreases-loop
+part_cell_on_axis_end c =
+    let at_loop_test = c.before.before.before.before.before in
+    let at_loop = at_loop_test.before in
+    omega (arith, end_within _ _ _ _ _ _ _ _ _ _ _ at_loop.loop.invariant at_loop_test.loop_test.true)
 
-cell-on-axis-requires : tie.Need-cell-on-axis-requires invariant-loop decreases-loop
-cell-on-axis-requires c κs =
-    let at-loop-test = c.before.before.before.before.before.before in
-    let at-loop = at-loop-test.before in
-    size-given _ _ _ _ _ _ _ _ _ _ _ at-loop.loop.invariant at-loop-test.loop-test.true
+cell_on_axis_requires : tie.Need-cell-on-axis-requires invariant-loop decreases-loop
+cell_on_axis_requires c κs =
+    let at_loop_test = c.before.before.before.before.before.before in
+    let at_loop = at_loop_test.before in
+    size_given _ _ _ _ _ _ _ _ _ _ _ at_loop.loop.invariant at_loop_test.loop_test.true
 
-slice-write-lower : tie.Need-slice-write-lower invariant-loop decreases-loop
-slice-write-lower c =
-    let at-loop-test = c.before.before.before.before.before.before.before in
-    let at-loop = at-loop-test.before in
-    omega (arith, at-loop.loop.invariant.placed.four, axis-few _ _ _ _ _ _ _ _ _ _ _ at-loop.loop.invariant at-loop-test.loop-test.true)
+slice_write_lower : tie.Need-slice-write-lower invariant-loop decreases-loop
+slice_write_lower c =
+    let at_loop_test = c.before.before.before.before.before.before.before in
+    let at_loop = at_loop_test.before in
+    omega (arith, at_loop.loop.invariant.placed.four, axis_few _ _ _ _ _ _ _ _ _ _ _ at_loop.loop.invariant at_loop_test.loop_test.true)
 
-mul-store-weights : tie.Need-overflow-mul-store-weights invariant-loop decreases-loop
-mul-store-weights c =
-    let turn = (let at-loop = c.before.before.before.before.before.before.before.before.before in at-loop.loop.invariant) in
-    let inside = (let at-loop-test = c.before.before.before.before.before.before.before.before in at-loop-test.loop-test.true) in
-    omega (arith, end-within _ _ _ _ _ _ _ _ _ _ _ turn inside)
+mul_store_weights : tie.Need-overflow-mul-store-weights invariant-loop decreases-loop
+mul_store_weights c =
+    let turn = (let at_loop = c.before.before.before.before.before.before.before.before.before in at_loop.loop.invariant) in
+    let inside = (let at_loop_test = c.before.before.before.before.before.before.before.before in at_loop_test.loop_test.true) in
+    omega (arith, end_within _ _ _ _ _ _ _ _ _ _ _ turn inside)
 
-sub-store-weights : tie.Need-overflow-sub-store-weights invariant-loop decreases-loop
-sub-store-weights c =
-    let at-loop-test = c.before.before.before.before.before.before.before.before in
-    let at-loop = at-loop-test.before in
-    omega (arith, end-within _ _ _ _ _ _ _ _ _ _ _ at-loop.loop.invariant at-loop-test.loop-test.true)
+sub_store_weights : tie.Need-overflow-sub-store-weights invariant-loop decreases-loop
+sub_store_weights c =
+    let at_loop_test = c.before.before.before.before.before.before.before.before in
+    let at_loop = at_loop_test.before in
+    omega (arith, end_within _ _ _ _ _ _ _ _ _ _ _ at_loop.loop.invariant at_loop_test.loop_test.true)
 
-part-store-weights-start : tie.Need-slice-bounds-store-weights-start invariant-loop decreases-loop
-part-store-weights-start c =
-    let at-loop-test = c.before.before.before.before.before.before.before.before in
-    let at-loop = at-loop-test.before in
-    omega (arith, end-within _ _ _ _ _ _ _ _ _ _ _ at-loop.loop.invariant at-loop-test.loop-test.true)
+part_store_weights_start : tie.Need-slice-bounds-store-weights-start invariant-loop decreases-loop
+part_store_weights_start c =
+    let at_loop_test = c.before.before.before.before.before.before.before.before in
+    let at_loop = at_loop_test.before in
+    omega (arith, end_within _ _ _ _ _ _ _ _ _ _ _ at_loop.loop.invariant at_loop_test.loop_test.true)
 
-part-store-weights-end : tie.Need-slice-bounds-store-weights-end invariant-loop decreases-loop
-part-store-weights-end c =
-    let at-loop-test = c.before.before.before.before.before.before.before.before in
-    let at-loop = at-loop-test.before in
-    omega (arith, end-within _ _ _ _ _ _ _ _ _ _ _ at-loop.loop.invariant at-loop-test.loop-test.true)
+part_store_weights_end : tie.Need-slice-bounds-store-weights-end invariant-loop decreases-loop
+part_store_weights_end c =
+    let at_loop_test = c.before.before.before.before.before.before.before.before in
+    let at_loop = at_loop_test.before in
+    omega (arith, end_within _ _ _ _ _ _ _ _ _ _ _ at_loop.loop.invariant at_loop_test.loop_test.true)
 
-store-weights-requires : tie.Need-store-weights-requires invariant-loop decreases-loop
-store-weights-requires c κs =
-    let at-cell-on-axis = c.before.before in
-    let at-loop-test = at-cell-on-axis.before.before.before.before.before.before.before in
-    let at-loop = at-loop-test.before in (
-      axis-few _ _ _ _ _ _ _ _ _ _ _ at-loop.loop.invariant at-loop-test.loop-test.true,
-      at-loop.loop.invariant.placed.sixteen,
-      at-cell-on-axis.cell-on-axis.ensures.inside,
+store_weights_requires : tie.Need-store-weights-requires invariant-loop decreases-loop
+store_weights_requires c κs =
+    let at_cell_on_axis = c.before.before in
+    let at_loop_test = at_cell_on_axis.before.before.before.before.before.before.before in
+    let at_loop = at_loop_test.before in (
+      axis_few _ _ _ _ _ _ _ _ _ _ _ at_loop.loop.invariant at_loop_test.loop_test.true,
+      at_loop.loop.invariant.placed.sixteen,
+      at_cell_on_axis.cell_on_axis.ensures.inside,
     )
 
-mul-knots-refused : tie.Need-overflow-mul-knots-refused invariant-loop decreases-loop
-mul-knots-refused c =
+mul_knots_refused : tie.Need-overflow-mul-knots-refused invariant-loop decreases-loop
+mul_knots_refused c =
     let within =
-    (let at-loop-test = c.before.before.before.before.before.before.before.before.before.before.before.before.before in
-    let at-loop = at-loop-test.before in
-    end-within _ _ _ _ _ _ _ _ _ _ _ at-loop.loop.invariant at-loop-test.loop-test.true) in
+    (let at_loop_test = c.before.before.before.before.before.before.before.before.before.before.before.before.before in
+    let at_loop = at_loop_test.before in
+    end_within _ _ _ _ _ _ _ _ _ _ _ at_loop.loop.invariant at_loop_test.loop_test.true) in
     omega (arith, within)
 
-sub-knots-refused : tie.Need-overflow-sub-knots-refused invariant-loop decreases-loop
-sub-knots-refused c =
-    let at-loop-test = c.before.before.before.before.before.before.before.before.before.before.before.before.before in
-    let at-loop = at-loop-test.before in
-    omega (arith, end-within _ _ _ _ _ _ _ _ _ _ _ at-loop.loop.invariant at-loop-test.loop-test.true)
+sub_knots_refused : tie.Need-overflow-sub-knots-refused invariant-loop decreases-loop
+sub_knots_refused c =
+    let at_loop_test = c.before.before.before.before.before.before.before.before.before.before.before.before.before in
+    let at_loop = at_loop_test.before in
+    omega (arith, end_within _ _ _ _ _ _ _ _ _ _ _ at_loop.loop.invariant at_loop_test.loop_test.true)
 
-part-knots-refused-start : tie.Need-slice-bounds-knots-refused-start invariant-loop decreases-loop
-part-knots-refused-start c =
-    let at-loop-test = c.before.before.before.before.before.before.before.before.before.before.before.before.before in
-    let at-loop = at-loop-test.before in
-    omega (arith, end-within _ _ _ _ _ _ _ _ _ _ _ at-loop.loop.invariant at-loop-test.loop-test.true)
+part_knots_refused_start : tie.Need-slice-bounds-knots-refused-start invariant-loop decreases-loop
+part_knots_refused_start c =
+    let at_loop_test = c.before.before.before.before.before.before.before.before.before.before.before.before.before in
+    let at_loop = at_loop_test.before in
+    omega (arith, end_within _ _ _ _ _ _ _ _ _ _ _ at_loop.loop.invariant at_loop_test.loop_test.true)
 
-part-knots-refused-end : tie.Need-slice-bounds-knots-refused-end invariant-loop decreases-loop
-part-knots-refused-end c =
-    let at-loop-test = c.before.before.before.before.before.before.before.before.before.before.before.before.before in
-    let at-loop = at-loop-test.before in
-    omega (arith, end-within _ _ _ _ _ _ _ _ _ _ _ at-loop.loop.invariant at-loop-test.loop-test.true)
+part_knots_refused_end : tie.Need-slice-bounds-knots-refused-end invariant-loop decreases-loop
+part_knots_refused_end c =
+    let at_loop_test = c.before.before.before.before.before.before.before.before.before.before.before.before.before in
+    let at_loop = at_loop_test.before in
+    omega (arith, end_within _ _ _ _ _ _ _ _ _ _ _ at_loop.loop.invariant at_loop_test.loop_test.true)
 
-knots-refused-requires : tie.Need-knots-refused-requires invariant-loop decreases-loop
-knots-refused-requires c κs =
-    let at-cell-on-axis = c.before.before.before.before.before.before.before in
-    at-cell-on-axis.cell-on-axis.ensures.inside
+knots_refused_requires : tie.Need-knots-refused-requires invariant-loop decreases-loop
+knots_refused_requires c κs =
+    let at_cell_on_axis = c.before.before.before.before.before.before.before in
+    at_cell_on_axis.cell_on_axis.ensures.inside
 
-add-i : tie.Need-overflow-add-i invariant-loop decreases-loop
-add-i c =
-    let at-loop-test =
+add_i : tie.Need-overflow-add-i invariant-loop decreases-loop
+add_i c =
+    let at_loop_test =
     c.before.before.before.before.before.before.before.before.before.before.before.before.before.before.before.before in
-    let at-loop = at-loop-test.before in
-    record { fits = (let few = axis-few _ _ _ _ _ _ _ _ _ _ _ at-loop.loop.inv at-loop-test.loop-test.taken in omega arith) }
+    let at_loop = at_loop_test.before in
+    record { fits = (let few = axis_few _ _ _ _ _ _ _ _ _ _ _ at_loop.loop.inv at_loop_test.loop_test.taken in omega arith) }
 
-loop-less : tie.Need-loop-smaller invariant-loop decreases-loop
-loop-less c =
-    let at-loop-test =
+loop_less : tie.Need-loop-smaller invariant-loop decreases-loop
+loop_less c =
+    let at_loop_test =
     c.before.before.before.before.before.before.before.before.before.before.before.before.before.before.before.before in
-    let at-loop = at-loop-test.before in
-    fewer-left _ _ _ _ _ _ _ _ _ _ _ at-loop.loop.inv at-loop-test.loop-test.taken
+    let at_loop = at_loop_test.before in
+    fewer_left _ _ _ _ _ _ _ _ _ _ _ at_loop.loop.inv at_loop_test.loop_test.taken
 
-loop-again : tie.Need-loop-preserved invariant-loop decreases-loop
-loop-again c =
-    let at-knots-refused = c.before in
-    let at-is-finite = at-knots-refused.before.before in
-    let at-store-weights = at-is-finite.before.before.before in
-    let at-cell-on-axis = at-store-weights.before.before.before in
-    let at-place-on-axis = at-cell-on-axis.before.before in
-    let at-loop-test = at-place-on-axis.before.before.before.before.before in
-    let at-loop = at-loop-test.before in
-    turn-next _ _ _ _ _ _ _ _ _ _ _ at-loop.loop.invariant at-loop-test.loop-test.true _ at-place-on-axis.place-on-axis.ensures _
-    at-cell-on-axis.cell-on-axis.ensures _ at-store-weights.store-weights.ensures _ _ at-is-finite.is_finite.ensures
-    at-knots-refused.knots-refused.ensures
+loop_again : tie.Need-loop-preserved invariant-loop decreases-loop
+loop_again c =
+    let at_knots_refused = c.before in
+    let at_is_finite = at_knots_refused.before.before in
+    let at_store_weights = at_is_finite.before.before.before in
+    let at_cell_on_axis = at_store_weights.before.before.before in
+    let at_place_on_axis = at_cell_on_axis.before.before in
+    let at_loop_test = at_place_on_axis.before.before.before.before.before in
+    let at_loop = at_loop_test.before in
+    turn_next _ _ _ _ _ _ _ _ _ _ _ at_loop.loop.invariant at_loop_test.loop_test.true _ at_place_on_axis.place_on_axis.ensures _
+    at_cell_on_axis.cell_on_axis.ensures _ at_store_weights.store_weights.ensures _ _ at_is_finite.is_finite.ensures
+    at_knots_refused.knots_refused.ensures
 
 returns : tie.Need-returns invariant-loop decreases-loop
-returns c = turn_last _ _ _ _ _ _ _ _ _ _ _ c.before.loop.invariant c.loop-test.false
+returns c = turn_last _ _ _ _ _ _ _ _ _ _ _ c.before.loop.invariant c.loop_test.false
 
-pub search-on-axes-spec : {M : Type 1} → statement M
-search-on-axes-spec =
+pub search_on_axes_spec : {M : Type 1} → statement M
+search_on_axes_spec =
     tie.close
     (tie.spec
     invariant-loop
     decreases-loop
-    loop-holds
+    loop_holds
     (λ c. search rules)
     (λ c. search rules)
-    add-end
+    add_end
     (λ c. search rules)
     (λ c. search rules)
     (λ c. search rules)
-    mul-place-on-axis
-    sub-place-on-axis
-    part-place-on-axis-start
-    part-place-on-axis-end
-    place-on-axis-requires
-    mul-cell-on-axis
-    sub-cell-on-axis
-    part-cell-on-axis-start
-    part-cell-on-axis-end
-    cell-on-axis-requires
+    mul_place_on_axis
+    sub_place_on_axis
+    part_place_on_axis_start
+    part_place_on_axis_end
+    place_on_axis_requires
+    mul_cell_on_axis
+    sub_cell_on_axis
+    part_cell_on_axis_start
+    part_cell_on_axis_end
+    cell_on_axis_requires
     (λ c. search rules)
-    slice-write-lower
-    mul-store-weights
-    sub-store-weights
-    part-store-weights-start
-    part-store-weights-end
-    store-weights-requires
+    slice_write_lower
+    mul_store_weights
+    sub_store_weights
+    part_store_weights_start
+    part_store_weights_end
+    store_weights_requires
     (λ c κs. search rules)
-    mul-knots-refused
-    sub-knots-refused
-    part-knots-refused-start
-    part-knots-refused-end
-    knots-refused-requires
-    add-i
-    loop-less
-    loop-again
+    mul_knots_refused
+    sub_knots_refused
+    part_knots_refused_start
+    part_knots_refused_end
+    knots_refused_requires
+    add_i
+    loop_less
+    loop_again
     (λ c. search rules)
     (λ c. search rules)
     returns)

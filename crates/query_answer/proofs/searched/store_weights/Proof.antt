@@ -4,16 +4,16 @@ use native.Mathlib.Omega.{arith}
 use lib.ListN.{length-set}
 use Rattle.rules.specs.Steps.{h}
 use Rattle.rules.specs.Query.{fraction}
-use Rattle.query_answer.proofs.Weighing.{weights-stored}
+use Rattle.query_answer.proofs.Weighing.{weights_stored}
 use Rattle.query_answer.proofs.searched.store_weights.Statement.{statement}
 use Rattle.query_answer.proofs.searched.store_weights.Tie as tie
 
 returns : tie.Need-returns
 unfolding h fraction
-returns c = weights-stored _ _ _ (omega arith) _ _ _ c.hermite-weights.ensures
+returns c = weights_stored _ _ _ (omega arith) _ _ _ c.hermite_weights.ensures
 
-pub store-weights-spec : {M : Type 1} → statement M
-store-weights-spec =
+pub store_weights_spec : {M : Type 1} → statement M
+store_weights_spec =
     tie.close
     (tie.spec
     (λ c. search rules)

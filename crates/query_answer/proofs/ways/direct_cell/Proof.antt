@@ -6,10 +6,10 @@ use Rattle.query_answer.proofs.ways.direct_cell.Tie as tie
 
 returns : tie.Need-returns
 unfolding h
-returns c = c.locate-lower-index-uniform.ensures
+returns c = c.locate_lower_index_uniform.ensures
 
-pub direct-cell-spec : {M : Type 1} → statement M
-direct-cell-spec =
+pub direct_cell_spec : {M : Type 1} → statement M
+direct_cell_spec =
     tie.close
     (tie.spec
     (λ c. search rules)

@@ -2,7 +2,7 @@
 -- place. The measure is the axes left.
 use native.Mathlib.Omega.{arith}
 use Prim.Native.Nat.{◌-◌}
-use Rattle.query_even.proofs.LackingAxis.{Walk, walk_first, walk-within, walk-size, walk-found, walk-next, walk-last}
+use Rattle.query_even.proofs.LackingAxis.{Walk, walk_first, walk_within, walk_size, walk_found, walk_next, walk_last}
 use borrow.Author.Rules.{rules}
 use Rattle.query_even.proofs.qualities.first_lacking.Statement.{statement}
 use Rattle.query_even.proofs.qualities.first_lacking.Tie as tie
@@ -13,89 +13,89 @@ invariant-loop quality axes points knots begin₀ i₀ begin i = Walk quality ax
 abbrev decreases-loop : tie.decreases-loop
 decreases-loop quality axes points knots begin₀ i₀ begin i = axes - i
 
-loop-holds : tie.Need-loop-init invariant-loop decreases-loop
-loop-holds c = walk_first _ _ _ _ c.before.before.requires
+loop_holds : tie.Need-loop-init invariant-loop decreases-loop
+loop_holds c = walk_first _ _ _ _ c.before.before.requires
 
-add-end : tie.Need-overflow-add-end invariant-loop decreases-loop
-add-end c = omega (arith, walk-within _ _ _ _ _ _ c.before.before.loop.invariant c.before.loop-test.true)
+add_end : tie.Need-overflow-add-end invariant-loop decreases-loop
+add_end c = omega (arith, walk_within _ _ _ _ _ _ c.before.before.loop.invariant c.before.loop_test.true)
 
-mul-lacks : tie.Need-overflow-mul-lacks invariant-loop decreases-loop
-mul-lacks c = omega (arith, walk-within _ _ _ _ _ _ c.before.before.loop.invariant c.before.loop-test.true)
+mul_lacks : tie.Need-overflow-mul-lacks invariant-loop decreases-loop
+mul_lacks c = omega (arith, walk_within _ _ _ _ _ _ c.before.before.loop.invariant c.before.loop_test.true)
 
-sub-lacks : tie.Need-overflow-sub-lacks invariant-loop decreases-loop
-sub-lacks c = omega (arith, walk-within _ _ _ _ _ _ c.before.before.loop.invariant c.before.loop-test.true)
+sub_lacks : tie.Need-overflow-sub-lacks invariant-loop decreases-loop
+sub_lacks c = omega (arith, walk_within _ _ _ _ _ _ c.before.before.loop.invariant c.before.loop_test.true)
 
-part-lacks-start : tie.Need-slice-bounds-lacks-start invariant-loop decreases-loop
-part-lacks-start c = omega (arith, walk-within _ _ _ _ _ _ c.before.before.loop.invariant c.before.loop-test.true)
+part_lacks_start : tie.Need-slice-bounds-lacks-start invariant-loop decreases-loop
+part_lacks_start c = omega (arith, walk_within _ _ _ _ _ _ c.before.before.loop.invariant c.before.loop_test.true)
 
-part-lacks-end : tie.Need-slice-bounds-lacks-end invariant-loop decreases-loop
-part-lacks-end c = omega (arith, walk-within _ _ _ _ _ _ c.before.before.loop.invariant c.before.loop-test.true)
+part_lacks_end : tie.Need-slice-bounds-lacks-end invariant-loop decreases-loop
+part_lacks_end c = omega (arith, walk_within _ _ _ _ _ _ c.before.before.loop.invariant c.before.loop_test.true)
 
-lacks-requires : tie.Need-lacks-requires invariant-loop decreases-loop
-lacks-requires c κs = walk-size _ _ _ _ _ _ c.before.before.before.loop.invariant c.before.before.loop-test.true
+lacks_requires : tie.Need-lacks-requires invariant-loop decreases-loop
+lacks_requires c κs = walk_size _ _ _ _ _ _ c.before.before.before.loop.invariant c.before.before.loop_test.true
 
-mul-first-lack : tie.Need-overflow-mul-first-lack invariant-loop decreases-loop
-mul-first-lack c =
+mul_first_lack : tie.Need-overflow-mul-first-lack invariant-loop decreases-loop
+mul_first_lack c =
     let turned = c.before.before.before.before in
-    omega (arith, walk-within _ _ _ _ _ _ turned.before.loop.invariant turned.loop-test.true)
+    omega (arith, walk_within _ _ _ _ _ _ turned.before.loop.invariant turned.loop_test.true)
 
-sub-first-lack : tie.Need-overflow-sub-first-lack invariant-loop decreases-loop
-sub-first-lack c =
+sub_first_lack : tie.Need-overflow-sub-first-lack invariant-loop decreases-loop
+sub_first_lack c =
     let turned = c.before.before.before.before in
-    omega (arith, walk-within _ _ _ _ _ _ turned.before.loop.invariant turned.loop-test.true)
+    omega (arith, walk_within _ _ _ _ _ _ turned.before.loop.invariant turned.loop_test.true)
 
-part-first-lack-start : tie.Need-slice-bounds-first-lack-start invariant-loop decreases-loop
-part-first-lack-start c =
+part_first_lack_start : tie.Need-slice-bounds-first-lack-start invariant-loop decreases-loop
+part_first_lack_start c =
     let turned = c.before.before.before.before in
-    omega (arith, walk-within _ _ _ _ _ _ turned.before.loop.invariant turned.loop-test.true)
+    omega (arith, walk_within _ _ _ _ _ _ turned.before.loop.invariant turned.loop_test.true)
 
-part-first-lack-end : tie.Need-slice-bounds-first-lack-end invariant-loop decreases-loop
-part-first-lack-end c =
+part_first_lack_end : tie.Need-slice-bounds-first-lack-end invariant-loop decreases-loop
+part_first_lack_end c =
     let turned = c.before.before.before.before in
-    omega (arith, walk-within _ _ _ _ _ _ turned.before.loop.invariant turned.loop-test.true)
+    omega (arith, walk_within _ _ _ _ _ _ turned.before.loop.invariant turned.loop_test.true)
 
-first-lack-requires : tie.Need-first-lack-requires invariant-loop decreases-loop
-first-lack-requires c κs =
+first_lack_requires : tie.Need-first-lack-requires invariant-loop decreases-loop
+first_lack_requires c κs =
     let turned = c.before.before.before.before.before in
-    walk-size _ _ _ _ _ _ turned.before.loop.invariant turned.loop-test.true
+    walk_size _ _ _ _ _ _ turned.before.loop.invariant turned.loop_test.true
 
 returns : tie.Need-returns invariant-loop decreases-loop
 returns c =
-    let at-if1 = c.before.before in
-    let turned = at-if1.before.before.before.before in
-    walk-found _ _ _ _ _ _ turned.before.loop.invariant turned.loop-test.true at-if1.before.lacks.ensures at-if1.if1.true _
-    c.first-lack.ensures
+    let at_if1 = c.before.before in
+    let turned = at_if1.before.before.before.before in
+    walk_found _ _ _ _ _ _ turned.before.loop.invariant turned.loop_test.true at_if1.before.lacks.ensures at_if1.if1.true _
+    c.first_lack.ensures
 
-loop-again : tie.Need-loop-preserved invariant-loop decreases-loop
-loop-again c =
+loop_again : tie.Need-loop-preserved invariant-loop decreases-loop
+loop_again c =
     let turned = c.before.before.before.before in
-    walk-next _ _ _ _ _ _ turned.before.loop.invariant turned.loop-test.true c.before.lacks.ensures c.if1.false
+    walk_next _ _ _ _ _ _ turned.before.loop.invariant turned.loop_test.true c.before.lacks.ensures c.if1.false
 
 returns-2 : tie.Need-returns-2 invariant-loop decreases-loop
-returns-2 c = walk-last _ _ _ _ _ _ c.before.loop.invariant c.loop-test.false
+returns-2 c = walk_last _ _ _ _ _ _ c.before.loop.invariant c.loop_test.false
 
-pub first-lacking-spec : {M : Type 1} → statement M
-first-lacking-spec =
+pub first_lacking_spec : {M : Type 1} → statement M
+first_lacking_spec =
     tie.close
     (tie.spec
     invariant-loop
     decreases-loop
-    loop-holds
+    loop_holds
     (λ c. search rules)
     (λ c. search rules)
-    add-end
-    mul-lacks
-    sub-lacks
-    part-lacks-start
-    part-lacks-end
-    lacks-requires
-    mul-first-lack
-    sub-first-lack
-    part-first-lack-start
-    part-first-lack-end
-    first-lack-requires
+    add_end
+    mul_lacks
+    sub_lacks
+    part_lacks_start
+    part_lacks_end
+    lacks_requires
+    mul_first_lack
+    sub_first_lack
+    part_first_lack_start
+    part_first_lack_end
+    first_lack_requires
     returns
     (λ c. search rules)
     (λ c. search rules)
-    loop-again
+    loop_again
     returns-2)

@@ -7,11 +7,11 @@ use Rattle.rules.proofs.Condition.crossed.Tie as tie
 
 returns : tie.Need-returns
 returns c =
-    rw (c.before.zero-valued.ensures, c.zero-valued2.ensures)
+    rw (c.before.zero_valued.ensures, c.zero_valued2.ensures)
     (sym (ap crossed c.before.before.before.self.given.1))
 
-pub crossed-spec : {M : Type 1} → statement M
-crossed-spec =
+pub crossed_spec : {M : Type 1} → statement M
+crossed_spec =
     tie.close
     (tie.spec
     (λ c. search rules)

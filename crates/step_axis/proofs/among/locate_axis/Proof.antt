@@ -1,30 +1,30 @@
 -- The location in the cell that was found: exact where one of its knots equals the point (`on-knot`), else the cell and the
 -- fraction (`in_cell`).
-use Rattle.step_axis.proofs.Found.{on-knot, in_cell}
+use Rattle.step_axis.proofs.Found.{on_knot, in_cell}
 use borrow.Author.Rules.{rules}
 use Rattle.step_axis.proofs.among.locate_axis.Statement.{statement}
 use Rattle.step_axis.proofs.among.locate_axis.Tie as tie
 
 returns : tie.Need-returns
 returns c =
-    let at-index = c.before in
-    let at-exact-index = at-index.before.before in
-    let at-locate-lower-index = at-exact-index.before in
-    let start = at-locate-lower-index.before.before in
-    on-knot _ _ _ start.requires at-locate-lower-index.locate-lower-index.ensures at-exact-index.exact-index.ensures _
-    at-index.index.given.1
+    let at_index = c.before in
+    let at_exact_index = at_index.before.before in
+    let at_locate_lower_index = at_exact_index.before in
+    let start = at_locate_lower_index.before.before in
+    on_knot _ _ _ start.requires at_locate_lower_index.locate_lower_index.ensures at_exact_index.exact_index.ensures _
+    at_index.index.given.1
 
 returns-2 : tie.Need-returns-2
 returns-2 c =
-    let at-enum-told = c.before.before.before in
-    let at-exact-index = at-enum-told.before.before in
-    let at-locate-lower-index = at-exact-index.before in
-    let start = at-locate-lower-index.before.before in
-    in_cell _ _ _ start.requires at-locate-lower-index.locate-lower-index.ensures at-exact-index.exact-index.ensures
-    at-enum-told.enum_told.given.1
+    let at_enum_told = c.before.before.before in
+    let at_exact_index = at_enum_told.before.before in
+    let at_locate_lower_index = at_exact_index.before in
+    let start = at_locate_lower_index.before.before in
+    in_cell _ _ _ start.requires at_locate_lower_index.locate_lower_index.ensures at_exact_index.exact_index.ensures
+    at_enum_told.enum_told.given.1
 
-pub locate-axis-spec : {M : Type 1} → statement M
-locate-axis-spec =
+pub locate_axis_spec : {M : Type 1} → statement M
+locate_axis_spec =
     tie.close
     (tie.spec
     (λ c κs. search rules)

@@ -4,13 +4,13 @@ use Rattle.step_axis.proofs.among.step_index.Statement.{statement}
 use Rattle.step_axis.proofs.among.step_index.Tie as tie
 
 returns : tie.Need-returns
-returns c = rw c.before.enum_told.given.1 c.lower-step.ensures
+returns c = rw c.before.enum_told.given.1 c.lower_step.ensures
 
 returns-2 : tie.Need-returns-2
-returns-2 c = rw c.before.enum-told2.given.1 c.upper-step.ensures
+returns-2 c = rw c.before.enum_told2.given.1 c.upper_step.ensures
 
-pub step-index-spec : {M : Type 1} → statement M
-step-index-spec =
+pub step_index_spec : {M : Type 1} → statement M
+step_index_spec =
     tie.close
     (tie.spec
     (λ c. search rules)

@@ -6,9 +6,9 @@ use mathlib.Core.List.{List}
 use Prim.Native.Nat.{◌-◌}
 use lib.ListN.{length}
 use lib.Ieee.{Float}
-use Rattle.many_points.proofs.Turns.{Turn, turn-first, end-within, part-fits, room, fewer-left, turn-next, turn_last}
+use Rattle.many_points.proofs.Turns.{Turn, turn_first, end_within, part_fits, room, fewer_left, turn_next, turn_last}
 use Rattle.step_many.specs.StepByStep.{SteppedAmong}
-use Rattle.step_many.proofs.Stepping.{knots-fit, point-fits, among}
+use Rattle.step_many.proofs.Stepping.{knots_fit, point_fits, among}
 use borrow.Author.Rules.{rules}
 use Rattle.step_many.proofs.each.answer_each.Statement.{statement}
 use Rattle.step_many.proofs.each.answer_each.Tie as tie
@@ -22,104 +22,104 @@ abbrev decreases-loop : tie.decreases-loop
 decreases-loop axes points directions knots samples coordinates values₀ indices₀ refusals₀ met count begin₀ j₀ values indices refusals begin j =
     count - j
 
-knots-and-coordinates-refusal-requires : tie.Need-knots-and-coordinates-refusal-requires invariant-loop decreases-loop
-knots-and-coordinates-refusal-requires c κs =
+knots_and_coordinates_refusal_requires : tie.Need-knots-and-coordinates-refusal-requires invariant-loop decreases-loop
+knots_and_coordinates_refusal_requires c κs =
     let start = c.before.before.before.before.before.before.before in
-    knots-fit _ start.args.points.now start.args.knots.now start.args.samples.now start.requires.0 start.requires.1
+    knots_fit _ start.args.points.now start.args.knots.now start.args.samples.now start.requires.0 start.requires.1
 
-loop-holds : tie.Need-loop-init invariant-loop decreases-loop
-loop-holds c =
+loop_holds : tie.Need-loop-init invariant-loop decreases-loop
+loop_holds c =
     let start = c.before.before.before.before.before.before.before.before in
-    turn-first _ _ _ _ _ _ _ _ refl start.requires.2
+    turn_first _ _ _ _ _ _ _ _ refl start.requires.2
 
-add-end : tie.Need-overflow-add-end invariant-loop decreases-loop
-add-end c = omega (arith, end-within _ _ _ _ _ _ _ _ _ _ c.before.loop.invariant c.loop-test.true)
+add_end : tie.Need-overflow-add-end invariant-loop decreases-loop
+add_end c = omega (arith, end_within _ _ _ _ _ _ _ _ _ _ c.before.loop.invariant c.loop_test.true)
 
-mul-answer : tie.Need-overflow-mul-answer invariant-loop decreases-loop
-mul-answer c = omega (arith, end-within _ _ _ _ _ _ _ _ _ _ c.before.loop.invariant c.loop-test.true)
+mul_answer : tie.Need-overflow-mul-answer invariant-loop decreases-loop
+mul_answer c = omega (arith, end_within _ _ _ _ _ _ _ _ _ _ c.before.loop.invariant c.loop_test.true)
 
-sub-answer : tie.Need-overflow-sub-answer invariant-loop decreases-loop
-sub-answer c = omega (arith, end-within _ _ _ _ _ _ _ _ _ _ c.before.loop.invariant c.loop-test.true)
+sub_answer : tie.Need-overflow-sub-answer invariant-loop decreases-loop
+sub_answer c = omega (arith, end_within _ _ _ _ _ _ _ _ _ _ c.before.loop.invariant c.loop_test.true)
 
-part-answer-start : tie.Need-slice-bounds-answer-start invariant-loop decreases-loop
-part-answer-start c = omega (arith, end-within _ _ _ _ _ _ _ _ _ _ c.before.loop.invariant c.loop-test.true)
+part_answer_start : tie.Need-slice-bounds-answer-start invariant-loop decreases-loop
+part_answer_start c = omega (arith, end_within _ _ _ _ _ _ _ _ _ _ c.before.loop.invariant c.loop_test.true)
 
-part-answer-end : tie.Need-slice-bounds-answer-end invariant-loop decreases-loop
-part-answer-end c = omega (arith, end-within _ _ _ _ _ _ _ _ _ _ c.before.loop.invariant c.loop-test.true)
+part_answer_end : tie.Need-slice-bounds-answer-end invariant-loop decreases-loop
+part_answer_end c = omega (arith, end_within _ _ _ _ _ _ _ _ _ _ c.before.loop.invariant c.loop_test.true)
 
-answer-requires : tie.Need-answer-requires invariant-loop decreases-loop
-answer-requires c κs =
-    let at-loop-test = c.before in
-    let at-look = at-loop-test.before.before in
-    let start = at-look.before.before.before.before.before.before.before.before in (
-      point-fits _ _ _ _ start.requires.0 start.requires.1 _
-          (part-fits _ _ _ _ _ _ _ _ _ _ at-loop-test.before.loop.invariant at-loop-test.loop-test.true),
-      at-look.knots-and-coordinates-refusal.ensures,
+answer_requires : tie.Need-answer-requires invariant-loop decreases-loop
+answer_requires c κs =
+    let at_loop_test = c.before in
+    let at_look = at_loop_test.before.before in
+    let start = at_look.before.before.before.before.before.before.before.before in (
+      point_fits _ _ _ _ start.requires.0 start.requires.1 _
+          (part_fits _ _ _ _ _ _ _ _ _ _ at_loop_test.before.loop.invariant at_loop_test.loop_test.true),
+      at_look.knots_and_coordinates_refusal.ensures,
     )
 
-store-answer-requires : tie.Need-store-answer-requires invariant-loop decreases-loop
-store-answer-requires c κs =
-    let at-loop-test = c.before.before.before.before.before.before in
-    room _ _ _ _ _ _ _ _ _ _ at-loop-test.before.loop.invariant at-loop-test.loop-test.true
+store_answer_requires : tie.Need-store-answer-requires invariant-loop decreases-loop
+store_answer_requires c κs =
+    let at_loop_test = c.before.before.before.before.before.before in
+    room _ _ _ _ _ _ _ _ _ _ at_loop_test.before.loop.invariant at_loop_test.loop_test.true
 
-add-j : tie.Need-overflow-add-j invariant-loop decreases-loop
-add-j c =
-    let at-store-answer = c.before.before.before.before.before.before in
-    let at-loop-test = at-store-answer.before.before.before.before.before.before.before in
-    let start = at-loop-test.before.before.before.before.before.before.before.before.before.before in
-    record { fits = omega (arith, at-loop-test.loop-test.true, start.well-formed.1.1.1.1.1.1.1.1.0.0) }
+add_j : tie.Need-overflow-add-j invariant-loop decreases-loop
+add_j c =
+    let at_store_answer = c.before.before.before.before.before.before in
+    let at_loop_test = at_store_answer.before.before.before.before.before.before.before in
+    let start = at_loop_test.before.before.before.before.before.before.before.before.before.before in
+    record { fits = omega (arith, at_loop_test.loop_test.true, start.well_formed.1.1.1.1.1.1.1.1.0.0) }
 
-loop-less : tie.Need-loop-smaller invariant-loop decreases-loop
-loop-less c =
-    let at-store-answer = c.before.before.before.before.before.before in
-    let at-loop-test = at-store-answer.before.before.before.before.before.before.before in
-    fewer-left _ _ _ _ _ _ _ _ _ _ at-loop-test.before.loop.invariant at-loop-test.loop-test.true
+loop_less : tie.Need-loop-smaller invariant-loop decreases-loop
+loop_less c =
+    let at_store_answer = c.before.before.before.before.before.before in
+    let at_loop_test = at_store_answer.before.before.before.before.before.before.before in
+    fewer_left _ _ _ _ _ _ _ _ _ _ at_loop_test.before.loop.invariant at_loop_test.loop_test.true
 
-loop-again : tie.Need-loop-preserved invariant-loop decreases-loop
-loop-again c =
-    let at-store-answer = c.before.before.before.before.before.before in
-    let at-answer = at-store-answer.before.before.before.before.before in
-    let at-loop-test = at-answer.before.before in
-    let at-look = at-loop-test.before.before in
-    let start = at-look.before.before.before.before.before.before.before.before in
-    turn-next _ _ _ _ _ _ _ _ _ _ at-loop-test.before.loop.invariant at-loop-test.loop-test.true _
-    (among _ start.args.points.now _ _ _ _ _ at-answer.answer.ensures) _ _ _ at-store-answer.store-answer.ensures
+loop_again : tie.Need-loop-preserved invariant-loop decreases-loop
+loop_again c =
+    let at_store_answer = c.before.before.before.before.before.before in
+    let at_answer = at_store_answer.before.before.before.before.before in
+    let at_loop_test = at_answer.before.before in
+    let at_look = at_loop_test.before.before in
+    let start = at_look.before.before.before.before.before.before.before.before in
+    turn_next _ _ _ _ _ _ _ _ _ _ at_loop_test.before.loop.invariant at_loop_test.loop_test.true _
+    (among _ start.args.points.now _ _ _ _ _ at_answer.answer.ensures) _ _ _ at_store_answer.store_answer.ensures
 
 same_length : tie.Need-same-length invariant-loop decreases-loop
 same_length c =
     let start = c.before.before.before.before.before.before.before.before.before.before in
-    c.before.loop.invariant.stand.values-count ∙ sym start.requires.2.values-exact
+    c.before.loop.invariant.stand.values_count ∙ sym start.requires.2.values_exact
 
-same-length-2 : tie.Need-same-length-2 invariant-loop decreases-loop
-same-length-2 c =
+same_length_2 : tie.Need-same-length-2 invariant-loop decreases-loop
+same_length_2 c =
     let start = c.before.before.before.before.before.before.before.before.before.before in
-    c.before.loop.invariant.stand.labels-count ∙ sym start.requires.2.labels-exact
+    c.before.loop.invariant.stand.labels_count ∙ sym start.requires.2.labels_exact
 
-same-length-3 : tie.Need-same-length-3 invariant-loop decreases-loop
-same-length-3 c = c.before.loop.invariant.stand.refusals-count
+same_length_3 : tie.Need-same-length-3 invariant-loop decreases-loop
+same_length_3 c = c.before.loop.invariant.stand.refusals_count
 
 returns : tie.Need-returns invariant-loop decreases-loop
-returns c = turn_last _ _ _ _ _ _ _ _ _ _ c.before.loop.invariant c.loop-test.false
+returns c = turn_last _ _ _ _ _ _ _ _ _ _ c.before.loop.invariant c.loop_test.false
 
-pub answer-each-spec : {M : Type 1} → statement M
-answer-each-spec =
+pub answer_each_spec : {M : Type 1} → statement M
+answer_each_spec =
     tie.close
     (tie.spec
     invariant-loop
     decreases-loop
-    knots-and-coordinates-refusal-requires
-    loop-holds
-    add-end
-    mul-answer
-    sub-answer
-    part-answer-start
-    part-answer-end
-    answer-requires
-    store-answer-requires
-    add-j
-    loop-less
-    loop-again
+    knots_and_coordinates_refusal_requires
+    loop_holds
+    add_end
+    mul_answer
+    sub_answer
+    part_answer_start
+    part_answer_end
+    answer_requires
+    store_answer_requires
+    add_j
+    loop_less
+    loop_again
     same_length
-    same-length-2
-    same-length-3
+    same_length_2
+    same_length_3
     returns)

@@ -2,227 +2,227 @@
 -- and all slopes; the places of the plan (`low`, `last`) keep every row within its block.
 use native.Mathlib.Omega.{arith}
 use mathlib.Core.Path.{refl, ◌∙◌}
-use Rattle.tensor_four_lanes.proofs.Groups.{still-lies}
-use Rattle.tensor_four_lanes.proofs.InnerMoments.{rows-solved}
+use Rattle.tensor_four_lanes.proofs.Groups.{still_lies}
+use Rattle.tensor_four_lanes.proofs.InnerMoments.{rows_solved}
 use borrow.Author.Rules.{rules}
 use Rattle.tensor_four_lanes.proofs.ends.inner_moments.Statement.{statement}
 use Rattle.tensor_four_lanes.proofs.ends.inner_moments.Tie as tie
 
-slopes-requires : tie.Need-slopes-requires
-slopes-requires c κs =
+slopes_requires : tie.Need-slopes-requires
+slopes_requires c κs =
     let pre = c.before.before.before.requires in
-    (still-lies _ _ _ _ _ _ _ refl (omega (arith, pre.axis, pre.planned.last-is, pre.planned.low-is)) pre.numbers, omega arith)
+    (still_lies _ _ _ _ _ _ _ refl (omega (arith, pre.axis, pre.planned.last_is, pre.planned.low_is)) pre.numbers, omega arith)
 
-forward-requires : tie.Need-forward-requires
-forward-requires c κs =
-    let at-set-row = c.before.before.before in
-    let at-slopes = at-set-row.before.before.before.before.before.before.before.before in
-    let pre = at-slopes.before.before.before.before.requires in (
-      still-lies _ _ _ _ _ _ _ (at-set-row.set-row.ensures.same_length ∙ at-slopes.slopes.ensures.same_length)
-          (omega (arith, pre.axis, pre.planned.last-is, pre.planned.low-is)) pre.numbers,
-      omega (arith, pre.axis, pre.planned.last-is, pre.planned.low-is),
+forward_requires : tie.Need-forward-requires
+forward_requires c κs =
+    let at_set_row = c.before.before.before in
+    let at_slopes = at_set_row.before.before.before.before.before.before.before.before in
+    let pre = at_slopes.before.before.before.before.requires in (
+      still_lies _ _ _ _ _ _ _ (at_set_row.set_row.ensures.same_length ∙ at_slopes.slopes.ensures.same_length)
+          (omega (arith, pre.axis, pre.planned.last_is, pre.planned.low_is)) pre.numbers,
+      omega (arith, pre.axis, pre.planned.last_is, pre.planned.low_is),
     )
 
-slopes-requires-2 : tie.Need-slopes-requires-2
-slopes-requires-2 c κs =
+slopes_requires_2 : tie.Need-slopes-requires-2
+slopes_requires_2 c κs =
     let at_forward = c.before.before.before in
-    let at-set-row = at_forward.before.before.before.before in
-    let at-slopes = at-set-row.before.before.before.before.before.before.before.before in
-    let pre = at-slopes.before.before.before.before.requires in (
-      still-lies _ _ _ _ _ _ _
-          (at_forward.forward.ensures.same_length ∙ at-set-row.set-row.ensures.same_length ∙ at-slopes.slopes.ensures.same_length)
-          (omega (arith, pre.axis, pre.planned.last-is, pre.planned.low-is)) pre.numbers,
-      omega (arith, pre.axis, pre.planned.last-is, pre.planned.low-is),
+    let at_set_row = at_forward.before.before.before.before in
+    let at_slopes = at_set_row.before.before.before.before.before.before.before.before in
+    let pre = at_slopes.before.before.before.before.requires in (
+      still_lies _ _ _ _ _ _ _
+          (at_forward.forward.ensures.same_length ∙ at_set_row.set_row.ensures.same_length ∙ at_slopes.slopes.ensures.same_length)
+          (omega (arith, pre.axis, pre.planned.last_is, pre.planned.low_is)) pre.numbers,
+      omega (arith, pre.axis, pre.planned.last_is, pre.planned.low_is),
     )
 
-sub-get-row : tie.Need-overflow-sub-get-row
-sub-get-row c =
+sub_get_row : tie.Need-overflow-sub-get-row
+sub_get_row c =
     let start =
     c.before.before.before.before.before.before.before.before.before.before.before.before.before.before.before.before.before.before.before.before.before.before.before.before.before in
     let pre = start.pre in
-    omega (arith, pre.axis, pre.planned.last-is, pre.planned.low-is)
+    omega (arith, pre.axis, pre.planned.last_is, pre.planned.low_is)
 
-get-row-requires : tie.Need-get-row-requires
-get-row-requires c κs =
-    let at-slopes2 = c.before.before.before.before.before in
-    let at_forward = at-slopes2.before.before.before.before in
-    let at-set-row = at_forward.before.before.before.before in
-    let at-slopes = at-set-row.before.before.before.before.before.before.before.before in
-    let pre = at-slopes.before.before.before.before.requires in
+get_row_requires : tie.Need-get-row-requires
+get_row_requires c κs =
+    let at_slopes2 = c.before.before.before.before.before in
+    let at_forward = at_slopes2.before.before.before.before in
+    let at_set_row = at_forward.before.before.before.before in
+    let at_slopes = at_set_row.before.before.before.before.before.before.before.before in
+    let pre = at_slopes.before.before.before.before.requires in
     omega (
       arith,
-      at-slopes2.slopes2.ensures.same_length ∙ at_forward.forward.ensures.same_length
-          ∙ at-set-row.set-row.ensures.same_length
-          ∙ at-slopes.slopes.ensures.same_length,
+      at_slopes2.slopes2.ensures.same_length ∙ at_forward.forward.ensures.same_length
+          ∙ at_set_row.set_row.ensures.same_length
+          ∙ at_slopes.slopes.ensures.same_length,
       pre.axis,
-      pre.planned.last-is,
-      pre.planned.low-is,
+      pre.planned.last_is,
+      pre.planned.low_is,
     )
 
-add-over-2 : tie.Need-overflow-add-over-2
-add-over-2 c =
-    let at-slopes2 = c.before.before.before.before.before.before.before.before in
-    let at_forward = at-slopes2.before.before.before.before in
-    let at-set-row = at_forward.before.before.before.before in
-    let at-slopes = at-set-row.before.before.before.before.before.before.before.before in
-    let pre = at-slopes.before.before.before.before.requires in
+add_over_2 : tie.Need-overflow-add-over-2
+add_over_2 c =
+    let at_slopes2 = c.before.before.before.before.before.before.before.before in
+    let at_forward = at_slopes2.before.before.before.before in
+    let at_set_row = at_forward.before.before.before.before in
+    let at_slopes = at_set_row.before.before.before.before.before.before.before.before in
+    let pre = at_slopes.before.before.before.before.requires in
     omega (
       arith,
-      at-slopes2.slopes2.ensures.same_length ∙ at_forward.forward.ensures.same_length
-          ∙ at-set-row.set-row.ensures.same_length
-          ∙ at-slopes.slopes.ensures.same_length,
+      at_slopes2.slopes2.ensures.same_length ∙ at_forward.forward.ensures.same_length
+          ∙ at_set_row.set_row.ensures.same_length
+          ∙ at_slopes.slopes.ensures.same_length,
       pre.axis,
-      pre.planned.last-is,
-      pre.planned.low-is,
+      pre.planned.last_is,
+      pre.planned.low_is,
     )
 
-mul-over-2 : tie.Need-overflow-mul-over-2
-mul-over-2 c =
-    let at-slopes2 = c.before.before.before.before.before.before.before.before in
-    let at_forward = at-slopes2.before.before.before.before in
-    let at-set-row = at_forward.before.before.before.before in
-    let at-slopes = at-set-row.before.before.before.before.before.before.before.before in
-    let pre = at-slopes.before.before.before.before.requires in
+mul_over_2 : tie.Need-overflow-mul-over-2
+mul_over_2 c =
+    let at_slopes2 = c.before.before.before.before.before.before.before.before in
+    let at_forward = at_slopes2.before.before.before.before in
+    let at_set_row = at_forward.before.before.before.before in
+    let at_slopes = at_set_row.before.before.before.before.before.before.before.before in
+    let pre = at_slopes.before.before.before.before.requires in
     omega (
       arith,
-      at-slopes2.slopes2.ensures.same_length ∙ at_forward.forward.ensures.same_length
-          ∙ at-set-row.set-row.ensures.same_length
-          ∙ at-slopes.slopes.ensures.same_length,
+      at_slopes2.slopes2.ensures.same_length ∙ at_forward.forward.ensures.same_length
+          ∙ at_set_row.set_row.ensures.same_length
+          ∙ at_slopes.slopes.ensures.same_length,
       pre.axis,
-      pre.planned.last-is,
-      pre.planned.low-is,
+      pre.planned.last_is,
+      pre.planned.low_is,
     )
 
-slice-read-over-2 : tie.Need-slice-read-over-2
-slice-read-over-2 c =
-    let at-slopes2 = c.before.before.before.before.before.before.before.before.before in
-    let at_forward = at-slopes2.before.before.before.before in
-    let at-set-row = at_forward.before.before.before.before in
-    let at-slopes = at-set-row.before.before.before.before.before.before.before.before in
-    let pre = at-slopes.before.before.before.before.requires in
+slice_read_over_2 : tie.Need-slice-read-over-2
+slice_read_over_2 c =
+    let at_slopes2 = c.before.before.before.before.before.before.before.before.before in
+    let at_forward = at_slopes2.before.before.before.before in
+    let at_set_row = at_forward.before.before.before.before in
+    let at_slopes = at_set_row.before.before.before.before.before.before.before.before in
+    let pre = at_slopes.before.before.before.before.requires in
     omega (
       arith,
-      at-slopes2.slopes2.ensures.same_length ∙ at_forward.forward.ensures.same_length
-          ∙ at-set-row.set-row.ensures.same_length
-          ∙ at-slopes.slopes.ensures.same_length,
+      at_slopes2.slopes2.ensures.same_length ∙ at_forward.forward.ensures.same_length
+          ∙ at_set_row.set_row.ensures.same_length
+          ∙ at_slopes.slopes.ensures.same_length,
       pre.axis,
-      pre.planned.last-is,
-      pre.planned.low-is,
+      pre.planned.last_is,
+      pre.planned.low_is,
     )
 
-set-row-requires-2 : tie.Need-set-row-requires-2
-set-row-requires-2 c κs =
-    let at-slopes2 = c.before.before.before.before.before.before.before.before.before.before.before in
-    let at_forward = at-slopes2.before.before.before.before in
-    let at-set-row = at_forward.before.before.before.before in
-    let at-slopes = at-set-row.before.before.before.before.before.before.before.before in
-    let pre = at-slopes.before.before.before.before.requires in
+set_row_requires_2 : tie.Need-set-row-requires-2
+set_row_requires_2 c κs =
+    let at_slopes2 = c.before.before.before.before.before.before.before.before.before.before.before in
+    let at_forward = at_slopes2.before.before.before.before in
+    let at_set_row = at_forward.before.before.before.before in
+    let at_slopes = at_set_row.before.before.before.before.before.before.before.before in
+    let pre = at_slopes.before.before.before.before.requires in
     omega (
       arith,
-      at-slopes2.slopes2.ensures.same_length ∙ at_forward.forward.ensures.same_length
-          ∙ at-set-row.set-row.ensures.same_length
-          ∙ at-slopes.slopes.ensures.same_length,
+      at_slopes2.slopes2.ensures.same_length ∙ at_forward.forward.ensures.same_length
+          ∙ at_set_row.set_row.ensures.same_length
+          ∙ at_slopes.slopes.ensures.same_length,
       pre.axis,
-      pre.planned.last-is,
-      pre.planned.low-is,
+      pre.planned.last_is,
+      pre.planned.low_is,
     )
 
-back-requires : tie.Need-back-requires
-back-requires c κs =
-    let at-set-row2 = c.before.before.before in
-    let at-slopes2 = at-set-row2.before.before.before.before.before.before.before.before.before.before.before.before in
-    let at_forward = at-slopes2.before.before.before.before in
-    let at-set-row = at_forward.before.before.before.before in
-    let at-slopes = at-set-row.before.before.before.before.before.before.before.before in
-    let pre = at-slopes.before.before.before.before.requires in (
+back_requires : tie.Need-back-requires
+back_requires c κs =
+    let at_set_row2 = c.before.before.before in
+    let at_slopes2 = at_set_row2.before.before.before.before.before.before.before.before.before.before.before.before in
+    let at_forward = at_slopes2.before.before.before.before in
+    let at_set_row = at_forward.before.before.before.before in
+    let at_slopes = at_set_row.before.before.before.before.before.before.before.before in
+    let pre = at_slopes.before.before.before.before.requires in (
       record {
         room = omega (
           arith,
-          at-set-row2.set-row2.ensures.same_length ∙ at-slopes2.slopes2.ensures.same_length
-              ∙ at_forward.forward.ensures.same_length ∙ at-set-row.set-row.ensures.same_length
-              ∙ at-slopes.slopes.ensures.same_length,
+          at_set_row2.set_row2.ensures.same_length ∙ at_slopes2.slopes2.ensures.same_length
+              ∙ at_forward.forward.ensures.same_length ∙ at_set_row.set_row.ensures.same_length
+              ∙ at_slopes.slopes.ensures.same_length,
           pre.axis,
-          pre.planned.last-is,
-          pre.planned.low-is,
+          pre.planned.last_is,
+          pre.planned.low_is,
         );
         few = omega (
           arith,
-          at-set-row2.set-row2.ensures.same_length ∙ at-slopes2.slopes2.ensures.same_length
-              ∙ at_forward.forward.ensures.same_length ∙ at-set-row.set-row.ensures.same_length
-              ∙ at-slopes.slopes.ensures.same_length,
+          at_set_row2.set_row2.ensures.same_length ∙ at_slopes2.slopes2.ensures.same_length
+              ∙ at_forward.forward.ensures.same_length ∙ at_set_row.set_row.ensures.same_length
+              ∙ at_slopes.slopes.ensures.same_length,
           pre.axis,
-          pre.planned.last-is,
-          pre.planned.low-is,
+          pre.planned.last_is,
+          pre.planned.low_is,
         );
       },
       omega (
         arith,
-        at-set-row2.set-row2.ensures.same_length ∙ at-slopes2.slopes2.ensures.same_length
-            ∙ at_forward.forward.ensures.same_length ∙ at-set-row.set-row.ensures.same_length
-            ∙ at-slopes.slopes.ensures.same_length,
+        at_set_row2.set_row2.ensures.same_length ∙ at_slopes2.slopes2.ensures.same_length
+            ∙ at_forward.forward.ensures.same_length ∙ at_set_row.set_row.ensures.same_length
+            ∙ at_slopes.slopes.ensures.same_length,
         pre.axis,
-        pre.planned.last-is,
-        pre.planned.low-is,
+        pre.planned.last_is,
+        pre.planned.low_is,
       ),
     )
 
 same_length : tie.Need-same-length
 same_length c =
     let at_back = c.before.before in
-    let at-set-row2 = at_back.before.before.before.before in
-    let at-slopes2 = at-set-row2.before.before.before.before.before.before.before.before.before.before.before.before in
-    let at_forward = at-slopes2.before.before.before.before in
-    let at-set-row = at_forward.before.before.before.before in
-    let at-slopes = at-set-row.before.before.before.before.before.before.before.before in
-    at_back.back.ensures.same_length ∙ at-set-row2.set-row2.ensures.same_length ∙ at-slopes2.slopes2.ensures.same_length
-    ∙ at_forward.forward.ensures.same_length ∙ at-set-row.set-row.ensures.same_length ∙ at-slopes.slopes.ensures.same_length
+    let at_set_row2 = at_back.before.before.before.before in
+    let at_slopes2 = at_set_row2.before.before.before.before.before.before.before.before.before.before.before.before in
+    let at_forward = at_slopes2.before.before.before.before in
+    let at_set_row = at_forward.before.before.before.before in
+    let at_slopes = at_set_row.before.before.before.before.before.before.before.before in
+    at_back.back.ensures.same_length ∙ at_set_row2.set_row2.ensures.same_length ∙ at_slopes2.slopes2.ensures.same_length
+    ∙ at_forward.forward.ensures.same_length ∙ at_set_row.set_row.ensures.same_length ∙ at_slopes.slopes.ensures.same_length
 
 returns : tie.Need-returns
 returns c =
     let at_back = c.before.before in
-    let at-set-row2 = at_back.before.before.before.before in
-    let at-over2 = at-set-row2.before.before in
-    let at-minus = at-over2.before.before in
-    let at-times = at-minus.before in
-    let at-get-row = at-times.before in
-    let at-upper-right = at-get-row.before.before in
-    let at-slopes2 = at-upper-right.before.before.before.before in
-    let at_forward = at-slopes2.before.before.before.before in
-    let at-set-row = at_forward.before.before.before.before in
-    let at-over = at-set-row.before.before in
-    let at-lower-right = at-over.before.before in
-    let at-slopes = at-lower-right.before.before.before.before in
-    let pre = at-slopes.before.before.before.before.requires in
-    rows-solved _ _ _ _ _ _ _ _ _ _ _ _ _ (pre) _ _ _ _ _ _ _ at-slopes.slopes.ensures at-lower-right.lower-right.ensures
-    at-over.over.ensures at-set-row.set-row.ensures at_forward.forward.ensures at-slopes2.slopes2.ensures
-    at-upper-right.upper-right.ensures at-get-row.get-row.ensures at-times.times.ensures at-minus.minus.ensures
-    at-over2.over2.ensures at-set-row2.set-row2.ensures at_back.back.ensures
+    let at_set_row2 = at_back.before.before.before.before in
+    let at_over2 = at_set_row2.before.before in
+    let at_minus = at_over2.before.before in
+    let at_times = at_minus.before in
+    let at_get_row = at_times.before in
+    let at_upper_right = at_get_row.before.before in
+    let at_slopes2 = at_upper_right.before.before.before.before in
+    let at_forward = at_slopes2.before.before.before.before in
+    let at_set_row = at_forward.before.before.before.before in
+    let at_over = at_set_row.before.before in
+    let at_lower_right = at_over.before.before in
+    let at_slopes = at_lower_right.before.before.before.before in
+    let pre = at_slopes.before.before.before.before.requires in
+    rows_solved _ _ _ _ _ _ _ _ _ _ _ _ _ (pre) _ _ _ _ _ _ _ at_slopes.slopes.ensures at_lower_right.lower_right.ensures
+    at_over.over.ensures at_set_row.set_row.ensures at_forward.forward.ensures at_slopes2.slopes2.ensures
+    at_upper_right.upper_right.ensures at_get_row.get_row.ensures at_times.times.ensures at_minus.minus.ensures
+    at_over2.over2.ensures at_set_row2.set_row2.ensures at_back.back.ensures
 
-pub inner-moments-spec : {M : Type 1} → statement M
-inner-moments-spec =
+pub inner_moments_spec : {M : Type 1} → statement M
+inner_moments_spec =
     tie.close
     (tie.spec
     (λ c. search rules)
     (λ c. search rules)
-    slopes-requires
+    slopes_requires
     (λ c κs. search rules)
     (λ c. search rules)
     (λ c. search rules)
     (λ c. search rules)
     (λ c κs. search rules)
     (λ c κs. search rules)
-    forward-requires
-    slopes-requires-2
+    forward_requires
+    slopes_requires_2
     (λ c κs. search rules)
-    sub-get-row
-    get-row-requires
+    sub_get_row
+    get_row_requires
     (λ c κs. search rules)
     (λ c κs. search rules)
-    add-over-2
-    mul-over-2
-    slice-read-over-2
+    add_over_2
+    mul_over_2
+    slice_read_over_2
     (λ c κs. search rules)
-    set-row-requires-2
-    back-requires
+    set_row_requires_2
+    back_requires
     same_length
     returns)

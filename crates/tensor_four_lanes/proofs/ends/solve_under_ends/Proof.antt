@@ -1,26 +1,26 @@
 -- Four lanes under two ends: their moments stand, so by `group-solved` what is stored are the knot slopes of their splines.
 use native.Mathlib.Omega.{arith}
-use Rattle.tensor_four_lanes.proofs.Groups.{still-lies, group-solved}
+use Rattle.tensor_four_lanes.proofs.Groups.{still_lies, group_solved}
 use borrow.Author.Rules.{rules}
 use Rattle.tensor_four_lanes.proofs.ends.solve_under_ends.Statement.{statement}
 use Rattle.tensor_four_lanes.proofs.ends.solve_under_ends.Tie as tie
 
-store-slopes-requires : tie.Need-store-slopes-requires
-store-slopes-requires c κs =
-    let at-endpoint-moments = c.before.before.before in
-    let pre = at-endpoint-moments.before.before.before.before.requires in (
-      still-lies _ _ _ _ _ _ _ at-endpoint-moments.endpoint-moments.ensures.same_length (omega arith) pre.slopes,
+store_slopes_requires : tie.Need-store-slopes-requires
+store_slopes_requires c κs =
+    let at_endpoint_moments = c.before.before.before in
+    let pre = at_endpoint_moments.before.before.before.before.requires in (
+      still_lies _ _ _ _ _ _ _ at_endpoint_moments.endpoint_moments.ensures.same_length (omega arith) pre.slopes,
       omega (arith, pre.rows.axis.enough),
     )
 
 returns : tie.Need-returns
 returns c =
-    let at-store-slopes = c.before.before in
-    let at-endpoint-moments = at-store-slopes.before.before.before.before in
-    let pre = at-endpoint-moments.before.before.before.before.requires in
-    group-solved _ _ _ _ _ _ _ _ (omega (arith, pre.rows.axis.enough)) pre.rows.axis.few pre.rows.planned.steps
-    at-endpoint-moments.endpoint-moments.ensures at-store-slopes.store-slopes.ensures
+    let at_store_slopes = c.before.before in
+    let at_endpoint_moments = at_store_slopes.before.before.before.before in
+    let pre = at_endpoint_moments.before.before.before.before.requires in
+    group_solved _ _ _ _ _ _ _ _ (omega (arith, pre.rows.axis.enough)) pre.rows.axis.few pre.rows.planned.steps
+    at_endpoint_moments.endpoint_moments.ensures at_store_slopes.store_slopes.ensures
 
-pub solve-under-ends-spec : {M : Type 1} → statement M
-solve-under-ends-spec =
-    tie.close (tie.spec (λ c. search rules) (λ c κs. search rules) store-slopes-requires (λ c. search rules) returns)
+pub solve_under_ends_spec : {M : Type 1} → statement M
+solve_under_ends_spec =
+    tie.close (tie.spec (λ c. search rules) (λ c κs. search rules) store_slopes_requires (λ c. search rules) returns)

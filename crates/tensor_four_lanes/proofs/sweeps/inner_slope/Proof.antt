@@ -6,20 +6,20 @@ use Rattle.tensor_four_lanes.proofs.sweeps.inner_slope.Tie as tie
 
 returns : tie.Need-returns
 returns c =
-    let at-over = c.before in
-    let at-times2 = at-over.before in
-    let at-plus = at-times2.before in
-    let at-times = at-plus.before in
+    let at_over = c.before in
+    let at_times2 = at_over.before in
+    let at_plus = at_times2.before in
+    let at_times = at_plus.before in
     composed _ c.minus.ensures
     (λ l lt.
     cc (
-      number at-times.times.ensures l lt,
-      number at-plus.plus.ensures l lt,
-      number at-times2.times2.ensures l lt,
-      number at-over.over.ensures l lt,
+      number at_times.times.ensures l lt,
+      number at_plus.plus.ensures l lt,
+      number at_times2.times2.ensures l lt,
+      number at_over.over.ensures l lt,
     ))
 
-pub inner-slope-spec : {M : Type 1} → statement M
-inner-slope-spec =
+pub inner_slope_spec : {M : Type 1} → statement M
+inner_slope_spec =
     tie.close
     (tie.spec (λ c κs. search rules) (λ c κs. search rules) (λ c κs. search rules) (λ c κs. search rules) (λ c κs. search rules) returns)

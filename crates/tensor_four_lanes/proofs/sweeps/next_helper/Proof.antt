@@ -6,21 +6,21 @@ use Rattle.tensor_four_lanes.proofs.sweeps.next_helper.Tie as tie
 
 returns : tie.Need-returns
 returns c =
-    let at-minus2 = c.before in
-    let at-times2 = at-minus2.before in
-    let at-times = at-times2.before in
-    let at-minus = at-times.before in
+    let at_minus2 = c.before in
+    let at_times2 = at_minus2.before in
+    let at_times = at_times2.before in
+    let at_minus = at_times.before in
     composed _ c.over.ensures
     (λ l lt.
     cc (
-      number at-minus.minus.ensures l lt,
-      number at-times.times.ensures l lt,
-      number at-times2.times2.ensures l lt,
-      number at-minus2.minus2.ensures l lt,
+      number at_minus.minus.ensures l lt,
+      number at_times.times.ensures l lt,
+      number at_times2.times2.ensures l lt,
+      number at_minus2.minus2.ensures l lt,
     ))
 
-pub next-helper-spec : {M : Type 1} → statement M
-next-helper-spec =
+pub next_helper_spec : {M : Type 1} → statement M
+next_helper_spec =
     tie.close
     (tie.spec
     (λ c κs. search rules)

@@ -6,59 +6,59 @@ use borrow.Author.Rules.{rules}
 use Rattle.tensor_four_lanes.proofs.sweeps.store_slopes.Statement.{statement}
 use Rattle.tensor_four_lanes.proofs.sweeps.store_slopes.Tie as tie
 
-mul-store : tie.Need-overflow-mul-store
-mul-store c =
-    let at-store-inner-slopes = c.before.before.before in
-    let start = at-store-inner-slopes.before.before.before.before.before.before.before.before.before.before.before in
+mul_store : tie.Need-overflow-mul-store
+mul_store c =
+    let at_store_inner_slopes = c.before.before.before in
+    let start = at_store_inner_slopes.before.before.before.before.before.before.before.before.before.before.before in
     omega (
       arith,
-      at-store-inner-slopes.store-inner-slopes.ensures.same_length,
+      at_store_inner_slopes.store_inner_slopes.ensures.same_length,
       lane start.requires.0.within 0 (omega arith) start.args.n (omega arith),
     )
 
-add-store : tie.Need-overflow-add-store
-add-store c =
-    let at-store-inner-slopes = c.before.before.before in
-    let start = at-store-inner-slopes.before.before.before.before.before.before.before.before.before.before.before in
+add_store : tie.Need-overflow-add-store
+add_store c =
+    let at_store_inner_slopes = c.before.before.before in
+    let start = at_store_inner_slopes.before.before.before.before.before.before.before.before.before.before.before in
     omega (
       arith,
-      at-store-inner-slopes.store-inner-slopes.ensures.same_length,
+      at_store_inner_slopes.store_inner_slopes.ensures.same_length,
       lane start.requires.0.within 0 (omega arith) start.args.n (omega arith),
     )
 
-store-requires : tie.Need-store-requires
-store-requires c κs =
-    let at-store-inner-slopes = c.before.before.before in
-    let start = at-store-inner-slopes.before.before.before.before.before.before.before.before.before.before.before in
+store_requires : tie.Need-store-requires
+store_requires c κs =
+    let at_store_inner_slopes = c.before.before.before in
+    let start = at_store_inner_slopes.before.before.before.before.before.before.before.before.before.before.before in
     each
     (λ l lt.
     omega (
       arith,
-      at-store-inner-slopes.store-inner-slopes.ensures.same_length,
+      at_store_inner_slopes.store_inner_slopes.ensures.same_length,
       lane start.requires.0.within l lt start.args.n (omega arith),
     ))
 
 returns : tie.Need-returns
 returns c =
     let at_store = c.before.before in
-    let at-store-inner-slopes = at_store.before.before.before.before in
-    let at-last-slope = at-store-inner-slopes.before.before in
-    let at-get-row3 = at-last-slope.before.before in
-    let at-get-row2 = at-get-row3.before.before in
-    let at-get-row = at-get-row2.before.before in
-    let pre = at-get-row.before.before.before.requires in
+    let at_store_inner_slopes = at_store.before.before.before.before in
+    let at_last_slope = at_store_inner_slopes.before.before in
+    let at_get_row3 = at_last_slope.before.before in
+    let at_get_row2 = at_get_row3.before.before in
+    let at_get_row = at_get_row2.before.before in
+    let pre = at_get_row.before.before.before.requires in
     settled _ _ _ _ _ _ _ pre.0 _
     (λ l lt.
     cc (
-      number at-get-row.get-row.ensures l lt,
-      number at-get-row2.get-row2.ensures l lt,
-      number at-get-row3.get-row3.ensures l lt,
-      number at-last-slope.last-slope.ensures l lt,
+      number at_get_row.get_row.ensures l lt,
+      number at_get_row2.get_row2.ensures l lt,
+      number at_get_row3.get_row3.ensures l lt,
+      number at_last_slope.last_slope.ensures l lt,
     ))
-    at-store-inner-slopes.store-inner-slopes.ensures at_store.store.ensures
+    at_store_inner_slopes.store_inner_slopes.ensures at_store.store.ensures
 
-pub store-slopes-spec : {M : Type 1} → statement M
-store-slopes-spec =
+pub store_slopes_spec : {M : Type 1} → statement M
+store_slopes_spec =
     tie.close
     (tie.spec
     (λ c. search rules)
@@ -71,8 +71,8 @@ store-slopes-spec =
     (λ c. search rules)
     (λ c κs. search rules)
     (λ c κs. search rules)
-    mul-store
-    add-store
-    store-requires
+    mul_store
+    add_store
+    store_requires
     (λ c. search rules)
     returns)

@@ -3,7 +3,7 @@
 use native.Mathlib.Omega.{arith}
 use Prim.Native.Nat.{◌-◌}
 use lib.ListN.{length-set}
-use Rattle.tensor_plan.proofs.SecondTurns.{ForthTurn, forth-first, forth-next, forth-last}
+use Rattle.tensor_plan.proofs.SecondTurns.{ForthTurn, forth_first, forth_next, forth_last}
 use borrow.Author.Rules.{rules}
 use Rattle.tensor_plan.proofs.cycle.second_forth.Statement.{statement}
 use Rattle.tensor_plan.proofs.cycle.second_forth.Tie as tie
@@ -14,41 +14,41 @@ invariant-loop w₀ l first z₀ k₀ w z k = ForthTurn w₀ w l z₀ z k
 abbrev decreases-loop : tie.decreases-loop
 decreases-loop w₀ l first z₀ k₀ w z k = l - k
 
-loop-holds : tie.Need-loop-init invariant-loop decreases-loop
-loop-holds c = forth-first _ _ _ c.requires.0 c.requires.1
+loop_holds : tie.Need-loop-init invariant-loop decreases-loop
+loop_holds c = forth_first _ _ _ c.requires.0 c.requires.1
 
-slice-read-z : tie.Need-slice-read-z invariant-loop decreases-loop
-slice-read-z c = simp length-set (omega arith)
+slice_read_z : tie.Need-slice-read-z invariant-loop decreases-loop
+slice_read_z c = simp length-set (omega arith)
 
-slice-read-z-2 : tie.Need-slice-read-z-2 invariant-loop decreases-loop
-slice-read-z-2 c = simp length-set (omega arith)
+slice_read_z_2 : tie.Need-slice-read-z-2 invariant-loop decreases-loop
+slice_read_z_2 c = simp length-set (omega arith)
 
-loop-again : tie.Need-loop-preserved invariant-loop decreases-loop
-loop-again c = forth-next _ _ _ _ _ _ c.before.before.before.loop.invariant c.before.before.loop-test.true
+loop_again : tie.Need-loop-preserved invariant-loop decreases-loop
+loop_again c = forth_next _ _ _ _ _ _ c.before.before.before.loop.invariant c.before.before.loop_test.true
 
 returns : tie.Need-returns invariant-loop decreases-loop
-returns c = forth-last _ _ _ _ _ _ c.before.loop.invariant c.loop-test.false
+returns c = forth_last _ _ _ _ _ _ c.before.loop.invariant c.loop_test.false
 
-pub second-forth-spec : {M : Type 1} → statement M
-second-forth-spec =
+pub second_forth_spec : {M : Type 1} → statement M
+second_forth_spec =
     tie.close
     (tie.spec
     invariant-loop
     decreases-loop
-    loop-holds
+    loop_holds
     (λ c. search rules)
     (λ c. search rules)
     (λ c. search rules)
     (λ c. search rules)
     (λ c. search rules)
-    slice-read-z
+    slice_read_z
     (λ c. search rules)
     (λ c. search rules)
     (λ c. search rules)
-    slice-read-z-2
+    slice_read_z_2
     (λ c. search rules)
     (λ c. search rules)
-    loop-again
+    loop_again
     (λ c. search rules)
     (λ c. search rules)
     (λ c. search rules)

@@ -3,7 +3,7 @@
 use native.Mathlib.Omega.{arith}
 use Prim.Native.Nat.{◌-◌}
 use lib.ListN.{length-set}
-use Rattle.tensor_plan.proofs.DivisorTurns.{Turn, turn-first, turn-next, turn_last}
+use Rattle.tensor_plan.proofs.DivisorTurns.{Turn, turn_first, turn_next, turn_last}
 use borrow.Author.Rules.{rules}
 use Rattle.tensor_plan.proofs.ends.divisors.Statement.{statement}
 use Rattle.tensor_plan.proofs.ends.divisors.Tie as tie
@@ -14,54 +14,54 @@ invariant-loop w₀ low last d₀ c₀ k₀ w d c k = Turn w₀ w low last d₀ 
 abbrev decreases-loop : tie.decreases-loop
 decreases-loop w₀ low last d₀ c₀ k₀ w d c k = last - k
 
-loop-holds : tie.Need-loop-init invariant-loop decreases-loop
-loop-holds c = turn-first _ _ _ _ _ c.before.requires.0 c.before.requires.1
+loop_holds : tie.Need-loop-init invariant-loop decreases-loop
+loop_holds c = turn_first _ _ _ _ _ c.before.requires.0 c.before.requires.1
 
-slice-write-w-2 : tie.Need-slice-write-w-2 invariant-loop decreases-loop
-slice-write-w-2 c = simp length-set (omega arith)
+slice_write_w_2 : tie.Need-slice-write-w-2 invariant-loop decreases-loop
+slice_write_w_2 c = simp length-set (omega arith)
 
-slice-read-h : tie.Need-slice-read-h invariant-loop decreases-loop
-slice-read-h c = simp length-set (omega arith)
+slice_read_h : tie.Need-slice-read-h invariant-loop decreases-loop
+slice_read_h c = simp length-set (omega arith)
 
-slice-read-next : tie.Need-slice-read-next invariant-loop decreases-loop
-slice-read-next c = simp length-set (omega arith)
+slice_read_next : tie.Need-slice-read-next invariant-loop decreases-loop
+slice_read_next c = simp length-set (omega arith)
 
-loop-again : tie.Need-loop-preserved invariant-loop decreases-loop
-loop-again c = turn-next _ _ _ _ _ _ _ _ _ c.before.before.before.loop.invariant c.before.before.loop-test.true
+loop_again : tie.Need-loop-preserved invariant-loop decreases-loop
+loop_again c = turn_next _ _ _ _ _ _ _ _ _ c.before.before.before.loop.invariant c.before.before.loop_test.true
 
-slice-write-w-4 : tie.Need-slice-write-w-4 invariant-loop decreases-loop
-slice-write-w-4 c = simp length-set (omega arith)
+slice_write_w_4 : tie.Need-slice-write-w-4 invariant-loop decreases-loop
+slice_write_w_4 c = simp length-set (omega arith)
 
 returns : tie.Need-returns invariant-loop decreases-loop
-returns c = turn_last _ _ _ _ _ _ _ _ _ c.before.loop.invariant c.loop-test.false
+returns c = turn_last _ _ _ _ _ _ _ _ _ c.before.loop.invariant c.loop_test.false
 
-pub divisors-spec : {M : Type 1} → statement M
-divisors-spec =
+pub divisors_spec : {M : Type 1} → statement M
+divisors_spec =
     tie.close
     (tie.spec
     invariant-loop
     decreases-loop
-    loop-holds
+    loop_holds
     (λ c. search rules)
     (λ c. search rules)
     (λ c. search rules)
     (λ c. search rules)
     (λ c. search rules)
     (λ c. search rules)
-    slice-write-w-2
+    slice_write_w_2
     (λ c. search rules)
-    slice-read-h
-    (λ c. search rules)
-    (λ c. search rules)
-    slice-read-next
+    slice_read_h
     (λ c. search rules)
     (λ c. search rules)
-    loop-again
+    slice_read_next
     (λ c. search rules)
     (λ c. search rules)
+    loop_again
     (λ c. search rules)
     (λ c. search rules)
     (λ c. search rules)
-    slice-write-w-4
+    (λ c. search rules)
+    (λ c. search rules)
+    slice_write_w_4
     (λ c. search rules)
     returns)

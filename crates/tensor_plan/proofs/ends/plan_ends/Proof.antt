@@ -4,53 +4,53 @@ use native.Mathlib.Omega.{arith}
 use lib.ListN.{length-set}
 use mathlib.Core.Path.{ap, ◌∙◌}
 use Rattle.axis_rows.specs.declared.EndRow.{EndRow}
-use Rattle.tensor_plan.proofs.PlanOfEnds.{plan-made}
+use Rattle.tensor_plan.proofs.PlanOfEnds.{plan_made}
 use borrow.Author.Rules.{rules}
 use Rattle.tensor_plan.proofs.ends.plan_ends.Statement.{statement}
 use Rattle.tensor_plan.proofs.ends.plan_ends.Tie as tie
 
-sub-last-2 : tie.Need-overflow-sub-last-2
-sub-last-2 c = omega (arith, ap (λ (r : EndRow). r.dropped) c.before.upper-row.ensures)
+sub_last_2 : tie.Need-overflow-sub-last-2
+sub_last_2 c = omega (arith, ap (λ (r : EndRow). r.dropped) c.before.upper_row.ensures)
 
-divisors-requires : tie.Need-divisors-requires
-divisors-requires c κs =
-    let at-upper-row = c.before.before in
-    let at-lower-row = at-upper-row.before in
-    let at-steps = at-lower-row.before.before.before in
-    let e = ap (λ (r : EndRow). r.dropped) at-lower-row.lower-row.ensures in
-    let f = ap (λ (r : EndRow). r.dropped) at-upper-row.upper-row.ensures in
-    (record { room = omega (arith, at-steps.steps.ensures.same_length); few = omega arith }, omega arith)
+divisors_requires : tie.Need-divisors-requires
+divisors_requires c κs =
+    let at_upper_row = c.before.before in
+    let at_lower_row = at_upper_row.before in
+    let at_steps = at_lower_row.before.before.before in
+    let e = ap (λ (r : EndRow). r.dropped) at_lower_row.lower_row.ensures in
+    let f = ap (λ (r : EndRow). r.dropped) at_upper_row.upper_row.ensures in
+    (record { room = omega (arith, at_steps.steps.ensures.same_length); few = omega arith }, omega arith)
 
-sub-w : tie.Need-overflow-sub-w
-sub-w c = omega (arith, ap (λ (r : EndRow). r.dropped) c.before.before.before.before.before.upper-row.ensures)
+sub_w : tie.Need-overflow-sub-w
+sub_w c = omega (arith, ap (λ (r : EndRow). r.dropped) c.before.before.before.before.before.upper_row.ensures)
 
 same_length : tie.Need-same-length
 same_length c =
-    let at-divisors = c.before.before.before.before in
-    let at-steps = at-divisors.before.before.before.before.before.before.before in
-    simp length-set (at-divisors.divisors.ensures.same_length ∙ at-steps.steps.ensures.same_length)
+    let at_divisors = c.before.before.before.before in
+    let at_steps = at_divisors.before.before.before.before.before.before.before in
+    simp length-set (at_divisors.divisors.ensures.same_length ∙ at_steps.steps.ensures.same_length)
 
 returns : tie.Need-returns
 returns c =
-    let at-divisors = c.before.before.before.before in
-    let at-upper-row = at-divisors.before.before.before in
-    let at-lower-row = at-upper-row.before in
-    let at-steps = at-lower-row.before.before.before in
-    let pre = at-steps.before.before.before.before.requires in
-    plan-made _ _ _ _ _ _ _ _ (pre) at-steps.steps.ensures at-lower-row.lower-row.ensures at-upper-row.upper-row.ensures
-    at-divisors.divisors.ensures
+    let at_divisors = c.before.before.before.before in
+    let at_upper_row = at_divisors.before.before.before in
+    let at_lower_row = at_upper_row.before in
+    let at_steps = at_lower_row.before.before.before in
+    let pre = at_steps.before.before.before.before.requires in
+    plan_made _ _ _ _ _ _ _ _ (pre) at_steps.steps.ensures at_lower_row.lower_row.ensures at_upper_row.upper_row.ensures
+    at_divisors.divisors.ensures
 
-pub plan-ends-spec : {M : Type 1} → statement M
-plan-ends-spec =
+pub plan_ends_spec : {M : Type 1} → statement M
+plan_ends_spec =
     tie.close
     (tie.spec
     (λ c κs. search rules)
     (λ c κs. search rules)
     (λ c κs. search rules)
     (λ c. search rules)
-    sub-last-2
-    divisors-requires
-    sub-w
+    sub_last_2
+    divisors_requires
+    sub_w
     (λ c. search rules)
     (λ c. search rules)
     (λ c. search rules)

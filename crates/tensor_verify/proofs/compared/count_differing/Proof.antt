@@ -4,60 +4,60 @@ use mathlib.Core.Path.{◌≡◌, ap, ◌∙◌}
 use native.Mathlib.Omega.{arith}
 use borrow.Author.Rules.{rules}
 use lib.ListN.{length}
-use Rattle.tensor_verify.specs.Verify.{count-that}
+use Rattle.tensor_verify.specs.Verify.{count_that}
 use Rattle.tensor_verify.specs.Compared.{differs_at}
-use Rattle.tensor_verify.proofs.Numbers.{count_none, count-more, count_fits, ours-finite, others-finite}
+use Rattle.tensor_verify.proofs.Numbers.{count_none, count_more, count_fits, ours_finite, others_finite}
 use Rattle.tensor_verify.proofs.compared.count_differing.Statement.{statement}
 use Rattle.tensor_verify.proofs.compared.count_differing.Tie as tie
 
 abbrev invariant-loop : tie.invariant-loop
-invariant-loop ours others count₀ i₀ count i = (count ≡ count-that (differs_at ours others) i) × (i ≤ length ours)
+invariant-loop ours others count₀ i₀ count i = (count ≡ count_that (differs_at ours others) i) × (i ≤ length ours)
 
 abbrev decreases-loop : tie.decreases-loop
 decreases-loop ours others count₀ i₀ count i = length ours - i
 
-loop-holds : tie.Need-loop-init invariant-loop decreases-loop
-loop-holds c = (count_none _, omega arith)
+loop_holds : tie.Need-loop-init invariant-loop decreases-loop
+loop_holds c = (count_none _, omega arith)
 
-shared-slice-read-one-if-differs-2 : tie.Need-shared-slice-read-one-if-differs-2 invariant-loop decreases-loop
-shared-slice-read-one-if-differs-2 c =
+shared_slice_read_one_if_differs_2 : tie.Need-shared-slice-read-one-if-differs-2 invariant-loop decreases-loop
+shared_slice_read_one_if_differs_2 c =
     let start = c.before.before.before.before.before.before in omega (arith, start.requires.same_length)
 
-one-if-differs-requires : tie.Need-one-if-differs-requires invariant-loop decreases-loop
-one-if-differs-requires c κs =
+one_if_differs_requires : tie.Need-one-if-differs-requires invariant-loop decreases-loop
+one_if_differs_requires c κs =
     let start = c.before.before.before.before.before.before in
-    (ours-finite _ _ start.requires _ (omega arith), others-finite _ _ start.requires _ (omega arith))
+    (ours_finite _ _ start.requires _ (omega arith), others_finite _ _ start.requires _ (omega arith))
 
-add-count : tie.Need-overflow-add-count invariant-loop decreases-loop
-add-count c =
+add_count : tie.Need-overflow-add-count invariant-loop decreases-loop
+add_count c =
     let inv = c.before.before.before.before.loop.invariant in
-    omega (arith, count_fits _ _ _ _ inv.0 c.one-if-differs.ensures)
+    omega (arith, count_fits _ _ _ _ inv.0 c.one_if_differs.ensures)
 
-loop-again : tie.Need-loop-preserved invariant-loop decreases-loop
-loop-again c =
+loop_again : tie.Need-loop-preserved invariant-loop decreases-loop
+loop_again c =
     let inv = c.before.before.before.before.loop.invariant in
-    (count-more _ _ _ _ inv.0 c.one-if-differs.ensures, omega arith)
+    (count_more _ _ _ _ inv.0 c.one_if_differs.ensures, omega arith)
 
 returns : tie.Need-returns invariant-loop decreases-loop
 returns c =
     let inv = c.before.loop.invariant in
     let all : c.before.loop.i ≡ length c.before.before.before.before.args.ours.now = omega (arith, inv.1) in
-    inv.0 ∙ ap (count-that _) all
+    inv.0 ∙ ap (count_that _) all
 
-pub count-differing-spec : {M : Type 1} → statement M
-count-differing-spec =
+pub count_differing_spec : {M : Type 1} → statement M
+count_differing_spec =
     tie.close
     (tie.spec
     invariant-loop
     decreases-loop
-    loop-holds
+    loop_holds
     (λ c. search rules)
     (λ c. search rules)
     (λ c. search rules)
-    shared-slice-read-one-if-differs-2
-    one-if-differs-requires
-    add-count
+    shared_slice_read_one_if_differs_2
+    one_if_differs_requires
+    add_count
     (λ c. search rules)
     (λ c. search rules)
-    loop-again
+    loop_again
     returns)

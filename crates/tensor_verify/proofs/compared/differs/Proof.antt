@@ -8,7 +8,7 @@ use Rattle.tensor_verify.proofs.compared.differs.Statement.{statement}
 use Rattle.tensor_verify.proofs.compared.differs.Tie as tie
 
 returns : tie.Need-returns
-returns c = ap₂ (λ (a b : ℕ). not (eqb a b)) c.before.pattern-of.ensures c.pattern-of2.ensures
+returns c = ap₂ (λ (a b : ℕ). not (eqb a b)) c.before.pattern_of.ensures c.pattern_of2.ensures
 
-pub differs-spec : {M : Type 1} → statement M
-differs-spec = tie.close (tie.spec (λ c κs. search rules) (λ c κs. search rules) returns)
+pub differs_spec : {M : Type 1} → statement M
+differs_spec = tie.close (tie.spec (λ c κs. search rules) (λ c κs. search rules) returns)

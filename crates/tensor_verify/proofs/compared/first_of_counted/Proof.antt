@@ -8,13 +8,13 @@ use Rattle.tensor_verify.proofs.compared.first_of_counted.Tie as tie
 returns : tie.Need-returns
 returns c = sym (none_first _ _ (sym c.before.before.before.requires.1 ∙ c.if1.true))
 
-first-differing-requires : tie.Need-first-differing-requires
-first-differing-requires c κs = c.before.before.before.requires.0
+first_differing_requires : tie.Need-first-differing-requires
+first_differing_requires c κs = c.before.before.before.requires.0
 
-pub first-of-counted-spec : {M : Type 1} → statement M
-first-of-counted-spec =
+pub first_of_counted_spec : {M : Type 1} → statement M
+first_of_counted_spec =
     tie.close
     (tie.spec
     returns
-    first-differing-requires
+    first_differing_requires
     (λ c. search rules))

@@ -12,5 +12,5 @@ returns c = sym (ap (λ (b : Bool). cond {A = ℕ} b 1 0) (sym c.before.differs.
 returns-2 : tie.Need-returns-2
 returns-2 c = sym (ap (λ (b : Bool). cond {A = ℕ} b 1 0) (sym c.before.differs.ensures ∙ c.if1.false))
 
-pub one-if-differs-spec : {M : Type 1} → statement M
-one-if-differs-spec = tie.close (tie.spec (λ c κs. search rules) returns returns-2)
+pub one_if_differs_spec : {M : Type 1} → statement M
+one_if_differs_spec = tie.close (tie.spec (λ c κs. search rules) returns returns-2)

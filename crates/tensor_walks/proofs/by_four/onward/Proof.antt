@@ -2,24 +2,24 @@
 use native.Mathlib.Omega.{arith}
 use mathlib.Core.Path.{refl}
 use borrow.Author.Rules.{rules}
-use Rattle.tensor_walks.proofs.FourTurns.{on-to-next, behind-last}
+use Rattle.tensor_walks.proofs.FourTurns.{on_to_next, behind_last}
 use Rattle.tensor_walks.proofs.by_four.onward.Statement.{statement}
 use Rattle.tensor_walks.proofs.by_four.onward.Tie as tie
 
-next-requires : tie.Need-next-requires
-next-requires c κs =
+next_requires : tie.Need-next-requires
+next_requires c κs =
     let pre = c.before.before.before.requires in
     ((pre.0.standing (omega (arith, c.if1.true))).0, pre.1, omega (arith, c.if1.true), pre.3)
 
 returns : tie.Need-returns
 returns c =
     let tested = c.before in
-    on-to-next _ _ tested.before.before.before.requires.0 (omega (arith, tested.if1.true)) _ c.next.ensures
+    on_to_next _ _ tested.before.before.before.requires.0 (omega (arith, tested.if1.true)) _ c.next.ensures
 
 returns-3 : tie.Need-returns-3
 returns-3 c =
     let tested = c.before.before in
-    behind-last _ _ tested.before.before.before.requires.0 (omega (arith, tested.if1.false, c.if2.false)) _ refl refl
+    behind_last _ _ tested.before.before.before.requires.0 (omega (arith, tested.if1.false, c.if2.false)) _ refl refl
 
-pub onward-spec : {M : Type 1} → statement M
-onward-spec = tie.close (tie.spec (λ c. search rules) next-requires returns (λ c. search rules) returns-3)
+pub onward_spec : {M : Type 1} → statement M
+onward_spec = tie.close (tie.spec (λ c. search rules) next_requires returns (λ c. search rules) returns-3)

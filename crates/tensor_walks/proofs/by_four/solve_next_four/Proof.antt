@@ -1,69 +1,69 @@
 -- Four lanes of a walk: the cursor goes on past each, and where fewer are left the last stands in and is not counted.
 use native.Mathlib.Omega.{arith}
 use borrow.Author.Rules.{rules}
-use Rattle.tensor_walks.proofs.FourTurns.{at-lane, onward-given, group-given, starts, four-solved}
+use Rattle.tensor_walks.proofs.FourTurns.{at_lane, onward_given, group_given, starts, four_solved}
 use Rattle.tensor_walks.proofs.by_four.solve_next_four.Statement.{statement}
 use Rattle.tensor_walks.proofs.by_four.solve_next_four.Tie as tie
 
-onward-requires : tie.Need-onward-requires
-onward-requires c κs = let pre = c.before.before.requires in onward-given _ _ _ _ _ _ pre.0 _ (at-lane _ _ pre.2 pre.3)
+onward_requires : tie.Need-onward-requires
+onward_requires c κs = let pre = c.before.before.requires in onward_given _ _ _ _ _ _ pre.0 _ (at_lane _ _ pre.2 pre.3)
 
-onward-requires-2 : tie.Need-onward-requires-2
-onward-requires-2 c κs =
+onward_requires_2 : tie.Need-onward-requires-2
+onward_requires_2 c κs =
     let moved = c.onward.ensures in
     let pre = c.before.before.before.requires in
-    onward-given _ _ _ _ _ _ pre.0 _ moved.walking
+    onward_given _ _ _ _ _ _ pre.0 _ moved.walking
 
-onward-requires-3 : tie.Need-onward-requires-3
-onward-requires-3 c κs =
+onward_requires_3 : tie.Need-onward-requires-3
+onward_requires_3 c κs =
     let moved = c.onward2.ensures in
     let pre = c.before.before.before.before.requires in
-    onward-given _ _ _ _ _ _ pre.0 _ moved.walking
+    onward_given _ _ _ _ _ _ pre.0 _ moved.walking
 
-add-t13 : tie.Need-overflow-add-t13
-add-t13 c =
+add_t13 : tie.Need-overflow-add-t13
+add_t13 c =
     let start = c.before.before.before.before.before.before in
     let pre = start.requires in
-    omega (arith, (onward-given _ _ _ _ _ _ pre.0 _ (at-lane _ _ pre.2 pre.3)).3)
+    omega (arith, (onward_given _ _ _ _ _ _ pre.0 _ (at_lane _ _ pre.2 pre.3)).3)
 
-add-t14 : tie.Need-overflow-add-t14
-add-t14 c =
+add_t14 : tie.Need-overflow-add-t14
+add_t14 c =
     let at_Onward = c.before.before.before.before in
     let start = at_Onward.before.before.before in
     let moved = at_Onward.onward.ensures in
     let pre = start.requires in
-    omega (arith, (onward-given _ _ _ _ _ _ pre.0 _ moved.walking).3)
+    omega (arith, (onward_given _ _ _ _ _ _ pre.0 _ moved.walking).3)
 
-add-t15 : tie.Need-overflow-add-t15
-add-t15 c =
-    let at-onward2 = c.before.before.before.before in
-    let start = at-onward2.before.before.before.before in
-    let moved = at-onward2.onward2.ensures in
+add_t15 : tie.Need-overflow-add-t15
+add_t15 c =
+    let at_onward2 = c.before.before.before.before in
+    let start = at_onward2.before.before.before.before in
+    let moved = at_onward2.onward2.ensures in
     let pre = start.requires in
-    omega (arith, (onward-given _ _ _ _ _ _ pre.0 _ moved.walking).3)
+    omega (arith, (onward_given _ _ _ _ _ _ pre.0 _ moved.walking).3)
 
-add-t16 : tie.Need-overflow-add-t16
-add-t16 c =
-    let at-onward3 = c.before.before.before.before in
-    let start = at-onward3.before.before.before.before.before in
-    let moved = at-onward3.onward3.ensures in
+add_t16 : tie.Need-overflow-add-t16
+add_t16 c =
+    let at_onward3 = c.before.before.before.before in
+    let start = at_onward3.before.before.before.before.before in
+    let moved = at_onward3.onward3.ensures in
     let pre = start.requires in
-    omega (arith, (onward-given _ _ _ _ _ _ pre.0 _ moved.walking).3)
+    omega (arith, (onward_given _ _ _ _ _ _ pre.0 _ moved.walking).3)
 
-solve-four-requires : tie.Need-solve-four-requires
-solve-four-requires c κs =
+solve_four_requires : tie.Need-solve-four-requires
+solve_four_requires c κs =
     let third = c.before.before.before.before.before in
     let second = third.before in
     let first = second.before in
     let pre = first.before.before.before.requires in
-    group-given _ _ _ _ _ _ _ pre.0 _ _
+    group_given _ _ _ _ _ _ _ pre.0 _ _
     (starts _ _ _ _ _ pre.2 pre.3 first.onward.ensures second.onward2.ensures third.onward3.ensures) pre.1
 
-onward-requires-4 : tie.Need-onward-requires-4
-onward-requires-4 c κs =
+onward_requires_4 : tie.Need-onward-requires-4
+onward_requires_4 c κs =
     let third = c.before.before.before.before.before.before.before.before in
     let pre = third.before.before.before.before.before.requires in
-    onward-given _ _ _ _ _ _ pre.0 _ third.onward3.ensures.walking
+    onward_given _ _ _ _ _ _ pre.0 _ third.onward3.ensures.walking
 
 returns : tie.Need-returns
 returns c =
@@ -72,21 +72,21 @@ returns c =
     let second = third.before in
     let first = second.before in
     let start = first.before.before.before in
-    four-solved _ _ _ _ _ start.requires.2 start.requires.3 first.onward.ensures second.onward2.ensures third.onward3.ensures
-    _ c.onward4.ensures _ _ _ _ start.args.plan _ _ start.requires.0 solved.solve-four.ensures
+    four_solved _ _ _ _ _ start.requires.2 start.requires.3 first.onward.ensures second.onward2.ensures third.onward3.ensures
+    _ c.onward4.ensures _ _ _ _ start.args.plan _ _ start.requires.0 solved.solve_four.ensures
 
-pub solve-next-four-spec : {M : Type 1} → statement M
-solve-next-four-spec =
+pub solve_next_four_spec : {M : Type 1} → statement M
+solve_next_four_spec =
     tie.close
     (tie.spec
-    onward-requires
-    onward-requires-2
-    onward-requires-3
-    add-t13
-    add-t14
-    add-t15
-    add-t16
-    solve-four-requires
-    onward-requires-4
+    onward_requires
+    onward_requires_2
+    onward_requires_3
+    add_t13
+    add_t14
+    add_t15
+    add_t16
+    solve_four_requires
+    onward_requires_4
     (λ c. search rules)
     returns)

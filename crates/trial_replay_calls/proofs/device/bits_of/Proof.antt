@@ -7,11 +7,11 @@ use borrow.Author.Rules.{rules}
 use Rattle.trial_replay_calls.proofs.device.bits_of.Statement.{statement}
 use Rattle.trial_replay_calls.proofs.device.bits_of.Tie as tie
 
-sub-result : tie.Need-overflow-sub-result
-sub-result c =
+sub_result : tie.Need-overflow-sub-result
+sub_result c =
     let s = c.before.before in
     let most = nat_abs-le s.args.number s.ranges.number.sfits in
     rw (c.before.magnitude.ensures, to_z-of_z w32 s.args.number s.ranges.number) (omega (arith, most))
 
-pub bits-of-spec : {M : Type 1} → statement M
-bits-of-spec = tie.close (tie.spec (λ c κs. search rules) sub-result (λ c. search rules) (λ c. search rules))
+pub bits_of_spec : {M : Type 1} → statement M
+bits_of_spec = tie.close (tie.spec (λ c κs. search rules) sub_result (λ c. search rules) (λ c. search rules))

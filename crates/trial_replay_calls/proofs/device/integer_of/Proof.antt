@@ -6,18 +6,18 @@ use borrow.Author.Rules.{rules}
 use Rattle.trial_replay_calls.proofs.device.integer_of.Statement.{statement}
 use Rattle.trial_replay_calls.proofs.device.integer_of.Tie as tie
 
-sub-result : tie.Need-overflow-sub-result
-sub-result c =
-    let v = c.low-bits2 in
+sub_result : tie.Need-overflow-sub-result
+sub_result c =
+    let v = c.low_bits2 in
     rw (to_z-of_z w32 v.result (record { sfits = v.type-inv })) (one_less_fits v.result (record { sfits = v.type-inv }))
 
-pub integer-of-spec : {M : Type 1} → statement M
-integer-of-spec =
+pub integer_of_spec : {M : Type 1} → statement M
+integer_of_spec =
     tie.close
     (tie.spec
     (λ c κs. search rules)
     (λ c. search rules)
     (λ c κs. search rules)
-    sub-result
+    sub_result
     (λ c. search rules)
     (λ c. search rules))

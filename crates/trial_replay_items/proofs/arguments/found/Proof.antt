@@ -10,8 +10,8 @@ invariant-loop list wanted letters argument₀ k₀ argument k = k ≤ 12
 abbrev decreases-loop : tie.decreases-loop
 decreases-loop list wanted letters argument₀ k₀ argument k = 12 - k
 
-pub found-spec : {M : Type 1} → statement M
-found-spec =
+pub found_spec : {M : Type 1} → statement M
+found_spec =
     tie.close
     (tie.spec
     invariant-loop

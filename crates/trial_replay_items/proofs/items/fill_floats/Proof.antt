@@ -10,14 +10,14 @@ invariant-loop list place to₀ items₀ k₀ to items k = (k ≤ length to) × 
 abbrev decreases-loop : tie.decreases-loop
 decreases-loop list place to₀ items₀ k₀ to items k = length to - k
 
-loop-less : tie.Need-loop-smaller invariant-loop decreases-loop
-loop-less c = simp length-set (omega arith)
+loop_less : tie.Need-loop-smaller invariant-loop decreases-loop
+loop_less c = simp length-set (omega arith)
 
-loop-again : tie.Need-loop-preserved invariant-loop decreases-loop
-loop-again c = (simp length-set (omega arith), simp length-set (search rules))
+loop_again : tie.Need-loop-preserved invariant-loop decreases-loop
+loop_again c = (simp length-set (omega arith), simp length-set (search rules))
 
-pub fill-floats-spec : {M : Type 1} → statement M
-fill-floats-spec =
+pub fill_floats_spec : {M : Type 1} → statement M
+fill_floats_spec =
     tie.close
     (tie.spec
     invariant-loop
@@ -29,7 +29,7 @@ fill-floats-spec =
     (λ c. search rules)
     (λ c κs. search rules)
     (λ c. search rules)
-    loop-less
-    loop-again
+    loop_less
+    loop_again
     (λ c. search rules)
     (λ c. search rules))

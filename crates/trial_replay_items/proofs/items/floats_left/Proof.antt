@@ -10,8 +10,8 @@ invariant-loop list given place s items₀ k₀ items k = k ≤ length s
 abbrev decreases-loop : tie.decreases-loop
 decreases-loop list given place s items₀ k₀ items k = length s - k
 
-pub floats-left-spec : {M : Type 1} → statement M
-floats-left-spec =
+pub floats_left_spec : {M : Type 1} → statement M
+floats_left_spec =
     tie.close
     (tie.spec
     invariant-loop

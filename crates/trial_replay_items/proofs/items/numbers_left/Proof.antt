@@ -10,8 +10,8 @@ invariant-loop list given place s items₀ k₀ items k = k ≤ length s
 abbrev decreases-loop : tie.decreases-loop
 decreases-loop list given place s items₀ k₀ items k = length s - k
 
-pub numbers-left-spec : {M : Type 1} → statement M
-numbers-left-spec =
+pub numbers_left_spec : {M : Type 1} → statement M
+numbers_left_spec =
     tie.close
     (tie.spec
     invariant-loop

@@ -7,8 +7,8 @@ use Rattle.trial_replay_items.proofs.words.half_word.Tie as tie
 returns : tie.Need-returns
 returns c = (rw (half _ _) (cc), search rules)
 
-pub half-word-spec : {M : Type 1} → statement M
-half-word-spec =
+pub half_word_spec : {M : Type 1} → statement M
+half_word_spec =
     tie.close
     (tie.spec
     (λ c. search rules)

@@ -13,8 +13,8 @@ returns-2 : tie.Need-returns-2
 unfolding word_at
 returns-2 c = simp (le-ltb _ _ c.if1.false)
 
-pub word-spec : {M : Type 1} → statement M
-word-spec =
+pub word_spec : {M : Type 1} → statement M
+word_spec =
     tie.close
     (tie.spec
     (λ c. search rules)

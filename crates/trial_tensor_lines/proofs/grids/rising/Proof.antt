@@ -14,11 +14,11 @@ invariant-loop knots₀ first knot₀ i₀ knots knot i = (i ≤ length knots₀
 abbrev decreases-loop : tie.decreases-loop
 decreases-loop knots₀ first knot₀ i₀ knots knot i = length knots₀ - i
 
-loop-again : tie.Need-loop-preserved invariant-loop decreases-loop
-loop-again c = (omega arith, simp length-set c.before.before.loop.invariant.1)
+loop_again : tie.Need-loop-preserved invariant-loop decreases-loop
+loop_again c = (omega arith, simp length-set c.before.before.loop.invariant.1)
 
-pub rising-spec : {M : Type 1} → statement M
-rising-spec =
+pub rising_spec : {M : Type 1} → statement M
+rising_spec =
     tie.close
     (tie.spec
     invariant-loop
@@ -28,6 +28,6 @@ rising-spec =
     (λ c. search rules)
     (λ c. search rules)
     (λ c. search rules)
-    loop-again
+    loop_again
     (λ c. search rules)
     (λ c. search rules))

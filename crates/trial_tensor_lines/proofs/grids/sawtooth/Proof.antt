@@ -13,11 +13,11 @@ invariant-loop numbers₀ number₀ i₀ numbers number i = (i ≤ length number
 abbrev decreases-loop : tie.decreases-loop
 decreases-loop numbers₀ number₀ i₀ numbers number i = length numbers₀ - i
 
-loop-again : tie.Need-loop-preserved invariant-loop decreases-loop
-loop-again c = (omega arith, simp length-set c.before.before.loop.invariant.1)
+loop_again : tie.Need-loop-preserved invariant-loop decreases-loop
+loop_again c = (omega arith, simp length-set c.before.before.loop.invariant.1)
 
-pub sawtooth-spec : {M : Type 1} → statement M
-sawtooth-spec =
+pub sawtooth_spec : {M : Type 1} → statement M
+sawtooth_spec =
     tie.close
     (tie.spec
     invariant-loop
@@ -28,6 +28,6 @@ sawtooth-spec =
     (λ c κs. search rules)
     (λ c. search rules)
     (λ c. search rules)
-    loop-again
+    loop_again
     (λ c. search rules)
     (λ c. search rules))
