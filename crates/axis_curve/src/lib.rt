@@ -1,4 +1,7 @@
 // The public calls on one axis: the moments of a curve, its value at a point, and its slopes at the knots.
+
+#![tactic(auto)]
+
 ghost use Rattle.std.specs.Prelude.{◌≡◌, ◌≤◌, length};
 ghost use Rattle.rules.specs.Ends.{fewest_points};
 ghost use Rattle.rules.specs.Calls.{MomentsPromise, CurvePromise, SlopesPromise};

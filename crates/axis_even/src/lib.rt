@@ -1,5 +1,8 @@
 // Axes whose steps are equal within a tolerance, and the cell of a point there by one division, as the Rust has both. None of these is a
 // public call: `validate_uniform_grid_epsilon` and `locate_lower_index_uniform` require two points or more.
+
+#![tactic(auto)]
+
 ghost use Rattle.std.specs.Prelude.{◌≡◌, ◌≤◌, false, ◌||◌, length};
 ghost use Rattle.std.specs.Float.Ieee.{lt};
 ghost use Rattle.rules.specs.Numbers.{◌⊖◌};

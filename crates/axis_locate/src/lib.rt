@@ -1,5 +1,8 @@
 // Where a point lies among the knots of an axis, as the Rust's `locate_lower_index` finds it. None of these is a public call:
 // `locate_lower_index` requires 2 to 256 knots.
+
+#![tactic(auto)]
+
 ghost use Rattle.std.specs.Prelude.{◌≡◌, ◌+◌, ◌≤◌, ◌<◌, length};
 ghost use Rattle.rules.specs.Search.{one_back, held};
 ghost use Rattle.axis_locate.specs.CellFound.{Located};

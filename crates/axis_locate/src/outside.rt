@@ -9,7 +9,7 @@ use grid_codes::modes::{is_hold, is_refuse};
 use rules::Side;
 
 // The coordinate at which a query works its value out on an axis, and whether the mode refuses it.
-#[derive(Drop)]
+#[derive(Clone, Copy)]
 pub struct PlacedPoint {
     pub coordinate: f64,
     pub refused: bool,

@@ -1,5 +1,8 @@
 // The moments of a lane whose samples stand in front of the scratch: its rows solved, and the dropped moments. They go to the row of
 // moments. The steps of `compute_m` require a scratch of 2,048 numbers, 2 to 256 knots, and the fewest points of the ends.
+
+#![tactic(auto)]
+
 ghost use Rattle.std.specs.Prelude.{◌+◌, ◌-◌, ◌≤◌, length};
 ghost use Rattle.rules.specs.Ends.{dropped, fewest_points};
 ghost use Rattle.rules.specs.Sizes.{scratch_of_rows};

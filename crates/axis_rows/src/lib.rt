@@ -1,5 +1,8 @@
 // The rows of the system of moments, as the Rust's `compute_m` writes them: those of the ends and those between them. None of these is a
 // public call: what reads knots and samples requires that they are there, what writes rows that they lie in a scratch of 2,048 numbers.
+
+#![tactic(auto)]
+
 ghost use Rattle.std.specs.Prelude.{◌≡◌, ◌+◌, ◌<◌, ◌≤◌, length};
 ghost use Rattle.rules.specs.Ends.{dropped};
 ghost use Rattle.rules.specs.Sizes.{scratch_of_rows};
@@ -19,7 +22,7 @@ use grid_scratch::{DIAG, RHS, SUB_BEFORE, SUP};
 use rules::{End, Row};
 
 // An end's row, and beside it how many unknowns its kind drops: 1 for NotAKnot, whose row stands at the next knot, and 0 for any other.
-#[derive(Drop)]
+#[derive(Clone, Copy)]
 pub struct EndRow {
     pub dropped: usize,
     pub row: Row,

@@ -1,6 +1,9 @@
 // The solves of the Rust, over rows of the scratch. Row k of a solve has sub (k - 1), diag k, sup k and rhs k; the last row is row l. None
 // of these is a public call: each requires a scratch of at least 2,048 numbers and l below 256. Besides, `eliminate`, `substitute` and
 // `thomas` require a place for the result, from row Z on and before the tensor; `diag_mod`, `u_vec` and `cyclic_thomas` require 0 < l.
+
+#![tactic(auto)]
+
 ghost use Rattle.std.specs.Prelude.{◌≡◌, ◌+◌, ◌<◌};
 ghost use Rattle.axis_solve.specs.RowsSolved.{RowsGiven, ResultPlace, Eliminated, Substituted, Solved};
 ghost use Rattle.axis_solve.specs.Cyclic.{DiagMod, UVec, factor_of, Subtracted, CyclicSolved};

@@ -1,6 +1,9 @@
 // Fields of a list of bytes, most significant bit first, from any bit on: a few bits out of one byte or two, the patterns of floats by
 // whole words. None of these is a public call: what is read has to be there, at places that are small numbers. `chunk`, `first_bits` and
 // `raised` require that their bits fit, `least` that neither number is 0.
+
+#![tactic(auto)]
+
 ghost use Rattle.std.specs.Prelude.{◌≡◌, ◌+◌, ◌-◌, ◌*◌, ◌/◌, ◌%◌, ◌^◌, ◌<◌, ◌≤◌, length};
 ghost use Rattle.base_bits.specs.Bits.{field, short, number, numbers, numbers_short};
 ghost use Rattle.base_bits.specs.BitsThere.{Within};

@@ -1,5 +1,8 @@
 // What all programs print by: bytes, words and numbers, put into a lent text at a place. What puts them requires that there is room, and
 // answers the place behind what it has put. None of these is a public call.
+
+#![tactic(auto)]
+
 ghost use Rattle.std.specs.Prelude.{◌≡◌, [], ◌∷◌, ◌+◌, ◌<◌, ◌≤◌, length};
 ghost use Rattle.std.specs.Float.{binary64};
 ghost use Rattle.std.specs.Float.Ieee.{to_bits};

@@ -1,5 +1,8 @@
 // From numbers and plain slices to conditions and the four axes, and back. None of these is a public call: each requires that its slices
 // have their lengths, and what asks about the axes in use that they are at most four. The host's own refusals see to both.
+
+#![tactic(auto)]
+
 ghost use Rattle.std.specs.Prelude.{◌≡◌, ◌+◌, ◌*◌, ◌<◌, ◌≤◌, length, set};
 ghost use Rattle.rules.specs.Outside.{mode_number};
 ghost use Rattle.c_axes.specs.Axes.{

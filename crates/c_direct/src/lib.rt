@@ -1,5 +1,8 @@
 // The direct query as `hullashlar` exports it, over numbers and plain slices. It returns its refusal's number, 0 for none, in the order
 // that c_refusals::own says.
+
+#![tactic(auto)]
+
 ghost use Rattle.c_direct.specs.DirectExports.{DirectQueryExport};
 
 use c_refusals::{own, slots};

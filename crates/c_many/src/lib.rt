@@ -1,5 +1,8 @@
 // The quick query and the direct query of many points as `hullashlar` exports them, over numbers and plain slices. Each returns its
 // refusal's number, and then nothing is written, or 0.
+
+#![tactic(auto)]
+
 ghost use Rattle.c_many.specs.ManyExports.{QuickQueriesExport, DirectQueriesExport};
 
 use query_answer::ways::Way;

@@ -1,5 +1,8 @@
 // The profile of even axes as `hullashlar` exports it, over numbers and plain slices. It returns its refusal's number, 0 for none: the
 // host's own first, and then the call's.
+
+#![tactic(auto)]
+
 ghost use Rattle.std.specs.Prelude.{◌≡◌};
 ghost use Rattle.c_profile.specs.ProfileExports.{in_slot_of_two, even_profile_own_refusal, EvenProfileExport};
 

@@ -1,5 +1,8 @@
 // The calls of queries as `hullashlar` exports them, over numbers and plain slices. Each returns its refusal's number, 0 for none, in the
 // order that c_refusals::own says.
+
+#![tactic(auto)]
+
 ghost use Rattle.c_query.specs.QueryExports.{QueryExport, QuickQueryExport, EvenQueryExport};
 
 use c_refusals::{own, slots};

@@ -1,5 +1,8 @@
 // The calls of steps as `hullashlar` exports them, over numbers and plain slices. Each returns its refusal's number, 0 for none, in the
 // order that own.rt says.
+
+#![tactic(auto)]
+
 ghost use Rattle.c_step.specs.StepExports.{ExactExport, AxisExport, StepExport, SteppedExport};
 
 use c_refusals::slots::{store_count, store_query};

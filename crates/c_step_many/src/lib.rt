@@ -1,5 +1,8 @@
 // The stepped surface at many points as `hullashlar` exports it, over numbers and plain slices. It returns its refusal's number, and then
 // nothing is written, or 0.
+
+#![tactic(auto)]
+
 ghost use Rattle.c_step_many.specs.ManyStepExports.{SteppedManyExport};
 
 use c_step::directions::directions_given;

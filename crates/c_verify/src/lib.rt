@@ -1,5 +1,8 @@
 // The call that looks at a tensor as `hullashlar` exports it, over numbers and plain slices. It returns its refusal's number, 0 for none,
 // in the order that own.rt says.
+
+#![tactic(auto)]
+
 ghost use Rattle.c_verify.specs.VerifyExports.{VerifyExport};
 
 pub mod own; // own.rt: the host's own refusals, before the call's

@@ -1,11 +1,14 @@
 // One cell of a curve in whole numbers, for aids without a float unit. Nothing here knows a float.
+
+#![tactic(auto)]
+
 ghost use Rattle.std.specs.Prelude.{◌≡◌, true, ◌≤◌};
 ghost use Rattle.base_integers.specs.Sized.{Sized};
 ghost use Rattle.device_cell.specs.DeviceCell.{nearest, cell_number, in_range, cell_in_range, cell_refusal, CellPromise};
 ghost use Rattle.device_cell.specs.CellWeights.{weights_at, weighted, Room};
 
 // The values and the slopes, scaled by the width, at the two ends of a cell.
-#[derive(Drop)]
+#[derive(Clone, Copy)]
 pub struct Cell {
     pub p0: i64,
     pub p1: i64,
@@ -14,14 +17,14 @@ pub struct Cell {
 }
 
 // A refusal's number, 0 for none, and the value.
-#[derive(Drop)]
+#[derive(Clone, Copy)]
 pub struct CellAnswer {
     pub refusal: usize,
     pub value: i32,
 }
 
 // How many parts of 256³ each number of a cell counts; those of d1 are taken away.
-#[derive(Drop)]
+#[derive(Clone, Copy)]
 struct Weights {
     p0: i64,
     p1: i64,

@@ -1,4 +1,7 @@
 // A curve of cells as bytes, judged whole, and a cursor that walks its numbers. Nothing here knows a float.
+
+#![tactic(auto)]
+
 ghost use Rattle.std.specs.Prelude.{◌≡◌, true, not, ◌+◌, ◌*◌, ◌/◌, ◌<◌, ◌≤◌, length};
 ghost use Rattle.device_cell.specs.DeviceCell.{cell_number, cell_in_range};
 ghost use Rattle.device_cursor.specs.DeviceCurve.{
@@ -20,13 +23,13 @@ ghost use Rattle.device_cursor.specs.Columns.{value_out, slope_out, one_of_four_
 use device_cell::Cell;
 
 // Where a walk stands: how many numbers lie before it. Any n has a meaning.
-#[derive(Drop)]
+#[derive(Clone, Copy)]
 pub struct Cursor {
     pub n: u32,
 }
 
 // A refusal's number, 0 for none, the value at a cursor, and the cursor after it.
-#[derive(Drop)]
+#[derive(Clone, Copy)]
 pub struct NextAnswer {
     pub refusal: usize,
     pub value: i32,

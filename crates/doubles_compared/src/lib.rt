@@ -1,4 +1,7 @@
 // Two doubles compared by their bit patterns, in whole numbers: magnitudes are in the order of their patterns. Nothing here knows a float.
+
+#![tactic(auto)]
+
 ghost use Rattle.std.specs.Prelude.{◌≡◌};
 ghost use Rattle.doubles_patterns.specs.Doubles.{is_less, is_at_most, is_equal, is_unordered};
 

@@ -1,4 +1,7 @@
 // A double's bit pattern taken apart, in whole numbers: its sign, its exponent and its digits. Nothing here knows a float.
+
+#![tactic(auto)]
+
 ghost use Rattle.std.specs.Prelude.{◌≡◌, ◌-◌, ◌*◌, ◌<◌, ◌≤◌};
 ghost use Rattle.std.specs.Float.Ieee.{unlike, neg, of_bits};
 ghost use Rattle.std.specs.Float.{binary64};
@@ -6,7 +9,7 @@ ghost use Rattle.doubles_patterns.specs.Patterns.{leading, top_place, infinity, 
 ghost use Rattle.doubles_patterns.specs.Finite.{Fields, Raised};
 
 // The digits of a magnitude with the leading one in its place, and the exponent that goes with them.
-#[derive(Drop)]
+#[derive(Clone, Copy)]
 pub struct Parts {
     pub digits: u64,
     pub exponent: u64,

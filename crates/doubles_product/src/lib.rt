@@ -1,5 +1,8 @@
 // The product of two doubles by their bit patterns, in whole numbers: the upper word of the digits' product, with the lower one kept as its
 // last place. Nothing here knows a float.
+
+#![tactic(auto)]
+
 ghost use Rattle.std.specs.Prelude.{◌≡◌, true, ◌*◌, ◌<◌, ◌≤◌};
 ghost use Rattle.doubles_patterns.specs.Doubles.{product_pattern};
 ghost use Rattle.doubles_patterns.specs.Patterns.{word, leading, infinity, magnitude, units_of, product_of_units};

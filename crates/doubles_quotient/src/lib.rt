@@ -1,5 +1,8 @@
 // The quotient of two doubles by their bit patterns, in whole numbers: a long division of the digits, with the remainder kept as the last
 // place. Nothing here knows a float.
+
+#![tactic(auto)]
+
 ghost use Rattle.std.specs.Prelude.{◌≡◌, ◌*◌, ◌<◌, ◌≤◌};
 ghost use Rattle.doubles_patterns.specs.Doubles.{quotient_pattern};
 ghost use Rattle.doubles_patterns.specs.Patterns.{leading, infinity, magnitude, units_of, quotient_of_units};

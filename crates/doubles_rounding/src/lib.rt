@@ -1,4 +1,7 @@
 // Rounding in whole numbers: a word's digits, as many as a double keeps, and a pattern made of them. Nothing here knows a float.
+
+#![tactic(auto)]
+
 ghost use Rattle.std.specs.Prelude.{◌≡◌, ◌+◌, ◌*◌, ◌^◌, ◌<◌, ◌≤◌};
 ghost use Rattle.std.specs.Float.{binary64};
 ghost use Rattle.std.specs.Float.Ieee.Nearest.{closest};

@@ -1,5 +1,8 @@
 // The sum and the difference of two doubles by their bit patterns, in whole numbers: the larger magnitude first, the smaller one's digits
 // moved down to its scale. Nothing here knows a float.
+
+#![tactic(auto)]
+
 ghost use Rattle.std.specs.Prelude.{◌≡◌, ◌+◌, ◌-◌, ◌<◌, ◌≤◌};
 ghost use Rattle.std.specs.Float.{binary64};
 ghost use Rattle.doubles_patterns.specs.Doubles.{sum_pattern, difference_pattern};

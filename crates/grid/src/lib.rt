@@ -1,6 +1,9 @@
 // The grid as numbers: how long its slices are, where the knots of an axis begin, where a place stands, how far apart neighbours are, and
 // masks. None of these is a public call: each but `points_of` requires what refusals 1 to 3 leave, or a part of it, and that the axis or
 // the place it is given exists.
+
+#![tactic(auto)]
+
 ghost use Rattle.std.specs.Prelude.{◌≡◌, ℕ, ◌^◌, ◌<◌, ◌≤◌, length};
 ghost use Rattle.rules.specs.Sizes.{knots_length, samples_length, tensor_length, place_of, sum_below, product_below, flat, in_mask};
 ghost use Rattle.grid.specs.GridOfCall.{sizes_of, points_of, InRange, SizesGiven};

@@ -1,6 +1,9 @@
 // Refusals 1 to 9 as code: for each public call the lowest number that it meets before it works, and 0 where there is none. Of a slice that
 // the call will write, only the length is looked at. The pass over the knots for refusal 8 is made before the numbers are looked at for
 // refusal 7: where it finds nothing, every knot is finite.
+
+#![tactic(auto)]
+
 ghost use Rattle.std.specs.Prelude.{◌≡◌, length};
 ghost use Rattle.rules.specs.Sizes.{place_of, sum_below};
 ghost use Rattle.grid.specs.GridOfCall.{grid, InRange};

@@ -23,7 +23,7 @@ pub fn points_refused(points: usize) -> bool
 }
 
 // What the sizes of a grid come to: 2, 3, or 0, and where it is 0 how many knots its axes have together and how many numbers its tensor.
-#[derive(Drop)]
+#[derive(Clone, Copy)]
 pub struct Sizes {
     pub refusal: usize,
     pub knots: usize,

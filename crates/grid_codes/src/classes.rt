@@ -8,7 +8,7 @@ ghost use Rattle.grid_codes.specs.Classes.{class, built, unread, length_known};
 // Building: it was read, and its parts stand in the buffers. What it says is not built.
 // Writing: its parts are those of a sheet, and it is not written.
 // Unknown: no refusal of a sheet that is read, built or written has the number.
-#[derive(Drop)]
+#[derive(Clone, Copy)]
 pub enum Class {
     None,
     Reading,

@@ -15,6 +15,8 @@
 //                      over it: the moments; y of the cyclic
 //     2048   TENSOR    the working tensor, the mask fastest        tensor, tensor_lane::store_slopes      the call ends
 
+#![tactic(auto)]
+
 // How many numbers all rows have together: the scratch that is asked for beside the tensor's length.
 pub const ROWS: usize = 2048;
 

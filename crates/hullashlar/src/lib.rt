@@ -1,5 +1,8 @@
 // The twenty-five calls for C, over numbers and plain slices. Each but the firmware's returns its refusal's number, 0 for none: the
 // host's own first, as c_refusals::own and the crates of exports have them, and then the call's.
+
+#![tactic(auto)]
+
 ghost use Rattle.std.specs.Prelude.{[], ◌∷◌};
 ghost use Rattle.rules.specs.Calls.{SlopesPromise};
 ghost use Rattle.sheet_surface.specs.SheetSurface.{SurfacePromise};

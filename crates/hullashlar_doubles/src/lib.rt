@@ -1,5 +1,8 @@
 // The ten calls of double arithmetic for C: what a compiler calls where a processor has no double of its own. Each takes the bit patterns
 // of two doubles, whatever they are, and refuses nothing; a NaN out is 7FF8000000000000.
+
+#![tactic(auto)]
+
 ghost use Rattle.hullashlar_doubles.specs.DoublesExports.{AddExport, SubExport, MulExport, DivExport, LtExport, LeExport, EqExport};
 ghost use Rattle.hullashlar_doubles.specs.DoublesExports.{GtExport, GeExport, UnExport};
 

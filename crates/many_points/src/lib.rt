@@ -1,4 +1,7 @@
 // Many points by one call: what is lent of them, and where the answer of each goes. None of these is a public call.
+
+#![tactic(auto)]
+
 ghost use Rattle.std.specs.Prelude.{◌≡◌, ◌*◌, ◌<◌, length};
 ghost use Rattle.many_points.specs.PointByPoint.{AnswerPut};
 

@@ -1,5 +1,7 @@
 // The device's program: read, call, write. What is printed is decided by `device_text` alone.
 
+#![tactic(auto)]
+
 // Prints the text of a curve.
 pub fn print_text(curve: &[u8]) {
     let mut text = [0u8; 456967];

@@ -1,11 +1,14 @@
 // All that the device's program prints of a curve, written to a text that the caller lends.
+
+#![tactic(auto)]
+
 ghost use Rattle.std.specs.Prelude.{◌≡◌, ◌+◌, ◌≤◌, length};
 ghost use Rattle.base_text.specs.PutBytes.{Put};
 ghost use Rattle.device_cursor.specs.DeviceCurve.{curve_refusal, curve_numbers};
 ghost use Rattle.program_device_text.specs.DeviceText.{signed_line, signed_lines, device_text, device_text_length, DeviceTextPromise};
 
 // A refusal's number, 0 for none, and how many bytes of the text are the curve's.
-#[derive(Drop)]
+#[derive(Clone, Copy)]
 pub struct CurveTextAnswer {
     pub refusal: usize,
     pub length: usize,

@@ -1,4 +1,7 @@
 // The report program: read a piece, feed, and at the end write. What is printed is decided by `report` and `report_text` alone.
+
+#![tactic(auto)]
+
 ghost use Rattle.std.specs.Prelude.{◌≡◌, true, ◌-◌, ◌≤◌, length, take, drop};
 ghost use Rattle.program_report_print.specs.AroundReads.{said, Lent, Refilled, Told};
 
@@ -8,7 +11,7 @@ use report_totals::{Report, none};
 
 // Whether a read failed, and else the report of all that was read; how many bytes all reads brought, and how many of them stand in the
 // buffer's front in the end.
-#[derive(Drop)]
+#[derive(Clone, Copy)]
 pub struct Outcome {
     pub failed: bool,
     pub report: Report,

@@ -1,4 +1,7 @@
 // All that the report program prints of a report, written to a text that the caller lends.
+
+#![tactic(auto)]
+
 ghost use Rattle.std.specs.Prelude.{◌≡◌, ◌+◌, ◌<◌, ◌≤◌, length};
 ghost use Rattle.base_text.specs.PutBytes.{Put};
 ghost use Rattle.program_report_text.specs.ReportText.{
@@ -19,7 +22,7 @@ use base_text::{put_byte, put_decimal, put_hex_digits, put_word, put_word_line};
 use report_totals::{OrderTotals, Report, Totals};
 
 // A refusal's number, 0 for none, and how many bytes of the text are the report's.
-#[derive(Drop)]
+#[derive(Clone, Copy)]
 pub struct ReportTextAnswer {
     pub refusal: usize,
     pub length: usize,

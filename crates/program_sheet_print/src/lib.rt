@@ -1,5 +1,7 @@
 // The sheet program: read, call, write. What is printed is decided by `sheet_text` alone.
 
+#![tactic(auto)]
+
 // Prints the text of a sheet.
 pub fn print_text(sheet: &[u8]) {
     let mut knots = [0.0; 1024];

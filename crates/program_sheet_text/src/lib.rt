@@ -1,4 +1,7 @@
 // All that the sheet program prints of a sheet, written to a text that the caller lends.
+
+#![tactic(auto)]
+
 ghost use Rattle.std.specs.Prelude.{◌≡◌, ◌≤◌, length};
 ghost use Rattle.base_text.specs.PutBytes.{Put};
 ghost use Rattle.program_sheet_text.specs.SheetText.{text_length, text_of, lent_refusal, TextPromise};
@@ -6,7 +9,7 @@ ghost use Rattle.program_sheet_text.specs.SheetText.{text_length, text_of, lent_
 use grid_codes::classes::is_built;
 
 // A refusal's number, 0 for none, and how many bytes of the text are the sheet's.
-#[derive(Drop)]
+#[derive(Clone, Copy)]
 pub struct TextAnswer {
     pub refusal: usize,
     pub length: usize,

@@ -1,10 +1,13 @@
 // Standard input and standard output, as all programs use them. Where one of them fails, one line on standard error says which.
+
+#![tactic(auto)]
+
 ghost use Rattle.std.specs.Prelude.{◌≤◌, length};
 
 use libc::{STDERR_FILENO, STDIN_FILENO, STDOUT_FILENO};
 
 // Whether a read failed, and how many bytes were read, which is 0 then.
-#[derive(Drop)]
+#[derive(Clone, Copy)]
 pub struct Input {
     pub failed: bool,
     pub length: usize,

@@ -1,4 +1,7 @@
 // The text of a tensor: how many numbers it has, and a line for each. None of these is a public call: each requires that there is room.
+
+#![tactic(auto)]
+
 ghost use Rattle.std.specs.Prelude.{◌+◌, ◌*◌, ◌≤◌, length};
 ghost use Rattle.base_text.specs.PutBytes.{Put};
 ghost use Rattle.program_tensor_text.specs.TensorText.{number_line, number_lines, tensor_text};

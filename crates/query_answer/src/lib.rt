@@ -1,5 +1,8 @@
 // What every query answers once its sizes and lengths are in order: its cell found on the axes, and 7, 8, 18 and 10 in this order. None of
 // these is a public call: `answer_to` requires what refusals 1 to 4 leave, with four points, four modes and room for four labels.
+
+#![tactic(auto)]
+
 ghost use Rattle.std.specs.Prelude.{◌≡◌, length, replicate};
 ghost use Rattle.rules.specs.Sizes.{most_axes};
 ghost use Rattle.rules.specs.Outside.{mode_number};
@@ -63,7 +66,7 @@ fn knots_refusal(way: Way, knots: &[f64]) -> usize
 }
 
 // An answer without its labels, which go to a slice of the caller's: a struct that holds them goes through memory, and this one does not.
-#[derive(Drop)]
+#[derive(Clone, Copy)]
 pub struct Outcome {
     pub refusal: usize,
     pub value: f64,

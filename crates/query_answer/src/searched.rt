@@ -8,7 +8,7 @@ use axis_locate::outside;
 use ways::Way;
 
 // Whether the point is refused: by 7 for a coordinate, by 8 for the knots of an axis, by 18 where a mode refuses it.
-#[derive(Drop)]
+#[derive(Clone, Copy)]
 pub struct Refusals {
     pub coordinates: bool,
     pub knots: bool,

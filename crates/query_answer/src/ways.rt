@@ -6,7 +6,7 @@ ghost use Rattle.query_answer.specs.Ways.{direct_cell_in, by_search, CellOn, kno
 // Searched: by the search, and the two knots of the cell are looked at.
 // Direct: by one division, for knots that were looked at before.
 // Divided: by one division, and the two knots of the cell are looked at.
-#[derive(Drop)]
+#[derive(Clone, Copy)]
 pub enum Way {
     Walked,
     Searched,

@@ -1,4 +1,7 @@
 // The Hermite blend of two neighbours, as in the Rust's cubic/utils.rs, and one axis of a cell removed by it.
+
+#![tactic(auto)]
+
 ghost use Rattle.std.specs.Prelude.{◌≡◌, ◌+◌, ◌*◌, ◌%◌, ◌<◌, ◌≤◌, length};
 ghost use Rattle.rules.specs.Numbers.{at};
 ghost use Rattle.query_blend.specs.Blend.{
@@ -16,7 +19,7 @@ ghost use Rattle.query_blend.specs.Blend.{
 
 // The Hermite weights of one axis: h00 and h01 for the values at the lower and the upper knot, h10 and h11, times the width, for the
 // slopes.
-#[derive(Drop)]
+#[derive(Clone, Copy)]
 pub struct Weights {
     pub h00: f64,
     pub h10: f64,

@@ -2,6 +2,9 @@
 // first axis where the numbers stand in the tensor, so no more than a quarter of them is put anywhere; each later one removes an axis in
 // the cell. `points` and `lower` are the points of each axis and the cell's lower index on it, `weights` the weights of the axes one after
 // the other, four to an axis.
+
+#![tactic(auto)]
+
 ghost use Rattle.std.specs.Prelude.{◌≡◌, ◌≢◌, ℕ, ◌+◌, ◌-◌, ◌*◌, ◌^◌, ◌≤◌, length, set, Float};
 ghost use Rattle.rules.specs.Numbers.{at};
 ghost use Rattle.rules.specs.Sizes.{place_of, product_below};
@@ -12,7 +15,7 @@ use query_blend::Weights;
 
 // Where the lowest of a cell's numbers stands in the tensor, and how far apart there two neighbours are along the first axis, along the
 // second, and along the last but one.
-#[derive(Drop)]
+#[derive(Clone, Copy)]
 struct Spots {
     first: usize,
     above: usize,

@@ -1,5 +1,8 @@
 // The direct query of a tensor: a point located by one division on each axis, whatever the knots are, and the blend of the cell that is
 // found. It walks no axis and searches none.
+
+#![tactic(auto)]
+
 ghost use Rattle.grid.specs.GridOfCall.{grid};
 ghost use Rattle.query_answer.specs.PointsAndModes.{QueryFits, OfAnyAxes};
 ghost use Rattle.query_direct.specs.DirectCalls.{DirectQueryPromise};

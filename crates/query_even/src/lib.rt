@@ -1,4 +1,7 @@
 // The query of a tensor on even axes: a point located by one division on each axis, and the blend of the cell that is found.
+
+#![tactic(auto)]
+
 ghost use Rattle.std.specs.Prelude.{◌≡◌};
 ghost use Rattle.rules.specs.EvenCalls.{nothing_told, EvenQueryPromise};
 ghost use Rattle.grid.specs.GridOfCall.{grid};

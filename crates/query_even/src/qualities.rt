@@ -9,7 +9,7 @@ ghost use Rattle.query_even.specs.declared.qualities.Quality.TheVariants.{Finite
 use grid_checks::rising;
 
 // What is asked of them: that each is finite (7), that they rise by finite steps (8), that every interval is near the first (21).
-#[derive(Drop)]
+#[derive(Clone, Copy)]
 pub enum Quality {
     Finite,
     Rising,
@@ -17,7 +17,7 @@ pub enum Quality {
 }
 
 // Whether an axis lacks it; the lowest that does, and the first knot or interval by which it does. Both are 0 where none does.
-#[derive(Drop)]
+#[derive(Clone, Copy)]
 pub struct Lack {
     pub found: bool,
     pub axis: usize,

@@ -1,4 +1,7 @@
 // The query of a tensor: a point located on each axis, and the blend of the cell around it.
+
+#![tactic(auto)]
+
 ghost use Rattle.rules.specs.Calls.{QueryPromise};
 ghost use Rattle.grid.specs.GridOfCall.{grid};
 ghost use Rattle.query_answer.specs.PointsAndModes.{QueryFits, OfAnyAxes};

@@ -1,5 +1,8 @@
 // The quick query and the direct query of many points by one call: sizes and lengths are looked at once, and each point has the answer of
 // the call for that one. A point that is refused stops nothing.
+
+#![tactic(auto)]
+
 ghost use Rattle.std.specs.Prelude.{◌≡◌, ◌≤◌, length, cond};
 ghost use Rattle.rules.specs.Sizes.{place_of};
 ghost use Rattle.rules.specs.Calls.{or_else};

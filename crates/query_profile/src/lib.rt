@@ -1,5 +1,8 @@
 // The profile of even axes: a grid's knots looked at once, as the query of even axes looks at them each time. Where nothing is refused, the
 // direct query answers as that query does, whatever tensor, modes and coordinates it is lent.
+
+#![tactic(auto)]
+
 ghost use Rattle.std.specs.Prelude.{◌≡◌, length};
 ghost use Rattle.rules.specs.Sizes.{place_of};
 ghost use Rattle.grid.specs.GridOfCall.{grid};
@@ -13,7 +16,7 @@ use rules::Axis;
 
 // A refusal's number, 0 for none; after 7, 8 and 21 the lowest axis that is refused and its first knot or interval that is, both counted
 // from 0. They are 0 in every other answer.
-#[derive(Drop)]
+#[derive(Clone, Copy)]
 pub struct EvenProfile {
     pub refusal: usize,
     pub axis: usize,

@@ -1,5 +1,8 @@
 // The quick query of a tensor: a point located by the search alone, whatever the knots are, and the blend of the cell that is found. It
 // walks no axis.
+
+#![tactic(auto)]
+
 ghost use Rattle.rules.specs.Calls.{QuickQueryPromise};
 ghost use Rattle.grid.specs.GridOfCall.{grid};
 ghost use Rattle.query_answer.specs.PointsAndModes.{QueryFits, OfAnyAxes};

@@ -1,4 +1,7 @@
 // The report over a stream of sheets: each sheet read and built, and what it holds counted.
+
+#![tactic(auto)]
+
 ghost use Rattle.std.specs.Prelude.{◌≡◌, ◌≤◌, length};
 ghost use Rattle.report_totals.specs.Counting.{Running};
 ghost use Rattle.report.specs.Report.{ReportPromise};
@@ -13,7 +16,7 @@ use sheet_read::ReadAnswer;
 
 // Where a report has come to: its totals, how many of the bytes that it was given it has passed over, and whether it ends before the input
 // does. Where it does, no more is promised of `taken` than that it is not above the number of those bytes.
-#[derive(Drop)]
+#[derive(Clone, Copy)]
 pub struct Progress {
     pub totals: Totals,
     pub taken: usize,
@@ -21,7 +24,7 @@ pub struct Progress {
 }
 
 // What counting a sheet leaves: the totals with it, and the number of its refusal, 0 for none.
-#[derive(Drop)]
+#[derive(Clone, Copy)]
 struct Counted {
     totals: Totals,
     refusal: usize,

@@ -1,4 +1,7 @@
 // The sheet at the front of a stream: how many bytes it has, and what looking at these finds.
+
+#![tactic(auto)]
+
 ghost use Rattle.std.specs.Prelude.{◌≡◌, true};
 ghost use Rattle.grid_codes.specs.Classes.{length_known};
 ghost use Rattle.sheet_read.specs.Faults.{sheet_refusal};
@@ -13,7 +16,7 @@ use sheet_read::axes::walk_axes;
 use sheet_read::look::{look, refused};
 
 // How many bytes the front sheet has, and what the reader's look at them answers.
-#[derive(Drop)]
+#[derive(Clone, Copy)]
 pub struct Front {
     pub size: usize,
     pub sheet: ReadAnswer,

@@ -1,5 +1,8 @@
 // The totals of a report, a state by value: how many sheets there were, how many by refusal number, and per derivative order what the
 // accepted tensors hold. None of these functions is a public call.
+
+#![tactic(auto)]
+
 ghost use Rattle.std.specs.Prelude.{◌≡◌, true, not, [], ◌+◌, ◌/◌, ◌^◌, ◌<◌, ◌≤◌, max, length, eqb};
 ghost use Rattle.std.specs.Int.Count.{ones};
 ghost use Rattle.std.specs.Float.Ieee.Scale.{finite};
@@ -7,7 +10,7 @@ ghost use Rattle.report_totals.specs.Totals.{magnitude, tensor_entries, totals_o
 ghost use Rattle.report_totals.specs.Counting.{one_if, sum, of_mask, InPlaces, Room, Tallied, Running, sheet_added, Adds};
 
 // What is counted of one derivative order: its entries, those of them that are not zero, and the pattern of the largest magnitude.
-#[derive(Drop)]
+#[derive(Clone, Copy)]
 pub struct OrderTotals {
     pub entries: u64,
     pub nonzero: u64,
@@ -15,7 +18,7 @@ pub struct OrderTotals {
 }
 
 // All that is counted: sheets, sheets by the number of their refusal, of which 0 is none, and the entries by order.
-#[derive(Drop)]
+#[derive(Clone, Copy)]
 pub struct Totals {
     pub sheets: u64,
     pub refusals: [u64; 24],
@@ -23,7 +26,7 @@ pub struct Totals {
 }
 
 // The report of a stream: the totals of its sheets, and whether it stops before the stream's end.
-#[derive(Drop)]
+#[derive(Clone, Copy)]
 pub struct Report {
     pub totals: Totals,
     pub stopped: bool,
@@ -59,7 +62,7 @@ fn magnitude_of(number: f64) -> u64
 }
 
 // What two masks have that lie side by side.
-#[derive(Drop)]
+#[derive(Clone, Copy)]
 struct TwoMasks {
     first: OrderTotals,
     second: OrderTotals,

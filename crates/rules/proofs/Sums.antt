@@ -76,7 +76,7 @@ sum_of_points_products n (suc i) =
     let with_i : sum_below (λ mask. points_product n (2 ^ i + mask) (suc i)) (2 ^ i) ≡ product_of_one_more n i * n i =
     sum_ext _ (λ mask. points_product n mask i * n i) (2 ^ i)
     (λ mask l. rw (add_comm (2 ^ i) mask, in_mask_top i mask l)
-    (ap (λ (x : ℕ). x * n i) (product_ext _ _ i (λ j below. rw (in_mask_below i mask j below)))))
+    (ap (λ (x : ℕ). x * n i) (product_ext _ _ i (λ j below. rw (add_comm (2 ^ i) mask, in_mask_below i mask j below)))))
     ∙ sum_scale (λ mask. points_product n mask i) (n i) (2 ^ i)
     ∙ rw (sum_of_points_products n i) in
     rw (two-pow-succ i, sum_split, without, with_i, mul-add, mul-one)

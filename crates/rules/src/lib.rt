@@ -1,10 +1,13 @@
 // The types that the rules speak of: ends, conditions, axes, and what the public calls answer.
+
+#![tactic(auto)]
+
 ghost use Rattle.std.specs.Prelude.{◌≡◌};
 ghost use Rattle.rules.specs.Ends.{zero_valued, crossed, not_a_knot, natural, clamped, periodic, first_derivative, second_derivative};
 ghost use Rattle.rules.specs.Sizes.{unused_axis};
 
 // An end of an axis.
-#[derive(Drop)]
+#[derive(Clone, Copy)]
 pub enum End {
     NotAKnot,
     FirstDerivative(f64),
@@ -12,14 +15,14 @@ pub enum End {
 }
 
 // Both ends of an axis, lower first, or the whole axis periodic.
-#[derive(Drop)]
+#[derive(Clone, Copy)]
 pub enum Condition {
     Endpoints(End, End),
     Periodic,
 }
 
 // What a query does with a coordinate outside the knots of its axis: extend the outermost cubic, take the nearest end knot, or refuse.
-#[derive(Drop)]
+#[derive(Clone, Copy)]
 pub enum Mode {
     Extend,
     Hold,
@@ -27,7 +30,7 @@ pub enum Mode {
 }
 
 // An axis as a call is given it. Neither the build nor the change reads its mode.
-#[derive(Drop)]
+#[derive(Clone, Copy)]
 pub struct Axis {
     pub points: usize,
     pub condition: Condition,
@@ -35,7 +38,7 @@ pub struct Axis {
 }
 
 // Where a coordinate lies beside the knots of its axis; on an end knot it is inside.
-#[derive(Drop)]
+#[derive(Clone, Copy)]
 pub enum Side {
     Below,
     Inside,
@@ -43,7 +46,7 @@ pub enum Side {
 }
 
 // What an end's row has for its own knot and for the one neighbour it names.
-#[derive(Drop)]
+#[derive(Clone, Copy)]
 pub struct Row {
     pub diagonal: f64,
     pub neighbour: f64,
@@ -51,21 +54,21 @@ pub struct Row {
 }
 
 // A refusal's number, 0 for none, and the curve's value.
-#[derive(Drop)]
+#[derive(Clone, Copy)]
 pub struct CurveAnswer {
     pub refusal: usize,
     pub value: f64,
 }
 
 // A refusal's number, 0 for none, and how many lanes were solved.
-#[derive(Drop)]
+#[derive(Clone, Copy)]
 pub struct ChangeAnswer {
     pub refusal: usize,
     pub lanes: usize,
 }
 
 // A refusal's number, 0 for none, the surface's value, and of each axis the label: the cell that was evaluated.
-#[derive(Drop)]
+#[derive(Clone, Copy)]
 pub struct QueryAnswer {
     pub refusal: usize,
     pub value: f64,
@@ -74,7 +77,7 @@ pub struct QueryAnswer {
 
 // What a query of even axes answers: the same, and after 21 the lowest axis that is not even and its first interval that fails, both 0
 // else.
-#[derive(Drop)]
+#[derive(Clone, Copy)]
 pub struct EvenAnswer {
     pub refusal: usize,
     pub value: f64,
@@ -84,49 +87,49 @@ pub struct EvenAnswer {
 }
 
 // Which way a step goes: down to the knot at or below a point, or up to the one at or above it.
-#[derive(Drop)]
+#[derive(Clone, Copy)]
 pub enum StepDirection {
     Lower,
     Upper,
 }
 
 // The index of a knot that equals a point, or none: the Rust's Option.
-#[derive(Drop)]
+#[derive(Clone, Copy)]
 pub enum ExactIndex {
     Found(usize),
     NotFound,
 }
 
 // Where a point lies among knots: on one of them, or beside the lower one of its cell at a fraction of the cell's width.
-#[derive(Drop)]
+#[derive(Clone, Copy)]
 pub enum AxisLocation {
     Exact(usize),
     Between { lower: usize, frac: f64 },
 }
 
 // A refusal's number, 0 for none, and the index of the knot that equals the point.
-#[derive(Drop)]
+#[derive(Clone, Copy)]
 pub struct ExactAnswer {
     pub refusal: usize,
     pub index: ExactIndex,
 }
 
 // A refusal's number, 0 for none, and where the point lies.
-#[derive(Drop)]
+#[derive(Clone, Copy)]
 pub struct AxisAnswer {
     pub refusal: usize,
     pub location: AxisLocation,
 }
 
 // A refusal's number, 0 for none, and the index of the step.
-#[derive(Drop)]
+#[derive(Clone, Copy)]
 pub struct StepAnswer {
     pub refusal: usize,
     pub index: usize,
 }
 
 // A refusal's number, 0 for none, the sample at the indices of the steps, and these, of each axis.
-#[derive(Drop)]
+#[derive(Clone, Copy)]
 pub struct SteppedAnswer {
     pub refusal: usize,
     pub value: f64,

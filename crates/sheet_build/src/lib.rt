@@ -1,4 +1,7 @@
 // From the bytes of a packed sheet to its tensor: the reader, then the build.
+
+#![tactic(auto)]
+
 ghost use Rattle.std.specs.Prelude.{◌≡◌};
 ghost use Rattle.sheet_build.specs.SheetTensor.{unread_answer, grid_in, samples_in, PartsGiven, PartsPromise, SheetPromise};
 
@@ -6,7 +9,7 @@ use grid_codes::classes::{is_built, is_unread};
 use rules::Axis;
 
 // A refusal's number, 0 for none, the sheet's edition, how many axes there are, the four axes, and how many numbers the tensor has.
-#[derive(Drop)]
+#[derive(Clone, Copy)]
 pub struct SheetAnswer {
     pub refusal: usize,
     pub edition: usize,

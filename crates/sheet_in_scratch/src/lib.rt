@@ -1,5 +1,8 @@
 // The tensor of a sheet that was looked at, built in the scratch, where it stays: for callers that need it no longer than the scratch, so
 // that nothing is copied from it or cleared behind it. Neither function is a public call.
+
+#![tactic(auto)]
+
 ghost use Rattle.std.specs.Prelude.{◌≤◌, length};
 ghost use Rattle.rules.specs.Sizes.{scratch_length};
 ghost use Rattle.grid.specs.GridOfCall.{grid};

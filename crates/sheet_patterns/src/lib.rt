@@ -1,4 +1,7 @@
 // Coordinates, a value and a refusal as 64-bit patterns: what firmware hands over and receives. None of these is a public call.
+
+#![tactic(auto)]
+
 ghost use Rattle.std.specs.Prelude.{◌≡◌, true, ◌≤◌};
 ghost use Rattle.std.specs.Float.Ieee.Scale.{finite};
 ghost use Rattle.sheet_patterns.specs.Patterns.{coordinates, unused_refused, refusal_pattern, answer_pattern};

@@ -16,7 +16,7 @@ use grid_codes::modes::{is_unknown_mode, mode_of_number};
 use rules::{Axis, Condition};
 
 // What a walk over the axes has found: the first fault, 0 for none, the four axes, and the bit after the last.
-#[derive(Drop)]
+#[derive(Clone, Copy)]
 pub struct Walk {
     pub refusal: usize,
     pub all: [Axis; 4],

@@ -9,7 +9,7 @@ ghost use Rattle.sheet_read.specs.Heads.{HeadOf, values_of_head, knots_of_head, 
 use base_bits::field_at;
 use grid_codes::ends::values_of_kind;
 
-#[derive(Drop)]
+#[derive(Clone, Copy)]
 pub struct Head {
     pub points: usize,
     pub lower: u64,

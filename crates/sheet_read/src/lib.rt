@@ -1,4 +1,7 @@
 // The packed sheet: its reader, and the reader of its first edition.
+
+#![tactic(auto)]
+
 ghost use Rattle.std.specs.Prelude.{◌≡◌};
 ghost use Rattle.sheet_read.specs.Read.{edition_1_answer, ReadPromise, Edition1Promise};
 
@@ -14,7 +17,7 @@ pub mod look; // look.rt: all of a sheet, up to its first fault
 pub mod store; // store.rt: knots and samples of a sheet that has no fault, stored
 
 // A refusal's number, 0 for none, the sheet's edition, how many axes there are, and the four axes.
-#[derive(Drop)]
+#[derive(Clone, Copy)]
 pub struct ReadAnswer {
     pub refusal: usize,
     pub edition: usize,
@@ -23,7 +26,7 @@ pub struct ReadAnswer {
 }
 
 // The same without the edition.
-#[derive(Drop)]
+#[derive(Clone, Copy)]
 pub struct Edition1Answer {
     pub refusal: usize,
     pub axes: usize,

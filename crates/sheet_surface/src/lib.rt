@@ -1,5 +1,8 @@
 // One call for the firmware of an aid: the bytes of a sheet and the patterns of four coordinates in, the pattern of the surface's value
 // out.
+
+#![tactic(auto)]
+
 ghost use Rattle.std.specs.Prelude.{◌≡◌, [], ◌∷◌, ◌≤◌, length};
 ghost use Rattle.rules.specs.Sizes.{scratch_length};
 ghost use Rattle.rules.specs.Calls.{or_else};

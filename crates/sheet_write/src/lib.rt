@@ -1,4 +1,7 @@
 // The writer of packed sheets.
+
+#![tactic(auto)]
+
 ghost use Rattle.std.specs.Prelude.{◌≡◌, ◌≤◌};
 ghost use Rattle.grid.specs.GridOfCall.{grid, sizes_of};
 ghost use Rattle.sheet_write.specs.Write.{no_sheet_refusal, some_mode_refused, edition_refusal, WritePromise};
@@ -15,7 +18,7 @@ mod fields; // fields.rt: the fields of a sheet, one after the other
 mod counts; // counts.rt: how many bits they have
 
 // A refusal's number, 0 for none, and how many bytes the sheet has.
-#[derive(Drop)]
+#[derive(Clone, Copy)]
 pub struct WriteAnswer {
     pub refusal: usize,
     pub length: usize,

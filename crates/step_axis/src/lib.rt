@@ -1,4 +1,7 @@
 // The calls of steps on one axis: whether a point is a knot, where it lies among them, and the knot that it steps to.
+
+#![tactic(auto)]
+
 ghost use Rattle.rules.specs.StepCalls.{ExactPromise, AxisPromise, StepPromise};
 
 use rules::{AxisAnswer, AxisLocation, ExactAnswer, ExactIndex, StepAnswer, StepDirection};

@@ -1,6 +1,9 @@
 // The refusals of steps as code: for each public call the first number that it meets before it works, and 0 where there is none; of the
 // stepped surface those of its sizes and lengths. The pass over the knots for refusal 8 is made before they are looked at for refusal 7, as
 // in `grid_checks`.
+
+#![tactic(auto)]
+
 ghost use Rattle.std.specs.Prelude.{◌≡◌, false, ◌||◌, ◌/◌, ◌^◌, ◌≤◌, length};
 ghost use Rattle.rules.specs.Sizes.{place_of};
 ghost use Rattle.rules.specs.Refusals.{points_refused, length_refused};

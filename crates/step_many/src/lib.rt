@@ -1,5 +1,8 @@
 // The stepped surface at many points by one call: sizes and lengths, knots and samples are looked at once, and each point has the answer of
 // the call for that one. A point that is refused stops nothing.
+
+#![tactic(auto)]
+
 ghost use Rattle.std.specs.Prelude.{◌≡◌, cond, length};
 ghost use Rattle.rules.specs.Sizes.{place_of};
 ghost use Rattle.rules.specs.Calls.{or_else};

@@ -1,4 +1,7 @@
 // The stepped surface: a point steps to a knot on each axis, and the sample there is the answer.
+
+#![tactic(auto)]
+
 ghost use Rattle.std.specs.Prelude.{◌≡◌, length};
 ghost use Rattle.rules.specs.Sizes.{place_of};
 ghost use Rattle.rules.specs.StepCalls.{SteppedPromise};
@@ -11,7 +14,7 @@ ghost use Rattle.step_surface.specs.Indices.{OnAxes};
 use rules::{Axis, StepDirection, SteppedAnswer};
 
 // The place that a point steps to: its number, and its index on each axis in use, 0 past them.
-#[derive(Drop)]
+#[derive(Clone, Copy)]
 struct Steps {
     number: usize,
     indices: [usize; 4],

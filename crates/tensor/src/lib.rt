@@ -1,4 +1,7 @@
 // The tensor: every lane of a build, or those of a change that can differ, solved in the scratch behind its rows.
+
+#![tactic(auto)]
+
 ghost use Rattle.rules.specs.Sizes.{place_of};
 ghost use Rattle.rules.specs.Calls.{BuildPromise, ChangePromise};
 ghost use Rattle.grid.specs.GridOfCall.{grid};

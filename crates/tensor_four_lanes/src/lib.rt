@@ -1,5 +1,8 @@
 // Four lanes of a planned axis solved side by side: slopes and second helper row forward, moments back, knot slopes stored. Not a public
 // call: it requires that the plan of the axis stands in its rows, and that all lanes lie behind the rows of the scratch.
+
+#![tactic(auto)]
+
 ghost use Rattle.std.specs.Prelude.{length};
 ghost use Rattle.tensor_four_lanes.specs.Sweeps.{Laid};
 ghost use Rattle.tensor_four_lanes.specs.Groups.{four_slope, FourGiven};

@@ -1,5 +1,8 @@
 // Four numbers side by side, one of each of four lanes, by value: so the compiler keeps them in one register. None of these is a public
 // call: those on the scratch require that their row or their places lie in it.
+
+#![tactic(auto)]
+
 ghost use Rattle.std.specs.Prelude.{◌+◌, ◌*◌, ◌<◌, ◌≤◌, length};
 ghost use Rattle.rules.specs.Numbers.{at, ◌⊕◌, ◌⊖◌, ◌⊗◌, ◌⊘◌};
 ghost use Rattle.tensor_fours.specs.Fours.{Lanewise, Four, in_row, place, RowSet, Stored};

@@ -1,4 +1,7 @@
 // One lane of the working tensor: its numbers gathered, its moments computed, its knot slopes stored. None of these is a public call.
+
+#![tactic(auto)]
+
 ghost use Rattle.std.specs.Prelude.{◌≡◌, ◌<◌, ◌≤◌, length};
 ghost use Rattle.rules.specs.Sizes.{scratch_of_rows};
 ghost use Rattle.grid_scratch.specs.Layout.{row_length};

@@ -1,6 +1,9 @@
 // A pass solves the lanes along an axis of the numbers at one mask, and stores their slopes at the target, the mask with the axis put in:
 // the whole of them for a build, for a change those that agree with its place on every axis outside the target. None of these is a public
 // call.
+
+#![tactic(auto)]
+
 ghost use Rattle.std.specs.Prelude.{◌≡◌, true, ◌^◌, ◌≤◌, length};
 ghost use Rattle.rules.specs.Ends.{condition_at, fewest_points};
 ghost use Rattle.rules.specs.Sizes.{scratch_of_rows, place_of};

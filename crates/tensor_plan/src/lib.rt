@@ -1,6 +1,9 @@
 // The plan of an axis: what its lanes share, since it comes of knots and kinds of ends alone. It is made once and serves every mask, whose
 // conditions differ in their numbers only. Not a public call: it requires a scratch of 2,048 numbers, at most 128 points, and at least 3 if
 // periodic, else 2 and one more for each end that is NotAKnot.
+
+#![tactic(auto)]
+
 ghost use Rattle.std.specs.Prelude.{◌≡◌, false};
 ghost use Rattle.tensor_plan.specs.Plans.{PlanGiven, AxisPlanned};
 
@@ -13,7 +16,7 @@ mod ends; // ends.rt: under two ends
 
 // Beside the rows of a plan under two ends: the first knot and the last that have a row of their own, and the number before the diagonal in
 // the last of these rows.
-#[derive(Drop)]
+#[derive(Clone, Copy)]
 pub struct EndsPlan {
     pub low: usize,
     pub last: usize,
@@ -21,14 +24,14 @@ pub struct EndsPlan {
 }
 
 // Beside the rows of a periodic plan: corner over gamma, and the number that each lane's factor is divided by.
-#[derive(Drop)]
+#[derive(Clone, Copy)]
 pub struct CyclePlan {
     pub ratio: f64,
     pub rest: f64,
 }
 
 // A plan under any condition: whether it was made, and the part that the condition takes; the other is zeros.
-#[derive(Drop)]
+#[derive(Clone, Copy)]
 pub struct AxisPlan {
     pub made: bool,
     pub ends: EndsPlan,

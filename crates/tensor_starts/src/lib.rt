@@ -1,5 +1,8 @@
 // Which lanes a pass along an axis has: how many they are, where each starts, and how they are walked by adding strides. The lanes are the
 // whole of them, or those that agree with a place on every axis outside the target, a mask. None of these is a public call.
+
+#![tactic(auto)]
+
 ghost use Rattle.std.specs.Prelude.{◌≡◌, ◌<◌, ◌≤◌};
 ghost use Rattle.rules.specs.Sizes.{place_of, moved};
 ghost use Rattle.grid.specs.GridOfCall.{points_of};
@@ -13,7 +16,7 @@ pub mod walking;
 // How the lanes of a pass are walked: how many they are, where the first starts, and how they lie. They go through all indices of three
 // axes at most, the last of them fastest: `inner` and `middle` are the points of the last and of the one before it, 1 where there is none,
 // and two lanes that are neighbours on the last, the one before or the one before that start `near`, `far` or `farthest` apart.
-#[derive(Drop)]
+#[derive(Clone, Copy)]
 pub struct Walk {
     pub lanes: usize,
     pub start: usize,
@@ -26,7 +29,7 @@ pub struct Walk {
 
 // Where a walk stands: the number of the lane and where it starts, its indices on the last two axes that the lanes go through, and where
 // the lanes start that have index 0 on the last (`run`) and on both (`slab`).
-#[derive(Drop)]
+#[derive(Clone, Copy)]
 pub struct Cursor {
     pub lane: usize,
     pub at: usize,

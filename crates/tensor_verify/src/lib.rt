@@ -1,4 +1,7 @@
 // Whether a tensor is whole: its samples are built anew in the scratch, and every number is held against the fresh one, bit by bit.
+
+#![tactic(auto)]
+
 ghost use Rattle.std.specs.Prelude.{◌≡◌, true, false, length};
 ghost use Rattle.rules.specs.Refusals.{some_number_refused};
 ghost use Rattle.grid.specs.GridOfCall.{grid, points_of, InRange};
@@ -14,7 +17,7 @@ mod places; // places.rt: the place of a number
 
 // The answer: the refusal; whether the tensor is whole; where not, the place and the mask of the first number that differs, and how many
 // differ. After a refusal, and of a whole tensor, these are 0.
-#[derive(Drop)]
+#[derive(Clone, Copy)]
 pub struct VerifyAnswer {
     pub refusal: usize,
     pub whole: bool,

@@ -1,6 +1,9 @@
 // All lanes of a walk over the working tensor solved: four at a time where their axis has a plan, else one after the other. Not a public
 // call: it requires that the lanes lie in the working tensor, that no slope goes where another goes or where a number of theirs stands, and
 // that a plan that was made stands in its rows.
+
+#![tactic(auto)]
+
 ghost use Rattle.std.specs.Prelude.{◌≡◌, true};
 ghost use Rattle.tensor_walks.specs.Walked.{WalkGiven, WalkSolved};
 ghost use Rattle.tensor_walks.specs.ByFour.{AxisStands, PlanKept};

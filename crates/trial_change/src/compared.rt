@@ -4,7 +4,7 @@ use trial_lines::{BEFORE, print, print_count, print_refusal, print_scratch, same
 use trial_tensor_lines::print_counts;
 
 // A changed sample: its place, where it stands among the samples, its new number.
-#[derive(Drop)]
+#[derive(Clone, Copy)]
 pub struct ChangedSample {
     pub place: [usize; 4],
     pub number: usize,

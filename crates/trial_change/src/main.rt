@@ -1,4 +1,7 @@
 // Lists of changes with refused ones among them. After each the tensor is compared with a fresh build from the samples now standing.
+
+#![tactic(auto)]
+
 use crate::compared::ChangedSample;
 use rules::Axis;
 use trial_lines::BEFORE;

@@ -1,4 +1,7 @@
 // Curves of the device walked by the cursor, from its start to the refusal that ends the walk: a line for each value, and one for that.
+
+#![tactic(auto)]
+
 use device_cursor::Cursor;
 use libc::STDOUT_FILENO;
 use trial_lines::{print, print_count};

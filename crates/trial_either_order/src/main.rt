@@ -1,10 +1,13 @@
 // Two changes of one tensor in both orders: the same in the end where all four steps are accepted, and not where one is refused.
+
+#![tactic(auto)]
+
 use rules::{Axis, Condition};
 use trial_lines::BEFORE;
 use trial_tensor_lines::{grids, print_build, print_change};
 
 // What a change asks: a place, and its new sample.
-#[derive(Drop)]
+#[derive(Clone, Copy)]
 struct Change {
     place: [usize; 4],
     sample: f64,

@@ -1,4 +1,7 @@
 // The parts of the lines that the example programs print, and what they compare by.
+
+#![tactic(auto)]
+
 ghost use Rattle.std.specs.Prelude.{◌≡◌, true, length, replicate};
 
 use libc::STDOUT_FILENO;

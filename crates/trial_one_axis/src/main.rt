@@ -1,4 +1,7 @@
 // The worked examples on one axis.
+
+#![tactic(auto)]
+
 ghost use Rattle.std.specs.Prelude.{◌≤◌, length};
 
 use rules::Condition;

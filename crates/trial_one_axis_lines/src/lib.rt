@@ -1,4 +1,7 @@
 // Each call on one axis, shown as a line: the example's name, the call, the refusal's number, the later contents of what was lent.
+
+#![tactic(auto)]
+
 use rules::Condition;
 use trial_lines::{BEFORE, print, print_number, print_output, print_refusal, print_scratch};
 

@@ -1,4 +1,7 @@
 // The refusals of the calls on one axis, and beside them what is just accepted.
+
+#![tactic(auto)]
+
 ghost use Rattle.std.specs.Prelude.{◌≤◌, length};
 
 use rules::{Condition, End};

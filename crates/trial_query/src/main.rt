@@ -1,5 +1,8 @@
 // The worked examples of the quick query, of the query of even axes and of their profile, beside the query; of the direct query; of
 // the stepped surface; and of many points by one call.
+
+#![tactic(auto)]
+
 mod direct; // direct.rt: the examples of the direct query
 mod even; // even.rt: the examples of even axes
 mod lines; // lines.rt: the queries shown as lines

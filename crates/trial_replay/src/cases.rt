@@ -3,7 +3,7 @@ use trial_replay_cases::is_same;
 use trial_replay_items::arguments::Case;
 
 // Whether a case was answered as the list says, and the place after it.
-#[derive(Drop)]
+#[derive(Clone, Copy)]
 pub struct Replayed {
     pub same: bool,
     pub next: usize,

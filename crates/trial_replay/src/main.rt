@@ -1,5 +1,8 @@
 // Replays the oracle's fixed list of cases from standard input: a line for each case, its number and `same` or `differs`, and a last line
 // with the counts.
+
+#![tactic(auto)]
+
 ghost use Rattle.std.specs.Prelude.{◌+◌, ◌≤◌};
 
 use libc::{STDIN_FILENO, STDOUT_FILENO};

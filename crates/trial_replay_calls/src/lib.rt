@@ -1,4 +1,7 @@
 // The exported calls, each on the words and slices of a case, which have the letters of the table of arguments; what is returned is a word.
+
+#![tactic(auto)]
+
 use base_numbers::float_of;
 use hullashlar::{
     hullashlar_build, hullashlar_change, hullashlar_curve, hullashlar_direct_queries,

@@ -1,5 +1,8 @@
 // The call of a case on slices as the list gives them: what it returns and leaves is held against the list. No list makes a function here
 // trap.
+
+#![tactic(auto)]
+
 use hullashlar::{hullashlar_read, hullashlar_read_edition_1, hullashlar_sheet_tensor};
 use trial_replay_calls::asked;
 use trial_replay_items::arguments::Case;

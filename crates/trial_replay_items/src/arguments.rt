@@ -67,7 +67,7 @@ fn after_argument(list: &[u8], letter: u8, place: usize) -> usize {
 }
 
 // An argument of a case: its letter, where the list has what it is given, and where what it is left with, if it is written.
-#[derive(Drop)]
+#[derive(Clone, Copy)]
 pub struct Argument {
     pub letter: u8,
     pub given: usize,
@@ -123,7 +123,7 @@ fn found(list: &[u8], letters: [u8; 12], first: Argument, wanted: u8) -> Argumen
 }
 
 // A case: the number of its call, the letters of its arguments, where they begin, and where they end in what the call returns.
-#[derive(Drop)]
+#[derive(Clone, Copy)]
 pub struct Case {
     pub call: u64,
     pub letters: [u8; 12],

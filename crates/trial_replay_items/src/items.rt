@@ -4,7 +4,7 @@ ghost use Rattle.std.specs.Prelude.{◌≡◌, ◌≤◌, length};
 use crate::words::{after, held, wide, word};
 
 // An item and the way to the next: the next word of the list, or the item plus a step.
-#[derive(Drop)]
+#[derive(Clone, Copy)]
 pub struct Items {
     pub counted: bool,
     pub place: usize,
@@ -76,7 +76,7 @@ pub fn after_left(list: &[u8], place: usize) -> usize {
 }
 
 // The items of a slice as it is left: so many of its own at the front, and behind them those that it was given.
-#[derive(Drop)]
+#[derive(Clone, Copy)]
 pub struct Left {
     pub own: u64,
     pub front: Items,

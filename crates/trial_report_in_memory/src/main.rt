@@ -1,4 +1,7 @@
 // The report of a stream in memory, by the public call: the stream of `trial_report_of_refusals`, which the report program reads.
+
+#![tactic(auto)]
+
 fn main() {
     let mut buffer = [0u8; 65536];
     let input = program_streams::read_input(&mut buffer);

@@ -2,6 +2,9 @@
 // the example sheet, from no bytes to all 51; each fault of the reader, 12 1 2 13 3 11 14, and of the build, 7 8 9 10; sheets with
 // two faults, of which the first in reading order counts; and sheets of one to four axes with every kind of end. Then edition 2:
 // every cut of the example; modes that there are not, 22, alone and beside other faults; and sheets in every mode.
+
+#![tactic(auto)]
+
 ghost use Rattle.std.specs.Prelude.{◌+◌, ◌<◌, ◌≤◌, length};
 
 fn wide(byte: u8) -> usize

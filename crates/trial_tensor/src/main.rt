@@ -1,4 +1,7 @@
 // The worked examples of tensor, query and change, and their limits.
+
+#![tactic(auto)]
+
 ghost use Rattle.std.specs.Prelude.{◌≤◌, length};
 
 use rules::{Axis, Condition, Mode};

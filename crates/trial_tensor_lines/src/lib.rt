@@ -1,4 +1,7 @@
 // Each call on a grid, shown as a line: the example's name, the call, the refusal's number, the later contents of what was lent.
+
+#![tactic(auto)]
+
 use rules::Axis;
 use trial_lines::{
     BEFORE, print, print_count, print_number, print_numbers, print_output, print_refusal,

@@ -1,5 +1,8 @@
 // Tensors verified: as built, with a sample overwritten, repaired by a change with the sample that stands, damaged where no such change
 // reaches, with another zero, and refused.
+
+#![tactic(auto)]
+
 use rules::{Axis, Condition};
 use trial_lines::{BEFORE, print, print_count, print_refusal, print_scratch};
 use trial_tensor_lines::{grids, print_build, print_change, print_counts};
