@@ -2,17 +2,7 @@
 use Rattle.std.specs.Prelude.{◌≡◌, Bool, ◌||◌, List, ℕ, zero, suc, ◌-◌, ltb, eqb, length, Float}
 use Rattle.std.proofs.Math.Bool.{cond}
 use Rattle.rules.specs.Numbers.{plus_zero, at, zeros, table}
-use Rattle.rules.specs.Sizes.{
-  most_axes,
-  scratch_of_rows,
-  Grid,
-  knots_length,
-  knots,
-  samples_length,
-  tensor_length,
-  scratch_length,
-  Place,
-}
+use Rattle.rules.specs.Sizes.{most_axes, scratch_of_rows, Grid, knots_length, samples_length, tensor_length, scratch_length, Place}
 use Rattle.rules.specs.Refusals.{
   axes_refused,
   points_refused,

@@ -3,9 +3,7 @@ use native.Mathlib.Nat.{one-mul, mod-eq_of_lt, lt_of_le_of_lt, pow-le-pow_right}
 use mathlib.Core.Path.{◌≡◌}
 use Prim.Native.Nat.{ℕ, ◌*◌, ◌%◌, ◌^◌, ◌≤◌}
 use lib.Dec.{lit<}
-use borrow.Author.Rules.{rules}
-use Rattle.grid.proofs.masks.Statement.{statement}
-use Rattle.grid.proofs.masks.Tie as tie
+use Rattle.grid.proofs.masks.Goals as goal
 
 most : (i : ℕ) → i ≤ 4 → 2 ^ i ≤ 16
 most i h = pow-le-pow_right (lit< tt) {i = i} {j = 4} h
@@ -14,8 +12,5 @@ most i h = pow-le-pow_right (lit< tt) {i = i} {j = 4} h
 shifted : (i : ℕ) → i ≤ 4 → 1 * 2 ^ i % 18446744073709551616 ≡ 2 ^ i
 shifted i h = rw one-mul (mod-eq_of_lt (lt_of_le_of_lt (most i h) (lit< tt)))
 
-returns : tie.Need-returns
+pub returns : goal.returns
 returns c = (shifted _ c.requires, rw (shifted _ c.requires) (most _ c.requires))
-
-pub masks_spec : {M : Type 1} → statement M
-masks_spec = tie.close (tie.spec (λ c. search rules) returns)
