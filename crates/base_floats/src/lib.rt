@@ -2,4 +2,3 @@
 // are those of whole numbers; that rounding gives back what fits; and what the operations give at zero, at one and at equal numbers.
 
 #![tactic(auto)]
-
