@@ -1,7 +1,7 @@
 -- A step of a walk: on in the run, to the next run, to the next slab.
 use native.Mathlib.Omega.{arith}
 use native.Mathlib.Nat.{add-mul, one-mul, zero-mul}
-use mathlib.Core.Path.{◌≡◌, refl, ap, sym, ◌∙◌}
+use mathlib.Core.Path.{◌≡◌, ap, ◌∙◌}
 use Prim.Native.Nat.{ℕ, ◌+◌, ◌*◌, ◌/◌, ◌%◌, ◌<◌, ◌≤◌}
 use lib.Arith.{digits_div, digits_mod}
 use Rattle.tensor_starts.specs.declared.Cursor.{Cursor}
