@@ -43,7 +43,7 @@ def declared_in(text):
 
 
 def has_dash(word):
-    return re.search(r"[^\W\d_]", word) and re.search(r"\w['’]*-\w|^-\w|\w-$", word) and "◌" not in word
+    return re.search(r"[^\W\d_]", word) and re.search(r"\w['’]*-\w|\w-$", word) and "◌" not in word
 
 
 def snake(word):

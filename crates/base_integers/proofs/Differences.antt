@@ -7,9 +7,9 @@ use lib.IntN.{ℤ, pos, neg_ℤ, ◌+ℤ◌, ◌-ℤ◌, +ℤ_assoc, +ℤ_comm, 
 
 -- a − b
 unfoldable pub less : ℕ → ℕ → ℤ
-less a b = pos a _ℤ pos b
+less a b = pos a -ℤ pos b
 
-pub less_is : (a b : ℕ) → pos a _ℤ pos b ≡ less a b
+pub less_is : (a b : ℕ) → pos a -ℤ pos b ≡ less a b
 unfolding less
 less_is a b = refl
 

@@ -38,5 +38,5 @@ above (pos n) t = record { n = n; is = refl }
 above (negsuc n) t = let z : ◌≡◌ {A = ℕ} 0 1 = cc in (let y : ⊥ = omega arith in absurd y)
 
 -- minus one less a number below zero
-pub back : (n : ℕ) → negsuc 0 _ℤ negsuc n ≡ pos n
+pub back : (n : ℕ) → negsuc 0 -ℤ negsuc n ≡ pos n
 back n = let e : suc n - 1 ≡ n = omega arith in rw (le-ltb (suc n) 1 (omega arith), e)

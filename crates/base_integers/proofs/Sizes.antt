@@ -45,7 +45,7 @@ sized_mul {x = x} {y = y} p q = record { sized = rw (abs_mul x y) (mul-le-mul p.
 pub sized_add : {a b : ℕ} {x y : ℤ} → Sized a x → Sized b y → Sized (a + b) (x +ℤ y)
 sized_add {x = x} {y = y} p q = let e = abs_add x y in let f = p.sized in let g = q.sized in record { sized = omega arith }
 
-pub sized_sub : {a b : ℕ} {x y : ℤ} → Sized a x → Sized b y → Sized (a + b) (x _ℤ y)
+pub sized_sub : {a b : ℕ} {x y : ℤ} → Sized a x → Sized b y → Sized (a + b) (x -ℤ y)
 sized_sub {x = x} {y = y} p q = sized_add p (record { sized = rw (abs_neg y) q.sized })
 
 pub sized_more : {a b : ℕ} {z : ℤ} → a ≤ b → Sized a z → Sized b z
@@ -68,7 +68,7 @@ pub wider : (z : ℤ) → SFits w32 z → SFits w64 z
 wider z f = record { sfits = omega arith }
 
 -- minus one less any number that fits
-pub one_less_fits : (z : ℤ) → SFits w32 z → SFits w32 (negsuc 0 _ℤ z)
+pub one_less_fits : (z : ℤ) → SFits w32 z → SFits w32 (negsuc 0 -ℤ z)
 one_less_fits (pos zero) f = record { sfits = omega arith }
 one_less_fits (pos (suc n)) f = let h = f.sfits in record { sfits = omega arith }
 one_less_fits (negsuc n) f = rw (back n) (record { sfits = f.sfits })

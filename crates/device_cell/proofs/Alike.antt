@@ -15,10 +15,10 @@ turned c = record { p0 = neg_ℤ c.p0; p1 = neg_ℤ c.p1; d0 = neg_ℤ c.d0; d1 
 exact_turned : (c : Cell) (k : ℕ) → exact (turned c) k ≡ neg_ℤ (exact c k)
 unfolding exact
 exact_turned c k =
-    let a = pos (2 * k ^ 3) _ℤ pos (768 * k ^ 2) +ℤ pos (256 ^ 3) in
-    let b = pos (k ^ 3) _ℤ pos (512 * k ^ 2) +ℤ pos (65536 * k) in
-    let p = pos (768 * k ^ 2) _ℤ pos (2 * k ^ 3) in
-    let d = pos (k ^ 3) _ℤ pos (256 * k ^ 2) in
+    let a = pos (2 * k ^ 3) -ℤ pos (768 * k ^ 2) +ℤ pos (256 ^ 3) in
+    let b = pos (k ^ 3) -ℤ pos (512 * k ^ 2) +ℤ pos (65536 * k) in
+    let p = pos (768 * k ^ 2) -ℤ pos (2 * k ^ 3) in
+    let d = pos (k ^ 3) -ℤ pos (256 * k ^ 2) in
     rw (
       neg_ℤ-+ℤ (a *ℤ c.p0 +ℤ b *ℤ c.d0 +ℤ p *ℤ c.p1) (d *ℤ c.d1),
       neg_ℤ-+ℤ (a *ℤ c.p0 +ℤ b *ℤ c.d0) (p *ℤ c.p1),

@@ -13,7 +13,7 @@ use Rattle.device_cell.specs.DeviceCell.{nearest}
 
 -- twice 256³ times a whole number, less twice a number: by how much the one lies off the other
 abbrev pub off : ℤ → ℤ → ℤ
-off r z = pos 33554432 *ℤ r _ℤ pos 2 *ℤ z
+off r z = pos 33554432 *ℤ r -ℤ pos 2 *ℤ z
 
 -- r is the whole number nearest to z over 256³
 pub record Nearest (z r : ℤ) : Type 0 where
@@ -60,7 +60,7 @@ is_nearest (negsuc n) = rw (nearest_neg (pos (suc n))) (turned (pos (suc n)) (ne
 off_below : (r n : ℕ) → nat_abs (off (negsuc r) (pos n)) ≡ 33554432 * suc r + 2 * n
 off_below r n = below (33554432 * suc r) (2 * n)
   where
-    below : (a b : ℕ) → nat_abs (neg_ℤ (pos a) _ℤ pos b) ≡ a + b
+    below : (a b : ℕ) → nat_abs (neg_ℤ (pos a) -ℤ pos b) ≡ a + b
     below a b = rw (← neg_ℤ-+ℤ (pos a) (pos b), abs_neg (pos (a + b)))
 
 one_quotient : (n r : ℕ) → 33554432 * r ≤ 2 * n + 16777216 → 2 * n ≤ 33554432 * r + 16777216

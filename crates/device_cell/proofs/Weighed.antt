@@ -36,13 +36,13 @@ weighed k h = record {
   most_slopes = leb-true _ _ (each (λ i. leb (weight_d0 i + weight_d1 i) 4194304) 256 refl k h);
 }
 
-three : (a b c w : ℕ) → w + b ≡ a + c → pos a _ℤ pos b +ℤ pos c ≡ pos w
+three : (a b c w : ℕ) → w + b ≡ a + c → pos a -ℤ pos b +ℤ pos c ≡ pos w
 three a b c w e = rw (less_is a b, less_pos c, less_add a b c 0, less_pos w) (less_eq (a + c) (b + 0) w 0 (omega arith))
 
-two : (a b w : ℕ) → w + b ≡ a → pos a _ℤ pos b ≡ pos w
+two : (a b w : ℕ) → w + b ≡ a → pos a -ℤ pos b ≡ pos w
 two a b w e = rw (less_is a b, less_pos w) (less_eq a b w 0 (omega arith))
 
-two_below : (a b w : ℕ) → w + a ≡ b → pos a _ℤ pos b ≡ neg_ℤ (pos w)
+two_below : (a b w : ℕ) → w + a ≡ b → pos a -ℤ pos b ≡ neg_ℤ (pos w)
 two_below a b w e = less_is a b ∙ less_eq a b 0 w (omega arith) ∙ sym (less_neg w 0) ∙ ap neg_ℤ (sym (less_pos w))
 
 pub exact_is : (c : Cell) (k : ℕ) → k ≤ 256 → exact c k ≡ weighted (weights_at k) c.p0 c.p1 c.d0 c.d1

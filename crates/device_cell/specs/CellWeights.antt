@@ -21,7 +21,7 @@ abbrev pub weights_at : ℕ → Weights
 weights_at k = record { p0 = pos (weight_p0 k); p1 = pos (weight_p1 k); d0 = pos (weight_d0 k); d1 = pos (weight_d1 k) }
 
 abbrev pub weighted : Weights → ℤ → ℤ → ℤ → ℤ → ℤ
-weighted w p0 p1 d0 d1 = w.p0 *ℤ p0 +ℤ w.d0 *ℤ d0 +ℤ w.p1 *ℤ p1 _ℤ w.d1 *ℤ d1
+weighted w p0 p1 d0 d1 = w.p0 *ℤ p0 +ℤ w.d0 *ℤ d0 +ℤ w.p1 *ℤ p1 -ℤ w.d1 *ℤ d1
 
 -- every number on the way to the sum fits 64 bits
 pub record Room (w : Weights) (p0 p1 d0 d1 : ℤ) : Type 0 where

@@ -9,10 +9,10 @@ use Rattle.device_cell.specs.declared.CellAnswer.{CellAnswer}
 -- the exact value times 256³ at a position
 unfoldable pub exact : Cell → ℕ → ℤ
 exact c k =
-    (pos (2 * k ^ 3) _ℤ pos (768 * k ^ 2) +ℤ pos (256 ^ 3)) *ℤ c.p0
-    +ℤ (pos (k ^ 3) _ℤ pos (512 * k ^ 2) +ℤ pos (65536 * k)) *ℤ c.d0
-    +ℤ (pos (768 * k ^ 2) _ℤ pos (2 * k ^ 3)) *ℤ c.p1
-    +ℤ (pos (k ^ 3) _ℤ pos (256 * k ^ 2)) *ℤ c.d1
+    (pos (2 * k ^ 3) -ℤ pos (768 * k ^ 2) +ℤ pos (256 ^ 3)) *ℤ c.p0
+    +ℤ (pos (k ^ 3) -ℤ pos (512 * k ^ 2) +ℤ pos (65536 * k)) *ℤ c.d0
+    +ℤ (pos (768 * k ^ 2) -ℤ pos (2 * k ^ 3)) *ℤ c.p1
+    +ℤ (pos (k ^ 3) -ℤ pos (256 * k ^ 2)) *ℤ c.d1
 
 -- a number over 256³ to the nearest whole number, a half away from zero
 unfoldable pub nearest : ℤ → ℤ

@@ -22,7 +22,7 @@ pub low : (n : ℕ) → n < 2147483648 → pos n ≡ signed n
 unfolding signed
 low n h = rw (lt-ltb n 2147483648 h)
 
-pub high : (n : ℕ) → 2147483648 ≤ n → pos n _ℤ pos 4294967296 ≡ signed n
+pub high : (n : ℕ) → 2147483648 ≤ n → pos n -ℤ pos 4294967296 ≡ signed n
 unfolding signed
 high n h = rw (le-ltb n 2147483648 h)
 

@@ -28,7 +28,7 @@ module _ (h n : ℕ) (small : h < 1073741824) (few : n < 4294967296) where
       go true e = let k = leb-true m h e in rw e (lt-leb (2 * (h + 1)) ((n + (h + 1)) % 4294967296) (omega arith))
       go false e = let k = leb-false m h e in rw e (le-leb (2 * (h + 1)) ((n + (h + 1)) % 4294967296) (omega arith))
 
-  negative : (m : ℕ) → n + (m + 1) ≡ 4294967296 → pos n _ℤ pos 4294967296 ≡ negsuc m
+  negative : (m : ℕ) → n + (m + 1) ≡ 4294967296 → pos n -ℤ pos 4294967296 ≡ negsuc m
   negative m is =
       less_is n 4294967296 ∙ less_below n 4294967296 (omega arith) ∙ (let e : 4294967296 - n ≡ suc m = omega arith in rw e refl)
 

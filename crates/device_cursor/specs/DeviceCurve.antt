@@ -14,7 +14,7 @@ four_bytes curve a = get_or curve a 0 + 256 * get_or curve (a + 1) 0 + 65536 * g
 
 -- 32 bits as a number with a sign
 unfoldable pub signed : ℕ → ℤ
-signed n = cond (ltb n 2147483648) (pos n) (pos n _ℤ pos 4294967296)
+signed n = cond (ltb n 2147483648) (pos n) (pos n -ℤ pos 4294967296)
 
 -- the number from a place on
 abbrev pub number_at : List ℕ → ℕ → ℤ

@@ -16,7 +16,7 @@ use Rattle.device_cursor.proofs.number_at.Tie as tie
 read : (c : tie.Else1) → to_z w64 c.before.four_bytes.result ≡ pos c.before.four_bytes.result
 read c = to_z_pos w64 _ (omega arith)
 
-room : (c : tie.Else1) → SFits w64 (pos c.before.four_bytes.result _ℤ pos 4294967296)
+room : (c : tie.Else1) → SFits w64 (pos c.before.four_bytes.result -ℤ pos 4294967296)
 room c =
     let n = c.before.four_bytes.result in
     let h : n + 4294967296 < 9223372036854775808 = omega arith in
