@@ -4,7 +4,6 @@ use mathlib.Core.Path.{◌≡◌, ◌∙◌}
 use mathlib.Core.List.{List}
 use Prim.Native.Nat.{ℕ, zero, suc, ◌-◌, ◌≤◌}
 use lib.Ieee.{Float}
-use Rattle.rules.specs.Numbers.{at}
 use Rattle.rules.specs.Solve.{before_last, thomas}
 use Rattle.axis_solve.specs.RowsSolved.{of_rows, Eliminated, Substituted, Solved}
 use Rattle.grid_scratch.specs.Layout.{row}
