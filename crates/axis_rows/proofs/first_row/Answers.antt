@@ -3,24 +3,21 @@ use native.Mathlib.Omega.{arith}
 use borrow.Author.Rules.{rules}
 use lib.ListN.{length-set}
 use Rattle.axis_rows.proofs.Stores.{at_none, at_first, at_second, at_third}
-use Rattle.axis_rows.proofs.first_row.Statement.{statement}
-use Rattle.axis_rows.proofs.first_row.Tie as tie
-use Rattle.axis_rows.proofs.first_row.Reads as reads
-use Rattle.axis_rows.proofs.first_row.Lts as lts
+use Rattle.axis_rows.proofs.first_row.Goals as goal
 
-slice_write_w : tie.Need-slice-write-w
-slice_write_w c = search rules
+pub bounds-w-512 : goal.bounds-w-512
+bounds-w-512 c = search rules
 
-slice_write_w_2 : tie.Need-slice-write-w-2
-slice_write_w_2 c = simp length-set (omega arith)
+pub bounds-w-768 : goal.bounds-w-768
+bounds-w-768 c = simp length-set (omega arith)
 
-slice_write_w_3 : tie.Need-slice-write-w-3
-slice_write_w_3 c = simp length-set (omega arith)
+pub bounds-w-1024 : goal.bounds-w-1024
+bounds-w-1024 c = simp length-set (omega arith)
 
-same_length : tie.Need-same-length
-same_length c = search rules
+pub shape_of-w : goal.shape_of-w
+shape_of-w c = search rules
 
-returns : tie.Need-returns
+pub returns : goal.returns
 returns c =
     let w = c.args.w.now in
     let row = c.args.lower in
@@ -31,7 +28,3 @@ returns c =
       rhs = at_third w 512 768 1024 row.diagonal row.neighbour row.right (omega arith);
       kept = at_none w 512 768 1024 row.diagonal row.neighbour row.right;
     }
-
-pub first_row_spec : {M : Type 1} → statement M
-first_row_spec =
-    tie.close (tie.spec slice_write_w slice_write_w_2 slice_write_w_3 same_length returns)
