@@ -1,0 +1,27 @@
+use native.Mathlib.Omega.{arith}
+use Prim.Native.Nat.{◌-◌}
+use lib.ListN.{length-set}
+use Rattle.tensor_plan.proofs.DivisorTurns.{Turn, turn_first, turn_next, turn_last}
+use borrow.Author.Rules.{rules}
+use Rattle.tensor_plan.proofs.ends.divisors.Goals as goal
+
+pub loop-k-init : goal.loop-k-init
+loop-k-init c = turn_first _ _ _ _ _ c.requires.0 c.requires.1
+
+pub bounds-w-k-in-loop-k : goal.bounds-w-k-in-loop-k
+bounds-w-k-in-loop-k c = simp length-set (omega arith)
+
+pub bounds-w-k-in-loop-k-2 : goal.bounds-w-k-in-loop-k-2
+bounds-w-k-in-loop-k-2 c = simp length-set (omega arith)
+
+pub bounds-w-k-in-loop-k-3 : goal.bounds-w-k-in-loop-k-3
+bounds-w-k-in-loop-k-3 c = simp length-set (omega arith)
+
+pub loop-k-preserved : goal.loop-k-preserved
+loop-k-preserved c = turn_next _ _ _ _ _ _ _ _ _ c.loop-k.invariant c.loop-k-test.true
+
+pub bounds-w-k-3 : goal.bounds-w-k-3
+bounds-w-k-3 c = simp length-set (omega arith)
+
+pub returns : goal.returns
+returns c = turn_last _ _ _ _ _ _ _ _ _ c.loop-k.invariant c.loop-k-test.false

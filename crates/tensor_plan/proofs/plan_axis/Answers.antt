@@ -1,0 +1,21 @@
+-- The plan that stands is the condition's: `ends-planned` under two ends, `cycle-planned` on a periodic axis, and nothing behind the
+-- plan's rows is touched.
+use borrow.Author.Rules.{rules}
+use Rattle.tensor_plan.proofs.Plans.{ends_given, ends_planned, cycle_given, cycle_planned}
+use Rattle.tensor_plan.proofs.plan_axis.Goals as goal
+
+pub plan_ends-ends-requires : goal.plan_ends-ends-requires
+plan_ends-ends-requires c =
+    let pre = c.requires in
+    ends_given _ _ _ _ _ c.in-Endpoints.is pre
+
+pub plan_cycle-cycle-requires : goal.plan_cycle-cycle-requires
+plan_cycle-cycle-requires c =
+    let pre = c.requires in
+    cycle_given _ _ _ c.in-Periodic.is pre
+
+pub returns-in-Endpoints : goal.returns-in-Endpoints
+returns-in-Endpoints c = ends_planned _ _ _ _ _ c.in-Endpoints.is _ _ c.plan_ends-ends.ensures
+
+pub returns-in-Periodic : goal.returns-in-Periodic
+returns-in-Periodic c = cycle_planned _ _ _ c.in-Periodic.is _ _ c.plan_cycle-cycle.ensures
