@@ -5,23 +5,22 @@ use native.Mathlib.Omega.{arith}
 use borrow.Author.Tests.{ne_eqb}
 use Rattle.grid_codes.specs.Classes.{class}
 use Rattle.grid_codes.proofs.Among.{within, below, above}
-use Rattle.grid_codes.proofs.classes.class_of.Statement.{statement}
-use Rattle.grid_codes.proofs.classes.class_of.Tie as tie
+use Rattle.grid_codes.proofs.classes.class_of.Goals as goal
 
-returns : tie.Need-returns
+pub returns-in-0 : goal.returns-in-0
 unfolding class
-returns c = rw c.match.keys1
+returns-in-0 c = rw c.in-0.is
 
 -- 15 and 23
-returns-2 : tie.Need-returns-2
+pub returns-in-15 : goal.returns-in-15
 unfolding class
-returns-2 c = ⊎_elim (λ e. rw e) (λ e. rw e) c.match.keys3
+returns-in-15 c = ⊎_elim (λ e. rw e) (λ e. rw e) c.in-15.is
 
 -- 5 to 10
-returns-3 : tie.Need-returns-3
+pub returns-in-5-to-10 : goal.returns-in-5-to-10
 unfolding class
-returns-3 c =
-    let n = c.before.before.before.args.refusal in
+returns-in-5-to-10 c =
+    let n = c.args.refusal in
     simp (
       ne_eqb n 0 (omega arith),
       above 1 4 n (omega arith) (omega arith),
@@ -31,11 +30,11 @@ returns-3 c =
     )
 
 -- from 15 on, but for 15, 22 and 23
-returns-4 : tie.Need-returns-4
+pub returns-in_default : goal.returns-in_default
 unfolding class
-returns-4 c =
-    let n = c.before.before.before.before.args.refusal in
-    let other = c.before.before.before.match.rest in
+returns-in_default c =
+    let n = c.args.refusal in
+    let other = c.in_default.in_default-own.rest in
     simp (
       ne_eqb n 0 (omega arith),
       above 1 4 n (omega arith) (omega arith),
@@ -47,23 +46,20 @@ returns-4 c =
     )
 
 -- 22
-returns-5 : tie.Need-returns-5
+pub returns-in-1-to-4 : goal.returns-in-1-to-4
 unfolding class
-returns-5 c = rw c.match.keys2
+returns-in-1-to-4 c = rw c.in-1-to-4.in-1-to-4-own.keys2
 
 -- 1 to 4
-returns-6 : tie.Need-returns-6
+pub returns-in-1-to-4-2 : goal.returns-in-1-to-4-2
 unfolding class
-returns-6 c =
-    let n = c.before.before.args.refusal in
+returns-in-1-to-4-2 c =
+    let n = c.args.refusal in
     simp (ne_eqb n 0 (omega arith), within 1 4 n (omega arith) (omega arith))
 
 -- 11 to 14
-returns-7 : tie.Need-returns-7
+pub returns-in-1-to-4-3 : goal.returns-in-1-to-4-3
 unfolding class
-returns-7 c =
-    let n = c.before.before.before.before.args.refusal in
+returns-in-1-to-4-3 c =
+    let n = c.args.refusal in
     simp (ne_eqb n 0 (omega arith), above 1 4 n (omega arith) (omega arith), within 11 14 n (omega arith) (omega arith))
-
-pub class_of_spec : {M : Type 1} → statement M
-class_of_spec = tie.close (tie.spec returns returns-2 returns-3 returns-4 returns-5 returns-6 returns-7)
