@@ -1,0 +1,97 @@
+-- 1 to 5 and 7 to 9 of a build, the first row that applies: 1 to 3 by one call (`sizes-stop`, `sizes-pass`), the others one by one.
+-- Sizes in range and the exact count of knots are known past row 4; the pass over the knots and what 7 requires of them need both.
+use mathlib.Core.Path.{◌≡◌, refl, sym, ◌∙◌}
+use mathlib.Core.List.{List}
+use lib.ListN.{length}
+use Rattle.rules.specs.Sizes.{knots_length, samples_length, tensor_length}
+use Rattle.grid_checks.specs.Checked.{FiniteUnless}
+use Rattle.grid.specs.GridOfCall.{grid, sizes_of, points_of, InRange}
+use Rattle.grid_checks.specs.Check.{build_rows, build_check}
+use Rattle.grid_checks.specs.Tables.{Refusal}
+use Rattle.grid_checks.proofs.Rows.{stop, pass, Past, sizes_passed, sizes_stop, sizes_pass, exact_3}
+use Rattle.grid_checks.proofs.FiniteKnots.{grid_finite}
+use borrow.Author.Rules.{rules}
+use Rattle.grid_checks.proofs.build_refusal.Goals as goal
+use Rattle.grid_checks.proofs.build_refusal.Goals.{After-some_knots_refused-knots_refused, Else-build_refused, Else-build_refused-2, Else-knots_refused, Else-refusal-ne0, Else-scratch_refused, Else-some_fewness_refused}
+
+abbrev rows : tie.Start → List Refusal
+rows s =
+    build_rows (grid s.args.axes s.args.all s.args.knots.now) s.args.samples.now s.args.tensor_length
+    s.args.scratch_length
+
+given : (c : Else-refusal-ne0) → InRange c.args.axes (points_of c.args.all)
+given c = sizes_passed _ _ c.sizes_refusal-refusal.ensures c.if-refusal-ne0.false
+
+knots_exact : (c : Else-build_refused) → length c.args.knots.now ≡ knots_length (sizes_of c.args.axes c.args.all)
+knots_exact c =
+    (exact_3
+    (length c.args.knots.now) (knots_length (sizes_of c.args.axes c.args.all))
+    (length c.args.samples.now) (samples_length (sizes_of c.args.axes c.args.all))
+    c.args.tensor_length (tensor_length (sizes_of c.args.axes c.args.all))
+    (sym c.build_refused.ensures ∙ c.if-build_refused.false)
+    ).0
+
+knots_finite : (c : After-some_knots_refused-knots_refused)
+    → FiniteUnless c.some_knots_refused-knots_refused.result c.args.knots.now
+knots_finite c =
+    grid_finite c.args.axes c.args.all
+    c.args.knots.now (given c)
+    (knots_exact c) c.some_knots_refused-knots_refused.ensures
+
+past_1 : (c : Else-refusal-ne0) → Past (rows c) 3
+past_1 c answer e = sizes_pass _ _ c.sizes_refusal-refusal.ensures _ c.if-refusal-ne0.false e
+
+past_2 : (c : Else-build_refused) → Past (rows c) 4
+past_2 c answer e = past_1 c _ (pass _ c.build_refused.ensures c.if-build_refused.false e)
+
+past_3 : (c : Else-scratch_refused) → Past (rows c) 5
+past_3 c answer e = past_2 c _ (pass _ c.scratch_refused.ensures c.if-scratch_refused.false e)
+
+past_4 : (c : Else-build_refused-2) → Past (rows c) 6
+past_4 c answer e = past_3 c _ (pass _ c.build_refused-2.ensures c.if-build_refused-2.false e)
+
+past_5 : (c : Else-knots_refused) → Past (rows c) 7
+past_5 c answer e = past_4 c _ (pass _ c.some_knots_refused-knots_refused.ensures c.if-knots_refused.false e)
+
+past_6 : (c : Else-some_fewness_refused) → Past (rows c) 8
+past_6 c answer e = past_5 c _ (pass _ c.some_fewness_refused.ensures c.if-some_fewness_refused.false e)
+
+pub returns-then-refusal-ne0 : goal.returns-then-refusal-ne0
+unfolding build_check
+returns-then-refusal-ne0 c = sizes_stop _ _ c.sizes_refusal-refusal.ensures _ c.if-refusal-ne0.true
+
+pub build_refused-requires : goal.build_refused-requires
+build_refused-requires c = given (goal.at.build_refused-requires c).Else-refusal-ne0
+
+pub returns-then-build_refused : goal.returns-then-build_refused
+unfolding build_check
+returns-then-build_refused c = past_1 (goal.at.returns-then-build_refused c).Else-refusal-ne0 _ (stop _ c.build_refused.ensures c.if-build_refused.true)
+
+pub scratch_refused-requires : goal.scratch_refused-requires
+scratch_refused-requires c = given (goal.at.scratch_refused-requires c).Else-refusal-ne0
+
+pub returns-then-scratch_refused : goal.returns-then-scratch_refused
+unfolding build_check
+returns-then-scratch_refused c = past_2 (goal.at.returns-then-scratch_refused c).Else-build_refused _ (stop _ c.scratch_refused.ensures c.if-scratch_refused.true)
+
+pub some_knots_refused-knots_refused-requires : goal.some_knots_refused-knots_refused-requires
+some_knots_refused-knots_refused-requires c = (given (goal.at.some_knots_refused-knots_refused-requires c).Else-refusal-ne0, knots_exact (goal.at.some_knots_refused-knots_refused-requires c).Else-build_refused)
+
+pub build_refused-requires-2 : goal.build_refused-requires-2
+build_refused-requires-2 c = ((given (goal.at.build_refused-requires-2 c).Else-refusal-ne0).few_axes, knots_finite (goal.at.build_refused-requires-2 c).After-some_knots_refused-knots_refused)
+
+pub returns-then-build_refused-2 : goal.returns-then-build_refused-2
+unfolding build_check
+returns-then-build_refused-2 c = past_3 (goal.at.returns-then-build_refused-2 c).Else-scratch_refused _ (stop _ c.build_refused-2.ensures c.if-build_refused-2.true)
+
+pub returns-then-knots_refused : goal.returns-then-knots_refused
+unfolding build_check
+returns-then-knots_refused c = past_4 (goal.at.returns-then-knots_refused c).Else-build_refused-2 _ (stop _ c.some_knots_refused-knots_refused.ensures c.if-knots_refused.true)
+
+pub returns-then-some_fewness_refused : goal.returns-then-some_fewness_refused
+unfolding build_check
+returns-then-some_fewness_refused c = past_5 (goal.at.returns-then-some_fewness_refused c).Else-knots_refused _ (stop _ c.some_fewness_refused.ensures c.if-some_fewness_refused.true)
+
+pub returns : goal.returns
+unfolding build_check
+returns c = past_6 (goal.at.returns c).Else-some_fewness_refused _ refl

@@ -1,0 +1,99 @@
+-- 1 to 9 of a change: the number returned is that of the first row that applies. Rows 1 to 3 are asked as one and leave sizes in
+-- range, row 4 leaves the exact count of knots, and by `grid-finite` those that pass 8 are finite, as the test for 7 requires.
+use mathlib.Core.Path.{◌≡◌, refl, sym, ◌∙◌}
+use mathlib.Core.List.{List}
+use lib.ListN.{length}
+use Rattle.rules.specs.Sizes.{knots_length, tensor_length, place_of}
+use Rattle.grid_checks.specs.Checked.{FiniteUnless}
+use Rattle.grid.specs.GridOfCall.{grid, sizes_of, points_of, InRange}
+use Rattle.grid_checks.specs.Check.{change_rows, change_check}
+use Rattle.grid_checks.specs.Tables.{Refusal}
+use Rattle.grid_checks.proofs.Rows.{stop, pass, Past, sizes_passed, sizes_stop, sizes_pass, exact_2}
+use Rattle.grid_checks.proofs.FiniteKnots.{grid_finite}
+use borrow.Author.Rules.{rules}
+use Rattle.grid_checks.proofs.change_refusal.Goals as goal
+use Rattle.grid_checks.proofs.change_refusal.Goals.{After-some_knots_refused-knots_refused, Else-change_refused, Else-change_refused-2, Else-knots_refused, Else-place_refused, Else-refusal-ne0, Else-scratch_refused, Else-some_fewness_refused}
+
+abbrev rows : tie.Start → List Refusal
+rows s =
+    change_rows (grid s.args.axes s.args.all s.args.knots.now) s.args.tensor.now s.args.scratch_length
+    (place_of s.args.place) s.args.sample
+
+given : (c : Else-refusal-ne0) → InRange c.args.axes (points_of c.args.all)
+given c = sizes_passed _ _ c.sizes_refusal-refusal.ensures c.if-refusal-ne0.false
+
+knots_exact : (c : Else-change_refused) → length c.args.knots.now ≡ knots_length (sizes_of c.args.axes c.args.all)
+knots_exact c =
+    (exact_2
+    (length c.args.knots.now) (knots_length (sizes_of c.args.axes c.args.all))
+    (length c.args.tensor.now) (tensor_length (sizes_of c.args.axes c.args.all))
+    (sym c.change_refused.ensures ∙ c.if-change_refused.false)
+    ).0
+
+knots_finite : (c : After-some_knots_refused-knots_refused)
+    → FiniteUnless c.some_knots_refused-knots_refused.result c.args.knots.now
+knots_finite c =
+    grid_finite c.args.axes c.args.all c.args.knots.now (given c)
+    (knots_exact c) c.some_knots_refused-knots_refused.ensures
+
+past_1 : (c : Else-refusal-ne0) → Past (rows c) 3
+past_1 c answer e = sizes_pass _ _ c.sizes_refusal-refusal.ensures _ c.if-refusal-ne0.false e
+
+past_2 : (c : Else-change_refused) → Past (rows c) 4
+past_2 c answer e = past_1 c _ (pass _ c.change_refused.ensures c.if-change_refused.false e)
+
+past_3 : (c : Else-scratch_refused) → Past (rows c) 5
+past_3 c answer e = past_2 c _ (pass _ c.scratch_refused.ensures c.if-scratch_refused.false e)
+
+past_4 : (c : Else-place_refused) → Past (rows c) 6
+past_4 c answer e = past_3 c _ (pass _ c.place_refused.ensures c.if-place_refused.false e)
+
+past_5 : (c : Else-change_refused-2) → Past (rows c) 7
+past_5 c answer e = past_4 c _ (pass _ c.change_refused-2.ensures c.if-change_refused-2.false e)
+
+past_6 : (c : Else-knots_refused) → Past (rows c) 8
+past_6 c answer e = past_5 c _ (pass _ c.some_knots_refused-knots_refused.ensures c.if-knots_refused.false e)
+
+past_7 : (c : Else-some_fewness_refused) → Past (rows c) 9
+past_7 c answer e = past_6 c _ (pass _ c.some_fewness_refused.ensures c.if-some_fewness_refused.false e)
+
+pub returns-then-refusal-ne0 : goal.returns-then-refusal-ne0
+unfolding change_check
+returns-then-refusal-ne0 c = sizes_stop _ _ c.sizes_refusal-refusal.ensures _ c.if-refusal-ne0.true
+
+pub change_refused-requires : goal.change_refused-requires
+change_refused-requires c = given (goal.at.change_refused-requires c).Else-refusal-ne0
+
+pub returns-then-change_refused : goal.returns-then-change_refused
+unfolding change_check
+returns-then-change_refused c = past_1 (goal.at.returns-then-change_refused c).Else-refusal-ne0 _ (stop _ c.change_refused.ensures c.if-change_refused.true)
+
+pub scratch_refused-requires : goal.scratch_refused-requires
+scratch_refused-requires c = given (goal.at.scratch_refused-requires c).Else-refusal-ne0
+
+pub returns-then-scratch_refused : goal.returns-then-scratch_refused
+unfolding change_check
+returns-then-scratch_refused c = past_2 (goal.at.returns-then-scratch_refused c).Else-change_refused _ (stop _ c.scratch_refused.ensures c.if-scratch_refused.true)
+
+pub place_refused-requires : goal.place_refused-requires
+place_refused-requires c = (given (goal.at.place_refused-requires c).Else-refusal-ne0).few_axes
+
+pub returns-then-place_refused : goal.returns-then-place_refused
+unfolding change_check
+returns-then-place_refused c = past_3 (goal.at.returns-then-place_refused c).Else-scratch_refused _ (stop _ c.place_refused.ensures c.if-place_refused.true)
+
+pub returns-then-change_refused-2 : goal.returns-then-change_refused-2
+unfolding change_check
+returns-then-change_refused-2 c = past_4 (goal.at.returns-then-change_refused-2 c).Else-place_refused _ (stop _ c.change_refused-2.ensures c.if-change_refused-2.true)
+
+pub returns-then-knots_refused : goal.returns-then-knots_refused
+unfolding change_check
+returns-then-knots_refused c = past_5 (goal.at.returns-then-knots_refused c).Else-change_refused-2 _ (stop _ c.some_knots_refused-knots_refused.ensures c.if-knots_refused.true)
+
+pub returns-then-some_fewness_refused : goal.returns-then-some_fewness_refused
+unfolding change_check
+returns-then-some_fewness_refused c = past_6 (goal.at.returns-then-some_fewness_refused c).Else-knots_refused _ (stop _ c.some_fewness_refused.ensures c.if-some_fewness_refused.true)
+
+pub returns : goal.returns
+unfolding change_check
+returns c = past_7 (goal.at.returns c).Else-some_fewness_refused _ refl

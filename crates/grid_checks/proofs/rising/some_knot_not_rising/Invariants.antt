@@ -1,0 +1,16 @@
+-- The flag says whether a knot below `i` fails to lie below the next: one comparison a turn. The measure is the knots left.
+use Prim.Native.Nat.{◌≤◌, ◌-◌}
+use mathlib.Core.Path.{◌≡◌, sym, ap, ◌∙◌}
+use native.Mathlib.Omega.{arith}
+use lib.ListN.{length}
+use Rattle.rules.specs.Numbers.{any}
+use Rattle.base_numbers.proofs.Scan.{any_none, any_next}
+use Rattle.grid_checks.specs.Rising.{not_rising}
+use borrow.Author.Rules.{rules}
+use Rattle.grid_checks.proofs.rising.some_knot_not_rising.Given as goal
+
+abbrev pub invariant-loop-i : goal.invariant-loop-i
+invariant-loop-i l = (l.i ≤ length l.knots - 1) × (l.found ≡ any (not_rising l.knots) l.i)
+
+abbrev pub decreases-loop-i : goal.decreases-loop-i
+decreases-loop-i l = length l.knots - l.i

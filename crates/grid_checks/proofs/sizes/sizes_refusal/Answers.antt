@@ -1,0 +1,23 @@
+-- 1 where it applies; past it there are one to four axes, and the points taken out of them answer rows 2 and 3 (`sizes-of-points`).
+use mathlib.Core.Path.{sym, ◌∙◌}
+use Rattle.grid_checks.specs.Check.{sizes_check}
+use Rattle.grid_checks.proofs.Rows.{stop, pass, axes_few}
+use Rattle.grid_checks.proofs.Points.{sizes_of_points}
+use borrow.Author.Rules.{rules}
+use Rattle.grid_checks.proofs.sizes.sizes_refusal.Goals as goal
+
+pub returns-then-axes_refused : goal.returns-then-axes_refused
+unfolding sizes_check
+returns-then-axes_refused c = stop _ c.axes_refused.ensures c.if-axes_refused.true
+
+pub points_refusal-requires : goal.points_refusal-requires
+points_refusal-requires c =
+    let few = axes_few (sym c.axes_refused.ensures ∙ c.if-axes_refused.false) in
+    (few.0, few.1, search rules)
+
+pub returns : goal.returns
+unfolding sizes_check
+returns c =
+    pass _ c.axes_refused.ensures c.if-axes_refused.false
+    (sizes_of_points c.args.axes c.args.all c.points_of-points.result
+    c.points_of-points.ensures c.points_refusal.ensures)
