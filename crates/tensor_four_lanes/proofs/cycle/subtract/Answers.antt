@@ -1,0 +1,15 @@
+use Prim.Native.Nat.{◌-◌}
+use Rattle.tensor_four_lanes.proofs.SubtractTurns.{Turn, turn_first, turn_next, turn_last}
+use borrow.Author.Rules.{rules}
+use Rattle.tensor_four_lanes.proofs.cycle.subtract.Goals as goal
+
+pub loop-k-init : goal.loop-k-init
+loop-k-init c = turn_first _ _ _ c.requires
+
+pub loop-k-preserved : goal.loop-k-preserved
+loop-k-preserved c =
+    turn_next _ _ _ _ _ _ c.loop-k.invariant c.loop-k-test.true _ _ _ c.get_row-y.ensures c.scaled.ensures
+    c.minus-m.ensures c.set_row.ensures
+
+pub returns : goal.returns
+returns c = turn_last _ _ _ _ _ c.loop-k.invariant c.loop-k-test.false
