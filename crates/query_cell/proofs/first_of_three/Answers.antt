@@ -1,0 +1,24 @@
+-- The runs stand in the front of the cell.
+use borrow.Author.Rules.{rules}
+use native.Mathlib.Omega.{arith}
+use lib.Seq.{length-take-le}
+use Rattle.query_cell.proofs.Spotting.{spots_of_three, three_small}
+use Rattle.query_cell.proofs.Removing.{runs_given, first_removed}
+use Rattle.query_cell.proofs.first_of_three.Goals as goal
+
+pub overflow_mul-next : goal.overflow_mul-next
+overflow_mul-next c = let s = three_small _ _ c.requires.0.0 in omega arith
+
+pub remove_runs-requires : goal.remove_runs-requires
+remove_runs-requires c = (
+  runs_given 3 _ _ c.args.tensor.now _ c.requires.0.0 (omega arith) c.requires.0.2 (spots_of_three _ _),
+  length-take-le 16 c.args.cell.now (omega arith),
+)
+
+pub returns : goal.returns
+returns c =
+    first_removed 3 _ _ c.args.tensor.now _ c.requires.0.0 (omega arith) c.requires.0.2 (spots_of_three _ _) _
+    c.args.cell.now
+    _
+    (omega (arith, c.requires.1))
+    c.remove_runs.ensures

@@ -1,0 +1,12 @@
+-- The runs of a cell's first axis, one a turn: those below `run` are blended and the others untouched. The measure is the runs left.
+use borrow.Author.Rules.{rules}
+use native.Mathlib.Omega.{arith}
+use Prim.Native.Nat.{◌-◌, ◌/◌}
+use Rattle.query_cell.proofs.Removing.{Turn, turn_first, room, run_given, turn_next, turn_last}
+use Rattle.query_cell.proofs.remove_runs.Given as goal
+
+abbrev pub invariant-loop-run : goal.invariant-loop-run
+invariant-loop-run l = Turn l.initial.cell l.axes l.spots l.tensor l.weights l.masks l.cell l.run
+
+abbrev pub decreases-loop-run : goal.decreases-loop-run
+decreases-loop-run l = l.masks / 4 - l.run
