@@ -20,7 +20,7 @@ NAME = r"[^\s(){}.;,@\"«»]+"
 
 
 def plain(name):
-    return name.replace("_", "-").replace("overflow-", "").replace("Need-", "")
+    return name.replace("_", "-").replace("overflow-", "").replace("Need-", "").replace("slice-bounds-", "part-").replace("nonzero-", "")
 
 
 def blocks(text):
@@ -59,6 +59,21 @@ def split_arguments(text):
     return out + ([now] if now else [])
 
 
+def first_argument(text):
+    """The first argument of an application, with what is projected from it."""
+    depth = 0
+    for at, ch in enumerate(text):
+        if ch in "([{":
+            depth += 1
+        if ch in ")]}":
+            depth -= 1
+            if depth < 0:
+                return text[:at]
+        if depth == 0 and (ch.isspace() or ch in ",;"):
+            return text[:at]
+    return text
+
+
 class Function:
     def __init__(self, names, said):
         self.names, self.said = names, said
@@ -69,7 +84,7 @@ class Function:
         self.order = [new for _, new in names["needs"]]
         self.asked_at = {new: self.index.get(plain(at[0]), 0) for (_, new), at in zip(names["needs"], names["asked_at"])}
         self.arguments = [(a.split(".")[-1].strip(), b.split(".")[-1].strip()) for a, b in names["args"] if a.startswith(".args")]
-        self.turns = {}
+        self.turns, self.lemmas = {}, {}
 
     def parent(self, at):
         above = self.places[at][1]
@@ -119,6 +134,28 @@ class Function:
         rest = [OLD_FIELDS.get(it, it) for it in fields[1:2]] + fields[2:]
         return ".".join([head, self.step(at, fields[0])] + rest)
 
+    def unfolded(self, text, at, goal):
+        """The first call of a lemma over a place that cannot be handed on, opened."""
+        for name, (place, head, abbreviates, parameters, body) in self.lemmas.items():
+            for m in re.finditer(rf"(?<![\w.'-]){re.escape(name)} ⟪(\d+)⟫", text):
+                if not abbreviates and (goal or int(m[1]) == at and place == at):
+                    continue
+                rest, given = text[m.end() :], []
+                while len(given) < len(parameters) - 1:
+                    found = re.match(r"\s+(?=[^\s=→∙×≡≤<+*⊖,;)}\]-])", rest)
+                    if not found or re.match(r"\s+(in|let|∙|≡|then)\b", rest):
+                        break
+                    taken = first_argument(rest[found.end() :])
+                    given.append(taken)
+                    rest = rest[found.end() + len(taken) :]
+                opened = re.sub(rf"(?<![\w.'-]){re.escape(parameters[0])}(?![\w'₀-])", f"⟪{m[1]}⟫", body)
+                for parameter, value in zip(parameters[1:], given):
+                    opened = re.sub(rf"(?<![\w.'-]){re.escape(parameter)}(?![\w'₀-])", lambda _: value, opened)
+                left = parameters[1 + len(given) :]
+                opened = f"λ {' '.join(left)}. {opened}" if left else opened
+                return text[: m.start()] + f"({opened.strip()})" + rest
+        return text
+
     def resolve(self, text, head, at, goal=None):
         """A body or a statement over one place, with each path flat."""
         text = re.sub(rf"(?<![\w.'-]){re.escape(head)}(?![\w'₀-])", f"⟪{at}⟫", text)
@@ -133,7 +170,12 @@ class Function:
                 rest = re.sub(rf"(?<![\w.'-]){re.escape(found[1])}(?![\w'₀-])", f"⟪{found[2]}⟫", text[found.end() :])
                 text = text[: found.start()] + rest
             if text == before:
+                text = self.unfolded(text, at, goal)
+            if text == before:
                 break
+        text = re.sub(r"\.inv(?![\w-])", ".invariant", text)
+        text = re.sub(r"\.pre(?![\w-])", ".requires", text)
+        text = re.sub(r"\.taken(?![\w-])", ".true", text)
         text = re.sub(
             rf"⟪(\d+)⟫((?:\.{NAME})+)", lambda m: self.path(head, int(m[1]), m[2][1:].split(".")), text
         )
@@ -186,12 +228,29 @@ class Proof:
                 self.function.turns[sort[1]] = self.place(to)
             else:
                 self.helpers.append((sort[1] if sort else "", block))
+        self.lemmas()
         self.named = {name for name, _ in goals}
         for name, block in goals:
             self.goal(name, block)
         if spec:
             self.spec(spec)
         self.write()
+
+    def lemmas(self):
+        """Notes which helpers speak of a place; an abbreviation over one is opened everywhere."""
+        kept = []
+        for name, block in self.helpers:
+            code = "\n".join(it for it in block.split("\n") if not it.startswith(("--", "unfolding")))
+            bound = re.match(rf"(?:(?:pub|abbrev) )*{re.escape(name)} : (?:\(({NAME}) : )?tie\.({NAME})", code) if name else None
+            clause = re.search(rf"(?m)^{re.escape(name)} ((?:{NAME} )*)=\s", code) if bound else None
+            if clause and clause[1].split():
+                abbreviates = code.startswith("abbrev")
+                parameters = clause[1].split()
+                self.function.lemmas[name] = (self.place(bound[2]), parameters[0], abbreviates, parameters, code[clause.end() :])
+                if abbreviates:
+                    continue
+            kept.append((name, block))
+        self.helpers = kept
 
     def place(self, name):
         at = self.function.index.get(plain(name))
@@ -235,7 +294,8 @@ class Proof:
             self.said.append("a goal that is not read: " + block[:80].replace("\n", " | "))
             return
         comment, need, unfolding, given, body = found.groups()
-        new = self.function.needs.get(plain(need))
+        same = [new for new in self.function.order if plain(new) == plain(need)]
+        new = self.function.needs.get(plain(need), same[0] if len(same) == 1 else None)
         if new is None:
             self.said.append(f"no goal {need}: {body[:200]!r}")
             return
@@ -255,7 +315,7 @@ class Proof:
         while asked and re.match(r"(invariant|decreases)-|.*[Ii]nvariant|.*decreases", asked[0]):
             asked.pop(0)
         inline = [(k, it) for k, it in enumerate(asked) if it.startswith("(")]
-        odd = [(k, it) for k, it in inline if not re.fullmatch(r"\(λ [^.]*\. search rules\)", it)]
+        odd = [(k, it) for k, it in inline if not re.fullmatch(r"\(λ [^.]*\.\s+search rules\)", it)]
         order = self.function.order
         if len(asked) != len(order):
             if odd:
@@ -264,8 +324,11 @@ class Proof:
         for k, it in enumerate(asked):
             if it in self.renamed and self.renamed[it] != order[k]:
                 self.said.append(f"{it} is {self.renamed[it]} by name and {order[k]} by place")
+        for k, it in enumerate(asked):
+            if it in self.function.lemmas:
+                self.answers.setdefault(order[k], ("", "", self.body(order[k], ["c"], f"{it} c")))
         for k, it in odd:
-            found = re.fullmatch(r"\(λ ([^.]*?)\. (.*)\)", it, re.S)
+            found = re.fullmatch(r"\(λ ([^.]*?)\.\s+(.*)\)", it, re.S)
             if not found:
                 self.said.append(f"inline for {order[k]}: {it}")
                 continue

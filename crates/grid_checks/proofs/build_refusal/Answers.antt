@@ -14,11 +14,6 @@ use borrow.Author.Rules.{rules}
 use Rattle.grid_checks.proofs.build_refusal.Goals as goal
 use Rattle.grid_checks.proofs.build_refusal.Goals.{After-some_knots_refused-knots_refused, Else-build_refused, Else-build_refused-2, Else-knots_refused, Else-refusal-ne0, Else-scratch_refused, Else-some_fewness_refused}
 
-abbrev rows : tie.Start → List Refusal
-rows s =
-    build_rows (grid s.args.axes s.args.all s.args.knots.now) s.args.samples.now s.args.tensor_length
-    s.args.scratch_length
-
 given : (c : Else-refusal-ne0) → InRange c.args.axes (points_of c.args.all)
 given c = sizes_passed _ _ c.sizes_refusal-refusal.ensures c.if-refusal-ne0.false
 
@@ -35,26 +30,37 @@ knots_finite : (c : After-some_knots_refused-knots_refused)
     → FiniteUnless c.some_knots_refused-knots_refused.result c.args.knots.now
 knots_finite c =
     grid_finite c.args.axes c.args.all
-    c.args.knots.now (given c)
-    (knots_exact c) c.some_knots_refused-knots_refused.ensures
+    c.args.knots.now ((sizes_passed _ _ c.sizes_refusal-refusal.ensures c.if-refusal-ne0.false))
+    (((exact_3
+    (length c.args.knots.now) (knots_length (sizes_of c.args.axes c.args.all))
+    (length c.args.samples.now) (samples_length (sizes_of c.args.axes c.args.all))
+    c.args.tensor_length (tensor_length (sizes_of c.args.axes c.args.all))
+    (sym c.build_refused.ensures ∙ c.if-build_refused.false)
+    ).0)) c.some_knots_refused-knots_refused.ensures
 
-past_1 : (c : Else-refusal-ne0) → Past (rows c) 3
+past_1 : (c : Else-refusal-ne0) → Past ((build_rows (grid c.args.axes c.args.all c.args.knots.now) c.args.samples.now c.args.tensor_length
+    c.args.scratch_length)) 3
 past_1 c answer e = sizes_pass _ _ c.sizes_refusal-refusal.ensures _ c.if-refusal-ne0.false e
 
-past_2 : (c : Else-build_refused) → Past (rows c) 4
-past_2 c answer e = past_1 c _ (pass _ c.build_refused.ensures c.if-build_refused.false e)
+past_2 : (c : Else-build_refused) → Past ((build_rows (grid c.args.axes c.args.all c.args.knots.now) c.args.samples.now c.args.tensor_length
+    c.args.scratch_length)) 4
+past_2 c answer e = (sizes_pass _ _ c.sizes_refusal-refusal.ensures _ c.if-refusal-ne0.false (pass _ c.build_refused.ensures c.if-build_refused.false e))
 
-past_3 : (c : Else-scratch_refused) → Past (rows c) 5
-past_3 c answer e = past_2 c _ (pass _ c.scratch_refused.ensures c.if-scratch_refused.false e)
+past_3 : (c : Else-scratch_refused) → Past ((build_rows (grid c.args.axes c.args.all c.args.knots.now) c.args.samples.now c.args.tensor_length
+    c.args.scratch_length)) 5
+past_3 c answer e = ((sizes_pass _ _ c.sizes_refusal-refusal.ensures _ c.if-refusal-ne0.false (pass _ c.build_refused.ensures c.if-build_refused.false (pass _ c.scratch_refused.ensures c.if-scratch_refused.false e))))
 
-past_4 : (c : Else-build_refused-2) → Past (rows c) 6
-past_4 c answer e = past_3 c _ (pass _ c.build_refused-2.ensures c.if-build_refused-2.false e)
+past_4 : (c : Else-build_refused-2) → Past ((build_rows (grid c.args.axes c.args.all c.args.knots.now) c.args.samples.now c.args.tensor_length
+    c.args.scratch_length)) 6
+past_4 c answer e = (((sizes_pass _ _ c.sizes_refusal-refusal.ensures _ c.if-refusal-ne0.false (pass _ c.build_refused.ensures c.if-build_refused.false (pass _ c.scratch_refused.ensures c.if-scratch_refused.false (pass _ c.build_refused-2.ensures c.if-build_refused-2.false e))))))
 
-past_5 : (c : Else-knots_refused) → Past (rows c) 7
-past_5 c answer e = past_4 c _ (pass _ c.some_knots_refused-knots_refused.ensures c.if-knots_refused.false e)
+past_5 : (c : Else-knots_refused) → Past ((build_rows (grid c.args.axes c.args.all c.args.knots.now) c.args.samples.now c.args.tensor_length
+    c.args.scratch_length)) 7
+past_5 c answer e = ((((sizes_pass _ _ c.sizes_refusal-refusal.ensures _ c.if-refusal-ne0.false (pass _ c.build_refused.ensures c.if-build_refused.false (pass _ c.scratch_refused.ensures c.if-scratch_refused.false (pass _ c.build_refused-2.ensures c.if-build_refused-2.false (pass _ c.some_knots_refused-knots_refused.ensures c.if-knots_refused.false e))))))))
 
-past_6 : (c : Else-some_fewness_refused) → Past (rows c) 8
-past_6 c answer e = past_5 c _ (pass _ c.some_fewness_refused.ensures c.if-some_fewness_refused.false e)
+past_6 : (c : Else-some_fewness_refused) → Past ((build_rows (grid c.args.axes c.args.all c.args.knots.now) c.args.samples.now c.args.tensor_length
+    c.args.scratch_length)) 8
+past_6 c answer e = (((((sizes_pass _ _ c.sizes_refusal-refusal.ensures _ c.if-refusal-ne0.false (pass _ c.build_refused.ensures c.if-build_refused.false (pass _ c.scratch_refused.ensures c.if-scratch_refused.false (pass _ c.build_refused-2.ensures c.if-build_refused-2.false (pass _ c.some_knots_refused-knots_refused.ensures c.if-knots_refused.false (pass _ c.some_fewness_refused.ensures c.if-some_fewness_refused.false e))))))))))
 
 pub returns-then-refusal-ne0 : goal.returns-then-refusal-ne0
 unfolding build_check
@@ -87,6 +93,9 @@ returns-then-build_refused-2 c = past_3 (goal.at.returns-then-build_refused-2 c)
 pub returns-then-knots_refused : goal.returns-then-knots_refused
 unfolding build_check
 returns-then-knots_refused c = past_4 (goal.at.returns-then-knots_refused c).Else-build_refused-2 _ (stop _ c.some_knots_refused-knots_refused.ensures c.if-knots_refused.true)
+
+pub some_fewness_refused-requires : goal.some_fewness_refused-requires
+some_fewness_refused-requires c = (given (goal.at.some_fewness_refused-requires c).Else-refusal-ne0).few_axes
 
 pub returns-then-some_fewness_refused : goal.returns-then-some_fewness_refused
 unfolding build_check

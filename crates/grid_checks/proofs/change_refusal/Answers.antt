@@ -14,11 +14,6 @@ use borrow.Author.Rules.{rules}
 use Rattle.grid_checks.proofs.change_refusal.Goals as goal
 use Rattle.grid_checks.proofs.change_refusal.Goals.{After-some_knots_refused-knots_refused, Else-change_refused, Else-change_refused-2, Else-knots_refused, Else-place_refused, Else-refusal-ne0, Else-scratch_refused, Else-some_fewness_refused}
 
-abbrev rows : tie.Start → List Refusal
-rows s =
-    change_rows (grid s.args.axes s.args.all s.args.knots.now) s.args.tensor.now s.args.scratch_length
-    (place_of s.args.place) s.args.sample
-
 given : (c : Else-refusal-ne0) → InRange c.args.axes (points_of c.args.all)
 given c = sizes_passed _ _ c.sizes_refusal-refusal.ensures c.if-refusal-ne0.false
 
@@ -33,29 +28,40 @@ knots_exact c =
 knots_finite : (c : After-some_knots_refused-knots_refused)
     → FiniteUnless c.some_knots_refused-knots_refused.result c.args.knots.now
 knots_finite c =
-    grid_finite c.args.axes c.args.all c.args.knots.now (given c)
-    (knots_exact c) c.some_knots_refused-knots_refused.ensures
+    grid_finite c.args.axes c.args.all c.args.knots.now ((sizes_passed _ _ c.sizes_refusal-refusal.ensures c.if-refusal-ne0.false))
+    (((exact_2
+    (length c.args.knots.now) (knots_length (sizes_of c.args.axes c.args.all))
+    (length c.args.tensor.now) (tensor_length (sizes_of c.args.axes c.args.all))
+    (sym c.change_refused.ensures ∙ c.if-change_refused.false)
+    ).0)) c.some_knots_refused-knots_refused.ensures
 
-past_1 : (c : Else-refusal-ne0) → Past (rows c) 3
+past_1 : (c : Else-refusal-ne0) → Past ((change_rows (grid c.args.axes c.args.all c.args.knots.now) c.args.tensor.now c.args.scratch_length
+    (place_of c.args.place) c.args.sample)) 3
 past_1 c answer e = sizes_pass _ _ c.sizes_refusal-refusal.ensures _ c.if-refusal-ne0.false e
 
-past_2 : (c : Else-change_refused) → Past (rows c) 4
-past_2 c answer e = past_1 c _ (pass _ c.change_refused.ensures c.if-change_refused.false e)
+past_2 : (c : Else-change_refused) → Past ((change_rows (grid c.args.axes c.args.all c.args.knots.now) c.args.tensor.now c.args.scratch_length
+    (place_of c.args.place) c.args.sample)) 4
+past_2 c answer e = (sizes_pass _ _ c.sizes_refusal-refusal.ensures _ c.if-refusal-ne0.false (pass _ c.change_refused.ensures c.if-change_refused.false e))
 
-past_3 : (c : Else-scratch_refused) → Past (rows c) 5
-past_3 c answer e = past_2 c _ (pass _ c.scratch_refused.ensures c.if-scratch_refused.false e)
+past_3 : (c : Else-scratch_refused) → Past ((change_rows (grid c.args.axes c.args.all c.args.knots.now) c.args.tensor.now c.args.scratch_length
+    (place_of c.args.place) c.args.sample)) 5
+past_3 c answer e = ((sizes_pass _ _ c.sizes_refusal-refusal.ensures _ c.if-refusal-ne0.false (pass _ c.change_refused.ensures c.if-change_refused.false (pass _ c.scratch_refused.ensures c.if-scratch_refused.false e))))
 
-past_4 : (c : Else-place_refused) → Past (rows c) 6
-past_4 c answer e = past_3 c _ (pass _ c.place_refused.ensures c.if-place_refused.false e)
+past_4 : (c : Else-place_refused) → Past ((change_rows (grid c.args.axes c.args.all c.args.knots.now) c.args.tensor.now c.args.scratch_length
+    (place_of c.args.place) c.args.sample)) 6
+past_4 c answer e = (((sizes_pass _ _ c.sizes_refusal-refusal.ensures _ c.if-refusal-ne0.false (pass _ c.change_refused.ensures c.if-change_refused.false (pass _ c.scratch_refused.ensures c.if-scratch_refused.false (pass _ c.place_refused.ensures c.if-place_refused.false e))))))
 
-past_5 : (c : Else-change_refused-2) → Past (rows c) 7
-past_5 c answer e = past_4 c _ (pass _ c.change_refused-2.ensures c.if-change_refused-2.false e)
+past_5 : (c : Else-change_refused-2) → Past ((change_rows (grid c.args.axes c.args.all c.args.knots.now) c.args.tensor.now c.args.scratch_length
+    (place_of c.args.place) c.args.sample)) 7
+past_5 c answer e = ((((sizes_pass _ _ c.sizes_refusal-refusal.ensures _ c.if-refusal-ne0.false (pass _ c.change_refused.ensures c.if-change_refused.false (pass _ c.scratch_refused.ensures c.if-scratch_refused.false (pass _ c.place_refused.ensures c.if-place_refused.false (pass _ c.change_refused-2.ensures c.if-change_refused-2.false e))))))))
 
-past_6 : (c : Else-knots_refused) → Past (rows c) 8
-past_6 c answer e = past_5 c _ (pass _ c.some_knots_refused-knots_refused.ensures c.if-knots_refused.false e)
+past_6 : (c : Else-knots_refused) → Past ((change_rows (grid c.args.axes c.args.all c.args.knots.now) c.args.tensor.now c.args.scratch_length
+    (place_of c.args.place) c.args.sample)) 8
+past_6 c answer e = (((((sizes_pass _ _ c.sizes_refusal-refusal.ensures _ c.if-refusal-ne0.false (pass _ c.change_refused.ensures c.if-change_refused.false (pass _ c.scratch_refused.ensures c.if-scratch_refused.false (pass _ c.place_refused.ensures c.if-place_refused.false (pass _ c.change_refused-2.ensures c.if-change_refused-2.false (pass _ c.some_knots_refused-knots_refused.ensures c.if-knots_refused.false e))))))))))
 
-past_7 : (c : Else-some_fewness_refused) → Past (rows c) 9
-past_7 c answer e = past_6 c _ (pass _ c.some_fewness_refused.ensures c.if-some_fewness_refused.false e)
+past_7 : (c : Else-some_fewness_refused) → Past ((change_rows (grid c.args.axes c.args.all c.args.knots.now) c.args.tensor.now c.args.scratch_length
+    (place_of c.args.place) c.args.sample)) 9
+past_7 c answer e = ((((((sizes_pass _ _ c.sizes_refusal-refusal.ensures _ c.if-refusal-ne0.false (pass _ c.change_refused.ensures c.if-change_refused.false (pass _ c.scratch_refused.ensures c.if-scratch_refused.false (pass _ c.place_refused.ensures c.if-place_refused.false (pass _ c.change_refused-2.ensures c.if-change_refused-2.false (pass _ c.some_knots_refused-knots_refused.ensures c.if-knots_refused.false (pass _ c.some_fewness_refused.ensures c.if-some_fewness_refused.false e))))))))))))
 
 pub returns-then-refusal-ne0 : goal.returns-then-refusal-ne0
 unfolding change_check
@@ -82,6 +88,12 @@ pub returns-then-place_refused : goal.returns-then-place_refused
 unfolding change_check
 returns-then-place_refused c = past_3 (goal.at.returns-then-place_refused c).Else-scratch_refused _ (stop _ c.place_refused.ensures c.if-place_refused.true)
 
+pub some_knots_refused-knots_refused-requires : goal.some_knots_refused-knots_refused-requires
+some_knots_refused-knots_refused-requires c = (given (goal.at.some_knots_refused-knots_refused-requires c).Else-refusal-ne0, knots_exact (goal.at.some_knots_refused-knots_refused-requires c).Else-change_refused)
+
+pub change_refused-requires-2 : goal.change_refused-requires-2
+change_refused-requires-2 c = ((given (goal.at.change_refused-requires-2 c).Else-refusal-ne0).few_axes, knots_finite (goal.at.change_refused-requires-2 c).After-some_knots_refused-knots_refused)
+
 pub returns-then-change_refused-2 : goal.returns-then-change_refused-2
 unfolding change_check
 returns-then-change_refused-2 c = past_4 (goal.at.returns-then-change_refused-2 c).Else-place_refused _ (stop _ c.change_refused-2.ensures c.if-change_refused-2.true)
@@ -89,6 +101,9 @@ returns-then-change_refused-2 c = past_4 (goal.at.returns-then-change_refused-2 
 pub returns-then-knots_refused : goal.returns-then-knots_refused
 unfolding change_check
 returns-then-knots_refused c = past_5 (goal.at.returns-then-knots_refused c).Else-change_refused-2 _ (stop _ c.some_knots_refused-knots_refused.ensures c.if-knots_refused.true)
+
+pub some_fewness_refused-requires : goal.some_fewness_refused-requires
+some_fewness_refused-requires c = (given (goal.at.some_fewness_refused-requires c).Else-refusal-ne0).few_axes
 
 pub returns-then-some_fewness_refused : goal.returns-then-some_fewness_refused
 unfolding change_check

@@ -15,11 +15,6 @@ use borrow.Author.Rules.{rules}
 use Rattle.grid_checks.proofs.moments_refusal.Goals as goal
 use Rattle.grid_checks.proofs.moments_refusal.Goals.{After-knots_refused-knots_refused, Else-axis_refused, Else-fewness_refused, Else-knots_refused, Else-moments_refused, Else-points_refused, Else-scratch_length-lt-ROWS}
 
-abbrev rows : tie.Start → List Refusal
-rows s =
-    moments_rows s.args.points s.args.knots.now s.args.samples.now s.args.condition s.args.moments_length
-    s.args.scratch_length
-
 knots_exact : (c : Else-axis_refused) → length c.args.knots.now ≡ c.args.points
 knots_exact c =
     (exact_3 (length c.args.knots.now) c.args.points (length c.args.samples.now) c.args.points
@@ -31,28 +26,37 @@ in_points c = sym c.points_refused.ensures ∙ c.if-points_refused.false
 knots_finite : (c : After-knots_refused-knots_refused) → FiniteUnless c.knots_refused-knots_refused.result c.args.knots.now
 knots_finite c =
     axis_finite c.args.knots.now c.args.points
-    (in_points c) (knots_exact c) c.knots_refused-knots_refused.ensures
+    ((sym c.points_refused.ensures ∙ c.if-points_refused.false)) (((exact_3 (length c.args.knots.now) c.args.points (length c.args.samples.now) c.args.points
+    c.args.moments_length c.args.points (sym c.axis_refused.ensures ∙ c.if-axis_refused.false)).0)) c.knots_refused-knots_refused.ensures
 
-past_1 : (c : Else-points_refused) → Past (rows c) 1
+past_1 : (c : Else-points_refused) → Past ((moments_rows c.args.points c.args.knots.now c.args.samples.now c.args.condition c.args.moments_length
+    c.args.scratch_length)) 1
 past_1 c answer e = pass _ c.points_refused.ensures c.if-points_refused.false e
 
-past_2 : (c : Else-axis_refused) → Past (rows c) 2
-past_2 c answer e = past_1 c _ (pass _ c.axis_refused.ensures c.if-axis_refused.false e)
+past_2 : (c : Else-axis_refused) → Past ((moments_rows c.args.points c.args.knots.now c.args.samples.now c.args.condition c.args.moments_length
+    c.args.scratch_length)) 2
+past_2 c answer e = (pass _ c.points_refused.ensures c.if-points_refused.false (pass _ c.axis_refused.ensures c.if-axis_refused.false e))
 
-past_3 : (c : Else-scratch_length-lt-ROWS) → Past (rows c) 3
-past_3 c answer e = past_2 c _ (pass _ refl (le-ltb _ _ c.if-scratch_length-lt-ROWS.false) e)
+past_3 : (c : Else-scratch_length-lt-ROWS) → Past ((moments_rows c.args.points c.args.knots.now c.args.samples.now c.args.condition c.args.moments_length
+    c.args.scratch_length)) 3
+past_3 c answer e = ((pass _ c.points_refused.ensures c.if-points_refused.false (pass _ c.axis_refused.ensures c.if-axis_refused.false (pass _ refl (le-ltb _ _ c.if-scratch_length-lt-ROWS.false) e))))
 
-past_4 : (c : Else-moments_refused) → Past (rows c) 4
-past_4 c answer e = past_3 c _ (pass _ c.moments_refused.ensures c.if-moments_refused.false e)
+past_4 : (c : Else-moments_refused) → Past ((moments_rows c.args.points c.args.knots.now c.args.samples.now c.args.condition c.args.moments_length
+    c.args.scratch_length)) 4
+past_4 c answer e = (((pass _ c.points_refused.ensures c.if-points_refused.false (pass _ c.axis_refused.ensures c.if-axis_refused.false (pass _ refl (le-ltb _ _ c.if-scratch_length-lt-ROWS.false) (pass _ c.moments_refused.ensures c.if-moments_refused.false e))))))
 
-past_5 : (c : Else-knots_refused) → Past (rows c) 5
+past_5 : (c : Else-knots_refused) → Past ((moments_rows c.args.points c.args.knots.now c.args.samples.now c.args.condition c.args.moments_length
+    c.args.scratch_length)) 5
 past_5 c answer e =
-    past_4 c _
-    (pass _ (knots_row _ _ (knots_exact c) c.knots_refused-knots_refused.ensures)
-    c.if-knots_refused.false e)
+    ((((pass _ c.points_refused.ensures c.if-points_refused.false (pass _ c.axis_refused.ensures c.if-axis_refused.false (pass _ refl (le-ltb _ _ c.if-scratch_length-lt-ROWS.false) (pass _ c.moments_refused.ensures c.if-moments_refused.false (pass _ (knots_row _ _ (((exact_3 (length c.args.knots.now) c.args.points (length c.args.samples.now) c.args.points
+    c.args.moments_length c.args.points (sym c.axis_refused.ensures ∙ c.if-axis_refused.false)).0)) c.knots_refused-knots_refused.ensures)
+    c.if-knots_refused.false e))))))))
 
-past_6 : (c : Else-fewness_refused) → Past (rows c) 6
-past_6 c answer e = past_5 c _ (pass _ c.fewness_refused.ensures c.if-fewness_refused.false e)
+past_6 : (c : Else-fewness_refused) → Past ((moments_rows c.args.points c.args.knots.now c.args.samples.now c.args.condition c.args.moments_length
+    c.args.scratch_length)) 6
+past_6 c answer e = (((((pass _ c.points_refused.ensures c.if-points_refused.false (pass _ c.axis_refused.ensures c.if-axis_refused.false (pass _ refl (le-ltb _ _ c.if-scratch_length-lt-ROWS.false) (pass _ c.moments_refused.ensures c.if-moments_refused.false (pass _ (knots_row _ _ (((exact_3 (length c.args.knots.now) c.args.points (length c.args.samples.now) c.args.points
+    c.args.moments_length c.args.points (sym c.axis_refused.ensures ∙ c.if-axis_refused.false)).0)) c.knots_refused-knots_refused.ensures)
+    c.if-knots_refused.false (pass _ c.fewness_refused.ensures c.if-fewness_refused.false e))))))))))
 
 pub returns-then-points_refused : goal.returns-then-points_refused
 unfolding moments_check

@@ -9,15 +9,12 @@ use borrow.Author.Rules.{rules}
 use Rattle.grid_checks.proofs.query_sizes_refusal.Goals as goal
 use Rattle.grid_checks.proofs.query_sizes_refusal.Goals.{After-query_lengths_refused, Else-found-ne0}
 
-abbrev n : tie.Start → ℕ → ℕ
-n s = place_of s.args.points.now
-
 past : (c : Else-found-ne0) → let s =
     c.args in Past (query_sizes_rows s.axes (place_of s.points.now) s.knots s.tensor s.coordinates) 3
 unfolding points_check
 past c answer e =
     pass _ c.axes_refused.ensures c.if-axes_refused.false
-    (rows_pass (points_rows c.args.axes (n c)) tt c.sizes_of_points-found.ensures.refusal _ c.if-found-ne0.false e)
+    (rows_pass (points_rows c.args.axes ((place_of c.args.points.now))) tt c.sizes_of_points-found.ensures.refusal _ c.if-found-ne0.false e)
 
 checked : (c : After-query_lengths_refused) → let s =
     c.args in
@@ -40,7 +37,7 @@ pub returns-then-found-ne0 : goal.returns-then-found-ne0
 unfolding query_sizes_check points_check
 returns-then-found-ne0 c =
     pass _ c.axes_refused.ensures c.if-axes_refused.false
-    (rows_stop (points_rows c.args.axes (n (goal.at.returns-then-found-ne0 c).Start)) tt c.sizes_of_points-found.ensures.refusal _ c.if-found-ne0.true)
+    (rows_stop (points_rows c.args.axes ((place_of c.args.points.now))) tt c.sizes_of_points-found.ensures.refusal _ c.if-found-ne0.true)
 
 pub returns-then-query_lengths_refused : goal.returns-then-query_lengths_refused
 unfolding query_sizes_check

@@ -14,9 +14,6 @@ use borrow.Author.Rules.{rules}
 use Rattle.grid_checks.proofs.slopes_refusal.Goals as goal
 use Rattle.grid_checks.proofs.slopes_refusal.Goals.{After-knots_refused-knots_refused, Else-knots_refused, Else-points_refused, Else-slices_refused, Else-slopes_refused}
 
-abbrev rows : tie.Start → List Refusal
-rows s = slopes_rows s.args.points s.args.knots.now s.args.samples.now s.args.moments_length s.args.slopes_length
-
 knots_exact : (c : Else-slopes_refused) → length c.args.knots.now ≡ c.args.points
 knots_exact c =
     (exact_4 (length c.args.knots.now) c.args.points (length c.args.samples.now) c.args.points
@@ -28,23 +25,26 @@ in_points c = sym c.points_refused.ensures ∙ c.if-points_refused.false
 
 knots_finite : (c : After-knots_refused-knots_refused) → FiniteUnless c.knots_refused-knots_refused.result c.args.knots.now
 knots_finite c =
-    axis_finite c.args.knots.now c.args.points (in_points c)
-    (knots_exact c) c.knots_refused-knots_refused.ensures
+    axis_finite c.args.knots.now c.args.points ((sym c.points_refused.ensures ∙ c.if-points_refused.false))
+    (((exact_4 (length c.args.knots.now) c.args.points (length c.args.samples.now) c.args.points
+    c.args.moments_length c.args.points c.args.slopes_length c.args.points
+    (sym c.slopes_refused.ensures ∙ c.if-slopes_refused.false)).0)) c.knots_refused-knots_refused.ensures
 
-past_1 : (c : Else-points_refused) → Past (rows c) 1
+past_1 : (c : Else-points_refused) → Past ((slopes_rows c.args.points c.args.knots.now c.args.samples.now c.args.moments_length c.args.slopes_length)) 1
 past_1 c answer e = pass _ c.points_refused.ensures c.if-points_refused.false e
 
-past_2 : (c : Else-slopes_refused) → Past (rows c) 2
-past_2 c answer e = past_1 c _ (pass _ c.slopes_refused.ensures c.if-slopes_refused.false e)
+past_2 : (c : Else-slopes_refused) → Past ((slopes_rows c.args.points c.args.knots.now c.args.samples.now c.args.moments_length c.args.slopes_length)) 2
+past_2 c answer e = (pass _ c.points_refused.ensures c.if-points_refused.false (pass _ c.slopes_refused.ensures c.if-slopes_refused.false e))
 
-past_3 : (c : Else-slices_refused) → Past (rows c) 3
-past_3 c answer e = past_2 c _ (pass _ c.slices_refused.ensures c.if-slices_refused.false e)
+past_3 : (c : Else-slices_refused) → Past ((slopes_rows c.args.points c.args.knots.now c.args.samples.now c.args.moments_length c.args.slopes_length)) 3
+past_3 c answer e = ((pass _ c.points_refused.ensures c.if-points_refused.false (pass _ c.slopes_refused.ensures c.if-slopes_refused.false (pass _ c.slices_refused.ensures c.if-slices_refused.false e))))
 
-past_4 : (c : Else-knots_refused) → Past (rows c) 4
+past_4 : (c : Else-knots_refused) → Past ((slopes_rows c.args.points c.args.knots.now c.args.samples.now c.args.moments_length c.args.slopes_length)) 4
 past_4 c answer e =
-    past_3 c _
-    (pass _ (knots_row _ _ (knots_exact c) c.knots_refused-knots_refused.ensures)
-    c.if-knots_refused.false e)
+    (((pass _ c.points_refused.ensures c.if-points_refused.false (pass _ c.slopes_refused.ensures c.if-slopes_refused.false (pass _ c.slices_refused.ensures c.if-slices_refused.false (pass _ (knots_row _ _ (((exact_4 (length c.args.knots.now) c.args.points (length c.args.samples.now) c.args.points
+    c.args.moments_length c.args.points c.args.slopes_length c.args.points
+    (sym c.slopes_refused.ensures ∙ c.if-slopes_refused.false)).0)) c.knots_refused-knots_refused.ensures)
+    c.if-knots_refused.false e))))))
 
 pub returns-then-points_refused : goal.returns-then-points_refused
 unfolding slopes_check

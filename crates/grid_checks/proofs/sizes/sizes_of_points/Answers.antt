@@ -39,6 +39,9 @@ overflow_add-knots c = omega (arith, (turn (goal.at.overflow_add-knots c).Else-p
 pub overflow_mul-numbers : goal.overflow_mul-numbers
 overflow_mul-numbers c = fits_64 (few_numbers _ _ (turn (goal.at.overflow_mul-numbers c).Else-points_refused) c.requires.1)
 
+pub loop-i-preserved : goal.loop-i-preserved
+loop-i-preserved c = turn (goal.at.loop-i-preserved c).Else-points_refused
+
 pub returns-then-numbers-gt4096 : goal.returns-then-numbers-gt4096
 returns-then-numbers-gt4096 c = found_large _ _ (counted_all _ _ c.loop-i.invariant (omega arith)) c.if-numbers-gt4096.true
 
