@@ -2,12 +2,8 @@
 use mathlib.Core.Path.{refl}
 use Rattle.rules.specs.Numbers.{filter}
 use Rattle.report_totals.specs.Totals.{largest, all_entries, totals_of}
-use Rattle.report_totals.proofs.none.Statement.{statement}
-use Rattle.report_totals.proofs.none.Tie as tie
+use Rattle.report_totals.proofs.none.Goals as goal
 
-returns : tie.Need-returns
+pub returns : goal.returns
 unfolding totals_of filter largest all_entries
 returns c = refl
-
-pub none_spec : {M : Type 1} → statement M
-none_spec = tie.close (tie.spec returns)

@@ -1,0 +1,9 @@
+-- A refused sheet adds no entries, so the orders stay as they are (`nothing-tallied`).
+use mathlib.Core.Path.{refl, ap, ◌∙◌}
+use Rattle.report_totals.specs.declared.Totals.{Totals}
+use Rattle.report_totals.proofs.Sheets.{sheet_adds, nothing_tallied}
+use borrow.Author.Rules.{rules}
+use Rattle.report_totals.proofs.with_refused.Goals as goal
+
+pub returns : goal.returns
+returns c = sheet_adds _ _ c.requires.0 _ _ (nothing_tallied _) _ c.with_sheet.ensures
