@@ -5,19 +5,15 @@ use Prim.Native.Nat.{ℕ, zero, suc}
 use borrow.Author.Rules.{rules}
 use Rattle.rules.specs.Ends.{crossed, condition_at}
 use Rattle.rules.specs.declared.Condition.{Condition}
-use Rattle.tensor_passes.proofs.condition_at.Statement.{statement}
-use Rattle.tensor_passes.proofs.condition_at.Tie as tie
+use Rattle.tensor_passes.proofs.condition_at.Goals as goal
 
 -- a mask that is not 0 takes the crossed condition
 crossed_at : (mask : ℕ) (ends : Condition) → mask ≢ 0 → crossed ends ≡ condition_at mask ends
 crossed_at zero ends some = absurd (some refl)
 crossed_at (suc mask) ends some = refl
 
-returns : tie.Need-returns
-returns c = rw c.if1.true
+pub returns-then-mask-eq0 : goal.returns-then-mask-eq0
+returns-then-mask-eq0 c = rw c.if-mask-eq0.true
 
-returns-2 : tie.Need-returns-2
-returns-2 c = c.crossed.ensures ∙ crossed_at _ _ c.before.if1.false
-
-pub condition_at_spec : {M : Type 1} → statement M
-condition_at_spec = tie.close (tie.spec (λ c κs. search rules) returns returns-2)
+pub returns-else-mask-eq0 : goal.returns-else-mask-eq0
+returns-else-mask-eq0 c = c.crossed.ensures ∙ crossed_at _ _ c.if-mask-eq0.false
