@@ -9,6 +9,24 @@ use Rattle.query_cell.proofs.first_of_three.Goals as goal
 pub overflow_mul-next : goal.overflow_mul-next
 overflow_mul-next c = let s = three_small _ _ c.requires.0.0 in omega arith
 
+pub overflow_mul-above : goal.overflow_mul-above
+overflow_mul-above c = let s = three_small _ _ c.requires.0.0 in omega arith
+
+pub overflow_mul-first : goal.overflow_mul-first
+overflow_mul-first c = let s = three_small _ _ c.requires.0.0 in omega arith
+
+pub overflow_mul-first-2 : goal.overflow_mul-first-2
+overflow_mul-first-2 c = let s = three_small _ _ c.requires.0.0 in omega arith
+
+pub overflow_add-first : goal.overflow_add-first
+overflow_add-first c = let s = three_small _ _ c.requires.0.0 in omega arith
+
+pub overflow_mul-first-3 : goal.overflow_mul-first-3
+overflow_mul-first-3 c = let s = three_small _ _ c.requires.0.0 in omega arith
+
+pub overflow_add-first-2 : goal.overflow_add-first-2
+overflow_add-first-2 c = let s = three_small _ _ c.requires.0.0 in omega arith
+
 pub remove_runs-requires : goal.remove_runs-requires
 remove_runs-requires c = (
   runs_given 3 _ _ c.args.tensor.now _ c.requires.0.0 (omega arith) c.requires.0.2 (spots_of_three _ _),

@@ -9,6 +9,18 @@ use Rattle.query_cell.proofs.first_of_two.Goals as goal
 pub overflow_mul-above : goal.overflow_mul-above
 overflow_mul-above c = let s = two_small _ _ c.requires.0.0 in omega arith
 
+pub overflow_mul-first : goal.overflow_mul-first
+overflow_mul-first c = let s = two_small _ _ c.requires.0.0 in omega arith
+
+pub overflow_mul-first-2 : goal.overflow_mul-first-2
+overflow_mul-first-2 c = let s = two_small _ _ c.requires.0.0 in omega arith
+
+pub overflow_add-first : goal.overflow_add-first
+overflow_add-first c = let s = two_small _ _ c.requires.0.0 in omega arith
+
+pub overflow_add-first-2 : goal.overflow_add-first-2
+overflow_add-first-2 c = let s = two_small _ _ c.requires.0.0 in omega arith
+
 pub blend_run-requires : goal.blend_run-requires
 blend_run-requires c =
     rw (length-take-le 4 c.args.cell.now (omega arith))

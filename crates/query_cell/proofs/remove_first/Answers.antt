@@ -4,6 +4,11 @@ use native.Mathlib.Omega.{arith}
 use Rattle.query_cell.proofs.Removing.{only_removed, one_within, four_axes}
 use Rattle.query_cell.proofs.remove_first.Goals as goal
 
+pub overflow_mul-lower : goal.overflow_mul-lower
+overflow_mul-lower c =
+    let w = one_within _ _ _ c.args.tensor.now c.in-1.is c.requires.0.0 c.requires.0.2 in
+    omega arith
+
 pub first_of_one-requires : goal.first_of_one-requires
 first_of_one-requires c =
     let w = one_within _ _ _ c.args.tensor.now c.in-1.is c.requires.0.0 c.requires.0.2 in

@@ -21,6 +21,12 @@ returns-then-left-axes c =
     c.if-left-axes.true
     c.remove_first-then-left-axes.ensures
 
+pub overflow_mul-half : goal.overflow_mul-half
+overflow_mul-half c =
+    let other = c.if-left-axes.false in
+    let room = in_place _ _ _ c.requires.2.0 c.requires.2.1 c.requires.0.0.few_axes other c.masks-half.ensures.0 in
+    omega (arith, room.0)
+
 pub remove_lowest-requires : goal.remove_lowest-requires
 remove_lowest-requires c =
     let other = c.if-left-axes.false in

@@ -56,6 +56,9 @@ slice_bounds-blend_run-end c =
     let r = room _ _ _ _ _ _ _ _ c.loop-run.invariant c.loop-run-test.true in
     omega arith
 
+pub overflow_add-start-in-loop-run-2 : goal.overflow_add-start-in-loop-run-2
+overflow_add-start-in-loop-run-2 c = let r = room _ _ _ _ _ _ _ _ c.loop-run.invariant c.loop-run-test.true in omega arith
+
 pub blend_run-requires : goal.blend_run-requires
 blend_run-requires c = run_given _ _ _ _ _ _ _ _ c.loop-run.invariant c.loop-run-test.true
 
