@@ -32,8 +32,8 @@ rest c test e =
     c.are_short.ensures
     ∙ ap (λ (v : ℕ). numbers_short c.args.bytes.now (c.args.at + 12 + c.args.width) (v + head.points))
     c.values.ensures in
-    head_patterns _ _ _ c.requires.2 _ c.requires.0 c.requires.1.room (enough c)
-    (none c) (known c) test (sym is ∙ e)
+    head_patterns _ _ _ c.requires.2 _ c.requires.0 c.requires.1.room ((omega (arith, c.if-head-lt2.false)))
+    ((sym c.is_periodic_at_one_end.ensures ∙ c.if-is_periodic_at_one_end.false)) ((sym c.is_unknown_mode.ensures ∙ c.if-is_unknown_mode.false)) test (sym is ∙ e)
 
 pub returns-then-head-lt2 : goal.returns-then-head-lt2
 returns-then-head-lt2 c = head_few _ _ _ c.requires.2 _ c.requires.0 c.requires.1.room c.if-head-lt2.true

@@ -14,26 +14,20 @@ use borrow.Author.Rules.{rules}
 use Rattle.sheet_read.proofs.axes.fault_of_short_head.Goals as goal
 use Rattle.sheet_read.proofs.axes.fault_of_short_head.Goals.{After-is_periodic_at_one_end, Else-field_at-lt1, Else-is_short, Else-is_short-2}
 
-abbrev list : tie.Start → List ℕ
-list start = start.args.bytes.now
-
-abbrev place : tie.Start → ℕ
-place start = start.args.at
-
-points_room : (c : Else-is_short) → place c + 8 ≤ 8 * length (list c)
+points_room : (c : Else-is_short) → (c.args.at) + 8 ≤ 8 * length ((c.args.bytes.now))
 points_room c = ltb-false _ _ (sym c.is_short.ensures ∙ c.if-is_short.false)
 
-enough : (c : Else-field_at-lt1) → 2 ≤ points_at (list c) (place c)
+enough : (c : Else-field_at-lt1) → 2 ≤ points_at ((c.args.bytes.now)) ((c.args.at))
 unfolding points_at
 enough c = let is = c.field_at.ensures in omega (arith, c.if-field_at-lt1.false)
 
-kinds_room : (c : Else-is_short-2) → place c + 10 + 2 ≤ 8 * length (list c)
+kinds_room : (c : Else-is_short-2) → (c.args.at) + 10 + 2 ≤ 8 * length ((c.args.bytes.now))
 kinds_room c =
-    let room : place c + 8 + 4 ≤ 8 * length (list c) = ltb-false _ _ (sym c.is_short-2.ensures ∙ c.if-is_short-2.false) in
+    let room : (c.args.at) + 8 + 4 ≤ 8 * length ((c.args.bytes.now)) = ltb-false _ _ (sym c.is_short-2.ensures ∙ c.if-is_short-2.false) in
     omega (arith, room)
 
 kinds : (c : After-is_periodic_at_one_end)
-    → c.is_periodic_at_one_end.result ≡ periodic_at_one_end (lower_kind (list c) (place c)) (upper_kind (list c) (place c))
+    → c.is_periodic_at_one_end.result ≡ periodic_at_one_end (lower_kind ((c.args.bytes.now)) ((c.args.at))) (upper_kind ((c.args.bytes.now)) ((c.args.at)))
 kinds c = cc
 
 pub returns-then-is_short : goal.returns-then-is_short

@@ -38,7 +38,7 @@ room c =
 -- places that are small numbers
 few : (c : After-head_at-head) → SmallHead c.args.width c.loop-i.at c.head_at-head.result
 few c =
-    small _ _ _ c.head_at-head.ensures _ c.requires.0 (known c).0.small
+    small _ _ _ c.head_at-head.ensures _ c.requires.0 (((turn_whole _ _ _ _ _ _ _ _ c.loop-i.invariant c.loop-i-test.true refl, extent _ _))).0.small
 
 pub loop-i-init : goal.loop-i-init
 loop-i-init c = turn_first _ _ _ c.requires.1 c.requires.2
@@ -54,6 +54,11 @@ knots_from-requires c = few (goal.at.knots_from-requires c).After-head_at-head
 
 pub offset_bounds-knots-from : goal.offset_bounds-knots-from
 offset_bounds-knots-from c = let fits = room (goal.at.offset_bounds-knots-from c).After-head_at-head in omega arith
+
+pub slice_bounds-fill-end : goal.slice_bounds-fill-end
+slice_bounds-fill-end c =
+    let fits = room (goal.at.slice_bounds-fill-end c).After-head_at-head in
+    let same = c.loop-i.invariant.same_length in omega arith
 
 pub fill-requires : goal.fill-requires
 fill-requires c =

@@ -20,7 +20,7 @@ known turn = extent _ _
 there : (c : Else-is_short) → Within c.args.bytes.now c.loop-i.at (12 + c.args.width)
 there c =
     let few = c.loop-i.invariant.small in
-    let reach = known c in
+    let reach = (extent _ _) in
     let told = c.requires.0 in
     record { room = ltb-false _ _ (sym c.is_short.ensures ∙ c.if-is_short.false); small = omega arith }
 

@@ -26,7 +26,7 @@ edition_is : (c : After-is_unknown_edition)
 edition_is c = c.is_unknown_edition.ensures ∙ ap unknown_edition c.field_at-edition.ensures
 
 edition_known : (c : Else-is_unknown_edition) → unknown_edition (edition c.args.bytes.now) ≡ false
-edition_known c = sym (edition_is c) ∙ c.if-is_unknown_edition.false
+edition_known c = sym ((c.is_unknown_edition.ensures ∙ ap unknown_edition c.field_at-edition.ensures)) ∙ c.if-is_unknown_edition.false
 
 axes_room : (c : Else-is_short-2) → 4 + 3 ≤ 8 * length c.args.bytes.now
 axes_room c = ltb-false _ _ (sym c.is_short-2.ensures ∙ c.if-is_short-2.false)
@@ -36,7 +36,7 @@ number : (c : After-field_at-n) → let bytes =
     c.args.bytes.now in
     sheet_refusal bytes ≡ cond (axes_refused (sheet_grid bytes)) 1 (or_else (axes_fault bytes (axes bytes)) (samples_fault bytes))
 number c =
-    some_axes _ (edition_room c) (edition_known c) (axes_room c)
+    some_axes _ ((ltb-false _ _ (sym c.is_short.ensures ∙ c.if-is_short.false))) ((sym ((c.is_unknown_edition.ensures ∙ ap unknown_edition c.field_at-edition.ensures)) ∙ c.if-is_unknown_edition.false)) ((ltb-false _ _ (sym c.is_short-2.ensures ∙ c.if-is_short-2.false)))
 
 pub returns-then-is_short : goal.returns-then-is_short
 returns-then-is_short c = rw (no_edition _ (ltb-true _ _ (sym c.is_short.ensures ∙ c.if-is_short.true))) c.refused.ensures

@@ -23,7 +23,7 @@ begin c = rw c.requires.axes_said at c.store_knots-at.ensures.0
 
 count : (c : After-samples_length-count) → c.samples_length-count.result ≡ samples_length (sheet_grid c.args.bytes.now)
 count c =
-    c.samples_length-count.ensures.0 ∙ count_is _ _ _ _ (all_ended _ (ok c) _ _ _ c.requires.axes_said c.requires.found refl)
+    c.samples_length-count.ensures.0 ∙ count_is _ _ _ _ (all_ended _ ((accepted _ c.requires.faultless)) _ _ _ c.requires.axes_said c.requires.found refl)
 
 few : (c : After-samples_length-count) → c.samples_length-count.result ≤ length c.args.samples.now
 few c = let room = c.requires.samples_room in omega (arith, count c)
@@ -39,6 +39,9 @@ store_knots-at-requires c =
 
 pub samples_length-count-requires : goal.samples_length-count-requires
 samples_length-count-requires c = (all_ended _ (ok (goal.at.samples_length-count-requires c).Start) _ _ _ c.requires.axes_said c.requires.found refl).range
+
+pub slice_bounds-fill-end : goal.slice_bounds-fill-end
+slice_bounds-fill-end c = let most = few (goal.at.slice_bounds-fill-end c).After-samples_length-count in omega arith
 
 pub fill-requires : goal.fill-requires
 fill-requires c =
