@@ -175,6 +175,7 @@ class Function:
                 break
         text = re.sub(r"\.inv(?![\w-])", ".invariant", text)
         text = re.sub(r"\.pre(?![\w-])", ".requires", text)
+        text = re.sub(r"\.type-inv(?![\w-])", ".type_inv", text)
         text = re.sub(r"\.taken(?![\w-])", ".true", text)
         text = re.sub(
             rf"⟪(\d+)⟫((?:\.{NAME})+)", lambda m: self.path(head, int(m[1]), m[2][1:].split(".")), text

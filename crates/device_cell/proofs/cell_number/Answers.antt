@@ -29,21 +29,20 @@ d0 c = let f : SFits w64 c.args.cell.d0 = search rules in to_z-of_z w64 _ f
 d1 : (c : After-struct_told-4-1) → to_z w64 (of_z w64 c.args.cell.d1) ≡ c.args.cell.d1
 d1 c = let f : SFits w64 c.args.cell.d1 = search rules in to_z-of_z w64 _ f
 
-abbrev sum : tie.Start → ℤ
-sum s = weighted (weights_at s.args.k) s.args.cell.p0 s.args.cell.p1 s.args.cell.d0 s.args.cell.d1
-
-summed : (c : After-weighted) → to_z w64 (of_z w64 c.weighted.result) ≡ sum c
+summed : (c : After-weighted) → to_z w64 (of_z w64 c.weighted.result) ≡ (weighted (weights_at c.args.k) c.args.cell.p0 c.args.cell.p1 c.args.cell.d0 c.args.cell.d1)
 summed c =
-    to_z-of_z w64 c.weighted.result (record { sfits = c.weighted.type-inv })
-    ∙ (rw (c.weights_at.ensures, p0 c, p1 c, d0 c, d1 c)
+    to_z-of_z w64 c.weighted.result (record { sfits = c.weighted.type_inv })
+    ∙ (rw (c.weights_at.ensures, (let f : SFits w64 c.args.cell.p0 = search rules in to_z-of_z w64 _ f), (let f : SFits w64 c.args.cell.p1 = search rules in to_z-of_z w64 _ f), (let f : SFits w64 c.args.cell.d0 = search rules in to_z-of_z w64 _ f), (let f : SFits w64 c.args.cell.d1 = search rules in to_z-of_z w64 _ f))
     at c.weighted.ensures)
 
 given : (c : After-rounded)
     → to_z w64 (of_z w64 c.rounded.result) ≡ cell_number c.args.cell c.args.k
 given c =
-    to_z-of_z w64 c.rounded.result (record { sfits = c.rounded.type-inv })
+    to_z-of_z w64 c.rounded.result (record { sfits = c.rounded.type_inv })
     ∙ c.rounded.ensures
-    ∙ ap nearest (summed c ∙ sym (exact_is c.args.cell c.args.k c.requires.1))
+    ∙ ap nearest ((to_z-of_z w64 c.weighted.result (record { sfits = c.weighted.type_inv })
+    ∙ (rw (c.weights_at.ensures, (let f : SFits w64 c.args.cell.p0 = search rules in to_z-of_z w64 _ f), (let f : SFits w64 c.args.cell.p1 = search rules in to_z-of_z w64 _ f), (let f : SFits w64 c.args.cell.d0 = search rules in to_z-of_z w64 _ f), (let f : SFits w64 c.args.cell.d1 = search rules in to_z-of_z w64 _ f))
+    at c.weighted.ensures)) ∙ sym (exact_is c.args.cell c.args.k c.requires.1))
 
 small : (s : Start) → SFits w32 (cell_number s.args.cell s.args.k)
 small s =

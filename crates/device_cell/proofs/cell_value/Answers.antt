@@ -15,10 +15,7 @@ use Rattle.device_cell.proofs.cell_value.Goals.{After-cell_of-cell, After-cell_r
 read : (s : Start) → to_z w32 (of_z w32 s.args.k) ≡ s.args.k
 read s = to_z-of_z w32 s.args.k s.ranges.k
 
-abbrev cell : tie.Start → Cell
-cell s = record { p0 = s.args.p0; p1 = s.args.p1; d0 = s.args.d0; d1 = s.args.d1 }
-
-made : (c : After-cell_of-cell) → c.cell_of-cell.result ≡ cell c
+made : (c : After-cell_of-cell) → c.cell_of-cell.result ≡ (record { p0 = c.args.p0; p1 = c.args.p1; d0 = c.args.d0; d1 = c.args.d1 })
 made c =
     rw (
       to_z-of_z w32 c.args.p0 c.ranges.p0,
@@ -27,18 +24,36 @@ made c =
       to_z-of_z w32 c.args.d1 c.ranges.d1,
     ) at c.cell_of-cell.ensures
 
-refused : (c : After-cell_refusal-refusal) → c.cell_refusal-refusal.result ≡ cell_refusal (cell c) c.args.k
+refused : (c : After-cell_refusal-refusal) → c.cell_refusal-refusal.result ≡ cell_refusal ((record { p0 = c.args.p0; p1 = c.args.p1; d0 = c.args.d0; d1 = c.args.d1 })) c.args.k
 refused c =
-    rw (read c, to_z-of_z w64 c.args.k (wider _ c.ranges.k), made c) at c.cell_refusal-refusal.ensures
+    rw (
+      (to_z-of_z w32 c.args.k c.ranges.k),
+      to_z-of_z w64 c.args.k (wider _ c.ranges.k),
+      (rw (
+        to_z-of_z w32 c.args.p0 c.ranges.p0,
+        to_z-of_z w32 c.args.p1 c.ranges.p1,
+        to_z-of_z w32 c.args.d0 c.ranges.d0,
+        to_z-of_z w32 c.args.d1 c.ranges.d1,
+      ) at c.cell_of-cell.ensures),
+    ) at c.cell_refusal-refusal.ensures
 
-known : (c : Else-refusal-ne0) → Passed (cell c) c.args.k
-known c = passed _ _ (sym (refused c) ∙ c.if-refusal-ne0.false)
+known : (c : Else-refusal-ne0) → Passed ((record { p0 = c.args.p0; p1 = c.args.p1; d0 = c.args.d0; d1 = c.args.d1 })) c.args.k
+known c = passed _ _ (sym ((rw (
+  (to_z-of_z w32 c.args.k c.ranges.k),
+  to_z-of_z w64 c.args.k (wider _ c.ranges.k),
+  (rw (
+    to_z-of_z w32 c.args.p0 c.ranges.p0,
+    to_z-of_z w32 c.args.p1 c.ranges.p1,
+    to_z-of_z w32 c.args.d0 c.ranges.d0,
+    to_z-of_z w32 c.args.d1 c.ranges.d1,
+  ) at c.cell_of-cell.ensures),
+) at c.cell_refusal-refusal.ensures)) ∙ c.if-refusal-ne0.false)
 
 pub overflow_cast-k : goal.overflow_cast-k
 overflow_cast-k c = rw (read (goal.at.overflow_cast-k c).Start) (wider _ c.ranges.k)
 
 pub returns-then-refusal-ne0 : goal.returns-then-refusal-ne0
-returns-then-refusal-ne0 c = record { answer = answer_refused (cell (goal.at.returns-then-refusal-ne0 c).Start) c.args.k _ (refused (goal.at.returns-then-refusal-ne0 c).After-cell_refusal-refusal) c.if-refusal-ne0.true }
+returns-then-refusal-ne0 c = record { answer = answer_refused ((record { p0 = c.args.p0; p1 = c.args.p1; d0 = c.args.d0; d1 = c.args.d1 })) c.args.k _ (refused (goal.at.returns-then-refusal-ne0 c).After-cell_refusal-refusal) c.if-refusal-ne0.true }
 
 pub overflow_cast-k-2 : goal.overflow_cast-k-2
 overflow_cast-k-2 c = rw (read (goal.at.overflow_cast-k-2 c).Start) (natural _ (known (goal.at.overflow_cast-k-2 c).Else-refusal-ne0).position (known (goal.at.overflow_cast-k-2 c).Else-refusal-ne0).most)
@@ -49,7 +64,7 @@ cell_number-value-requires c = rw (made (goal.at.cell_number-value-requires c).A
 pub returns : goal.returns
 returns c = record {
   answer =
-      rw (to_z-of_z w32 c.cell_number-value.result (record { sfits = c.cell_number-value.type-inv }))
-      (answer_given (cell (goal.at.returns c).Start) c.args.k _ (sym (refused (goal.at.returns c).After-cell_refusal-refusal) ∙ c.if-refusal-ne0.false)
+      rw (to_z-of_z w32 c.cell_number-value.result (record { sfits = c.cell_number-value.type_inv }))
+      (answer_given ((record { p0 = c.args.p0; p1 = c.args.p1; d0 = c.args.d0; d1 = c.args.d1 })) c.args.k _ (sym (refused (goal.at.returns c).After-cell_refusal-refusal) ∙ c.if-refusal-ne0.false)
       (rw (made (goal.at.returns c).After-cell_of-cell, read (goal.at.returns c).Start) at c.cell_number-value.ensures));
 }

@@ -19,13 +19,13 @@ read : (c : Start) → to_z w64 (of_z w64 c.args.number) ≡ c.args.number
 read c = to_z-of_z w64 c.args.number c.ranges.number
 
 neg : (c : Then-number-lt0) → Below c.args.number
-neg c = below c.args.number (rw (read c) at c.if-number-lt0.true)
+neg c = below c.args.number (rw ((to_z-of_z w64 c.args.number c.ranges.number)) at c.if-number-lt0.true)
 
 neg_small : (c : Then-number-lt0) → suc (neg c).n ≤ 1099511627776
 neg_small c = rw (neg c).is at c.requires.sized
 
 not : (c : Else-number-lt0) → Above c.args.number
-not c = above c.args.number (rw (read c) at c.if-number-lt0.false)
+not c = above c.args.number (rw ((to_z-of_z w64 c.args.number c.ranges.number)) at c.if-number-lt0.false)
 
 not_small : (c : Else-number-lt0) → (not c).n ≤ 1099511627776
 not_small c = rw (not c).is at c.requires.sized
@@ -40,6 +40,12 @@ pub overflow_add-result : goal.overflow_add-result
 overflow_add-result c =
     let h = neg_small (goal.at.overflow_add-result c).Then-number-lt0 in
     rw (read (goal.at.overflow_add-result c).Start, (neg (goal.at.overflow_add-result c).Then-number-lt0).is, zero-add, plain (suc (neg (goal.at.overflow_add-result c).Then-number-lt0).n) (omega arith)) (record { sfits = omega arith })
+
+pub nonzero_div-result : goal.nonzero_div-result
+nonzero_div-result c =
+    let h = neg_small (goal.at.nonzero_div-result c).Then-number-lt0 in
+    rw (read (goal.at.nonzero_div-result c).Start, (neg (goal.at.nonzero_div-result c).Then-number-lt0).is, zero-add, plain (suc (neg (goal.at.nonzero_div-result c).Then-number-lt0).n) (omega arith), plain (suc (neg (goal.at.nonzero_div-result c).Then-number-lt0).n + 8388608) (omega arith))
+    (lit< tt, record { sfits = omega arith })
 
 pub overflow_sub-result-then-number-lt0 : goal.overflow_sub-result-then-number-lt0
 overflow_sub-result-then-number-lt0 c =
@@ -58,6 +64,11 @@ overflow_sub-result-then-number-lt0 c =
 
 pub overflow_add-result-else-number-lt0 : goal.overflow_add-result-else-number-lt0
 overflow_add-result-else-number-lt0 c = let h = not_small (goal.at.overflow_add-result-else-number-lt0 c).Else-number-lt0 in rw (read (goal.at.overflow_add-result-else-number-lt0 c).Start, (not (goal.at.overflow_add-result-else-number-lt0 c).Else-number-lt0).is) (record { sfits = omega arith })
+
+pub nonzero_div-result-else-number-lt0 : goal.nonzero_div-result-else-number-lt0
+nonzero_div-result-else-number-lt0 c =
+    let h = not_small (goal.at.nonzero_div-result-else-number-lt0 c).Else-number-lt0 in
+    rw (read (goal.at.nonzero_div-result-else-number-lt0 c).Start, (not (goal.at.nonzero_div-result-else-number-lt0 c).Else-number-lt0).is, plain ((not (goal.at.nonzero_div-result-else-number-lt0 c).Else-number-lt0).n + 8388608) (omega arith)) (lit< tt, record { sfits = omega arith })
 
 pub returns-then-number-lt0 : goal.returns-then-number-lt0
 unfolding nearest
