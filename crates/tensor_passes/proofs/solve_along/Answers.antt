@@ -15,6 +15,9 @@ knots_before-from-requires c =
 pub overflow_add-from : goal.overflow_add-from
 overflow_add-from c = omega (arith, (knots_are c.args.axis _ _ c.requires.given c.requires.in_use c.knots_before-from.ensures.0 refl).0)
 
+pub slice_bounds-plan_for-end : goal.slice_bounds-plan_for-end
+slice_bounds-plan_for-end c = omega (arith, (knots_are c.args.axis _ _ c.requires.given c.requires.in_use c.knots_before-from.ensures.0 refl).0)
+
 pub plan_for-plan-requires : goal.plan_for-plan-requires
 plan_for-plan-requires c =
     let found = knots_are c.args.axis _ _ c.requires.given c.requires.in_use c.knots_before-from.ensures.0 refl in

@@ -17,6 +17,9 @@ overflow_add-x c = omega (arith, (knots_are c.args.axis _ _ c.requires.0.given c
 pub offset_bounds-knots-begin : goal.offset_bounds-knots-begin
 offset_bounds-knots-begin c = omega (arith, (knots_are c.args.axis _ _ c.requires.0.given c.requires.0.in_use c.knots_before-begin.ensures.0 refl).0)
 
+pub slice_bounds-x-end : goal.slice_bounds-x-end
+slice_bounds-x-end c = omega (arith, (knots_are c.args.axis _ _ c.requires.0.given c.requires.0.in_use c.knots_before-begin.ensures.0 refl).0)
+
 pub masks-bit-requires : goal.masks-bit-requires
 masks-bit-requires c =
     let pre = c.requires.0 in
