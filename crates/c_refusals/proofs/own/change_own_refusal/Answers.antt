@@ -1,0 +1,82 @@
+-- A change's own refusals are the rows of its table: after the axes one 4 for the ends, for the place or the slot of the count, and
+-- for knots and tensor, whichever of the three tests meets it; and 13 last.
+use mathlib.Core.Path.{refl, sym, ◌∙◌}
+use mathlib.Core.List.{List}
+use Rattle.grid.specs.GridOfCall.{points_of, InRange}
+use Rattle.grid_checks.specs.Tables.{Refusal}
+use Rattle.grid_checks.proofs.Rows.{first, second, stop, pass, Past}
+use Rattle.c_axes.specs.Axes.{axes_without_ends}
+use Rattle.c_refusals.specs.OwnRefusals.{change_own_rows, change_own_refusal}
+use Rattle.c_refusals.proofs.Rows.{axes_stop, axes_pass, points_four, points_in_range}
+use Rattle.c_refusals.proofs.Lengths.{eight_lengths}
+use borrow.Author.Rules.{rules}
+use Rattle.c_refusals.proofs.own.change_own_refusal.Goals as goal
+use Rattle.c_refusals.proofs.own.change_own_refusal.Goals.{Else-change_refused, Else-refusal-ne0}
+
+past_axes : (c : Else-refusal-ne0) → Past ((change_own_rows c.args.axes c.args.points.now c.args.kinds.now c.args.values.now c.args.knots.now
+    c.args.tensor.now c.args.place.now c.args.lanes.now)) 4
+past_axes c answer e = axes_pass _ _ c.axes_own_refusal-refusal.ensures _ c.if-refusal-ne0.false e
+
+range : (c : Else-refusal-ne0) → InRange c.args.axes (points_of (axes_without_ends c.args.axes c.args.points.now))
+range c = points_in_range _ _ c.axes_own_refusal-refusal.ensures c.if-refusal-ne0.false
+
+past_lengths : (c : Else-change_refused) → Past ((change_own_rows c.args.axes c.args.points.now c.args.kinds.now c.args.values.now c.args.knots.now
+    c.args.tensor.now c.args.place.now c.args.lanes.now)) 5
+past_lengths c answer e =
+    (axes_pass _ _ c.axes_own_refusal-refusal.ensures _ c.if-refusal-ne0.false (pass _ (second
+    (second c.eight_ends_refused.ensures c.if-eight_ends_refused.false
+    c.place_or_lanes_refused.ensures)
+    c.if-place_or_lanes_refused.false
+    (rw c.axes_without_ends-all.ensures at c.change_refused.ensures))
+    c.if-change_refused.false e))
+
+pub returns-then-refusal-ne0 : goal.returns-then-refusal-ne0
+unfolding change_own_refusal
+returns-then-refusal-ne0 c = axes_stop _ _ c.axes_own_refusal-refusal.ensures _ c.if-refusal-ne0.true
+
+pub returns-then-eight_ends_refused : goal.returns-then-eight_ends_refused
+unfolding change_own_refusal
+returns-then-eight_ends_refused c = past_axes (goal.at.returns-then-eight_ends_refused c).Else-refusal-ne0 _ (stop _ (first _ (first _ c.eight_ends_refused.ensures c.if-eight_ends_refused.true) refl) refl)
+
+pub returns-then-place_or_lanes_refused : goal.returns-then-place_or_lanes_refused
+unfolding change_own_refusal
+returns-then-place_or_lanes_refused c =
+    past_axes (goal.at.returns-then-place_or_lanes_refused c).Else-refusal-ne0 _
+    (stop _
+    (first _
+    (second c.eight_ends_refused.ensures c.if-eight_ends_refused.false
+    c.place_or_lanes_refused.ensures)
+    c.if-place_or_lanes_refused.true)
+    refl)
+
+pub axes_without_ends-all-requires : goal.axes_without_ends-all-requires
+axes_without_ends-all-requires c = points_four _ _ c.axes_own_refusal-refusal.ensures c.if-refusal-ne0.false
+
+pub change_refused-requires : goal.change_refused-requires
+change_refused-requires c = rw c.axes_without_ends-all.ensures (range (goal.at.change_refused-requires c).Else-refusal-ne0)
+
+pub returns-then-change_refused : goal.returns-then-change_refused
+unfolding change_own_refusal
+returns-then-change_refused c =
+    past_axes (goal.at.returns-then-change_refused c).Else-refusal-ne0 _
+    (stop _ (second
+    (second c.eight_ends_refused.ensures c.if-eight_ends_refused.false
+    c.place_or_lanes_refused.ensures)
+    c.if-place_or_lanes_refused.false
+    (rw c.axes_without_ends-all.ensures at c.change_refused.ensures))
+    c.if-change_refused.true)
+
+pub some_kinds_refused-requires : goal.some_kinds_refused-requires
+some_kinds_refused-requires c = (
+  (range (goal.at.some_kinds_refused-requires c).Else-refusal-ne0).few_axes,
+  (eight_lengths c.args.kinds.now c.args.values.now
+      (sym c.eight_ends_refused.ensures ∙ c.if-eight_ends_refused.false)).0,
+)
+
+pub returns-then-some_kinds_refused : goal.returns-then-some_kinds_refused
+unfolding change_own_refusal
+returns-then-some_kinds_refused c = past_lengths (goal.at.returns-then-some_kinds_refused c).Else-change_refused _ (stop _ c.some_kinds_refused.ensures c.if-some_kinds_refused.true)
+
+pub returns : goal.returns
+unfolding change_own_refusal
+returns c = past_lengths (goal.at.returns c).Else-change_refused _ (pass _ c.some_kinds_refused.ensures c.if-some_kinds_refused.false refl)
