@@ -7,14 +7,10 @@ use Rattle.device_cell.specs.DeviceCell.{slope_in_range}
 use Rattle.device_cursor.specs.DeviceCurve.{signed}
 use Rattle.device_cursor.proofs.Lifted.{lifted_above}
 use borrow.Author.Rules.{rules}
-use Rattle.device_cursor.proofs.slope_refused.Statement.{statement}
-use Rattle.device_cursor.proofs.slope_refused.Tie as tie
+use Rattle.device_cursor.proofs.slope_refused.Goals as goal
 
-returns : tie.Need-returns
+pub returns : goal.returns
 returns c =
     let bytes = c.four_bytes in
     lifted_above 131071 bytes.result (omega arith) bytes.ensures.1
     ∙ ap (λ (n : ℕ). not (slope_in_range (signed n))) bytes.ensures.0
-
-pub slope_refused_spec : {M : Type 1} → statement M
-slope_refused_spec = tie.close (tie.spec (λ c κs. search rules) (λ c. search rules) returns)

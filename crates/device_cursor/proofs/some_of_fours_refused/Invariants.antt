@@ -1,0 +1,12 @@
+-- Each flag says whether the column of its number is out of range in a cell below `4 * i`. The measure is the fours left.
+use Prim.Native.Nat.{◌≤◌, ◌-◌}
+use native.Mathlib.Omega.{arith}
+use Rattle.device_cursor.proofs.Columns.{Kept, kept_first, kept_next, kept_last}
+use borrow.Author.Rules.{rules}
+use Rattle.device_cursor.proofs.some_of_fours_refused.Given as goal
+
+abbrev pub invariant-loop-i : goal.invariant-loop-i
+invariant-loop-i l = (l.i ≤ l.fours) × Kept l.curve l.i l.p0 l.p1 l.d0 l.d1
+
+abbrev pub decreases-loop-i : goal.decreases-loop-i
+decreases-loop-i l = l.fours - l.i
