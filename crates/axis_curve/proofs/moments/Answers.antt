@@ -1,0 +1,52 @@
+-- The promise of the moments: 2 4 5 7 8 9 leave output and scratch untouched, and where none of them applies all that
+-- `work_moments` asks is known.
+use mathlib.Core.Path.{sym, ◌∙◌}
+use borrow.Author.Rules.{rules}
+use Rattle.axis_curve.proofs.PublicCalls.{
+  moments_refused,
+  moments_lane,
+  moments_fewest,
+  moments_samples,
+  moments_out,
+  moments_worked,
+}
+use Rattle.axis_curve.proofs.moments.Reads as reads
+use Rattle.axis_curve.proofs.moments.Lts as lts
+use Rattle.grid_checks.proofs.moments_refusal.Reads as moments_refusal_reads
+use Rattle.axis_curve.proofs.work_moments.Reads as work_moments_reads
+use Rattle.axis_curve.proofs.moments.Goals as goal
+
+pub moments_refusal-refusal-requires : goal.moments_refusal-refusal-requires
+moments_refusal-refusal-requires c = search rules
+
+pub returns-then-refusal-ne0 : goal.returns-then-refusal-ne0
+returns-then-refusal-ne0 c =
+    let a = c.args in
+    moments_refused a.points a.knots.now a.samples.now a.condition a.moments.now a.scratch.now _
+    c.moments_refusal-refusal.ensures c.if-refusal-ne0.true
+
+pub work_moments-requires : goal.work_moments-requires
+work_moments-requires c =
+    let a = c.args in
+    let none = sym c.moments_refusal-refusal.ensures ∙ c.if-refusal-ne0.false in (
+      (
+        moments_lane a.points a.knots.now a.samples.now a.condition a.moments.now a.scratch.now none,
+        moments_fewest a.points a.knots.now a.samples.now a.condition a.moments.now a.scratch.now none,
+      ),
+      (
+        moments_samples a.points a.knots.now a.samples.now a.condition a.moments.now a.scratch.now none,
+        moments_out a.points a.knots.now a.samples.now a.condition a.moments.now a.scratch.now none,
+      ),
+    )
+
+pub shape_of-moments : goal.shape_of-moments
+shape_of-moments c = search rules
+
+pub shape_of-scratch : goal.shape_of-scratch
+shape_of-scratch c = search rules
+
+pub returns : goal.returns
+returns c =
+    let a = c.args in
+    moments_worked a.points a.knots.now a.samples.now a.condition a.moments.now a.scratch.now
+    (sym c.moments_refusal-refusal.ensures ∙ c.if-refusal-ne0.false) _ _ _ c.work_moments.ensures
