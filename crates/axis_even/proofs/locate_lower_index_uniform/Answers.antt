@@ -10,7 +10,10 @@ returns-then-t c = direct_below _ _ _ _ c.if-t.true
 
 pub truncating_f64_to_u64-index-requires : goal.truncating_f64_to_u64-index-requires
 unfolding of_bits
-truncating_f64_to_u64-index-requires c = (above_minus_one _ c.if-t.false c.if-t-2.true, subst T (sym c.if-t-2.true) tt)
+truncating_f64_to_u64-index-requires c = record {
+  lower_bound = above_minus_one _ c.if-t.false c.if-t-2.true;
+  upper_bound = subst T (sym c.if-t-2.true) tt;
+}
 
 pub returns-then-index-points : goal.returns-then-index-points
 returns-then-index-points c =

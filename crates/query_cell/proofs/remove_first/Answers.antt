@@ -19,7 +19,7 @@ first_of_three-requires c = (rw c.in-3.is at c.requires.0, c.requires.1)
 
 pub first_of_four-requires : goal.first_of_four-requires
 first_of_four-requires c =
-    let rest = c.in_default.rest in
+    let rest = c.in_default.in_default-own.rest in
     (rw (four_axes _ _ _ c.requires.0.0 rest.0.1 c.requires.2 rest.1) at c.requires.0, c.requires.1)
 
 pub returns-in-1 : goal.returns-in-1
@@ -32,5 +32,5 @@ returns-in-3 c = rw c.in-3.is c.first_of_three.ensures
 
 pub returns-in_default : goal.returns-in_default
 returns-in_default c =
-    let rest = c.in_default.rest in
+    let rest = c.in_default.in_default-own.rest in
     rw (four_axes _ _ _ c.requires.0.0 rest.0.1 c.requires.2 rest.1) c.first_of_four.ensures

@@ -13,7 +13,7 @@ returns-then-axes-eq1 c =
     c.if-axes-eq1.true
     c.requires.2.0
     c.requires.2.1
-    c.remove-IsFirst.ensures
+    c.remove_first.ensures
 
 pub returns-then-left-axes : goal.returns-then-left-axes
 returns-then-left-axes c =
