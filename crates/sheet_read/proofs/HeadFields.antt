@@ -24,7 +24,7 @@ use Rattle.sheet_read.specs.Fields.{
 use Rattle.sheet_read.specs.Faults.{axis_fault}
 use Rattle.sheet_read.specs.Heads.{HeadOf, values_of_head, knots_of_head, SmallHead}
 use Rattle.sheet_read.specs.declared.heads.Head.{Head}
-use Rattle.sheet_read.proofs.Extents.{Extent, extent, value_most}
+use Rattle.sheet_read.proofs.Extents.{extent, value_most}
 use Rattle.sheet_read.proofs.AxisFaults.{few_points, one_periodic, other_mode, patterns}
 
 pub values_most : (head : Head) → values_of_head head ≤ 2

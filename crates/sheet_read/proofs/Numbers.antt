@@ -1,5 +1,5 @@
 -- What holds of each number that the reader refuses by holds of every fault of a sheet. So every fault is of the class Reading.
-use mathlib.Core.Path.{◌≡◌, refl}
+use mathlib.Core.Path.{refl}
 use mathlib.Core.List.{List}
 use Prim.Native.Nat.{ℕ, zero, suc, ◌+◌}
 use Rattle.rules.specs.Sizes.{samples_length}

@@ -10,7 +10,7 @@ use lib.ListN.{length, take, drop, get_or, length-append}
 use lib.Seq.{take_at}
 use lib.Ieee.{Float}
 use Rattle.rules.proofs.Tables.{length_table}
-use Rattle.rules.specs.Sizes.{unused_axis, points, sum_below, knots_length, samples_length}
+use Rattle.rules.specs.Sizes.{unused_axis, sum_below, knots_length, samples_length}
 use Rattle.rules.specs.Refusals.{axes_refused, points_refused, some_points_refused, tensor_refused}
 use Rattle.rules.specs.declared.Axis.{Axis}
 use Rattle.base_numbers.proofs.Scan.{any_never}

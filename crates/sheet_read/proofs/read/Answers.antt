@@ -16,7 +16,6 @@ use Rattle.sheet_read.proofs.Promises.{
   sheet_read,
 }
 use Rattle.sheet_read.proofs.Parts.{parts_room}
-use borrow.Author.Rules.{rules}
 use Rattle.sheet_read.proofs.read.Goals as goal
 use Rattle.sheet_read.proofs.read.Goals.{Else-is_unread}
 

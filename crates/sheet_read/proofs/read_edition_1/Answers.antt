@@ -7,7 +7,6 @@ use borrow.Author.Tests.{ltb-true, ltb-false}
 use lib.ListN.{length}
 use Rattle.sheet_read.specs.Read.{edition_1_answer}
 use Rattle.sheet_read.proofs.Edition1.{knots_refused, samples_refused, edition_short, edition_refused, as_read}
-use borrow.Author.Rules.{rules}
 use Rattle.sheet_read.proofs.read_edition_1.Goals as goal
 use Rattle.sheet_read.proofs.read_edition_1.Goals.{Else-is_short}
 

@@ -2,7 +2,6 @@
 use mathlib.Core.Path.{ap, ◌∙◌}
 use Rattle.grid_codes.specs.Modes.{mode_of_number}
 use Rattle.sheet_read.proofs.HeadFields.{axis_of_parts}
-use borrow.Author.Rules.{rules}
 use Rattle.sheet_read.proofs.axes.axis.Goals as goal
 
 pub returns : goal.returns

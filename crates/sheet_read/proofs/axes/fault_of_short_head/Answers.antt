@@ -1,16 +1,13 @@
 -- The fields of a head that is not there whole, one after the other: what is judged before the missing bit is met decides, and else it
 -- is 11.
-use mathlib.Core.Path.{◌≡◌, sym, ap, ◌∙◌}
-use mathlib.Core.Bool.{Bool}
-use mathlib.Core.List.{List}
-use Prim.Native.Nat.{ℕ, ◌+◌, ◌*◌, ◌≤◌}
+use mathlib.Core.Path.{◌≡◌, sym, ◌∙◌}
+use Prim.Native.Nat.{◌+◌, ◌*◌, ◌≤◌}
 use native.Mathlib.Omega.{arith}
 use borrow.Author.Tests.{ltb-true, ltb-false}
 use lib.ListN.{length}
 use Rattle.grid_codes.specs.Kinds.{periodic_at_one_end}
 use Rattle.sheet_read.specs.Fields.{points_at, lower_kind, upper_kind}
 use Rattle.sheet_read.proofs.AxisFaults.{no_points, few_points, no-kinds, one_periodic, no_mode}
-use borrow.Author.Rules.{rules}
 use Rattle.sheet_read.proofs.axes.fault_of_short_head.Goals as goal
 use Rattle.sheet_read.proofs.axes.fault_of_short_head.Goals.{After-is_periodic_at_one_end, Else-field_at-lt1, Else-is_short, Else-is_short-2}
 

@@ -1,5 +1,5 @@
 use mathlib.Core.Path.{refl, ◌∙◌}
-use Prim.Native.Nat.{◌+◌, ◌-◌, ◌≤◌}
+use Prim.Native.Nat.{◌+◌, ◌≤◌}
 use native.Mathlib.Omega.{arith}
 use lib.ListN.{length}
 use Rattle.base_bits.specs.BitsThere.{Within}
@@ -7,8 +7,7 @@ use Rattle.sheet_read.specs.FoundSoFar.{Whole}
 use Rattle.sheet_read.proofs.Extents.{Extent, extent}
 use Rattle.sheet_read.specs.Heads.{SmallHead}
 use Rattle.sheet_read.proofs.HeadFields.{small, knots_are, end_is}
-use Rattle.sheet_read.proofs.Stores.{Turn, turn_first, turn_whole, turn_room, turn_small, part_length, turn_next, turn_last}
-use borrow.Author.Rules.{rules}
+use Rattle.sheet_read.proofs.Stores.{turn_first, turn_whole, turn_room, turn_small, part_length, turn_next, turn_last}
 use Rattle.sheet_read.proofs.axes.store_knots.Goals as goal
 use Rattle.sheet_read.proofs.axes.store_knots.Goals.{After-head_at-head, In-loop-i}
 
@@ -38,7 +37,7 @@ room c =
 -- places that are small numbers
 few : (c : After-head_at-head) → SmallHead c.args.width c.loop-i.at c.head_at-head.result
 few c =
-    small _ _ _ c.head_at-head.ensures _ c.requires.0 (((turn_whole _ _ _ _ _ _ _ _ c.loop-i.invariant c.loop-i-test.true refl, extent _ _))).0.small
+    small _ _ _ c.head_at-head.ensures _ c.requires.0 (turn_whole _ _ _ _ _ _ _ _ c.loop-i.invariant c.loop-i-test.true refl).small
 
 pub loop-i-init : goal.loop-i-init
 loop-i-init c = turn_first _ _ _ c.requires.1 c.requires.2

@@ -1,5 +1,5 @@
 use mathlib.Core.Path.{◌≡◌, sym, ◌∙◌}
-use Prim.Native.Nat.{◌+◌, ◌-◌}
+use Prim.Native.Nat.{◌+◌}
 use native.Mathlib.Omega.{arith}
 use borrow.Author.Tests.{ltb-true, ltb-false}
 use Rattle.base_bits.specs.BitsThere.{Within}
@@ -8,8 +8,7 @@ use Rattle.sheet_read.specs.Faults.{axis_fault}
 use Rattle.sheet_read.proofs.Extents.{Extent, extent}
 use Rattle.sheet_read.proofs.HeadFields.{small, end_is}
 use Rattle.sheet_read.proofs.Numbers.{axis_of_reading}
-use Rattle.sheet_read.proofs.Walks.{Turn, turn_first, turn_fault, turn_whole, turn_next, turn_last}
-use borrow.Author.Rules.{rules}
+use Rattle.sheet_read.proofs.Walks.{turn_first, turn_fault, turn_whole, turn_next, turn_last}
 use Rattle.sheet_read.proofs.axes.walk_axes.Goals as goal
 use Rattle.sheet_read.proofs.axes.walk_axes.Goals.{Else-is_short, Else-is_unread, In-loop-i}
 
@@ -20,7 +19,7 @@ known turn = extent _ _
 there : (c : Else-is_short) → Within c.args.bytes.now c.loop-i.at (12 + c.args.width)
 there c =
     let few = c.loop-i.invariant.small in
-    let reach = (extent _ _) in
+    let reach : Extent c.args.bytes.now c.loop-i.at = extent _ _ in
     let told = c.requires.0 in
     record { room = ltb-false _ _ (sym c.is_short.ensures ∙ c.if-is_short.false); small = omega arith }
 

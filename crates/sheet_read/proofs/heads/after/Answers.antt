@@ -1,7 +1,6 @@
 -- An axis ends 64 bits a point behind the bit where its knots begin; of small places the sum fits.
 use native.Mathlib.Omega.{arith}
 use Rattle.sheet_read.proofs.HeadFields.{values_most}
-use borrow.Author.Rules.{rules}
 use Rattle.sheet_read.proofs.heads.after.Goals as goal
 
 pub overflow_add-result : goal.overflow_add-result

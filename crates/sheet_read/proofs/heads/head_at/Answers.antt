@@ -6,7 +6,6 @@ use Rattle.base_bits.specs.Bits.{field}
 use Rattle.base_bits.proofs.Runs.{field_below}
 use Rattle.sheet_read.specs.Fields.{points_at}
 use Rattle.sheet_read.proofs.Extents.{Extent, extent}
-use borrow.Author.Rules.{rules}
 use Rattle.sheet_read.proofs.heads.head_at.Goals as goal
 
 pub overflow_add-result : goal.overflow_add-result

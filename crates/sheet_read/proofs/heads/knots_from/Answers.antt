@@ -1,7 +1,6 @@
 -- Two patterns at most stand before the knots (`values-most`), so no sum overflows.
 use native.Mathlib.Omega.{arith}
 use Rattle.sheet_read.proofs.HeadFields.{values_most}
-use borrow.Author.Rules.{rules}
 use Rattle.sheet_read.proofs.heads.knots_from.Goals as goal
 
 pub overflow_mul-result : goal.overflow_mul-result

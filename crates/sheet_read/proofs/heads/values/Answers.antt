@@ -1,7 +1,6 @@
 -- A kind has one pattern at most (`value-most`), so the sum over the two ends fits.
 use native.Mathlib.Omega.{arith}
 use Rattle.sheet_read.proofs.Extents.{value_most}
-use borrow.Author.Rules.{rules}
 use Rattle.sheet_read.proofs.heads.values.Goals as goal
 
 pub overflow_add-result : goal.overflow_add-result

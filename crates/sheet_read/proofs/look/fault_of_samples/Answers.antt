@@ -8,7 +8,6 @@ use Rattle.rules.specs.Sizes.{tensor_length}
 use Rattle.grid.specs.GridOfCall.{sizes_of}
 use Rattle.base_bits.specs.Bits.{numbers_short}
 use Rattle.sheet_read.proofs.Samples.{begin_small, samples_least, too_large, samples_few, no_samples, samples_room, after_samples}
-use borrow.Author.Rules.{rules}
 use Rattle.sheet_read.proofs.look.fault_of_samples.Goals as goal
 use Rattle.sheet_read.proofs.look.fault_of_samples.Goals.{Else-are_short, Else-tensor_length-gt4096}
 
@@ -52,9 +51,9 @@ has_more-requires c =
 pub returns-then-has_more : goal.returns-then-has_more
 returns-then-has_more c =
     after_samples _ _ _ _ c.requires _ c.samples_length-count.ensures.0 (small (goal.at.returns-then-has_more c).Else-tensor_length-gt4096) (long (goal.at.returns-then-has_more c).Else-are_short) true
-    (sym c.Has-more.ensures ∙ c.if-has_more.true)
+    (sym c.has_more.ensures ∙ c.if-has_more.true)
 
 pub returns : goal.returns
 returns c =
     after_samples _ _ _ _ c.requires _ c.samples_length-count.ensures.0 (small (goal.at.returns c).Else-tensor_length-gt4096) (long (goal.at.returns c).Else-are_short) false
-    (sym c.Has-more.ensures ∙ c.if-has_more.false)
+    (sym c.has_more.ensures ∙ c.if-has_more.false)

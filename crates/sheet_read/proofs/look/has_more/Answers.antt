@@ -2,7 +2,6 @@
 -- (`few-left`). Either way it is the test of refusal 14.
 use native.Mathlib.Omega.{arith}
 use Rattle.sheet_read.proofs.Samples.{many_left, few_left}
-use borrow.Author.Rules.{rules}
 use Rattle.sheet_read.proofs.look.has_more.Goals as goal
 
 pub returns-then-at-bytes : goal.returns-then-at-bytes

@@ -1,7 +1,6 @@
 -- Edition and number of axes are judged in reading order: 11, 12, 11 again, then 1 for none or more than four; of one to four axes the
 -- answer is that of the look at them.
-use mathlib.Core.Logic.{⊎_elim}
-use mathlib.Core.Bool.{false, cond}
+use mathlib.Core.Bool.{true, false, cond}
 use mathlib.Core.Path.{◌≡◌, sym, ap, ◌∙◌}
 use Prim.Native.Nat.{◌+◌, ◌*◌, ◌≤◌}
 use native.Mathlib.Omega.{arith}
@@ -13,9 +12,8 @@ use Rattle.grid_codes.specs.Editions.{unknown_edition}
 use Rattle.sheet_read.specs.Fields.{edition, axes, sheet_grid}
 use Rattle.sheet_read.specs.Faults.{axes_fault, samples_fault, sheet_refusal}
 use Rattle.sheet_read.proofs.Sheets.{no_edition, other_edition, no_axes, some_axes, axes_few, axes_many, axes_allowed}
-use borrow.Author.Rules.{rules}
 use Rattle.sheet_read.proofs.look.look.Goals as goal
-use Rattle.sheet_read.proofs.look.look.Goals.{After-field_at-n, After-is_unknown_edition, Else-is_short, Else-is_short-2, Else-is_unknown_edition}
+use Rattle.sheet_read.proofs.look.look.Goals.{After-field_at-n, After-is_unknown_edition, Else-is_short, Else-is_short-2, Else-is_unknown_edition, in_default-via-then-n-lt1, in_default-via-else-n-lt1+else-n-lt5}
 
 -- what each test that was passed has shown
 edition_room : (c : Else-is_short) → 0 + 4 ≤ 8 * length c.args.bytes.now
@@ -58,9 +56,9 @@ field_at-n-requires c = (record { room = axes_room (goal.at.field_at-n-requires 
 
 pub look_at_axes-requires : goal.look_at_axes-requires
 look_at_axes-requires c = (
-      c.field_at-edition.ensures,
-      record { least = omega arith; few = omega arith; (goal.at.look_at_axes-requires c).After-field_at-n = c.field_at-n.ensures },
-    )
+  c.field_at-edition.ensures,
+  record { least = omega arith; few = omega arith; said = c.field_at-n.ensures },
+)
 
 pub returns-in-1-to-4 : goal.returns-in-1-to-4
 returns-in-1-to-4 c =
@@ -76,10 +74,10 @@ returns-in-1-to-4 c =
 
 pub returns-in_default : goal.returns-in_default
 returns-in_default c =
-    rw (
-      number (goal.at.returns-in_default c).After-field_at-n,
-      ⊎_elim (λ w. axes_few c.args.bytes.now (omega (arith, c.field_at-n.ensures)))
-          (λ w. axes_many c.args.bytes.now (omega (arith, c.field_at-n.ensures)))
-          c.in_default.branch,
-    )
-    c.refused-in_default.ensures
+    let bytes = c.args.bytes.now in
+    let none : axes_refused (sheet_grid bytes) ≡ true =
+    elim c.in_default.branch [
+      | in_default-via-then-n-lt1 w ↦ axes_few bytes (omega (arith, c.field_at-n.ensures))
+      | in_default-via-else-n-lt1+else-n-lt5 w ↦ axes_many bytes (omega (arith, c.field_at-n.ensures))
+    ] in
+    rw (number (goal.at.returns-in_default c).After-field_at-n, none) c.refused-in_default.ensures

@@ -6,7 +6,6 @@ use Rattle.sheet_read.specs.Faults.{axes_fault}
 use Rattle.sheet_read.proofs.Numbers.{axes_of_reading, samples_of_reading}
 use Rattle.sheet_read.proofs.Sheets.{in_range}
 use Rattle.sheet_read.proofs.Promises.{first_refused, later_refused, both_passed}
-use borrow.Author.Rules.{rules}
 use Rattle.sheet_read.proofs.look.look_at_axes.Goals as goal
 use Rattle.sheet_read.proofs.look.look_at_axes.Goals.{Else-is_unread}
 

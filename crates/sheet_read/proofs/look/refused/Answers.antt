@@ -1,5 +1,4 @@
 -- The answer of a refusal by the rules: each of its four axes is the unused one, edition and number of axes are 0.
-use borrow.Author.Rules.{rules}
 use Rattle.sheet_read.proofs.look.refused.Goals as goal
 
 pub returns : goal.returns

@@ -10,7 +10,6 @@ use Rattle.sheet_read.specs.Fields.{sheet_grid, samples_begin}
 use Rattle.sheet_read.proofs.Samples.{count_is}
 use Rattle.sheet_read.proofs.Sheets.{Accepted, accepted, no_fault, all_ended}
 use Rattle.sheet_read.proofs.Promises.{samples_within, samples_stored}
-use borrow.Author.Rules.{rules}
 use Rattle.sheet_read.proofs.store.store_parts.Goals as goal
 use Rattle.sheet_read.proofs.store.store_parts.Goals.{After-samples_length-count, Start}
 
