@@ -181,6 +181,9 @@ class Function:
             rf"⟪(\d+)⟫((?:\.{NAME})+)", lambda m: self.path(head, int(m[1]), m[2][1:].split(".")), text
         )
 
+        for name, (place, *_) in self.lemmas.items():
+            text = re.sub(rf"(?<![\w.'-]){re.escape(name)} ⟪\d+⟫", f"{name} ⟪{place}⟫", text)
+
         def bare(m):
             if goal:
                 return f"(goal.at.{goal} {head}).{self.new_places[int(m[1])]}"
@@ -371,6 +374,7 @@ class Proof:
             text = "\n".join(([self.comment] if self.comment else []) + uses + [f"use {self.module}.Given as goal"])
             text += "\n\n" + "\n\n".join(shared + self.invariants) + "\n"
             put(os.path.join(folder, "Invariants.antt"), text)
+        self.answers = {it: how for it, how in self.answers.items() if how[1] or how[2].strip() != "search rules"}
         if self.answers or above:
             lines = [] if self.invariants else [self.comment] if self.comment else []
             lines += uses

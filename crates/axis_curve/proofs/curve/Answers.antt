@@ -11,9 +11,6 @@ use Rattle.axis_locate.proofs.locate_lower_index.Reads as locate_lower_index_rea
 use Rattle.axis_moments.proofs.curve.curve_in_cell.Reads as curve_in_cell_reads
 use Rattle.axis_curve.proofs.curve.Goals as goal
 
-pub curve_refusal-refusal-requires : goal.curve_refusal-refusal-requires
-curve_refusal-refusal-requires c = search rules
-
 pub returns-then-refusal-ne0 : goal.returns-then-refusal-ne0
 returns-then-refusal-ne0 c =
     let a = c.args in
@@ -35,9 +32,6 @@ curve_in_cell-value-requires c =
           (sym c.curve_refusal-refusal.ensures ∙ c.if-refusal-ne0.false),
       c.locate_lower_index-cell.ensures.inside,
     )
-
-pub is_finite-requires : goal.is_finite-requires
-is_finite-requires c = search rules
 
 pub returns-then-is_finite : goal.returns-then-is_finite
 returns-then-is_finite c =

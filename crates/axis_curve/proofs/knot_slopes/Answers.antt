@@ -51,7 +51,7 @@ pub slice_bounds-copy-end : goal.slice_bounds-copy-end
 slice_bounds-copy-end c =
     let a = c.args in
     let exact =
-    part_length a.points a.knots.now a.samples.now a.moments.now a.slopes.now (none (goal.at.slice_bounds-copy-end c).After-slopes_refusal-refusal) _ _
+    part_length a.points a.knots.now a.samples.now a.moments.now a.slopes.now (none (goal.at.slice_bounds-copy-end c).Else-refusal-ne0) _ _
     c.some_slope_refused.ensures in
     simp length-append (omega (arith, exact))
 
@@ -59,14 +59,14 @@ pub copy-requires : goal.copy-requires
 copy-requires c =
     let a = c.args in
     let exact =
-    part_length a.points a.knots.now a.samples.now a.moments.now a.slopes.now (none (goal.at.copy-requires c).After-slopes_refusal-refusal) _ _
+    part_length a.points a.knots.now a.samples.now a.moments.now a.slopes.now (none (goal.at.copy-requires c).Else-refusal-ne0) _ _
     c.some_slope_refused.ensures in
     let given =
-    slopes_known a.points a.knots.now a.samples.now a.moments.now a.slopes.now (none (goal.at.copy-requires c).After-slopes_refusal-refusal) in
+    slopes_known a.points a.knots.now a.samples.now a.moments.now a.slopes.now (none (goal.at.copy-requires c).Else-refusal-ne0) in
     simp (length-take, length-append) (omega (arith, exact, given.slopes_exact))
 
 pub returns : goal.returns
 returns c =
     let a = c.args in
-    slopes_good a.points a.knots.now a.samples.now a.moments.now a.slopes.now (none (goal.at.returns c).After-slopes_refusal-refusal) _ _
+    slopes_good a.points a.knots.now a.samples.now a.moments.now a.slopes.now (none (goal.at.returns c).Else-refusal-ne0) _ _
     c.some_slope_refused.ensures c.if-some_slope_refused.false _ _ c.copy.ensures

@@ -16,9 +16,6 @@ use Rattle.grid_checks.proofs.moments_refusal.Reads as moments_refusal_reads
 use Rattle.axis_curve.proofs.work_moments.Reads as work_moments_reads
 use Rattle.axis_curve.proofs.moments.Goals as goal
 
-pub moments_refusal-refusal-requires : goal.moments_refusal-refusal-requires
-moments_refusal-refusal-requires c = search rules
-
 pub returns-then-refusal-ne0 : goal.returns-then-refusal-ne0
 returns-then-refusal-ne0 c =
     let a = c.args in
@@ -28,22 +25,17 @@ returns-then-refusal-ne0 c =
 pub work_moments-requires : goal.work_moments-requires
 work_moments-requires c =
     let a = c.args in
-    let none = sym c.moments_refusal-refusal.ensures ∙ c.if-refusal-ne0.false in (
-      (
+    let none = sym c.moments_refusal-refusal.ensures ∙ c.if-refusal-ne0.false in
+    record {
+      rows_fit = (
         moments_lane a.points a.knots.now a.samples.now a.condition a.moments.now a.scratch.now none,
         moments_fewest a.points a.knots.now a.samples.now a.condition a.moments.now a.scratch.now none,
-      ),
-      (
+      );
+      samples_len = (
         moments_samples a.points a.knots.now a.samples.now a.condition a.moments.now a.scratch.now none,
         moments_out a.points a.knots.now a.samples.now a.condition a.moments.now a.scratch.now none,
-      ),
-    )
-
-pub shape_of-moments : goal.shape_of-moments
-shape_of-moments c = search rules
-
-pub shape_of-scratch : goal.shape_of-scratch
-shape_of-scratch c = search rules
+      );
+    }
 
 pub returns : goal.returns
 returns c =
