@@ -1,0 +1,20 @@
+-- Either slot of another length is 4 with nothing written (`cursor-refused`, `value-refused`); else the refusal, the cursor and the
+-- value are those of one step from the cursor that stood in its slot (`next-called`).
+use mir.Syntax.{w32}
+use mir.Val.{SFits}
+use mir.ValLaws.{to_z-of_z}
+use Rattle.c_device.proofs.Exported.{cursor_refused, value_refused, next_called}
+use borrow.Author.Rules.{rules}
+use Rattle.c_device.proofs.cursor_next.Goals as goal
+
+pub returns-then-cursor-ne1 : goal.returns-then-cursor-ne1
+returns-then-cursor-ne1 c = cursor_refused _ _ _ c.if-cursor-ne1.true
+
+pub returns-then-value-ne1 : goal.returns-then-value-ne1
+returns-then-value-ne1 c = value_refused _ _ _ c.if-cursor-ne1.false c.if-value-ne1.true
+
+pub returns : goal.returns
+returns c =
+    let a = c.next-answer.result in
+    let f : SFits w32 a.value = search rules in
+    rw (to_z-of_z w32 a.value f) (next_called _ _ _ c.if-cursor-ne1.false c.if-value-ne1.false a c.next-answer.ensures)
