@@ -2,9 +2,9 @@
 -- what fits.
 use mathlib.Core.Path.{◌≡◌, refl}
 use mathlib.Core.List.{List}
-use Prim.Native.Nat.{ℕ, ◌*◌, ◌^◌, ◌<◌, ◌≤◌}
+use Prim.Native.Nat.{ℕ, ◌*◌, ◌<◌, ◌≤◌}
 use native.Mathlib.Omega.{arith}
-use lib.ListN.{length, get_or}
+use lib.ListN.{get_or}
 use Rattle.rules.specs.Sizes.{most_in_a_tensor}
 use Rattle.rules.proofs.Tables.{at_table}
 use Rattle.report_totals.specs.Totals.{
@@ -19,8 +19,7 @@ use Rattle.report_totals.specs.Totals.{
   largest_total,
   totals_of,
 }
-use Rattle.report_totals.specs.Counting.{no_entries, order_totals, orders_of, Running}
-use Rattle.report_totals.specs.declared.OrderTotals.{OrderTotals}
+use Rattle.report_totals.specs.Counting.{no_entries, Running}
 use Rattle.report_totals.specs.declared.Totals.{Totals}
 use Rattle.report_totals.proofs.Orders.{order_most}
 use Rattle.report_totals.proofs.Sheets.{orders_are}

@@ -1,11 +1,10 @@
 -- Worked examples, by computation: the totals of the example's sheet, and of a refused sheet and one that holds -0.0.
 use mathlib.Core.Path.{◌≡◌, refl}
-use mathlib.Core.List.{List, [], ◌∷◌}
+use mathlib.Core.List.{[], ◌∷◌}
 use lib.Count.{ones, ones_in}
 use lib.Ieee.{Float, binary64, of_bits, to_bits}
-use Rattle.rules.specs.Numbers.{table, filter}
+use Rattle.rules.specs.Numbers.{filter}
 use Rattle.report_totals.specs.Totals.{Sheet, tensor_entries, largest, all_entries, totals_of}
-use Rattle.report_totals.specs.declared.OrderTotals.{OrderTotals}
 use Rattle.report_totals.specs.Counting.{no_entries}
 
 abbrev zero : Float

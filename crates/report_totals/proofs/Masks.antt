@@ -3,11 +3,11 @@
 use mathlib.Core.Path.{◌≡◌, refl, sym, ap, ◌∙◌}
 use mathlib.Core.Bool.{Bool, true, false, not, cond}
 use mathlib.Core.List.{List, [], ◌∷◌, ◌++◌, append-nil, append_assoc}
-use Prim.Native.Nat.{ℕ, zero, suc, ◌+◌, ◌*◌, ◌/◌, ◌%◌, ◌^◌, ◌<◌, ◌≤◌}
+use Prim.Native.Nat.{ℕ, zero, suc, ◌+◌, ◌*◌, ◌%◌, ◌^◌, ◌<◌, ◌≤◌}
 use native.Mathlib.Nat.{add-zero, mul-le-mul_right, suc-mul, pow-suc}
 use native.Mathlib.Numerals.{add-one}
 use native.Mathlib.Omega.{arith}
-use lib.Arith.{digits_lt, digits_mod}
+use lib.Arith.{digits_mod}
 use lib.Count.{ones}
 use lib.Dec.{eqb}
 use lib.Ieee.{Float, nan}
@@ -18,7 +18,7 @@ use borrow.Author.Tests.{eq-eqb, ne_eqb}
 use Rattle.rules.specs.Numbers.{at, table}
 use Rattle.rules.proofs.Tables.{length_table, at_table, table_of, table_ext}
 use Rattle.report_totals.specs.Totals.{Entry, nonzero, of_order, tensor_entries}
-use Rattle.report_totals.specs.Counting.{one_if, no_entries, of_one, sum, of_mask, order_totals, orders_of, InPlaces, Room, Tallied}
+use Rattle.report_totals.specs.Counting.{one_if, no_entries, of_one, sum, of_mask, order_totals, orders_of, Room, Tallied}
 use Rattle.report_totals.specs.declared.OrderTotals.{OrderTotals}
 use Rattle.report_totals.proofs.Lists.{filter_kept, filter_dropped, table_set}
 use Rattle.report_totals.proofs.Orders.{totals_parts, order_next, order_most}

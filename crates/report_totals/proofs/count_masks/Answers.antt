@@ -1,19 +1,8 @@
-use Prim.Native.Nat.{◌+◌, ◌-◌, ◌<◌, ◌≤◌}
+use Prim.Native.Nat.{◌+◌, ◌<◌, ◌≤◌}
 use native.Mathlib.Omega.{arith}
 use lib.ListN.{length}
 use Rattle.report_totals.proofs.Masks.{one_if_not_zero_most}
-use Rattle.report_totals.proofs.Counts.{
-  Counted,
-  counted_first,
-  masks_few,
-  places_few,
-  finite_at,
-  counts_few,
-  inside,
-  counted_next,
-  counted_last,
-}
-use borrow.Author.Rules.{rules}
+use Rattle.report_totals.proofs.Counts.{counted_first, masks_few, places_few, finite_at, counts_few, inside, counted_next, counted_last}
 use Rattle.report_totals.proofs.count_masks.Goals as goal
 use Rattle.report_totals.proofs.count_masks.Goals.{In-loop-p}
 

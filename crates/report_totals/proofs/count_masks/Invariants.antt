@@ -1,20 +1,6 @@
 -- `Counted` holds before each turn: `p` places are passed, and the counts are those of the two masks there. The measure is the places left.
-use Prim.Native.Nat.{◌+◌, ◌-◌, ◌<◌, ◌≤◌}
-use native.Mathlib.Omega.{arith}
-use lib.ListN.{length}
-use Rattle.report_totals.proofs.Masks.{one_if_not_zero_most}
-use Rattle.report_totals.proofs.Counts.{
-  Counted,
-  counted_first,
-  masks_few,
-  places_few,
-  finite_at,
-  counts_few,
-  inside,
-  counted_next,
-  counted_last,
-}
-use borrow.Author.Rules.{rules}
+use Prim.Native.Nat.{◌-◌}
+use Rattle.report_totals.proofs.Counts.{Counted}
 use Rattle.report_totals.proofs.count_masks.Given as goal
 
 abbrev pub invariant-loop-p : goal.invariant-loop-p

@@ -1,10 +1,9 @@
 use mathlib.Core.Path.{◌≡◌, refl, sym}
-use Prim.Native.Nat.{◌+◌, ◌-◌, ◌*◌, ◌/◌, ◌^◌, ◌<◌, ◌≤◌}
+use Prim.Native.Nat.{◌+◌, ◌*◌, ◌/◌, ◌^◌, ◌<◌, ◌≤◌}
 use native.Mathlib.Omega.{arith}
 use lib.ListN.{length}
 use Rattle.report_totals.specs.Counting.{of_mask, Room}
-use Rattle.report_totals.proofs.Masks.{Turn, turn_first, first_room, second_room, turn_next, turn_last, masks_even, five_orders}
-use borrow.Author.Rules.{rules}
+use Rattle.report_totals.proofs.Masks.{turn_first, first_room, second_room, turn_next, turn_last, masks_even, five_orders}
 use Rattle.report_totals.proofs.tally.Goals as goal
 use Rattle.report_totals.proofs.tally.Goals.{After-count_masks-two, In-loop-mask}
 
@@ -49,20 +48,20 @@ order_of_mask-k-requires c = omega (arith, pair (goal.at.order_of_mask-k-require
 
 pub together-requires : goal.together-requires
 together-requires c =
-    first_room _ _ _ _ _ _ c.loop-mask.invariant (below (goal.at.together-requires c).After-count_masks-two) _ (counted (goal.at.together-requires c).After-order_of_mask-k).0 _ c.order_of_mask-k.ensures.0
-    c.order_of_mask-k.ensures.1 (room (goal.at.together-requires c).After-count_masks-two)
+    first_room _ _ _ _ _ _ c.loop-mask.invariant (below (goal.at.together-requires c).In-loop-mask) _ (counted (goal.at.together-requires c).After-count_masks-two).0 _ c.order_of_mask-k.ensures.0
+    c.order_of_mask-k.ensures.1 (room (goal.at.together-requires c).In-loop-mask)
 
 pub overflow_add-mask : goal.overflow_add-mask
-overflow_add-mask c = omega (arith, pair (goal.at.overflow_add-mask c).After-count_masks-two)
+overflow_add-mask c = omega (arith, pair (goal.at.overflow_add-mask c).In-loop-mask)
 
 pub order_of_mask-next-requires : goal.order_of_mask-next-requires
-order_of_mask-next-requires c = omega (arith, pair (goal.at.order_of_mask-next-requires c).After-count_masks-two)
+order_of_mask-next-requires c = omega (arith, pair (goal.at.order_of_mask-next-requires c).In-loop-mask)
 
 pub together-requires-in-loop-mask : goal.together-requires-in-loop-mask
 together-requires-in-loop-mask c =
-    second_room _ _ _ _ _ _ c.loop-mask.invariant (below (goal.at.together-requires-in-loop-mask c).After-order_of_mask-k) _ (counted (goal.at.together-requires-in-loop-mask c).After-together-arg-1).0 _ c.order_of_mask-k.ensures.0
-    c.order_of_mask-k.ensures.1 _ c.together.ensures _ (counted (goal.at.together-requires-in-loop-mask c).After-together-arg-1).1 _ c.order_of_mask-next.ensures.0
-    c.order_of_mask-next.ensures.1 (room (goal.at.together-requires-in-loop-mask c).After-order_of_mask-k)
+    second_room _ _ _ _ _ _ c.loop-mask.invariant (below (goal.at.together-requires-in-loop-mask c).In-loop-mask) _ (counted (goal.at.together-requires-in-loop-mask c).After-count_masks-two).0 _ c.order_of_mask-k.ensures.0
+    c.order_of_mask-k.ensures.1 _ c.together.ensures _ (counted (goal.at.together-requires-in-loop-mask c).After-count_masks-two).1 _ c.order_of_mask-next.ensures.0
+    c.order_of_mask-next.ensures.1 (room (goal.at.together-requires-in-loop-mask c).In-loop-mask)
 
 pub overflow_add-mask-in-loop-mask : goal.overflow_add-mask-in-loop-mask
 overflow_add-mask-in-loop-mask c = omega (arith, pair (goal.at.overflow_add-mask-in-loop-mask c).In-loop-mask)
@@ -72,8 +71,8 @@ loop-mask-smaller c = omega (arith, pair (goal.at.loop-mask-smaller c).In-loop-m
 
 pub loop-mask-preserved : goal.loop-mask-preserved
 loop-mask-preserved c =
-    turn_next _ _ _ _ _ _ c.loop-mask.invariant (below (goal.at.loop-mask-preserved c).After-order_of_mask-k) _ (counted (goal.at.loop-mask-preserved c).After-together-arg-1).0 _ c.order_of_mask-k.ensures.0
-    c.order_of_mask-k.ensures.1 _ c.together.ensures _ (counted (goal.at.loop-mask-preserved c).After-together-arg-1).1 _ c.order_of_mask-next.ensures.0
+    turn_next _ _ _ _ _ _ c.loop-mask.invariant (below (goal.at.loop-mask-preserved c).In-loop-mask) _ (counted (goal.at.loop-mask-preserved c).After-count_masks-two).0 _ c.order_of_mask-k.ensures.0
+    c.order_of_mask-k.ensures.1 _ c.together.ensures _ (counted (goal.at.loop-mask-preserved c).After-count_masks-two).1 _ c.order_of_mask-next.ensures.0
     c.order_of_mask-next.ensures.1 c.requires.0.some _ c.together-in-loop-mask.ensures
 
 pub returns : goal.returns

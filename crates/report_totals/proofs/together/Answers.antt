@@ -1,6 +1,5 @@
 -- Counts are added, and the larger of two magnitudes is the largest of both.
 use mathlib.Core.Path.{refl}
-use borrow.Author.Rules.{rules}
 use Rattle.report_totals.proofs.Orders.{totals_parts}
 use Rattle.report_totals.proofs.together.Goals as goal
 

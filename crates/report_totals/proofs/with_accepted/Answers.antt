@@ -1,7 +1,6 @@
 -- The entries of its tensor are added to the orders, and the sheet to those of number 0.
 use native.Mathlib.Omega.{arith}
 use Rattle.report_totals.proofs.Sheets.{running_room, sheet_adds}
-use borrow.Author.Rules.{rules}
 use Rattle.report_totals.proofs.with_accepted.Goals as goal
 
 pub tally-orders-requires : goal.tally-orders-requires

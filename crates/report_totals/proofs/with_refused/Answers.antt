@@ -1,8 +1,5 @@
 -- A refused sheet adds no entries, so the orders stay as they are (`nothing-tallied`).
-use mathlib.Core.Path.{refl, ap, ◌∙◌}
-use Rattle.report_totals.specs.declared.Totals.{Totals}
 use Rattle.report_totals.proofs.Sheets.{sheet_adds, nothing_tallied}
-use borrow.Author.Rules.{rules}
 use Rattle.report_totals.proofs.with_refused.Goals as goal
 
 pub returns : goal.returns

@@ -1,7 +1,6 @@
 -- One more of all sheets and of those with this number. A report has few enough for both counts to fit.
 use native.Mathlib.Omega.{arith}
 use Rattle.report_totals.proofs.Sheets.{refused_most, sheets_most}
-use borrow.Author.Rules.{rules}
 use Rattle.report_totals.proofs.with_sheet.Goals as goal
 
 pub overflow_add-refusals : goal.overflow_add-refusals
