@@ -1,0 +1,13 @@
+-- A finite value is answered with its cell as labels, and any other by 10 with nothing but zeros beside it.
+use mathlib.Core.Path.{◌∙◌}
+use borrow.Author.Rules.{rules}
+use Rattle.query_answer.proofs.Answering.{accepted, not_accepted}
+use Rattle.query_answer.proofs.outcome_of.Goals as goal
+
+pub returns-then-is_finite : goal.returns-then-is_finite
+returns-then-is_finite c = accepted _ _ c.is_finite.ensures c.if-is_finite.true
+
+pub returns : goal.returns
+returns c =
+    c.refuse.ensures
+    ∙ not_accepted c.args.value c.args.labels.now c.is_finite.ensures c.if-is_finite.false
