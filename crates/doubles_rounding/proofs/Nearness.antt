@@ -28,27 +28,27 @@ use Rattle.doubles_patterns.proofs.Sizes.{le_or_lt}
 -- ---- what `compare` says
 pub compare_lt : (a b : ℕ) → a < b → compare a b ≡ Ordering.lt
 compare_lt zero zero h = absurd (lt_irrefl 0 h)
-compare_lt zero (suc b) h = compare.zero_suc b
+compare_lt zero (suc b) h = compare.zero-suc b
 compare_lt (suc a) zero h = absurd (none a h)
   where
     none : (a : ℕ) → suc a < 0 → ⊥
     none a h = omega arith
-compare_lt (suc a) (suc b) h = compare.suc_suc a b ∙ compare_lt a b (le_of_suc-le-suc h)
+compare_lt (suc a) (suc b) h = compare.suc-suc a b ∙ compare_lt a b (le_of_suc-le-suc h)
 
 pub compare_eq : (a b : ℕ) → a ≡ b → compare a b ≡ Ordering.eq
 compare_eq a b e = ap (compare a) (sym e) ∙ same a
   where
     same : (a : ℕ) → compare a a ≡ Ordering.eq
-    same zero = compare.zero_zero
-    same (suc a) = compare.suc_suc a a ∙ same a
+    same zero = compare.zero-zero
+    same (suc a) = compare.suc-suc a a ∙ same a
 
 pub compare_gt : (a b : ℕ) → b < a → compare a b ≡ Ordering.gt
 compare_gt zero b h = absurd (none b h)
   where
     none : (b : ℕ) → b < 0 → ⊥
     none b h = omega arith
-compare_gt (suc a) zero h = compare.suc_zero a
-compare_gt (suc a) (suc b) h = compare.suc_suc a b ∙ compare_gt a b (le_of_suc-le-suc h)
+compare_gt (suc a) zero h = compare.suc-zero a
+compare_gt (suc a) (suc b) h = compare.suc-suc a b ∙ compare_gt a b (le_of_suc-le-suc h)
 
 -- ---- `closest` by what the remainder is
 pub closest_at : (a b q r : ℕ) (o : Ordering) → a / b ≡ q → a % b ≡ r → compare (r * 2) b ≡ o → closest a b ≡ nearest q o
