@@ -192,7 +192,13 @@ class Function:
                 self.said.append(f"a lemma over {self.places[at][0]} is given {self.places[int(m[1])][0]}")
             return head
 
-        return PLACE.sub(bare, text)
+        opening = ""
+        for at_place in sorted(set(PLACE.findall(text))) if goal else []:
+            if text.count(f"⟪{at_place}⟫") > 1:
+                name = "at_" + re.sub(r"\W+", "_", self.new_places[int(at_place)]).lower()
+                opening += f"let {name} = {bare(re.match(PLACE, f'⟪{at_place}⟫'))} in\n    "
+                text = text.replace(f"⟪{at_place}⟫", name)
+        return opening + PLACE.sub(bare, text).strip() if opening else PLACE.sub(bare, text)
 
 
 class Proof:

@@ -116,6 +116,7 @@ module _ (Holds : OneChange → Type 0) where
       → SameChanges g changes others
       → Every Holds changes → Every Holds others
   every_same g carries [] [] none every = tt
+  every_same g carries [] (_ ∷ _) same every = elim same [ ]
   every_same g carries (a ∷ changes) others (one_more {a'} before behind same rest) every =
       every_with before behind a' (carries a a' same every.0) (every_same g carries changes (before ++ behind) rest every.1)
 
@@ -151,6 +152,7 @@ same_samples_stored :
     (g : Grid) (samples : List Float) (changes others : List OneChange) → SameChanges g changes others → DifferentNumbers g changes
     → all_stored g samples changes ≡ all_stored g samples others
 same_samples_stored g samples [] [] none different = refl
+same_samples_stored g samples [] (_ ∷ _) same different = elim same [ ]
 same_samples_stored g samples (a ∷ changes) others (one_more {a'} before behind same rest) different =
     same_samples_stored g (set samples (number g a) a.sample) changes (before ++ behind) rest different.1
     ∙ ap₂ (λ (k : ℕ) (v : Float). all_stored g (set samples k v) (before ++ behind)) here same.sample
@@ -167,6 +169,7 @@ same_samples_stored g samples (a ∷ changes) others (one_more {a'} before behin
 
 same_length : (g : Grid) (changes others : List OneChange) → SameChanges g changes others → length changes ≡ length others
 same_length g [] [] none = refl
+same_length g [] (_ ∷ _) same = elim same [ ]
 same_length g (a ∷ changes) others (one_more {a'} before behind same rest) =
     let e = same_length g changes (before ++ behind) rest in
     omega (arith, simp length-append at e, length-append before (a' ∷ behind))

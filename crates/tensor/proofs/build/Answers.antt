@@ -46,16 +46,18 @@ solve_axes-requires c =
 
 pub finish-requires : goal.finish-requires
 finish-requires c =
+    let at_else_refusal_ne0 = (goal.at.finish-requires c).Else-refusal-ne0 in
     omega (
       arith,
       c.solve_axes.ensures.0.same_length,
       c.store_samples.ensures.same_length,
-      (known (goal.at.finish-requires c).Else-refusal-ne0).grid_given.tensor_exact,
-      (known (goal.at.finish-requires c).Else-refusal-ne0).solve_given.scratch_enough,
+      (known at_else_refusal_ne0).grid_given.tensor_exact,
+      (known at_else_refusal_ne0).solve_given.scratch_enough,
     )
 
 pub returns : goal.returns
 returns c =
+    let at_else_refusal_ne0 = (goal.at.returns c).Else-refusal-ne0 in
     let args = c.args in
-    build_done _ _ args.tensor.now args.scratch.now (known (goal.at.returns c).Else-refusal-ne0) _ _ _ _ _ _ _ (passed (goal.at.returns c).Else-refusal-ne0) c.masks-masks.ensures.0
+    build_done _ _ args.tensor.now args.scratch.now (known at_else_refusal_ne0) _ _ _ _ _ _ _ (passed at_else_refusal_ne0) c.masks-masks.ensures.0
     c.store_samples.ensures c.solve_axes.ensures.0 c.finish.ensures
