@@ -5,5 +5,5 @@ use Rattle.query_answer.proofs.modes_of.Goals as goal
 
 pub returns : goal.returns
 returns c =
-    modes_taken _ _ _ _ _ c.Mode_of.ensures c.mode_of-2.ensures c.mode_of-3.ensures
+    modes_taken _ _ _ _ _ c.mode_of.ensures c.mode_of-2.ensures c.mode_of-3.ensures
     c.mode_of-4.ensures
