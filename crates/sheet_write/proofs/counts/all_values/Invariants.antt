@@ -1,0 +1,15 @@
+-- `sum` is how many ends of the axes below `i` have a number, and at most twice `i`, so 8 in the end. The measure is the axes left.
+use mathlib.Core.Path.{◌≡◌, sym}
+use Prim.Native.Nat.{◌*◌, ◌-◌, ◌≤◌}
+use native.Mathlib.Omega.{arith}
+use Rattle.grid.specs.GridOfCall.{condition_of}
+use Rattle.grid.proofs.Products.{sum_none, sum_more}
+use Rattle.sheet_write.specs.PartsWithRoom.{values, values_below}
+use borrow.Author.Rules.{rules}
+use Rattle.sheet_write.proofs.counts.all_values.Given as goal
+
+abbrev pub invariant-loop-i : goal.invariant-loop-i
+invariant-loop-i l = (l.i ≤ l.axes) × (l.sum ≡ values_below l.all l.i) × (l.sum ≤ l.i * 2)
+
+abbrev pub decreases-loop-i : goal.decreases-loop-i
+decreases-loop-i l = l.axes - l.i
