@@ -8,7 +8,7 @@ use native.Mathlib.Nat.{le-mul_of_pos_right}
 use native.Mathlib.Omega.{arith}
 use borrow.Author.Tests.{ltb-false, eq-eqb, ne_eqb}
 use lib.Dec.{ltb, eqb}
-use lib.ListN.{length, take, drop, length-take}
+use lib.ListN.{length, take, length-take}
 use lib.Seq.{take-append-le, drop-append-le, take-length}
 use lib.Pow.{pow_pos}
 use Rattle.rules.specs.Sizes.{Grid, samples_length, tensor_length}
@@ -20,7 +20,7 @@ use Rattle.base_bits.proofs.Runs.{short_together}
 use Rattle.grid_codes.specs.Editions.{unknown_edition}
 use Rattle.grid_codes.specs.Classes.{length_known}
 use Rattle.sheet_read.specs.Fields.{edition, axes, axis_begin, entries, sheet_grid, samples_begin, samples_end}
-use Rattle.sheet_read.specs.Faults.{axis_fault, axes_fault, tail_refused, sheet_refusal}
+use Rattle.sheet_read.specs.Faults.{axis_fault, axes_fault, sheet_refusal}
 use Rattle.sheet_read.specs.Read.{refused_answer, answer_of}
 use Rattle.sheet_read.proofs.Extents.{begin_most, begin_first}
 use Rattle.sheet_read.proofs.Walks.{faultless_axis}

@@ -5,7 +5,6 @@ use mathlib.Core.List.{List}
 use Prim.Native.Nat.{ℕ, zero, suc}
 use native.Mathlib.Omega.{arith}
 use borrow.Author.Tests.{ne_eqb}
-use lib.Dec.{eqb}
 use Rattle.rules.specs.Sizes.{samples_length}
 use Rattle.rules.specs.Refusals.{axes_refused, tensor_refused}
 use Rattle.rules.specs.Calls.{or_else}

@@ -16,9 +16,8 @@ use Rattle.sheet_read.proofs.Samples.{count_is, begin_small}
 use Rattle.report_front.specs.Front.{sheet_bytes}
 use Rattle.report_front.proofs.Tails.{none_before}
 use Rattle.report_front.proofs.Cuts.{sound, size_of_known, size_inside, end_most, tail_room, tail_set, tail_zero}
-use borrow.Author.Rules.{rules}
 use Rattle.report_front.proofs.known_front.Goals as goal
-use Rattle.report_front.proofs.known_front.Goals.{After-field_at, After-samples_length, After-walk_axes-walk}
+use Rattle.report_front.proofs.known_front.Goals.{After-samples_length, After-walk_axes-walk}
 
 -- all axes were passed
 ended : (c : After-walk_axes-walk)
@@ -44,55 +43,18 @@ end_of bytes at n all t count e = rw (e, count_is bytes at n all t, t.end, t.sai
 
 -- the sheet's last bit, and its bytes
 end_is : (l : After-samples_length)
+    → Ended l.args.bytes.now l.walk_axes-walk.result.at l.field_at-n.result l.walk_axes-walk.result.all
     → l.walk_axes-walk.result.at + 64 * l.samples_length.result ≡ samples_end l.args.bytes.now
-end_is l = end_of _ _ _ _ ((let s = sound _ (none_before _ l.requires) in
-    let said = l.field_at-n.ensures in
-    let walked = l.walk_axes-walk.ensures in
-    let faultless = rw (← said) at s.faultless in
-    let none = walked.fault ∙ faultless in
-    let found = walked.all none in
-    record {
-      range = in_range _ _ _ (omega (arith, s.few, said)) found (omega (arith, s.least, said)) faultless;
-      said = said;
-      end = walked.end none;
-      found = found;
-    })) _ l.samples_length.ensures.0
+end_is l t = end_of _ _ _ _ t _ l.samples_length.ensures.0
 
-size_is : (l : After-samples_length)
-    → (l.walk_axes-walk.result.at + 64 * l.samples_length.result + 7) / 8 ≡ sheet_bytes l.args.bytes.now
+size_of_end : (bytes : List ℕ) (end : ℕ) → end ≡ samples_end bytes → (end + 7) / 8 ≡ sheet_bytes bytes
 unfolding sheet_bytes
-size_is l = ap (λ (k : ℕ). (k + 7) / 8) (end_is l)
+size_of_end bytes end e = ap (λ (k : ℕ). (k + 7) / 8) e
 
 -- the last bits, by the rules' numbers
-left_is : (f : After-field_at)
-    → let bytes = f.args.bytes.now in
-    f.field_at.result ≡ field bytes (samples_end bytes) (8 * sheet_bytes bytes - samples_end bytes)
-left_is f = f.field_at.ensures ∙ rw (
-  (ap (λ (k : ℕ). (k + 7) / 8) ((end_of _ _ _ _ ((let s = sound _ (none_before _ f.requires) in
-      let said = f.field_at-n.ensures in
-      let walked = f.walk_axes-walk.ensures in
-      let faultless = rw (← said) at s.faultless in
-      let none = walked.fault ∙ faultless in
-      let found = walked.all none in
-      record {
-        range = in_range _ _ _ (omega (arith, s.few, said)) found (omega (arith, s.least, said)) faultless;
-        said = said;
-        end = walked.end none;
-        found = found;
-      })) _ f.samples_length.ensures.0))),
-  (end_of _ _ _ _ ((let s = sound _ (none_before _ f.requires) in
-      let said = f.field_at-n.ensures in
-      let walked = f.walk_axes-walk.ensures in
-      let faultless = rw (← said) at s.faultless in
-      let none = walked.fault ∙ faultless in
-      let found = walked.all none in
-      record {
-        range = in_range _ _ _ (omega (arith, s.few, said)) found (omega (arith, s.least, said)) faultless;
-        said = said;
-        end = walked.end none;
-        found = found;
-      })) _ f.samples_length.ensures.0),
-)
+left_is : (bytes : List ℕ) (end size : ℕ) → end ≡ samples_end bytes → size ≡ sheet_bytes bytes
+    → field bytes end (8 * size - end) ≡ field bytes (samples_end bytes) (8 * sheet_bytes bytes - samples_end bytes)
+left_is bytes end size e z = rw (e, z)
 
 pub field_at-edition-requires : goal.field_at-edition-requires
 field_at-edition-requires c =
@@ -128,28 +90,30 @@ pub field_at-requires : goal.field_at-requires
 field_at-requires c =
     let room = tail_room _ (none_before _ c.requires) in
     let most = end_most _ (none_before _ c.requires) in
-    let size = size_is (goal.at.field_at-requires c).After-samples_length in
-    let end = end_is (goal.at.field_at-requires c).After-samples_length in (record { room = omega arith; small = omega arith }, omega arith)
+    let size = size_of_end _ _ (end_is (goal.at.field_at-requires c).After-samples_length (ended (goal.at.field_at-requires c).After-walk_axes-walk)) in
+    let end = end_is (goal.at.field_at-requires c).After-samples_length (ended (goal.at.field_at-requires c).After-walk_axes-walk) in (record { room = omega arith; small = omega arith }, omega arith)
 
 pub returns-then-field_at-ne0 : goal.returns-then-field_at-ne0
 returns-then-field_at-ne0 c =
     let known = c.requires in
-    let size = size_is (goal.at.returns-then-field_at-ne0 c).After-samples_length ∙ sym (size_of_known _ known) in
+    let end_at = end_is (goal.at.returns-then-field_at-ne0 c).After-samples_length (ended (goal.at.returns-then-field_at-ne0 c).After-walk_axes-walk) in
+    let size = size_of_end _ _ end_at ∙ sym (size_of_known _ known) in
     record {
       size_is = size;
       inside = rw size (size_inside _);
-      looked = c.refused.ensures ∙ tail_set _ (none_before _ known) (λ z. c.if-field_at-ne0.true (left_is (goal.at.returns-then-field_at-ne0 c).After-field_at ∙ z));
+      looked = c.refused.ensures ∙ tail_set _ (none_before _ known) (λ z. c.if-field_at-ne0.true ((c.field_at.ensures ∙ left_is _ _ _ end_at (size_of_end _ _ end_at)) ∙ z));
     }
 
 pub returns : goal.returns
 returns c =
     let t = ended (goal.at.returns c).After-walk_axes-walk in
     let known = c.requires in
-    let size = size_is (goal.at.returns c).After-samples_length ∙ sym (size_of_known _ known) in
+    let end_at = end_is (goal.at.returns c).After-samples_length (ended (goal.at.returns c).After-walk_axes-walk) in
+    let size = size_of_end _ _ end_at ∙ sym (size_of_known _ known) in
     record {
       size_is = size;
       inside = rw size (size_inside _);
       looked =
           rw (c.field_at-edition.ensures, t.found, t.said)
-          (tail_zero _ (none_before _ known) (sym (left_is (goal.at.returns c).After-field_at) ∙ c.if-field_at-ne0.false));
+          (tail_zero _ (none_before _ known) (sym ((c.field_at.ensures ∙ left_is _ _ _ end_at (size_of_end _ _ end_at))) ∙ c.if-field_at-ne0.false));
     }

@@ -7,7 +7,6 @@ use Rattle.sheet_read.specs.Faults.{sheet_refusal}
 use Rattle.sheet_read.proofs.Promises.{given_refusal}
 use Rattle.report_front.proofs.Tails.{met_before}
 use Rattle.report_front.proofs.Cuts.{size_unknown, all_shown}
-use borrow.Author.Rules.{rules}
 use Rattle.report_front.proofs.look_at_front.Goals as goal
 use Rattle.report_front.proofs.look_at_front.Goals.{After-is_length_known}
 
