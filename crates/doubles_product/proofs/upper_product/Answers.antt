@@ -13,89 +13,70 @@ use Rattle.doubles_product.proofs.Halves.{
   product_lost,
 }
 use borrow.Author.Rules.{rules}
-use Rattle.doubles_product.proofs.upper_product.Statement.{statement}
-use Rattle.doubles_product.proofs.upper_product.Tie as tie
+use Rattle.doubles_product.proofs.upper_product.Goals as goal
 
-mul_lowest : tie.Need-overflow-mul-lowest
-mul_lowest c =
+pub overflow_mul-lowest : goal.overflow_mul-lowest
+overflow_mul-lowest c =
     let u = c.args.u in
     let v = c.args.v in
     omega (arith, lowest_fits u v (omega arith) (omega arith))
 
-mul_middle : tie.Need-overflow-mul-middle
-mul_middle c =
+pub overflow_mul-middle : goal.overflow_mul-middle
+overflow_mul-middle c =
     let u = c.args.u in
     let v = c.args.v in
     omega (arith, middle_fits u v (omega arith) (omega arith))
 
-add_middle : tie.Need-overflow-add-middle
-add_middle c =
+pub overflow_add-middle : goal.overflow_add-middle
+overflow_add-middle c =
     let u = c.args.u in
     let v = c.args.v in
     omega (arith, middle_fits u v (omega arith) (omega arith))
 
-mul_other : tie.Need-overflow-mul-other
-mul_other c =
+pub overflow_mul-other : goal.overflow_mul-other
+overflow_mul-other c =
     let u = c.args.u in
     let v = c.args.v in
     omega (arith, other_fits u v (omega arith) (omega arith))
 
-add_other : tie.Need-overflow-add-other
-add_other c =
+pub overflow_add-other : goal.overflow_add-other
+overflow_add-other c =
     let u = c.args.u in
     let v = c.args.v in
     omega (arith, other_fits u v (omega arith) (omega arith))
 
-mul_high : tie.Need-overflow-mul-high
-mul_high c =
+pub overflow_mul-high : goal.overflow_mul-high
+overflow_mul-high c =
     let u = c.args.u in
     let v = c.args.v in
     omega (arith, high_fits u v (omega arith) (omega arith))
 
-add_high : tie.Need-overflow-add-high
-add_high c =
+pub overflow_add-high : goal.overflow_add-high
+overflow_add-high c =
     let u = c.args.u in
     let v = c.args.v in
     record { fits = first_fits u v (omega arith) (omega arith) }
 
-add_high_2 : tie.Need-overflow-add-high-2
-add_high_2 c =
+pub overflow_add-high-2 : goal.overflow_add-high-2
+overflow_add-high-2 c =
     let u = c.args.u in
     let v = c.args.v in
     record { fits = high_fits u v (omega arith) (omega arith) }
 
-mul_result : tie.Need-overflow-mul-result
-mul_result c =
-    let u = c.before.args.u in
-    let v = c.before.args.v in
+pub overflow_mul-result : goal.overflow_mul-result
+overflow_mul-result c =
+    let u = c.args.u in
+    let v = c.args.v in
     record { fits = even_fits _ (high_fits u v (omega arith) (omega arith)) }
 
-add_result : tie.Need-overflow-add-result
-add_result c =
-    let u = c.before.args.u in
-    let v = c.before.args.v in
+pub overflow_add-result : goal.overflow_add-result
+overflow_add-result c =
+    let u = c.args.u in
+    let v = c.args.v in
     record { fits = odd_fits _ (high_fits u v (omega arith) (omega arith)) }
 
-returns : tie.Need-returns
-returns c = product_exact c.before.args.u c.before.args.v (omega arith)
+pub returns-then-lowest-other-eq0 : goal.returns-then-lowest-other-eq0
+returns-then-lowest-other-eq0 c = product_exact c.args.u c.args.v (omega arith)
 
-returns-2 : tie.Need-returns-2
-returns-2 c = product_lost c.before.args.u c.before.args.v (λ h. omega arith)
-
-pub upper_product_spec : {M : Type 1} → statement M
-upper_product_spec =
-    tie.close
-    (tie.spec
-    mul_lowest
-    mul_middle
-    add_middle
-    mul_other
-    add_other
-    mul_high
-    add_high
-    add_high_2
-    (λ c. search rules)
-    mul_result
-    add_result
-    returns
-    returns-2)
+pub returns-else-lowest-other-eq0 : goal.returns-else-lowest-other-eq0
+returns-else-lowest-other-eq0 c = product_lost c.args.u c.args.v (λ h. omega arith)

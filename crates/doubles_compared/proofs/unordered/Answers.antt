@@ -1,0 +1,10 @@
+-- The patterns above infinity's are the NaNs: the first is one (`unordered-first`), or the second decides (`unordered-second`).
+use native.Mathlib.Omega.{arith}
+use Rattle.doubles_compared.proofs.Compared.{unordered_first, unordered_second}
+use Rattle.doubles_compared.proofs.unordered.Goals as goal
+
+pub returns-then-a-gt9218868437227405312 : goal.returns-then-a-gt9218868437227405312
+returns-then-a-gt9218868437227405312 c = unordered_first c.args.a c.args.b (omega arith)
+
+pub returns-else-a-gt9218868437227405312 : goal.returns-else-a-gt9218868437227405312
+returns-else-a-gt9218868437227405312 c = unordered_second c.args.a c.args.b (omega arith)
