@@ -1,15 +1,15 @@
 -- The ends of an axis as fields: how many bits they have, what is read where they stand, and that what is read stands.
-use mathlib.Core.Path.{◌≡◌, refl, sym, ap, ◌∙◌}
-use mathlib.Core.Bool.{Bool, true, false, not, cond}
-use mathlib.Core.List.{List, [], ◌∷◌, ◌++◌}
+use mathlib.Core.Path.{◌≡◌, refl, ap, ◌∙◌}
+use mathlib.Core.Bool.{false, not}
+use mathlib.Core.List.{List, []}
 use mathlib.Core.Logic.{⊎_elim, ◌⊎◌, inl, inr}
-use Prim.Native.Nat.{ℕ, zero, suc, ◌+◌, ◌*◌, ◌^◌, ◌<◌, ◌≤◌}
+use Prim.Native.Nat.{ℕ, zero, suc, ◌+◌, ◌*◌, ◌<◌}
 use native.Mathlib.Nat.{eq-or-lt_of_le, le_of_suc-le-suc}
 use native.Mathlib.Decide.{dec_lt}
 use native.Mathlib.Omega.{arith}
 use borrow.Author.Tests.{eq-eqb, ne_eqb, eqb-true, not-false}
 use lib.Dec.{T, eqb, lit<}
-use lib.Ieee.{Float, binary64, is_nan, of_bits, to_bits}
+use lib.Ieee.{Float, binary64, is_nan, of_bits}
 use lib.Ieee.Bits.{of_bits-to_bits, to_bits-lt}
 use Rattle.rules.specs.declared.End.{End}
 use Rattle.rules.specs.declared.End.TheVariants.{NotAKnot, FirstDerivative, SecondDerivative}
@@ -25,7 +25,7 @@ use Rattle.grid_codes.specs.Kinds.{
   lower_kind_of,
   upper_kind_of,
 }
-use Rattle.base_bits.specs.Bits.{number, field}
+use Rattle.base_bits.specs.Bits.{number}
 use Rattle.base_bits.specs.Written.{bits_in}
 use Rattle.base_bits.proofs.Rows.{Stand, Sized, stand_first, stand_second, stand_append, bits_in_append, sized_append}
 use Rattle.base_bits.proofs.Numbers.{number_stands}

@@ -1,19 +1,17 @@
 -- Parts that have a sheet are those that a build with a tensor and scratch of the right lengths does not refuse before it works; and none
 -- of their numbers is the nan.
-use mathlib.Core.Path.{◌≡◌, refl, ap, ◌∙◌}
+use mathlib.Core.Path.{◌≡◌, refl, ◌∙◌}
 use mathlib.Core.Bool.{false, or-false}
 use mathlib.Core.List.{List}
-use Prim.Native.Nat.{ℕ, ◌+◌, ◌<◌, ◌≤◌}
+use Prim.Native.Nat.{ℕ, ◌<◌}
 use native.Mathlib.Nat.{le_refl}
-use native.Mathlib.Omega.{arith}
 use borrow.Author.Tests.{eq-eqb, le-ltb, not-false}
-use lib.ListN.{length, drop}
+use lib.ListN.{length}
 use lib.Ieee.{Float}
-use lib.Ieee.Scale.{finite}
 use Rattle.base_numbers.proofs.Finite.{finite_not_nan}
 use Rattle.base_numbers.proofs.Scan.{neither, any_at}
 use Rattle.rules.specs.Numbers.{at}
-use Rattle.rules.specs.Sizes.{Grid, points, condition, knots, sum_below, tensor_length, scratch_length}
+use Rattle.rules.specs.Sizes.{Grid, condition, tensor_length, scratch_length}
 use Rattle.rules.specs.Refusals.{number_refused, some_number_refused, end_refused, ends_refused}
 use Rattle.rules.specs.declared.End.{End}
 use Rattle.rules.specs.declared.End.TheVariants.{NotAKnot, FirstDerivative, SecondDerivative}
@@ -22,7 +20,7 @@ use Rattle.rules.specs.declared.Condition.TheVariants.{Endpoints, Periodic}
 use Rattle.grid_checks.specs.Check.{build_check}
 use Rattle.grid_checks.specs.Checked.{BuildGiven}
 use Rattle.grid_checks.proofs.Accepted.{build_given}
-use Rattle.base_bits.proofs.Numbers.{NoNan, each_at, each_take, each_drop}
+use Rattle.base_bits.proofs.Numbers.{NoNan, each_at}
 use Rattle.sheet_write.specs.Write.{no_sheet_refusal}
 use Rattle.sheet_write.proofs.Ends.{EndNoNan, EndsNoNan}
 

@@ -1,13 +1,12 @@
 -- The writer's promise for each way that it ends.
 use mathlib.Core.Path.{◌≡◌, refl, sym, ◌∙◌}
 use mathlib.Core.List.{List}
-use Prim.Native.Nat.{ℕ, zero, suc, ◌<◌, ◌≤◌}
+use Prim.Native.Nat.{ℕ, ◌<◌, ◌≤◌}
 use native.Mathlib.Omega.{arith}
 use borrow.Author.Tests.{lt-ltb, le-ltb}
 use lib.ListN.{length}
 use lib.Ieee.{Float}
 use Rattle.rules.specs.Sizes.{Grid}
-use Rattle.rules.specs.Calls.{counted}
 use Rattle.rules.specs.declared.Axis.{Axis}
 use Rattle.grid.specs.GridOfCall.{grid, sizes_of}
 use Rattle.rules.proofs.Refused.{or_else_met, unchanged, none_counted}

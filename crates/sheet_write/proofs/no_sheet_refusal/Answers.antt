@@ -4,7 +4,6 @@ use Rattle.grid.specs.GridOfCall.{grid}
 use Rattle.grid_checks.proofs.Rows.{sizes_passed, sizes_stop}
 use Rattle.sheet_write.specs.Write.{no_sheet_refusal}
 use Rattle.sheet_write.proofs.Parts.{as_the_build}
-use borrow.Author.Rules.{rules}
 use Rattle.sheet_write.proofs.no_sheet_refusal.Goals as goal
 
 pub returns-then-refusal-ne0 : goal.returns-then-refusal-ne0

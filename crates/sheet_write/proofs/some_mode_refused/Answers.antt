@@ -1,9 +1,6 @@
-use Prim.Native.Nat.{◌≤◌, ◌-◌}
-use mathlib.Core.Path.{◌≡◌, sym, ◌∙◌}
-use mathlib.Core.Bool.{false}
+use mathlib.Core.Path.{sym, ◌∙◌}
 use native.Mathlib.Omega.{arith}
 use lib.ListN.{get_or}
-use Rattle.rules.specs.Numbers.{any}
 use Rattle.rules.specs.Sizes.{unused_axis}
 use Rattle.base_numbers.proofs.Scan.{any_none, any_more, any_found, any_end}
 use Rattle.grid_codes.specs.Editions.{mode_refused}
@@ -17,7 +14,7 @@ pub returns-then-mode_refused : goal.returns-then-mode_refused
 returns-then-mode_refused c =
     let args = c.args in
     sym
-    (any_found (λ k. mode_refused args.edition (get_or args.t3 k unused_axis).mode) c.loop-i.i _ (omega arith)
+    (any_found (λ k. mode_refused args.edition (get_or args.all k unused_axis).mode) c.loop-i.i _ (omega arith)
     (sym c.mode_refused.ensures ∙ c.if-mode_refused.true))
 
 pub loop-i-preserved : goal.loop-i-preserved

@@ -1,14 +1,11 @@
 -- No axis below `i` has a mode that the edition refuses, and one that has ends the walk with true. The measure is the axes left.
 use Prim.Native.Nat.{◌≤◌, ◌-◌}
-use mathlib.Core.Path.{◌≡◌, sym, ◌∙◌}
+use mathlib.Core.Path.{◌≡◌}
 use mathlib.Core.Bool.{false}
-use native.Mathlib.Omega.{arith}
 use lib.ListN.{get_or}
 use Rattle.rules.specs.Numbers.{any}
 use Rattle.rules.specs.Sizes.{unused_axis}
-use Rattle.base_numbers.proofs.Scan.{any_none, any_more, any_found, any_end}
 use Rattle.grid_codes.specs.Editions.{mode_refused}
-use borrow.Author.Rules.{rules}
 use Rattle.sheet_write.proofs.some_mode_refused.Given as goal
 
 abbrev pub invariant-loop-i : goal.invariant-loop-i

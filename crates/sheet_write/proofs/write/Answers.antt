@@ -5,7 +5,6 @@ use native.Mathlib.Omega.{arith}
 use Rattle.grid.specs.GridOfCall.{grid}
 use Rattle.sheet_write.specs.Write.{edition_refusal}
 use Rattle.sheet_write.proofs.Promises.{edition_of_axes, parts_refused, given, edition_refused, few, buffer_refused, room, written}
-use borrow.Author.Rules.{rules}
 use Rattle.sheet_write.proofs.write.Goals as goal
 use Rattle.sheet_write.proofs.write.Goals.{Else-fault-ne0}
 

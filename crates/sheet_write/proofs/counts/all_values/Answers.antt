@@ -1,9 +1,8 @@
 use mathlib.Core.Path.{◌≡◌, sym}
-use Prim.Native.Nat.{◌*◌, ◌-◌, ◌≤◌}
 use native.Mathlib.Omega.{arith}
 use Rattle.grid.specs.GridOfCall.{condition_of}
 use Rattle.grid.proofs.Products.{sum_none, sum_more}
-use Rattle.sheet_write.specs.PartsWithRoom.{values, values_below}
+use Rattle.sheet_write.specs.PartsWithRoom.{values}
 use borrow.Author.Rules.{rules}
 use Rattle.sheet_write.proofs.counts.all_values.Goals as goal
 

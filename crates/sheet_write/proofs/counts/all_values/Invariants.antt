@@ -1,11 +1,7 @@
 -- `sum` is how many ends of the axes below `i` have a number, and at most twice `i`, so 8 in the end. The measure is the axes left.
-use mathlib.Core.Path.{◌≡◌, sym}
+use mathlib.Core.Path.{◌≡◌}
 use Prim.Native.Nat.{◌*◌, ◌-◌, ◌≤◌}
-use native.Mathlib.Omega.{arith}
-use Rattle.grid.specs.GridOfCall.{condition_of}
-use Rattle.grid.proofs.Products.{sum_none, sum_more}
-use Rattle.sheet_write.specs.PartsWithRoom.{values, values_below}
-use borrow.Author.Rules.{rules}
+use Rattle.sheet_write.specs.PartsWithRoom.{values_below}
 use Rattle.sheet_write.proofs.counts.all_values.Given as goal
 
 abbrev pub invariant-loop-i : goal.invariant-loop-i

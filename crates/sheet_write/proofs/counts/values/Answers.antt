@@ -1,8 +1,6 @@
 -- The kinds of a condition's two ends, each with one number or none: their sum is the one of the rules, and at most 2.
 use native.Mathlib.Omega.{arith}
-use Rattle.grid_codes.specs.Kinds.{lower_kind_of, upper_kind_of}
 use Rattle.sheet_read.proofs.Extents.{value_most}
-use borrow.Author.Rules.{rules}
 use Rattle.sheet_write.proofs.counts.values.Goals as goal
 
 pub overflow_add-result : goal.overflow_add-result

@@ -1,9 +1,8 @@
-use Prim.Native.Nat.{◌+◌, ◌-◌, ◌≤◌}
+use Prim.Native.Nat.{◌+◌, ◌≤◌}
 use native.Mathlib.Omega.{arith}
 use lib.ListN.{length}
-use Rattle.grid.specs.GridOfCall.{grid, points_of}
-use Rattle.sheet_write.proofs.Puts.{Turn, turn_first, turn_room, turn_given, turn_next, turn_last}
-use borrow.Author.Rules.{rules}
+use Rattle.grid.specs.GridOfCall.{points_of}
+use Rattle.sheet_write.proofs.Puts.{turn_first, turn_room, turn_given, turn_next, turn_last}
 use Rattle.sheet_write.proofs.fields.put_axes.Goals as goal
 use Rattle.sheet_write.proofs.fields.put_axes.Goals.{In-loop-i}
 

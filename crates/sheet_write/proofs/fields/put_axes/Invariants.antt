@@ -1,11 +1,8 @@
 -- The fields of the axes below `i` are put from bit 7 on, `at` is the bit behind them, and `from` counts their knots.
 -- The measure is the axes left.
-use Prim.Native.Nat.{◌+◌, ◌-◌, ◌≤◌}
-use native.Mathlib.Omega.{arith}
-use lib.ListN.{length}
-use Rattle.grid.specs.GridOfCall.{grid, points_of}
-use Rattle.sheet_write.proofs.Puts.{Turn, turn_first, turn_room, turn_given, turn_next, turn_last}
-use borrow.Author.Rules.{rules}
+use Prim.Native.Nat.{◌-◌}
+use Rattle.grid.specs.GridOfCall.{grid}
+use Rattle.sheet_write.proofs.Puts.{Turn}
 use Rattle.sheet_write.proofs.fields.put_axes.Given as goal
 
 abbrev pub invariant-loop-i : goal.invariant-loop-i

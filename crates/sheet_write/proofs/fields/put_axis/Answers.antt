@@ -4,7 +4,6 @@ use native.Mathlib.Omega.{arith}
 use Rattle.sheet_write.proofs.Ends.{ends_bits}
 use Rattle.sheet_write.proofs.Lengths.{axis_bits}
 use Rattle.sheet_write.proofs.Puts.{axis_put, head_given}
-use borrow.Author.Rules.{rules}
 use Rattle.sheet_write.proofs.fields.put_axis.Goals as goal
 
 pub put_head-requires : goal.put_head-requires

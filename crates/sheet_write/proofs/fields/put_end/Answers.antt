@@ -4,7 +4,6 @@ use borrow.Author.Tests.{not-false}
 use Rattle.rules.specs.Refusals.{end_refused}
 use Rattle.sheet_write.specs.SheetOf.{end_fields}
 use Rattle.sheet_write.proofs.Puts.{none_put, one_put, one_within}
-use borrow.Author.Rules.{rules}
 use Rattle.sheet_write.proofs.fields.put_end.Goals as goal
 
 pub put_number-requires : goal.put_number-requires

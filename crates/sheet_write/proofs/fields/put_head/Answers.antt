@@ -1,6 +1,5 @@
 -- Four fields in a row, the points less 1, both kinds and the mode, are put as `with-head` says; each lies in the 12 + `width` bits.
 use native.Mathlib.Omega.{arith}
-use borrow.Author.Rules.{rules}
 use Rattle.sheet_write.proofs.fields.put_head.Goals as goal
 
 pub put_field-requires : goal.put_field-requires

@@ -4,7 +4,6 @@ use mathlib.Core.Path.{refl}
 use native.Mathlib.Omega.{arith}
 use Rattle.grid.specs.GridOfCall.{grid}
 use Rattle.sheet_write.proofs.Puts.{ends, axes_given, axes_end_is, axes_put_is, last_within, sheet_put}
-use borrow.Author.Rules.{rules}
 use Rattle.sheet_write.proofs.fields.put_sheet.Goals as goal
 
 pub put_field-requires : goal.put_field-requires
