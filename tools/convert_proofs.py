@@ -131,7 +131,8 @@ class Function:
         told = self.arm(at, fields)
         if told:
             return ".".join([head] + told)
-        rest = [OLD_FIELDS.get(it, it) for it in fields[1:2]] + fields[2:]
+        of_a_test = re.match(r"if\d|.*test$", fields[0])
+        rest = [OLD_FIELDS.get(it, it) if of_a_test or it == "inv" else it for it in fields[1:2]] + fields[2:]
         return ".".join([head, self.step(at, fields[0])] + rest)
 
     def unfolded(self, text, at, goal):

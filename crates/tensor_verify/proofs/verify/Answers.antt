@@ -60,7 +60,7 @@ pub held_against-answer-requires : goal.held_against-answer-requires
 held_against-answer-requires c =
     let at_else_refusal_ne0 = (goal.at.held_against-answer-requires c).Else-refusal-ne0 in (
       (given at_else_refusal_ne0).grid_given.in_range,
-      part_long (length c.args.tensor.now) c.solve_axes-end.new.0
+      part_long (length c.args.tensor.now) c.solve_axes-end.new.w
           (omega (
             arith,
             c.solve_axes-end.ensures.0.same_length,

@@ -15,7 +15,7 @@ pub bounds-all-axis : goal.bounds-all-axis
 bounds-all-axis c = omega (arith, c.loop-left.invariant.few)
 
 pub nonzero_rem-place : goal.nonzero_rem-place
-nonzero_rem-place c = omega (arith, c.requires.some_points (c.loop-left.false - 1) (omega (arith, c.loop-left.invariant.within)))
+nonzero_rem-place c = omega (arith, c.requires.some_points (c.loop-left.left - 1) (omega (arith, c.loop-left.invariant.within)))
 
 pub offset_bounds-place-axis : goal.offset_bounds-place-axis
 offset_bounds-place-axis c = omega (arith, c.loop-left.invariant.few)
@@ -30,7 +30,7 @@ pub bounds-all-axis-in-loop-left : goal.bounds-all-axis-in-loop-left
 bounds-all-axis-in-loop-left c = omega (arith, c.loop-left.invariant.few)
 
 pub nonzero_div-rest : goal.nonzero_div-rest
-nonzero_div-rest c = omega (arith, c.requires.some_points (c.loop-left.false - 1) (omega (arith, c.loop-left.invariant.within)))
+nonzero_div-rest c = omega (arith, c.requires.some_points (c.loop-left.left - 1) (omega (arith, c.loop-left.invariant.within)))
 
 pub loop-left-smaller : goal.loop-left-smaller
 loop-left-smaller c = omega arith
