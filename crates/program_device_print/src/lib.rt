@@ -2,22 +2,24 @@
 
 #![tactic(auto)]
 
+use program_streams::{Streams, read_input, write_output};
+
 // Prints the text of a curve.
-pub fn print_text(curve: &[u8]) {
+pub fn print_text(streams: Streams, curve: &[u8]) {
     let mut text = [0u8; 456967];
     let answer = program_device_text::device_text(curve, &mut text);
     let length = answer.length;
-    program_streams::write_output(&text[0..length]);
+    write_output(streams, &text[0..length]);
 }
 
 // Prints the text of the curve on standard input, of which the first 4,081 bytes are looked at and no more: one byte more than a curve
 // can have. Where the input cannot be read, nothing is printed.
-pub fn run() {
+pub fn run(streams: Streams) {
     let mut buffer = [0u8; 4081];
-    let input = program_streams::read_input(&mut buffer);
+    let input = read_input(streams, &mut buffer);
     if input.failed {
         return;
     }
     let length = input.length;
-    print_text(&buffer[0..length]);
+    print_text(streams, &buffer[0..length]);
 }

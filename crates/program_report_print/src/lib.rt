@@ -5,7 +5,7 @@
 ghost use Rattle.std.specs.Prelude.{◌≡◌, true, ◌-◌, ◌≤◌, length, take, drop};
 ghost use Rattle.program_report_print.specs.AroundReads.{said, Lent, Refilled, Told};
 
-use program_streams::{Input, read_input};
+use program_streams::{Input, Streams, read_input, write_output};
 use report::{Progress, feed};
 use report_totals::{Report, none};
 
@@ -20,11 +20,11 @@ pub struct Outcome {
 }
 
 // Reads behind the bytes that were kept, until the buffer is full or the input ends, and answers how many bytes came.
-fn refill(buffer: &mut [u8], kept: usize) -> Input
+fn refill(streams: Streams, buffer: &mut [u8], kept: usize) -> Input
     requires { kept ≤ length buffer.old }
     ensures { Refilled buffer.old kept buffer.new result }
 {
-    read_input(&mut buffer[kept..])
+    read_input(streams, &mut buffer[kept..])
 }
 
 // Drops the first `from` bytes: those behind them come to stand at the front.
@@ -73,7 +73,7 @@ fn told(last: Progress, brought: usize, filled: usize) -> Outcome
 
 // The report of standard input, piece by piece, the first of which the first read has brought to the buffer's front: each is fed, the
 // buffer rid of what was taken and filled again, until the input or the report ends.
-fn report_through(buffer: &mut [u8], first: Input) -> Outcome
+fn report_through(streams: Streams, buffer: &mut [u8], first: Input) -> Outcome
     requires { Lent buffer.old first.length }
     ensures { Told buffer.old first.length buffer.new result }
 {
@@ -93,7 +93,7 @@ fn report_through(buffer: &mut [u8], first: Input) -> Outcome
         }
         keep(buffer, taken);
         let kept = buffer.len() - taken;
-        let input = refill(buffer, kept);
+        let input = refill(streams, buffer, kept);
         let failed = input.failed;
         if failed {
             return unread();
@@ -105,24 +105,24 @@ fn report_through(buffer: &mut [u8], first: Input) -> Outcome
 }
 
 // Prints the text of a report.
-pub fn print_text(report: Report) {
+pub fn print_text(streams: Streams, report: Report) {
     let mut text = [0u8; 1137];
     let answer = program_report_text::report_text(report, &mut text);
     let length = answer.length;
-    program_streams::write_output(&text[0..length]);
+    write_output(streams, &text[0..length]);
 }
 
 // Prints the report of the stream of sheets on standard input, of any length. Where the input cannot be read, nothing is printed.
-pub fn run() {
+pub fn run(streams: Streams) {
     let mut buffer = [0u8; 524288];
-    let first = read_input(&mut buffer);
+    let first = read_input(streams, &mut buffer);
     if first.failed {
         return;
     }
-    let outcome = report_through(&mut buffer, first);
+    let outcome = report_through(streams, &mut buffer, first);
     if outcome.failed {
         return;
     }
     let report = outcome.report;
-    print_text(report);
+    print_text(streams, report);
 }

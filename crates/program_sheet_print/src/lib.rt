@@ -2,8 +2,10 @@
 
 #![tactic(auto)]
 
+use program_streams::{Streams, read_input, write_output};
+
 // Prints the text of a sheet.
-pub fn print_text(sheet: &[u8]) {
+pub fn print_text(streams: Streams, sheet: &[u8]) {
     let mut knots = [0.0; 1024];
     let mut samples = [0.0; 1024];
     let mut tensor = [0.0; 4096];
@@ -18,17 +20,17 @@ pub fn print_text(sheet: &[u8]) {
         &mut text,
     );
     let length = answer.length;
-    program_streams::write_output(&text[0..length]);
+    write_output(streams, &text[0..length]);
 }
 
 // Prints the text of the sheet on standard input, of which the first 65,536 bytes are looked at and no more. Where the input cannot be
 // read, nothing is printed.
-pub fn run() {
+pub fn run(streams: Streams) {
     let mut buffer = [0u8; 65536];
-    let input = program_streams::read_input(&mut buffer);
+    let input = read_input(streams, &mut buffer);
     if input.failed {
         return;
     }
     let length = input.length;
-    print_text(&buffer[0..length]);
+    print_text(streams, &buffer[0..length]);
 }

@@ -4,7 +4,25 @@
 
 ghost use Rattle.std.specs.Prelude.{◌≤◌, length};
 
-use libc::{STDERR_FILENO, STDIN_FILENO, STDOUT_FILENO};
+use std::io::{Read, Stderr, Stdin, Stdout, Write};
+
+// The standard streams, which a program is given at its start.
+#[derive(Clone, Copy)]
+pub struct Streams {
+    input: Stdin,
+    output: Stdout,
+    errors: Stderr,
+}
+
+impl Streams {
+    pub fn of(rt: &HostRuntime) -> Streams {
+        Streams {
+            input: rt.stdin(),
+            output: rt.stdout(),
+            errors: rt.stderr(),
+        }
+    }
+}
 
 // Whether a read failed, and how many bytes were read, which is 0 then.
 #[derive(Clone, Copy)]
@@ -15,27 +33,28 @@ pub struct Input {
 
 // Reads standard input to the front of a buffer, until the buffer is full or the input ends, and says so on standard error where a
 // read fails. What the bytes are no contract can say.
-pub fn read_input(buffer: &mut [u8]) -> Input
+pub fn read_input(streams: Streams, buffer: &mut [u8]) -> Input
     ensures { result.length ≤ length buffer.new }
 {
+    let mut input = streams.input;
     let mut done = 0;
     while done < buffer.len() {
-        let got = libc::read(STDIN_FILENO, &mut buffer[done..]);
-        if got < 0 {
-            io::write_all(STDERR_FILENO, b"standard input could not be read\n");
-            return Input {
-                failed: true,
-                length: 0,
-            };
+        match input.read(&mut buffer[done..]) {
+            Ok(0) => {
+                return Input {
+                    failed: false,
+                    length: done,
+                };
+            }
+            Ok(more) => done += more,
+            Err(_) => {
+                write_whole(streams.errors, b"standard input could not be read\n");
+                return Input {
+                    failed: true,
+                    length: 0,
+                };
+            }
         }
-        let more = io::count(got, &buffer[done..]);
-        if more == 0 {
-            return Input {
-                failed: false,
-                length: done,
-            };
-        }
-        done += more;
     }
     Input {
         failed: false,
@@ -44,9 +63,23 @@ pub fn read_input(buffer: &mut [u8]) -> Input
 }
 
 // Writes a text to standard output, in one call where the system takes it whole, and says so on standard error where a write fails.
-pub fn write_output(text: &[u8]) {
-    if io::write_all(STDOUT_FILENO, text) {
+pub fn write_output(streams: Streams, text: &[u8]) {
+    if write_whole(streams.output, text) {
         return;
     }
-    io::write_all(STDERR_FILENO, b"standard output could not be written\n");
+    write_whole(streams.errors, b"standard output could not be written\n");
+}
+
+// Writes all bytes and answers true, or stops at the first write that takes nothing or fails and answers false.
+fn write_whole<W: Write + Drop>(to: W, bytes: &[u8]) -> bool {
+    let mut to = to;
+    let mut done = 0;
+    while done < bytes.len() {
+        match to.write(&bytes[done..]) {
+            Ok(0) => return false,
+            Ok(more) => done += more,
+            Err(_) => return false,
+        }
+    }
+    true
 }

@@ -1,5 +1,6 @@
 // A change, beside a fresh build from the samples that stand then.
 use rules::Axis;
+use std::io::Stdout;
 use trial_lines::{BEFORE, print, print_count, print_refusal, print_scratch, same};
 use trial_tensor_lines::print_counts;
 
@@ -13,6 +14,7 @@ pub struct ChangedSample {
 
 // A change, with whether the tensor then has the bits of a fresh build from the samples now standing.
 pub fn print_change(
+    out: Stdout,
     name: &[u8],
     axes: usize,
     all: [Axis; 4],
@@ -24,14 +26,14 @@ pub fn print_change(
     let mut scratch = [BEFORE; 2500];
     let place = change.place;
     let answer = tensor::change(axes, all, knots, tensor, &mut scratch, place, change.sample);
-    print(name);
-    print_counts(place);
-    print_refusal(b"", b"change", answer.refusal);
-    print(b" lanes");
-    print_count(answer.lanes);
+    print(out, name);
+    print_counts(out, place);
+    print_refusal(out, b"", b"change", answer.refusal);
+    print(out, b" lanes");
+    print_count(out, answer.lanes);
     stand(samples, change.number, change.sample, answer.refusal);
-    print_comparison(axes, all, knots, samples, tensor);
-    print_scratch(&scratch);
+    print_comparison(out, axes, all, knots, samples, tensor);
+    print_scratch(out, &scratch);
 }
 
 // The sample of an accepted change stands among the samples.
@@ -45,18 +47,34 @@ fn stand(samples: &mut [f64], number: usize, sample: f64, refusal: usize) {
 }
 
 // Whether a tensor has the bits of a fresh build. One of more than 400 numbers is not compared.
-fn print_comparison(axes: usize, all: [Axis; 4], knots: &[f64], samples: &[f64], tensor: &[f64]) {
+fn print_comparison(
+    out: Stdout,
+    axes: usize,
+    all: [Axis; 4],
+    knots: &[f64],
+    samples: &[f64],
+    tensor: &[f64],
+) {
     let length = tensor.len();
     if length > 400 {
-        print(b" not compared");
+        print(out, b" not compared");
         return;
     }
     let mut fresh = [BEFORE; 400];
-    print_same(axes, all, knots, samples, tensor, &mut fresh[0..length]);
+    print_same(
+        out,
+        axes,
+        all,
+        knots,
+        samples,
+        tensor,
+        &mut fresh[0..length],
+    );
 }
 
 // The fresh build, and whether it has the tensor's bits.
 fn print_same(
+    out: Stdout,
     axes: usize,
     all: [Axis; 4],
     knots: &[f64],
@@ -67,10 +85,10 @@ fn print_same(
     let mut scratch = [0.0; 2448];
     let refusal = tensor::build(axes, all, knots, samples, fresh, &mut scratch);
     if refusal != 0 {
-        print(b" no fresh build");
+        print(out, b" no fresh build");
     } else if same(tensor, fresh) {
-        print(b" same");
+        print(out, b" same");
     } else {
-        print(b" differs");
+        print(out, b" differs");
     }
 }

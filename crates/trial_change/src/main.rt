@@ -4,6 +4,7 @@
 
 use crate::compared::ChangedSample;
 use rules::Axis;
+use std::io::Stdout;
 use trial_lines::BEFORE;
 use trial_tensor_lines::{grids, print_build, print_query};
 
@@ -13,6 +14,7 @@ mod compared;
 
 // A build, and the changes of a list one after the other.
 fn list(
+    out: Stdout,
     name: &[u8],
     axes: usize,
     all: [Axis; 4],
@@ -21,19 +23,20 @@ fn list(
     tensor: &mut [f64],
     list: [ChangedSample; 6],
 ) {
-    print_build(name, axes, all, knots, samples, tensor);
+    print_build(out, name, axes, all, knots, samples, tensor);
     let mut i = 0;
     while i < 6 {
-        compared::print_change(name, axes, all, knots, samples, tensor, list[i]);
+        compared::print_change(out, name, axes, all, knots, samples, tensor, list[i]);
         i += 1;
     }
 }
 
-fn one_axis() {
+fn one_axis(out: Stdout) {
     let all = axes::one();
     let knots = [0.0, 0.5, 2.0, 3.0, 7.0];
     let mut tensor = [BEFORE; 10];
     list(
+        out,
         b"one axis",
         1,
         all,
@@ -42,16 +45,17 @@ fn one_axis() {
         &mut tensor,
         changes::one_axis(),
     );
-    print_query(b"one axis at 4", 1, all, &knots, &tensor, &[4.0]);
+    print_query(out, b"one axis at 4", 1, all, &knots, &tensor, &[4.0]);
 }
 
-fn two_axes() {
+fn two_axes(out: Stdout) {
     let all = axes::two();
     let knots = [0.0, 1.0, 1.5, 4.0, -1.0, 0.0, 3.0];
     let mut samples = [0.0; 12];
     let mut tensor = [BEFORE; 48];
     grids::sawtooth(&mut samples);
     list(
+        out,
         b"two axes",
         2,
         all,
@@ -61,6 +65,7 @@ fn two_axes() {
         changes::two_axes(),
     );
     print_query(
+        out,
         b"two axes at 1.25 -2",
         2,
         all,
@@ -70,13 +75,14 @@ fn two_axes() {
     );
 }
 
-fn three_axes() {
+fn three_axes(out: Stdout) {
     let all = axes::three();
     let knots = [0.0, 1.0, 3.0, 0.0, 0.5, 2.0, 3.0, -1.0, 1.0];
     let mut samples = [0.0; 24];
     let mut tensor = [BEFORE; 192];
     grids::sawtooth(&mut samples);
     list(
+        out,
         b"three axes",
         3,
         all,
@@ -86,6 +92,7 @@ fn three_axes() {
         changes::three_axes(),
     );
     print_query(
+        out,
         b"three axes at 1 2.5 0",
         3,
         all,
@@ -95,13 +102,14 @@ fn three_axes() {
     );
 }
 
-fn four_axes() {
+fn four_axes(out: Stdout) {
     let all = axes::four();
     let knots = [0.0, 1.0, 0.0, 1.0, 2.5, -3.0, 3.0, 10.0, 20.0];
     let mut samples = [0.0; 24];
     let mut tensor = [BEFORE; 384];
     grids::sawtooth(&mut samples);
     list(
+        out,
         b"four axes",
         4,
         all,
@@ -111,6 +119,7 @@ fn four_axes() {
         changes::four_axes(),
     );
     print_query(
+        out,
         b"four axes at 0.5 1 4 12",
         4,
         all,
@@ -120,9 +129,10 @@ fn four_axes() {
     );
 }
 
-fn main() {
-    one_axis();
-    two_axes();
-    three_axes();
-    four_axes();
+fn main(rt: HostRuntime) {
+    let out = rt.stdout();
+    one_axis(out);
+    two_axes(out);
+    three_axes(out);
+    four_axes(out);
 }

@@ -3,25 +3,22 @@
 #![tactic(auto)]
 
 use device_cursor::Cursor;
-use libc::STDOUT_FILENO;
+use std::io::{Stdout, Write};
 use trial_lines::{print, print_count};
 
-fn print_value(value: i32) {
-    if value < 0 {
-        print(b"-");
-    }
-    io::print_decimal(STDOUT_FILENO, base_integers::magnitude(value));
-    print(b"\n");
+fn print_value(out: Stdout, value: i32) {
+    let mut to = out;
+    let _ = writeln!(to, "{value}");
 }
 
-fn print_refused(refusal: usize) {
-    print(b"refused");
-    print_count(refusal);
-    print(b"\n");
+fn print_refused(out: Stdout, refusal: usize) {
+    print(out, b"refused");
+    print_count(out, refusal);
+    print(out, b"\n");
 }
 
 // One call after the other, until one is refused.
-fn walk(curve: &[u8]) {
+fn walk(out: Stdout, curve: &[u8]) {
     let mut cursor = Cursor::start();
     loop {
         let answer = cursor.next(curve);
@@ -29,47 +26,54 @@ fn walk(curve: &[u8]) {
         let value = answer.value;
         let moved = answer.cursor;
         if refusal != 0 {
-            print_refused(refusal);
+            print_refused(out, refusal);
             return;
         }
-        print_value(value);
+        print_value(out, value);
         cursor = moved;
     }
 }
 
 // A cell from 0 to 1 and one from 0 to −1, both level at their ends: in the middle of each is a half.
-fn halves() {
-    print(b"halves\n");
+fn halves(out: Stdout) {
+    print(out, b"halves\n");
     walk(
+        out,
         b"\x00\x00\x00\x00\x01\x00\x00\x00\x00\x00\x00\x00\x00\x00\x00\x00\x00\x00\x00\x00\xFF\xFF\xFF\xFF\x00\x00\x00\x00\x00\x00\x00\x00",
     );
 }
 
 // A cell from 1 to −2, with the slopes 256 and −131,072.
-fn steep() {
-    print(b"steep\n");
-    walk(b"\x01\x00\x00\x00\xFE\xFF\xFF\xFF\x00\x01\x00\x00\x00\x00\xFE\xFF");
+fn steep(out: Stdout) {
+    print(out, b"steep\n");
+    walk(
+        out,
+        b"\x01\x00\x00\x00\xFE\xFF\xFF\xFF\x00\x01\x00\x00\x00\x00\xFE\xFF",
+    );
 }
 
 // 19: that cell, and behind it one that begins at 32,768. The curve is judged whole, so no value comes.
-fn out_of_range() {
-    print(b"out of range\n");
+fn out_of_range(out: Stdout) {
+    print(out, b"out of range\n");
     walk(
+        out,
         b"\x01\x00\x00\x00\xFE\xFF\xFF\xFF\x00\x01\x00\x00\x00\x00\xFE\xFF\x00\x80\x00\x00\x00\x00\x00\x00\x00\x00\x00\x00\x00\x00\x00\x00",
     );
 }
 
 // 20: the same without its last byte.
-fn no_whole_cells() {
-    print(b"no whole cells\n");
+fn no_whole_cells(out: Stdout) {
+    print(out, b"no whole cells\n");
     walk(
+        out,
         b"\x01\x00\x00\x00\xFE\xFF\xFF\xFF\x00\x01\x00\x00\x00\x00\xFE\xFF\x00\x80\x00\x00\x00\x00\x00\x00\x00\x00\x00\x00\x00\x00\x00",
     );
 }
 
-fn main() {
-    halves();
-    steep();
-    out_of_range();
-    no_whole_cells();
+fn main(rt: HostRuntime) {
+    let out = rt.stdout();
+    halves(out);
+    steep(out);
+    out_of_range(out);
+    no_whole_cells(out);
 }

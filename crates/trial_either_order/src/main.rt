@@ -3,6 +3,7 @@
 #![tactic(auto)]
 
 use rules::{Axis, Condition};
+use std::io::Stdout;
 use trial_lines::BEFORE;
 use trial_tensor_lines::{grids, print_build, print_change};
 
@@ -15,6 +16,7 @@ struct Change {
 
 // A build, and two changes one after the other.
 fn in_order(
+    out: Stdout,
     name: &[u8],
     axes: usize,
     all: [Axis; 4],
@@ -26,19 +28,38 @@ fn in_order(
 ) {
     let first_place = first.place;
     let second_place = second.place;
-    print_build(name, axes, all, knots, samples, tensor);
-    print_change(name, axes, all, knots, tensor, first_place, first.sample);
-    print_change(name, axes, all, knots, tensor, second_place, second.sample);
+    print_build(out, name, axes, all, knots, samples, tensor);
+    print_change(
+        out,
+        name,
+        axes,
+        all,
+        knots,
+        tensor,
+        first_place,
+        first.sample,
+    );
+    print_change(
+        out,
+        name,
+        axes,
+        all,
+        knots,
+        tensor,
+        second_place,
+        second.sample,
+    );
 }
 
 // Four steps accepted. What stands past the axes in use is not read, so it need not be the same in both orders.
-fn square() {
+fn square(out: Stdout) {
     let natural = grids::axis(2, Condition::natural());
     let all = grids::two(natural, natural);
     let knots = [0.0, 1.0, 0.0, 1.0];
     let samples = [0.0, 0.0, 0.0, 1.0];
     let mut tensor = [BEFORE; 16];
     in_order(
+        out,
         b"square, 0 1 then 1 0",
         2,
         all,
@@ -55,6 +76,7 @@ fn square() {
         },
     );
     in_order(
+        out,
         b"square, 1 0 then 0 1",
         2,
         all,
@@ -74,7 +96,7 @@ fn square() {
 
 // The second sample alone makes a slope of 2e308, which overflows, and so its change is refused, as is a fresh build with it. Once the
 // first sample is 0 it is accepted.
-fn steep() {
+fn steep(out: Stdout) {
     let all = grids::one(2, Condition::natural());
     let knots = [0.0, 1.0];
     let samples = [-1e308, 0.0];
@@ -88,6 +110,7 @@ fn steep() {
         sample: 1e308,
     };
     in_order(
+        out,
         b"steep, first then second",
         1,
         all,
@@ -98,6 +121,7 @@ fn steep() {
         second,
     );
     in_order(
+        out,
         b"steep, second then first",
         1,
         all,
@@ -109,6 +133,7 @@ fn steep() {
     );
     let mut fresh = [BEFORE; 4];
     print_build(
+        out,
         b"steep, second alone",
         1,
         all,
@@ -118,7 +143,8 @@ fn steep() {
     );
 }
 
-fn main() {
-    square();
-    steep();
+fn main(rt: HostRuntime) {
+    let out = rt.stdout();
+    square(out);
+    steep(out);
 }

@@ -4,7 +4,7 @@
 
 ghost use Rattle.std.specs.Prelude.{◌≡◌, true, length, replicate};
 
-use libc::STDOUT_FILENO;
+use std::io::{Stdout, Write};
 
 // What outputs and scratch hold before a call.
 pub const BEFORE: f64 = 7.0;
@@ -40,58 +40,59 @@ pub fn all_are(numbers: &[f64], number: f64) -> bool
     true
 }
 
-pub fn print(bytes: &[u8]) {
-    io::write_all(STDOUT_FILENO, bytes);
+pub fn print(out: Stdout, bytes: &[u8]) {
+    let mut to = out;
+    let _ = to.write_all(bytes);
 }
 
 // A space and a count in decimal digits.
-pub fn print_count(count: usize) {
-    print(b" ");
-    io::print_decimal(STDOUT_FILENO, count as u64);
+pub fn print_count(out: Stdout, count: usize) {
+    let mut to = out;
+    let _ = write!(to, " {count}");
 }
 
 // A space and the 16 hex digits of a number's pattern.
-pub fn print_number(number: f64) {
+pub fn print_number(out: Stdout, number: f64) {
     let mut digits = [0u8; 16];
     base_text::put_hex_digits(16, base_text::pattern(number), &mut digits, 0);
-    print(b" ");
-    print(&digits);
+    print(out, b" ");
+    print(out, &digits);
 }
 
-pub fn print_numbers(numbers: &[f64]) {
+pub fn print_numbers(out: Stdout, numbers: &[f64]) {
     let mut i = 0;
     while i < numbers.len() {
-        print_number(numbers[i]);
+        print_number(out, numbers[i]);
         i += 1;
     }
 }
 
 // The start of a line: the example's name, the call and the refusal's number.
-pub fn print_refusal(name: &[u8], call: &[u8], refusal: usize) {
-    print(name);
-    print(b": ");
-    print(call);
-    print_count(refusal);
+pub fn print_refusal(out: Stdout, name: &[u8], call: &[u8], refusal: usize) {
+    print(out, name);
+    print(out, b": ");
+    print(out, call);
+    print_count(out, refusal);
 }
 
 // The numbers of an output; after a refusal whether they are those from before.
-pub fn print_output(refusal: usize, output: &[f64]) {
+pub fn print_output(out: Stdout, refusal: usize, output: &[f64]) {
     if refusal == 0 {
-        print_numbers(output);
+        print_numbers(out, output);
     } else if all_are(output, BEFORE) {
-        print(b" output untouched");
+        print(out, b" output untouched");
     } else {
-        print(b" output spoiled");
+        print(out, b" output spoiled");
     }
 }
 
 // What became of scratch; the end of a line.
-pub fn print_scratch(scratch: &[f64]) {
+pub fn print_scratch(out: Stdout, scratch: &[f64]) {
     if all_are(scratch, 0.0) {
-        print(b" scratch cleared\n");
+        print(out, b" scratch cleared\n");
     } else if all_are(scratch, BEFORE) {
-        print(b" scratch untouched\n");
+        print(out, b" scratch untouched\n");
     } else {
-        print(b" scratch spoiled\n");
+        print(out, b" scratch spoiled\n");
     }
 }

@@ -3,10 +3,12 @@
 #![tactic(auto)]
 
 use rules::Condition;
+use std::io::Stdout;
 use trial_lines::{BEFORE, print, print_number, print_output, print_refusal, print_scratch};
 
 // The moments, with a scratch of any length.
 pub fn print_moments_in(
+    out: Stdout,
     name: &[u8],
     points: usize,
     knots: &[f64],
@@ -16,13 +18,14 @@ pub fn print_moments_in(
     scratch: &mut [f64],
 ) {
     let refusal = axis_curve::moments(points, knots, samples, condition, moments, scratch);
-    print_refusal(name, b"moments", refusal);
-    print_output(refusal, moments);
-    print_scratch(scratch);
+    print_refusal(out, name, b"moments", refusal);
+    print_output(out, refusal, moments);
+    print_scratch(out, scratch);
 }
 
 // The moments, with a scratch longer than the 2,048 numbers that are asked for.
 pub fn print_moments(
+    out: Stdout,
     name: &[u8],
     points: usize,
     knots: &[f64],
@@ -32,6 +35,7 @@ pub fn print_moments(
 ) {
     let mut scratch = [BEFORE; 2100];
     print_moments_in(
+        out,
         name,
         points,
         knots,
@@ -44,6 +48,7 @@ pub fn print_moments(
 
 // The slopes at the knots.
 pub fn print_slopes(
+    out: Stdout,
     name: &[u8],
     points: usize,
     knots: &[f64],
@@ -52,13 +57,14 @@ pub fn print_slopes(
     slopes: &mut [f64],
 ) {
     let refusal = axis_curve::knot_slopes(points, knots, samples, moments, slopes);
-    print_refusal(name, b"slopes", refusal);
-    print_output(refusal, slopes);
-    print(b"\n");
+    print_refusal(out, name, b"slopes", refusal);
+    print_output(out, refusal, slopes);
+    print(out, b"\n");
 }
 
 // The curve at a point.
 pub fn print_curve(
+    out: Stdout,
     name: &[u8],
     points: usize,
     knots: &[f64],
@@ -67,7 +73,7 @@ pub fn print_curve(
     point: f64,
 ) {
     let answer = axis_curve::curve(points, knots, samples, moments, point);
-    print_refusal(name, b"curve", answer.refusal);
-    print_number(answer.value);
-    print(b"\n");
+    print_refusal(out, name, b"curve", answer.refusal);
+    print_number(out, answer.value);
+    print(out, b"\n");
 }

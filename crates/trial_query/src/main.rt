@@ -10,10 +10,11 @@ mod many; // many.rt: the examples of many points
 mod quick; // quick.rt: the examples of the quick query
 mod steps; // steps.rt: the examples of the stepped surface
 
-fn main() {
-    quick::print_examples();
-    even::print_examples();
-    direct::print_examples();
-    steps::print_examples();
-    many::print_examples();
+fn main(rt: HostRuntime) {
+    let out = rt.stdout();
+    quick::print_examples(out);
+    even::print_examples(out);
+    direct::print_examples(out);
+    steps::print_examples(out);
+    many::print_examples(out);
 }

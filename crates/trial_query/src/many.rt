@@ -1,6 +1,7 @@
 // Many points by one call: of three points the second is refused and stops nothing; and a call that is refused writes nothing.
 use crate::lines;
 use rules::{Axis, Condition, Mode, StepDirection};
+use std::io::Stdout;
 use trial_lines::{BEFORE, print, print_count, print_numbers, print_refusal};
 use trial_tensor_lines::{grids, print_counts};
 
@@ -9,6 +10,7 @@ const UNWRITTEN: usize = 9;
 
 // The call and what it leaves of three points.
 fn print_three(
+    out: Stdout,
     name: &[u8],
     call: &[u8],
     refusal: usize,
@@ -16,21 +18,21 @@ fn print_three(
     labels: [usize; 12],
     refusals: [usize; 3],
 ) {
-    print_refusal(name, call, refusal);
-    print_numbers(values);
-    print(b" labels");
-    print_counts([labels[0], labels[1], labels[2], labels[3]]);
-    print_counts([labels[4], labels[5], labels[6], labels[7]]);
-    print_counts([labels[8], labels[9], labels[10], labels[11]]);
-    print(b" refusals");
-    print_count(refusals[0]);
-    print_count(refusals[1]);
-    print_count(refusals[2]);
-    print(b"\n");
+    print_refusal(out, name, call, refusal);
+    print_numbers(out, values);
+    print(out, b" labels");
+    print_counts(out, [labels[0], labels[1], labels[2], labels[3]]);
+    print_counts(out, [labels[4], labels[5], labels[6], labels[7]]);
+    print_counts(out, [labels[8], labels[9], labels[10], labels[11]]);
+    print(out, b" refusals");
+    print_count(out, refusals[0]);
+    print_count(out, refusals[1]);
+    print_count(out, refusals[2]);
+    print(out, b"\n");
 }
 
 // The quick query and the direct one, on one axis.
-fn queries(name: &[u8], mode: Mode, knots: &[f64], coordinates: &[f64]) {
+fn queries(out: Stdout, name: &[u8], mode: Mode, knots: &[f64], coordinates: &[f64]) {
     let all = grids::one_in_mode(4, Condition::natural(), mode);
     let tensor = [0.0, 1.0, 2.0, -1.0, 1.0, 0.5, -3.0, 2.0];
     let mut values = [BEFORE; 3];
@@ -46,7 +48,15 @@ fn queries(name: &[u8], mode: Mode, knots: &[f64], coordinates: &[f64]) {
         &mut labels,
         &mut refusals,
     );
-    print_three(name, b"quick queries", refusal, &values, labels, refusals);
+    print_three(
+        out,
+        name,
+        b"quick queries",
+        refusal,
+        &values,
+        labels,
+        refusals,
+    );
     let mut values = [BEFORE; 3];
     let mut labels = [UNWRITTEN; 12];
     let mut refusals = [UNWRITTEN; 3];
@@ -60,11 +70,20 @@ fn queries(name: &[u8], mode: Mode, knots: &[f64], coordinates: &[f64]) {
         &mut labels,
         &mut refusals,
     );
-    print_three(name, b"direct queries", refusal, &values, labels, refusals);
+    print_three(
+        out,
+        name,
+        b"direct queries",
+        refusal,
+        &values,
+        labels,
+        refusals,
+    );
 }
 
 // The stepped surface.
 fn steps(
+    out: Stdout,
     name: &[u8],
     axes: usize,
     all: [Axis; 4],
@@ -87,10 +106,18 @@ fn steps(
         &mut indices,
         &mut refusals,
     );
-    print_three(name, b"stepped many", refusal, &values, indices, refusals);
+    print_three(
+        out,
+        name,
+        b"stepped many",
+        refusal,
+        &values,
+        indices,
+        refusals,
+    );
 }
 
-fn stepped() {
+fn stepped(out: Stdout) {
     let nan = 0.0 / 0.0;
     let down = [StepDirection::Lower; 4];
     let mixed = [
@@ -102,6 +129,7 @@ fn stepped() {
     let one = grids::one(3, Condition::natural());
     let samples = [5.0, 6.0, 8.0];
     steps(
+        out,
         b"steps at 0.5 NaN 9",
         1,
         one,
@@ -111,6 +139,7 @@ fn stepped() {
         &[0.5, nan, 9.0],
     );
     steps(
+        out,
         b"steps on knots 0 2 1",
         1,
         one,
@@ -120,6 +149,7 @@ fn stepped() {
         &[0.5, nan, 9.0],
     );
     steps(
+        out,
         b"steps of two coordinates",
         1,
         one,
@@ -133,6 +163,7 @@ fn stepped() {
     grids::sawtooth(&mut samples);
     let knots = [0.0, 1.0, 3.0, -2.0, 0.5, 1.0];
     steps(
+        out,
         b"steps on two axes",
         2,
         two,
@@ -143,25 +174,28 @@ fn stepped() {
     );
 }
 
-pub fn print_examples() {
+pub fn print_examples(out: Stdout) {
     let nan = 0.0 / 0.0;
     queries(
+        out,
         b"many at 1 NaN 3.25",
         Mode::Extend,
         &[0.0, 1.0, 2.0, 4.0],
         &[1.0, nan, 3.25],
     );
     queries(
+        out,
         b"many at 1 9 3",
         Mode::Refuse,
         &[0.0, 1.0, 2.0, 3.0],
         &[1.0, 9.0, 3.0],
     );
     queries(
+        out,
         b"many of two coordinates",
         Mode::Hold,
         &[0.0, 1.0, 2.0, 4.0],
         &[1.0, nan],
     );
-    stepped();
+    stepped(out);
 }

@@ -3,29 +3,27 @@
 
 #![tactic(auto)]
 
-ghost use Rattle.std.specs.Prelude.{◌+◌, ◌≤◌};
+ghost use Rattle.std.specs.Prelude.{◌+◌, ◌≤◌, length};
 
-use libc::{STDIN_FILENO, STDOUT_FILENO};
+use std::io::{Read, Stdin, Stdout, Write};
 use trial_replay_items::words::{held, word};
 
 mod cases; // cases.rt: a case, replayed
 
 use cases::case_at;
 
-fn print_case(number: usize, same: bool) {
-    io::print_decimal(STDOUT_FILENO, number as u64);
+fn print_case(out: Stdout, number: usize, same: bool) {
+    let mut to = out;
     if same {
-        io::write_all(STDOUT_FILENO, b" same\n");
+        let _ = writeln!(to, "{number} same");
     } else {
-        io::write_all(STDOUT_FILENO, b" differs\n");
+        let _ = writeln!(to, "{number} differs");
     }
 }
 
-fn print_counts(cases: usize, same: usize) {
-    io::print_decimal(STDOUT_FILENO, cases as u64);
-    io::write_all(STDOUT_FILENO, b" cases, ");
-    io::print_decimal(STDOUT_FILENO, same as u64);
-    io::write_all(STDOUT_FILENO, b" the same\n");
+fn print_counts(out: Stdout, cases: usize, same: usize) {
+    let mut to = out;
+    let _ = writeln!(to, "{cases} cases, {same} the same");
 }
 
 // One more where a case was the same.
@@ -37,23 +35,39 @@ fn counted(same: usize, is_same: bool) -> usize
 }
 
 // Every case of the list, of which at most 4,096 are looked at.
-fn replay(list: &[u8]) {
+fn replay(out: Stdout, list: &[u8]) {
     let cases = held(word(list, 0), 4096);
     let mut place = 1;
     let mut same: usize = 0;
     let mut i = 0;
     while i < cases {
         let replayed = case_at(list, place);
-        print_case(i + 1, replayed.same);
+        print_case(out, i + 1, replayed.same);
         same = counted(same, replayed.same);
         place = replayed.next;
         i += 1;
     }
-    print_counts(cases, same);
+    print_counts(out, cases, same);
 }
 
-fn main() {
+// Reads until the list is full, the input ends or a read fails, and answers how many bytes came.
+fn read_list(from: Stdin, list: &mut [u8]) -> usize
+    ensures { result ≤ length list.new }
+{
+    let mut from = from;
+    let mut done = 0;
+    while done < list.len() {
+        match from.read(&mut list[done..]) {
+            Ok(0) => return done,
+            Ok(more) => done += more,
+            Err(_) => return done,
+        }
+    }
+    done
+}
+
+fn main(rt: HostRuntime) {
     let mut list = [0u8; 655360];
-    let n = io::read_full(STDIN_FILENO, &mut list);
-    replay(&list[..n]);
+    let n = read_list(rt.stdin(), &mut list);
+    replay(rt.stdout(), &list[..n]);
 }

@@ -2,6 +2,8 @@
 
 #![tactic(auto)]
 
-fn main() {
-    program_report_print::run();
+use program_streams::Streams;
+
+fn main(rt: HostRuntime) {
+    program_report_print::run(Streams::of(&rt));
 }

@@ -2,13 +2,16 @@
 
 #![tactic(auto)]
 
-fn main() {
+use program_streams::{Streams, read_input};
+
+fn main(rt: HostRuntime) {
+    let streams = Streams::of(&rt);
     let mut buffer = [0u8; 65536];
-    let input = program_streams::read_input(&mut buffer);
+    let input = read_input(streams, &mut buffer);
     if input.failed {
         return;
     }
     let length = input.length;
     let report = report::report_of_bytes(&buffer[0..length]);
-    program_report_print::print_text(report);
+    program_report_print::print_text(streams, report);
 }

@@ -7,6 +7,8 @@
 
 ghost use Rattle.std.specs.Prelude.{◌+◌, ◌<◌, ◌≤◌, length};
 
+use program_streams::{Streams, read_input};
+
 fn wide(byte: u8) -> usize
     ensures { result < 256 }
 {
@@ -20,7 +22,7 @@ fn length_at(list: &[u8], at: usize) -> usize
     256 * wide(list[at]) + wide(list[at + 1])
 }
 
-fn print_texts(list: &[u8]) {
+fn print_texts(streams: Streams, list: &[u8]) {
     let mut at = 0;
     while 2 <= list.len() - at {
         let length = length_at(list, at);
@@ -29,17 +31,18 @@ fn print_texts(list: &[u8]) {
             return;
         }
         let end = start + length;
-        program_sheet_print::print_text(&list[start..end]);
+        program_sheet_print::print_text(streams, &list[start..end]);
         at = end;
     }
 }
 
-fn main() {
+fn main(rt: HostRuntime) {
+    let streams = Streams::of(&rt);
     let mut buffer = [0u8; 65536];
-    let input = program_streams::read_input(&mut buffer);
+    let input = read_input(streams, &mut buffer);
     if input.failed {
         return;
     }
     let length = input.length;
-    print_texts(&buffer[0..length]);
+    print_texts(streams, &buffer[0..length]);
 }

@@ -3,6 +3,7 @@
 #![tactic(auto)]
 
 use rules::Axis;
+use std::io::Stdout;
 use trial_lines::{
     BEFORE, print, print_count, print_number, print_numbers, print_output, print_refusal,
     print_scratch,
@@ -12,6 +13,7 @@ pub mod grids; // grids.rt: the grids and the samples of the examples
 
 // A build, with every number of the tensor.
 pub fn print_build(
+    out: Stdout,
     name: &[u8],
     axes: usize,
     all: [Axis; 4],
@@ -21,13 +23,14 @@ pub fn print_build(
 ) {
     let mut scratch = [BEFORE; 2500];
     let refusal = tensor::build(axes, all, knots, samples, tensor, &mut scratch);
-    print_refusal(name, b"build", refusal);
-    print_output(refusal, tensor);
-    print_scratch(&scratch);
+    print_refusal(out, name, b"build", refusal);
+    print_output(out, refusal, tensor);
+    print_scratch(out, &scratch);
 }
 
 // A change, with every number of the tensor.
 pub fn print_change(
+    out: Stdout,
     name: &[u8],
     axes: usize,
     all: [Axis; 4],
@@ -38,15 +41,16 @@ pub fn print_change(
 ) {
     let mut scratch = [BEFORE; 2500];
     let answer = tensor::change(axes, all, knots, tensor, &mut scratch, place, sample);
-    print_refusal(name, b"change", answer.refusal);
-    print(b" lanes");
-    print_count(answer.lanes);
-    print_numbers(tensor);
-    print_scratch(&scratch);
+    print_refusal(out, name, b"change", answer.refusal);
+    print(out, b" lanes");
+    print_count(out, answer.lanes);
+    print_numbers(out, tensor);
+    print_scratch(out, &scratch);
 }
 
 // The value at a point, and its labels.
 pub fn print_query(
+    out: Stdout,
     name: &[u8],
     axes: usize,
     all: [Axis; 4],
@@ -56,17 +60,17 @@ pub fn print_query(
 ) {
     let answer = query_full::query(axes, all, knots, tensor, coordinates);
     let labels = answer.labels;
-    print_refusal(name, b"query", answer.refusal);
-    print_number(answer.value);
-    print(b" labels");
-    print_counts(labels);
-    print(b"\n");
+    print_refusal(out, name, b"query", answer.refusal);
+    print_number(out, answer.value);
+    print(out, b" labels");
+    print_counts(out, labels);
+    print(out, b"\n");
 }
 
 // The numbers of a place, or the labels of a point.
-pub fn print_counts(counts: [usize; 4]) {
-    print_count(counts[0]);
-    print_count(counts[1]);
-    print_count(counts[2]);
-    print_count(counts[3]);
+pub fn print_counts(out: Stdout, counts: [usize; 4]) {
+    print_count(out, counts[0]);
+    print_count(out, counts[1]);
+    print_count(out, counts[2]);
+    print_count(out, counts[3]);
 }
