@@ -13,13 +13,10 @@ ROOT = HERE.parent.parent
 
 
 def copied(folder, crates):
-    """A copy of the crates, and of what is proved of them, with these edits in place of the gate's."""
+    """A copy of the crates, with these edits in place of the gate's."""
     copy = Path(folder)
-    shutil.copytree(ROOT / "crates", copy / "crates", ignore=shutil.ignore_patterns("must-fail"))
+    shutil.copytree(ROOT / "crates", copy / "crates", ignore=shutil.ignore_patterns("must-fail", "out"))
     shutil.copy(ROOT / "crates.txt", copy)
-    if (ROOT / "target").exists():
-        kept = shutil.ignore_patterns("must-fail", "bin", "obj", "staticlib", "examples")
-        shutil.copytree(ROOT / "target", copy / "target", ignore=kept)
     for crate in crates:
         shutil.copytree(HERE / crate, copy / "crates" / crate / "must-fail")
     return copy
