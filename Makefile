@@ -2,19 +2,19 @@
     sheet-by-hand streams-fail exact-error rules-page docs-check docs-slips oracle-test archive archive-here firmware firmware-test firmware-bench \
     bench examples rust-test picture expected python python-test python-bench python-pictures doubles doubles-test
 
-# On another machine than x86-64, what links the archive takes one that is made for it, and our programs run on the kit's emulator.
+# On another machine than x86-64, what links the archive takes one that is made for it, and our programs run on QEMU with the kit's C library.
 MACHINE := $(shell uname -m)
 ARCHIVES = target/staticlib
 ifneq ($(MACHINE),x86_64)
 ARCHIVES = target/firmware/$(MACHINE)
-TOOLS := $(dir $(shell readlink -f $$(command -v rt)))../on/$(MACHINE)/toolchain
-export HULLASHLAR_RUNNER = $(TOOLS)/bin/qemu-x86_64 $(TOOLS)/lib/ld-linux-x86-64.so.2 --library-path $(TOOLS)/lib
+TOOLS := $(dir $(shell readlink -f $$(command -v rt)))../toolchain
+export HULLASHLAR_RUNNER = qemu-x86_64 $(TOOLS)/lib/ld-linux-x86-64.so.2 --library-path $(TOOLS)/lib
 endif
 export HULLASHLAR_ARCHIVE_DIR = $(CURDIR)/$(ARCHIVES)
 
 # Prints the tensor of the example sheet, which docs/RULES.md takes apart bit by bit.
 run:
-	rt check sheet_tensor
+	tools/build.sh sheet_tensor
 	$(HULLASHLAR_RUNNER) target/bin/sheet_tensor < crates/sheet_tensor/stdin
 
 test:
@@ -35,7 +35,7 @@ SEED = 20240917
 # Holds the exported calls against the Rust, bit for bit, and what the device's program and the report print; fails where there is a
 # difference, or nothing was compared of a kind.
 differential: archive-here
-	rt check device_curve sheet_report
+	tools/build.sh device_curve sheet_report
 	cd oracle && cargo run --offline --release -p differential -- --seed $(SEED) $(CASES)
 
 # The same in rounds of another seed each, for SOAK seconds, over every call and every program; prints the seeds, how often each refusal was
@@ -43,7 +43,7 @@ differential: archive-here
 SOAK = 300
 soak: SEED = 0
 soak: archive-here
-	rt check device_curve sheet_report sheet_tensor
+	tools/build.sh device_curve sheet_report sheet_tensor
 	cd oracle && cargo run --offline --release -p differential -- --seed $(SEED) $(if $(CASE),--case $(CASE),--soak $(SOAK))
 
 # Kinds of cases that run a program, which memcheck does not follow.
@@ -79,12 +79,12 @@ fuzz:
 N = 20
 mutants: SEED =
 mutants:
-	rt check
+	rt all check
 	python3 tests/mutants/run.py $(N) $(SEED)
 
 # Runs the report on a million sheets and a byte more, beside the oracle.
 report-largest:
-	rt check sheet_report
+	tools/build.sh sheet_report
 	cd oracle && cargo build --offline --release -p printed
 	python3 tests/report_largest.py
 
@@ -98,14 +98,14 @@ further-edits:
 
 # Packs a sheet by docs/RULES.md alone and runs it. The oracle's tests hold the same sheet and the same lines against the Rust.
 sheet-by-hand:
-	rt check sheet_tensor
+	tools/build.sh sheet_tensor
 	python3 tests/sheet_by_hand/sheet.py | cmp - tests/sheet_by_hand/two_axes.sheet
 	$(HULLASHLAR_RUNNER) target/bin/sheet_tensor < tests/sheet_by_hand/two_axes.sheet | diff tests/sheet_by_hand/expected.txt -
 
 # Runs the programs where their input or their output fails, and on sheets cut at every byte, and sees what they say; with strace also by how many
 # calls a tensor is printed and a long stream is read.
 streams-fail:
-	rt check sheet_tensor sheet_report device_curve
+	tools/build.sh sheet_tensor sheet_report device_curve
 	python3 tests/streams_fail.py
 
 # Measures how far the values of the archive lie from the exact spline, worked out in fractions.
@@ -132,7 +132,7 @@ oracle-test:
 
 # The archive of the exported calls, target/staticlib/libhullashlar.a.
 archive:
-	rt staticlib hullashlar
+	tools/build.sh hullashlar_c
 
 # The same, and on another machine than x86-64 the archive that the proved module gives for it.
 archive-here: archive
@@ -162,7 +162,7 @@ bench: archive-here
 	cd oracle && cargo run --offline --release -p bench
 ifeq ($(MACHINE),x86_64)
 	python3 tests/stack_frames.py
-	rt check sheet_report
+	tools/build.sh sheet_report
 	python3 tests/report_speed.py
 endif
 
@@ -226,7 +226,7 @@ PYTHON = $(shell for python in python3 /usr/bin/python3; do $$python -c 'import 
 
 # What the Python package hands numbers to: the proved archive as a shared library, with loops over two of its calls, and the program that reports.
 python: archive-here
-	rt check sheet_report
+	tools/build.sh sheet_report
 	mkdir -p python/hullashlar/proved
 	gcc -std=c11 -Wall -Wextra -Werror -O2 -Iinclude -shared -fPIC -nostartfiles python/point_by_point.c \
 	    -Wl,--whole-archive $(ARCHIVES)/libhullashlar.a -Wl,--no-whole-archive -Wl,--no-undefined -o python/hullashlar/proved/libhullashlar.so
@@ -252,7 +252,7 @@ ROUNDS = 80000
 
 # The archive of double arithmetic in whole numbers, target/staticlib/libhullashlar_doubles.a.
 doubles:
-	rt staticlib hullashlar_doubles
+	tools/build.sh hullashlar_doubles
 
 # Holds double arithmetic in whole numbers against the machine's own operations, on directed and random pairs; fails where an answer differs,
 # and where a copy with a deliberate error is not found.

@@ -18,7 +18,9 @@ from pathlib import Path
 sys.path.insert(0, str(Path(__file__).resolve().parent))
 from module import OUT, ROOT, WORDS, of_archive, run, tool  # noqa: E402
 
-CRATE = "hullashlar"
+# The crate of the exported calls, and the archive that is made of it.
+CRATE = "hullashlar_c"
+ARCHIVE = "libhullashlar.a"
 
 # What clang is told of each target.
 TARGETS = {
@@ -115,7 +117,7 @@ def doubles_of(text, target, purpose, folder):
 
 
 def make_archive(folder, objects):
-    archive = folder / f"lib{CRATE}.a"
+    archive = folder / ARCHIVE
     run([tool("llvm-ar"), "rcsD", "--format=gnu", archive, *objects])
     print(f"{archive.relative_to(ROOT)}: {archive.stat().st_size:,} bytes")
 

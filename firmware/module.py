@@ -4,8 +4,6 @@
 kit's own that keeps the module. Nothing of the kit is touched: a folder of links to it stands in its place. What could change
 a bit of an answer ends the run: a word that lets operations be fused or reordered, or another word of x86-64."""
 
-import os
-import platform
 import re
 import shutil
 import subprocess
@@ -17,15 +15,24 @@ OUT = ROOT / "target" / "firmware"
 
 # What clang is told of every target; the kit's own words but for the processor and the -O3.
 WORDS = ["--no-default-config", "-no-canonical-prefixes", "-fintegrated-cc1", "-fno-crash-diagnostics", "-Werror", "-ffunction-sections",
-         "-fdata-sections", "-mllvm", "-trap-unreachable", "-mllvm", "-no-trap-after-noreturn"]
-X86_64 = ["--target=x86_64-unknown-linux-gnu", "-march=x86-64", "-fPIC", "-O3"]
+         "-fdata-sections", "-mllvm", "-trap-unreachable", "-mllvm", "-no-trap-after-noreturn", "-mllvm", "-disable-machine-licm",
+         "-mllvm", "-disable-postra-machine-licm", "-mllvm", "-sink-common-insts=false"]
+X86_64 = ["--target=x86_64-unknown-linux-gnu", "-march=x86-64", "-mllvm", "-no-x86-call-frame-opt", "-fPIC", "-O3"]
+
+# What the kit says beside that where it makes a program.
+OF_PROGRAMS = ["-fPIE", "-Xclang", "-fmerge-functions", "-mllvm", "-mergefunc-use-aliases"]
 
 # Lines that say for which machine a module is, and words of its functions that do.
 MACHINE = re.compile(r"^target (datalayout|triple) = .*\n", re.M)
-OF_X86_64 = re.compile(r' "(probe-stack"="inline-asm|target-cpu"="x86-64)"')
+OF_X86_64 = re.compile(r' "(probe-stack"="inline-asm|stack-probe-size"="\d+|target-cpu"="x86-64(-v\d)?)"')
 
 # A function's name by its room, which not every assembler reads: base_bits::writing::put_number becomes base_bits.writing.put_number.
-QUOTED = re.compile(r'@"([\w:]+)"')
+QUOTED = re.compile(r'@"([^"]+)"')
+UNREADABLE = re.compile(r"[^\w.]+")
+
+# Where a program begins: it looks whether the processor has what its code needs, and goes on. On another processor it goes on at once.
+LOOK = re.compile(r"^(define i32 @main\(\).*\n)start:\n(?:.*\n)*?run:.*\n((?:.*\n)*?  ret .*\n)(?:.*\n)*?\}\n", re.M)
+LOOKED = re.compile(r"^declare .*@__x86_get_cpuid_feature_leaf\(.*\n", re.M)
 
 # Lines that say where a module comes from, by a path that may have any words.
 OF_ITS_PLACE = ("; ModuleID", "source_filename")
@@ -39,27 +46,30 @@ def run(words, **more):
 
 
 def kit():
-    """The folder of the kit, and in it that of the tools for this machine."""
-    home = Path(os.environ.get("RATTLE_HOME") or Path(shutil.which("rt")).resolve().parent.parent)
-    return home, home / "on" / platform.machine()
+    """The folder of the kit."""
+    return Path(shutil.which("rt")).resolve().parent.parent
 
 
 def tool(name):
-    return kit()[1] / "toolchain" / "bin" / name
+    return kit() / "toolchain" / "bin" / name
 
 
 def linked_home(module):
-    """A folder that stands for the kit: links to all of it, and a clang that keeps the module it is given."""
-    home, tools = kit()
+    """A folder that stands for the kit: links to all of it but `rt` itself, and a clang that keeps the module it is given."""
+    home = kit()
     copy = OUT / "kit"
     shutil.rmtree(copy, ignore_errors=True)
-    bin_folder = copy / "on" / platform.machine() / "toolchain" / "bin"
-    bin_folder.mkdir(parents=True)
-    for folder, taken in [(home, "on"), (tools, "toolchain"), (tools / "toolchain", "bin"), (tools / "toolchain" / "bin", "clang")]:
+    tools = copy / "toolchain" / "bin"
+    tools.mkdir(parents=True)
+    (copy / "bin").mkdir()
+    taken = {home / name for name in ("toolchain", "toolchain/bin", "toolchain/bin/clang", "bin", "bin/rt", "bin/rtlib.py")}
+    for folder in (home, home / "toolchain", home / "toolchain" / "bin", home / "bin"):
         for entry in folder.iterdir():
-            if entry.name != taken:
+            if entry not in taken:
                 (copy / folder.relative_to(home) / entry.name).symlink_to(entry.resolve())
-    keeping = bin_folder / "clang"
+    for name in ("rt", "rtlib.py"):
+        shutil.copy(home / "bin" / name, copy / "bin")
+    keeping = tools / "clang"
     keeping.write_text(f"""#!/bin/sh
 for word in "$@"; do case $word in *.bc) cp "$word" "{module}" ;; esac; done
 exec "{tool("clang")}" "$@"
@@ -68,27 +78,27 @@ exec "{tool("clang")}" "$@"
     return copy
 
 
-def kept(crate, words):
-    """The module that `rt` hands to clang where it is run by these words."""
+def kept(crate, word):
+    """The module that `rt` hands to clang where it builds a crate by this word; a program runs on an empty input."""
     OUT.mkdir(parents=True, exist_ok=True)
     module = OUT / f"{crate}.bc"
     module.unlink(missing_ok=True)
-    run(["rt", *words], cwd=ROOT, env={**os.environ, "RATTLE_HOME": str(linked_home(module))})
+    run([linked_home(module) / "bin" / "rt", word], cwd=ROOT / "crates" / crate, stdin=subprocess.DEVNULL, stdout=subprocess.DEVNULL)
     if not module.is_file():
         sys.exit(f"{crate}: the kit hands its module to clang in another way: none was kept")
     return module
 
 
-def makes(crate, module, made):
+def makes(crate, module, made, *more):
     """Whether clang makes these bytes of the kept module."""
     again = OUT / f"{crate}.o"
-    run([tool("clang"), *X86_64, *WORDS, "-c", "-x", "ir", module, "-o", again])
+    run([tool("clang"), *X86_64, *more, *WORDS, "-c", "-x", "ir", module, "-o", again])
     return made == again.read_bytes()
 
 
 def hold_to_the_archive(crate, module):
     """The archive is what clang makes of the kept module, byte for byte."""
-    archive = ROOT / "target" / "staticlib" / f"lib{crate}.a"
+    archive = ROOT / "crates" / crate / "out" / f"lib{crate}.a"
     if not makes(crate, module, run([tool("llvm-ar"), "p", archive, f"{crate}.o"], stdout=subprocess.PIPE).stdout):
         sys.exit(f"{crate}: the kept module is not the archive's")
 
@@ -98,7 +108,8 @@ def text_of(crate, module):
     words = [tool("clang"), "--target=x86_64-unknown-linux-gnu", "--no-default-config", "-S", "-emit-llvm", "-O0", "-Xclang",
              "-disable-llvm-passes"]
     text = run([*words, "-x", "ir", module, "-o", "-"], stdout=subprocess.PIPE, text=True).stdout
-    text = QUOTED.sub(lambda name: "@" + name.group(1).replace("::", "."), OF_X86_64.sub("", MACHINE.sub("", text)))
+    text = LOOKED.sub("", LOOK.sub(r"\1start:\n\2}\n", OF_X86_64.sub("", MACHINE.sub("", text))))
+    text = QUOTED.sub(lambda name: "@" + UNREADABLE.sub(".", name.group(1)), text)
     hold_to_the_rules(crate, text)
     path = OUT / f"{crate}.ll"
     path.write_text(text)
@@ -114,17 +125,18 @@ def hold_to_the_rules(crate, text):
 
 def of_archive(crate):
     """The text of the module that the proved archive of a crate is made of."""
-    module = kept(crate, ["staticlib", crate])
+    module = kept(crate, "lib")
     hold_to_the_archive(crate, module)
     return text_of(crate, module)
 
 
 def of_program(crate):
     """The text of the module that a proved program is made of; one that is kept already is taken while it is the program's."""
-    module, code = OUT / f"{crate}.bc", ROOT / "target" / "obj" / f"{crate}.o"
-    if not (module.is_file() and code.is_file() and makes(crate, module, code.read_bytes())):
-        (ROOT / "target" / "stamp" / crate).unlink(missing_ok=True)
-        module = kept(crate, ["check", crate])
-    if not makes(crate, module, code.read_bytes()):
+    out = ROOT / "crates" / crate / "out"
+    module, code = OUT / f"{crate}.bc", out / f"{crate}.o"
+    if not (module.is_file() and code.is_file() and makes(crate, module, code.read_bytes(), *OF_PROGRAMS)):
+        (out / f"{crate}.stamp").unlink(missing_ok=True)
+        module = kept(crate, "run")
+    if not makes(crate, module, code.read_bytes(), *OF_PROGRAMS):
         sys.exit(f"{crate}: the kept module is not the program's")
     return text_of(crate, module)

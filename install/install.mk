@@ -21,7 +21,7 @@ shared: archive-here
 	    -Wl,-soname,libhullashlar.so.$(MAJOR) -Wl,--version-script=install/exported.map -Wl,-z,relro,-z,now -o target/shared/$(SHARED)
 
 programs:
-	$(if $(PROGRAMS),rt check $(PROGRAMS))
+	$(if $(PROGRAMS),tools/build.sh $(PROGRAMS))
 
 # All that is installed. `make ready` as oneself and `sudo make -o ready install` afterwards has nothing proved or linked by root.
 ready: shared programs

@@ -13,7 +13,7 @@ pub fn link() {
     if !archive.is_file() {
         println!(
             "cargo::warning=the archive is missing: {}; all but the tests wants it: make it with \
-             `rt staticlib hullashlar`, or set HULLASHLAR_ARCHIVE_DIR to its folder",
+             `make archive`, or set HULLASHLAR_ARCHIVE_DIR to its folder",
             archive.display()
         );
         return;

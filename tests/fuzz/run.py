@@ -16,7 +16,7 @@ sys.dont_write_bytecode = True
 sys.path.insert(0, str(ROOT / "firmware"))
 from module import WORDS, X86_64, hold_to_the_archive, kept, run, tool  # noqa: E402
 
-CRATE = "hullashlar"
+CRATE = "hullashlar_c"
 COVERAGE = "-fsanitize-coverage=inline-8bit-counters,pc-table,trace-cmp"
 RUST_COVERAGE = ["passes=sancov-module", "codegen-units=1", "panic=abort", *(f"llvm-args=-sanitizer-coverage-{word}" for word in (
     "level=4", "inline-8bit-counters", "pc-table", "trace-compares"))]
@@ -29,7 +29,7 @@ LONGEST = 4096
 
 def compiled_archive():
     """The archive's module as code that tells what it reaches."""
-    module = kept(CRATE, ["staticlib", CRATE])
+    module = kept(CRATE, "lib")
     hold_to_the_archive(CRATE, module)
     code = OUT / f"{CRATE}.o"
     run([tool("clang"), *X86_64, *WORDS, COVERAGE, "-c", "-x", "ir", module, "-o", code])
@@ -38,10 +38,11 @@ def compiled_archive():
 
 def program(name):
     """A program's object with its main, its reads and its writes under other names."""
-    run(["rt", "check", name], cwd=ROOT)
+    folder = ROOT / "crates" / name
+    run(["rt", "run"], cwd=folder, stdin=subprocess.DEVNULL, stdout=subprocess.DEVNULL)
     code = OUT / f"{name}.o"
     names = {"main": f"{name}_main", "read": "program_read", "write": "program_write"}
-    run(["objcopy", *(f"--redefine-sym={old}={new}" for old, new in names.items()), ROOT / "target" / "obj" / f"{name}.o", code])
+    run(["objcopy", *(f"--redefine-sym={old}={new}" for old, new in names.items()), folder / "out" / f"{name}.o", code])
     return code
 
 

@@ -22,7 +22,7 @@ pub fn printed(name: &str, input: &[u8], piece: usize) -> Vec<u8> {
         .stdin(reader)
         .stdout(Stdio::piped())
         .spawn()
-        .unwrap_or_else(|error| panic!("{name}, which `rt check {name}` builds: {error}"));
+        .unwrap_or_else(|error| panic!("{name}, which `tools/build.sh {name}` builds: {error}"));
     let bytes = input.to_vec();
     // The program may have read enough before all is written.
     let writing = thread::spawn(move || drop(write(writer, &bytes, piece)));
