@@ -3,12 +3,10 @@
 and fails unless the list finds every error: some case differs. What no exported call shows is looked for in the report
 of a stream, whose kept output is the oracle's too.
 
-A copy with an error in it cannot be proved, so it is run by `rt try`, which takes every crate as source and compiles
-it, without optimisation and with it. The interpreter that `rt try` begins with is too slow for the list, and its last
-run, with the compiler's assumptions checked, may be on a busy machine: what these two say is passed over. On another machine
-than x86-64, where programs are emulated, the run without optimisation does not end in time either."""
+A copy with an error in it cannot be proved, so it is run by `rt try`, which takes every crate as source and compiles it with checks. The
+interpreter that `rt try` begins with is too slow for the list: it is stopped at its first step. An error with which the program
+stops at one of those checks is found too."""
 
-import platform
 import re
 import shutil
 import subprocess
@@ -62,15 +60,11 @@ REPORT_ERRORS = [
     "grid_codes/report_goes_on_after_14",
 ]
 
-# How many compiled runs are to say something.
-FEWEST_RUNS = 2 if platform.machine() == "x86_64" else 1
+# What the last line of the replay says.
+COUNTS = re.compile(rb"(\d+) cases, (\d+) the same\n\Z")
 
-# What `rt try` says of a compiled run: that it wrote what is expected or not.
-RUN = re.compile(r"^(.*)the native program at -O[03] ", re.M)
-AS_EXPECTED = "ok: "
-
-# What it says of one that wrote the counts where nothing is expected.
-COUNTS = re.compile(r'the native program at -O[03] .*\n.* found "(\d+) cases, (\d+) the same\\n"')
+# The status of `rt try` where the program stopped at a check.
+STOPPED = 4
 
 
 def apply(error, copy):
@@ -93,42 +87,41 @@ def apply(error, copy):
 
 
 def copy_sources(copy):
-    """Copies the crates without their proofs. `rt try` shows no more than the front of what a program writes, and only
-    where another output was expected: so the copied program prints the counts alone, and nothing is expected of it."""
-    left_out = shutil.ignore_patterns("specs", "proofs", "must-fail")
+    """Copies the crates without their proofs; the copied replay prints the counts alone."""
+    left_out = shutil.ignore_patterns("specs", "proofs", "must-fail", "out")
     shutil.copytree(ROOT / "crates", copy / "crates", ignore=left_out)
     shutil.copy(ROOT / "crates.txt", copy)
-    (copy / "crates" / "trial_replay" / "stdout").write_text("")
     apply("trial_replay/counts_alone", copy)
 
 
 def tried(program, error):
-    """What `rt try` says of a program in a copy with this error."""
+    """What a program prints in a copy with this error, and whether it ended by itself."""
     with tempfile.TemporaryDirectory() as folder:
         copy = Path(folder)
         copy_sources(copy)
         if error:
             apply(error, copy)
-        run = subprocess.run(["rt", "try", program], cwd=copy, text=True, stdout=subprocess.PIPE, stderr=subprocess.STDOUT)
-    return run.stdout
+        crate = copy / "crates" / program
+        with open(crate / "stdin", "rb") as given:
+            run = subprocess.run(["rt", "try", "--steps", "1"], cwd=crate, stdin=given, stdout=subprocess.PIPE, stderr=subprocess.PIPE)
+    if run.returncode not in (0, STOPPED):
+        sys.exit(f"{error or 'unchanged'}: {program} was not run:\n{run.stderr.decode(errors='replace')}")
+    return run.stdout, run.returncode == 0
 
 
 def replay(error=None):
-    """How many cases the list has, and how many of them a copy with this error answers as the list says."""
-    said = tried("trial_replay", error)
-    counts = COUNTS.findall(said)
-    if len(counts) < FEWEST_RUNS or counts[0] != counts[-1]:
-        sys.exit(f"{error or 'unchanged'}: not the same counts from compiled runs:\n{said}")
-    return map(int, counts[0])
+    """How many cases the list has, and how many of them a copy with this error answers as the list says: none where it stopped."""
+    printed, has_ended = tried("trial_replay", error)
+    counts = COUNTS.search(printed)
+    if has_ended and not counts:
+        sys.exit(f"{error or 'unchanged'}: the replay has no counts:\n{printed.decode(errors='replace')}")
+    return map(int, counts.groups()) if has_ended else (1, 0)
 
 
 def is_reported(error=None):
     """Whether a copy with this error prints the report that is kept."""
-    said = tried(REPORT, error)
-    runs = RUN.findall(said)
-    if len(runs) != 2 or runs[0] != runs[1]:
-        sys.exit(f"{error or 'unchanged'}: not the same from two compiled runs:\n{said}")
-    return runs[0] == AS_EXPECTED
+    printed, has_ended = tried(REPORT, error)
+    return has_ended and printed == (ROOT / "crates" / REPORT / "stdout").read_bytes()
 
 
 def report_errors_missed():

@@ -40,23 +40,23 @@ OF_DEFINITIONS = {
 }
 EXCHANGED = {"-", "/", "%", "<", "<=", "<<", "^", "≤", "⊖", "⊘"}
 
-OPERAND = r"[\w·']+(?:\[[^][]*\])?"
+OPERAND = r"[\w.']+(?:\[[^][]*\])?"
 INFIX = re.compile(r"(?<= )([-+*/%<>^&⊕⊖⊗⊘≤]|<=|>=|==|!=|\+=|-=|<<|>>)(?= )")
-ORDER = re.compile(rf"(?<![\w\])·'⟧])({OPERAND}) ([-/%<^⊖⊘≤]|<=|<<) ({OPERAND})(?![\w(\['·])")
-NAMED = re.compile(r"(?<![\w·.'-])(ltb|leb|eqb|true|false|one|two|three|six)(?![\w·'-])")
-COMPARED = re.compile(r"(?<![\w·.'-])(ltb|leb) (\w+|\([^()]*\)) (\w+|\([^()]*\))(?![\w(\['·])")
-WHOLE = re.compile(r"(?<![\w.·'-])(\d+)(?![\w.·'-])")
+ORDER = re.compile(rf"(?<![\w\]).'])({OPERAND}) ([-/%<^⊖⊘≤]|<=|<<) ({OPERAND})(?![\w(\['])")
+NAMED = re.compile(r"(?<![\w.'-])(ltb|leb|eqb|true|false|one|two|three|six)(?![\w'-])")
+COMPARED = re.compile(r"(?<![\w.'-])(ltb|leb) ([\w.]+|\([^()]*\)) ([\w.]+|\([^()]*\))(?![\w(\['.])")
+WHOLE = re.compile(r"(?<![\w.'-])(\d+)(?![\w.'-])")
 FLOAT = re.compile(r"(?<![\w.])(\d+\.\d+)(?![\w.])")
 
 DEFINITION = re.compile(r"^\s*(?:(?:unfoldable|abbrev)(?: pub)?|pub record) (\S+)", re.M)
 
 CONSTANT = re.compile(r"^\s*pub const (\w+)")
 
-# What a check leaves in target/ and goes by the next time.
-PROVED = ["rlib", "stamp", "log"]
-
 # What a check ends in that has reached the prover. Without it the text is no program, and says nothing about contracts.
 NOT_PROVED = re.compile(r"^logic=not-proved", re.M)
+
+# The status of a check in which the prover met a limit of its own: what it does not prove is not accepted.
+AT_A_LIMIT = 3
 
 
 class Mutant:
@@ -119,7 +119,7 @@ def definitions_alone(text):
 
 def at_hand(text, word):
     """Whether a definition's file can use a word: an operator that it imports, or a name that stands in it."""
-    return f"_{word}_" in text or re.search(rf"(?<![\w·-]){re.escape(word)}(?![\w·-])", text) is not None
+    return f"◌{word}◌" in text or re.search(rf"(?<![\w-]){re.escape(word)}(?![\w-])", text) is not None
 
 
 def changes_of(line, words, usable):
@@ -161,7 +161,7 @@ def stands_on():
     below = {}
     for line in (ROOT / "crates.txt").read_text().splitlines():
         if line.strip() and not line.startswith("#"):
-            name, on = line.split(":")
+            name, on = line.replace(" staticlib", "").split(":")
             below[name] = set(on.split()).union(*(below.get(other, set()) for other in on.split()))
     return {name: on for name, on in below.items() if not NOT_LIBRARY.match(name)}
 
@@ -173,7 +173,7 @@ def defined_in(path):
 
 
 def mentions(text, name):
-    return re.search(rf"(?<![\w·-]){re.escape(name)}(?![\w·-])", text) is not None
+    return re.search(rf"(?<![\w-]){re.escape(name)}(?![\w-])", text) is not None
 
 
 def climb(mutant, below):
@@ -184,10 +184,11 @@ def climb(mutant, below):
     name = names[-1] if names else mutant.path.stem
     beside = [found for path in mutant.path.parent.glob("*.antt") for found in defined_in(path)]
     made_of_it = [other for other, text in beside if mentions(text, name)]
-    file = f"Rattle·{mutant.crate}.specs.{mutant.path.stem}"
+    file = f"Rattle.{mutant.crate}.specs.{mutant.path.stem}"
 
     def distance(crate):
-        text = "".join(path.read_text() for path in (ROOT / "crates" / crate).glob("**/*.*t") if path.is_file())
+        folder = ROOT / "crates" / crate
+        text = "".join(path.read_text() for part in ("src", "specs", "proofs") for path in folder.glob(f"{part}/**/*.*t") if path.is_file())
         tests = [mentions(text, name), any(mentions(text, other) for other in made_of_it), file in text, True]
         return tests.index(True), len(below[crate])
 
@@ -195,36 +196,20 @@ def climb(mutant, below):
 
 
 class Copy:
-    """A copy of the crates, and of what is proved of them."""
+    """A copy of the crates. What is proved of them `rt` takes from what earlier checks kept on this machine."""
 
     def __init__(self, folder):
         self.folder = Path(folder)
-        shutil.copytree(ROOT / "crates", self.folder / "crates", ignore=shutil.ignore_patterns("must-fail"))
+        shutil.copytree(ROOT / "crates", self.folder / "crates", ignore=shutil.ignore_patterns("must-fail", "out"))
         shutil.copy(ROOT / "crates.txt", self.folder)
-        for part in PROVED:
-            shutil.copytree(ROOT / "target" / part, self.folder / "target" / part)
 
-    def refuses(self, *words):
-        """What was said where the prover does not accept; nothing where it does. Ends the run where it could not tell."""
-        done = subprocess.run(["rt", *words], cwd=self.folder, text=True, stdout=subprocess.PIPE, stderr=subprocess.STDOUT)
-        if done.returncode not in (0, 1):
-            sys.exit(f"rt {' '.join(words)} ended with status {done.returncode}:\n{done.stdout}")
+    def refuses(self, crate):
+        """What the check of a crate said where the prover does not accept; nothing where it does. Ends the run where it could not tell."""
+        at = self.folder / "crates" / crate
+        done = subprocess.run(["rt", "check"], cwd=at, text=True, stdout=subprocess.PIPE, stderr=subprocess.STDOUT)
+        if done.returncode not in (0, 1, AT_A_LIMIT):
+            sys.exit(f"{crate}: rt check ended with status {done.returncode}:\n{done.stdout}")
         return (done.stdout or "refused") if done.returncode else ""
-
-    def restore(self):
-        """Puts back what was proved of the crates whose stamp is another one now."""
-        for stamp in (ROOT / "target" / "stamp").iterdir():
-            here = self.folder / "target" / "stamp" / stamp.name
-            if here.exists() and here.read_bytes() == stamp.read_bytes():
-                continue
-            for kept in (ROOT / "target").glob(f"*/{stamp.name}*"):
-                if kept.parent.name in PROVED and kept.name.split(".")[0] == stamp.name:
-                    copy = self.folder / kept.relative_to(ROOT)
-                    if kept.is_dir():
-                        shutil.rmtree(copy, ignore_errors=True)
-                        shutil.copytree(kept, copy)
-                    else:
-                        shutil.copy2(kept, copy)
 
     def with_it(self, mutant, ask):
         """What a question is answered where a mutant stands in the place of its line."""
@@ -238,24 +223,22 @@ class Copy:
         return answer
 
     def screened(self, mutant):
-        """What the edit loop says against a mutant."""
-        return self.with_it(mutant, lambda: self.refuses("dev", mutant.crate))
+        """What the check of its own crate says against a mutant."""
+        return self.with_it(mutant, lambda: self.refuses(mutant.crate))
 
     def judged(self, mutant, below):
-        """The first crate that the check refuses, and what it says: of the mutant's own and, for what has no contract, of those above."""
+        """The first crate above a mutant's own that the check refuses, and what it says: for what has no contract."""
         open_above = mutant.path.suffix == ".antt" or CONSTANT.search(mutant.line)
-        crates = [mutant.crate, *(climb(mutant, below) if open_above else [])]
+        crates = climb(mutant, below) if open_above else []
 
         def first_refusal():
             for crate in crates:
-                said = self.refuses("check", crate)
+                said = self.refuses(crate)
                 if said:
                     return crate, said
             return None, ""
 
-        answer = self.with_it(mutant, first_refusal)
-        self.restore()
-        return answer
+        return self.with_it(mutant, first_refusal)
 
 
 def chosen(number, seed, only):
@@ -270,7 +253,7 @@ def chosen(number, seed, only):
     for pool in pools:
         picks.shuffle(pool)
     turns = [mutant for turn in zip(*pools) for mutant in turn][:number]
-    # Those of a crate come together: the edit loop checks again what a mutant changes alone.
+    # Those of a crate come together: a check proves again what a mutant changes alone.
     return sorted(turns, key=lambda mutant: mutant.crate)
 
 
@@ -324,7 +307,7 @@ def main():
                 tally.take(mutant, mutant.crate, said)
             else:
                 left.append(mutant)
-        # What the edit loop accepts is put to the check.
+        # What its own crate accepts is put to those above.
         for mutant in left:
             tally.take(mutant, *copy.judged(mutant, below))
     tally.show()
