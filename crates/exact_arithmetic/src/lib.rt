@@ -1,4 +1,3 @@
 // What the rules compute with: an arithmetic, and what makes it a field and an ordered one. No code.
 
 #![tactic(auto)]
-

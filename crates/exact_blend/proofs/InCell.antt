@@ -10,7 +10,6 @@ use lib.Dec.{T}
 use lib.Pow.{pow_pos}
 use lib.IntN.{pos}
 use lib.Ieee.{Float, fin, binary64, low, fits, lt, le, round}
-use lib.Ieee as Ieee
 use lib.Ieee.Order.{round_mono}
 use lib.Ieee.Positive.{positive, values_of_le, value_pos}
 use lib.Ieee.Scale.{finite, grid}

@@ -8,7 +8,6 @@ use Rattle.exact_solver.specs.Expressions.{var, terms, sub}
 use Rattle.exact_rationals.specs.Rationals.{ℚ, number, rationals, plus, minus, times, negative, Least}
 use Rattle.exact_rationals.specs.Values.{value}
 use Rattle.exact_rounding.specs.Near.{Near, Within}
-use Rattle.exact_rounding.specs.Errors as Errors
 use Rattle.exact_rationals.proofs.Order.{least_plus, least_times, ring}
 use Rattle.exact_rounding.proofs.Nearness.{near_wider}
 use Rattle.exact_rounding.proofs.Approx.{

@@ -12,7 +12,6 @@ use lib.Ieee.Fits.{neg-fits}
 use lib.Ieee.Scale.{finite}
 use Rattle.exact_solver.specs.Expressions as Expressions
 use Rattle.exact_solver.specs.Expressions.{Term, var, t0, t1, t2, t3, add, sub, mul, divides, same, meaning}
-use Rattle.exact_rationals.proofs.RationalLaws as Q
 use Rattle.exact_rationals.specs.Rationals.{ℚ, mk, number, rationals, plus, minus, times, negative, Least}
 use Rattle.exact_rationals.specs.Values.{value}
 use Rattle.exact_rounding.specs.Near.{Near, Within}

@@ -18,21 +18,7 @@ use Rattle.rules.specs.Curve as RulesC
 use Rattle.rules.specs.Tensor as RulesT
 use Rattle.rules.specs.Query as RulesQ
 use Rattle.rules.specs.Outside.{mode_at, placed_on}
-use Rattle.rules.specs.Calls.{
-  moments_refusal,
-  MomentsPromise,
-  curve_refusal,
-  curve_answer,
-  CurvePromise,
-  build_refusal,
-  BuildPromise,
-  stored,
-  answered,
-  query_lengths_refused,
-  query_refusal,
-  query_answer,
-  QueryPromise,
-}
+use Rattle.rules.specs.Calls.{MomentsPromise, curve_refusal, curve_answer, CurvePromise, build_refusal, BuildPromise, stored, answered, query_lengths_refused, query_refusal, query_answer, QueryPromise}
 use Rattle.rules.specs.Refusals.{
   axes_refused,
   points_refused,

@@ -3,7 +3,6 @@
 use mathlib.Core.Path.{◌≡◌, refl}
 use mathlib.Core.Bool.{Bool, true, false}
 use mathlib.Core.List.{[], ◌∷◌}
-use Prim.Native.Nat.{◌*◌}
 use native.Mathlib.Decide.{dec_lt}
 use lib.Ieee as Ieee
 use Rattle.rules.specs.Numbers.{plus_zero, one, two}

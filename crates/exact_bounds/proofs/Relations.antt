@@ -2,12 +2,12 @@
 -- respected by the rules: by the steps, the solves, the moments, the curve, the tensor and the value in a cell.
 use mathlib.Core.Path.{◌≡◌, refl, ap, ap₂, subst}
 use mathlib.Core.Bool.{Bool, true, false, cond}
-use mathlib.Core.List.{List, [], ◌∷◌}
+use mathlib.Core.List.{List}
 use Prim.Native.Nat.{ℕ, zero, suc, ◌+◌, ◌-◌, ◌*◌, ◌/◌, ◌%◌, ◌^◌}
 use lib.Dec.{eqb, leb, ltb}
 use lib.ListN.{get_or}
 use Rattle.rules.specs.Numbers.{table, table_from}
-use Rattle.rules.specs.Sizes.{Place, moved, flat, unflat, product_below}
+use Rattle.rules.specs.Sizes.{Place, moved, unflat, product_below}
 use Rattle.rules.specs.Query.{corner}
 use Rattle.rules.proofs.Cases.{arms}
 use Rattle.exact_arithmetic.specs.Arithmetic.{Arithmetic}

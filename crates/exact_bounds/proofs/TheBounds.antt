@@ -36,23 +36,7 @@ use Rattle.exact_floats.specs.Floats.{floats}
 use Rattle.exact_floats.proofs.TheSame.{moment_same, entry_same, lane_slope_same, whole_curve_same, whole_surface_same}
 use Rattle.exact_calls.specs.Exactly.{exact, values, exact_end, exact_condition, exact_grid}
 use Rattle.exact_rounding.specs.Near.{Near}
-use Rattle.exact_bounds.specs.Bounds.{
-  Bound,
-  within,
-  Bounded,
-  given,
-  bounded,
-  given_end,
-  given_condition,
-  given_grid,
-  moment_bound,
-  slope_bound,
-  curve_bound,
-  entry_bound,
-  surface_bound,
-  EndFits,
-  ConditionFits,
-}
+use Rattle.exact_bounds.specs.Bounds.{within, Bounded, given, bounded, given_end, given_condition, given_grid, moment_bound, slope_bound, curve_bound, entry_bound, surface_bound, EndFits, ConditionFits}
 use Rattle.exact_bounds.proofs.Relations as Relations
 use Rattle.exact_bounds.proofs.Relations.{Respected}
 use Rattle.exact_bounds.proofs.KeepsBounds.{Under, Stands, given_stands, operations_keep_bounds}

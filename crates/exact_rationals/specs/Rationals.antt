@@ -2,7 +2,6 @@
 use Rattle.std.specs.Prelude.{◌≡◌, refl, ℕ, ◌+◌, ◌-◌, ◌*◌, ◌<◌, ◌≤◌}
 use Rattle.std.proofs.Common.{sym, ◌∙◌, ap, mul-le-mul_right, arith}
 use Rattle.std.proofs.Math.Logic.{Dec-prop}
-use mathlib.Core.Quot
 use mathlib.Core.Quot.{Quot, sound, lift, Quot-set, lift_prop, lift_prop_prop, ind}
 use Rattle.std.proofs.Math.Bridge.{le_prop}
 use Rattle.std.proofs.Math.Decide.{dec_lt}

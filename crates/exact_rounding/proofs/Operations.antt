@@ -14,7 +14,7 @@ use lib.Ieee as Ieee
 use lib.Ieee.Fits.{up_pos}
 use borrow.Author.Tests.{ne_eqb}
 use lib.Ieee.Scale.{finite}
-use Rattle.exact_solver.specs.Expressions.{var, add, sub, mul, div, neg}
+use Rattle.exact_solver.specs.Expressions.{var, add, sub, mul, div}
 use Rattle.exact_solver.proofs.Solver.{solve}
 use Rattle.exact_rationals.proofs.RationalLaws as Q
 use Rattle.exact_rationals.specs.Rationals.{ℚ, number, rationals, plus, minus, times, over, negative, Positive, Least}

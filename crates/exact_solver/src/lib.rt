@@ -2,4 +2,3 @@
 // equal numbers. No code.
 
 #![tactic(auto)]
-

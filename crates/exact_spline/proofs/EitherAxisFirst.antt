@@ -10,7 +10,6 @@ use Rattle.rules.specs.Numbers.{table}
 use Rattle.rules.specs.Sizes.{Place}
 use Rattle.rules.proofs.Tables.{at_table}
 use Rattle.exact_arithmetic.specs.Arithmetic.{Arithmetic, IsField, IsOrdered}
-use Rattle.exact_arithmetic.proofs.FieldLaws as Laws
 use Rattle.exact_solver.specs.Expressions.{Term, var, t0, t1, add, sub, mul, div, neg, terms}
 use Rattle.exact_solver.proofs.Solver.{solve}
 use Rattle.exact_spline.specs.Numbers.{at}

@@ -9,7 +9,6 @@ use borrow.Author.Tests.{eq-eqb, ne_eqb}
 use Rattle.exact_arithmetic.specs.Arithmetic.{Arithmetic, IsField, IsOrdered}
 use Rattle.exact_solver.specs.Expressions.{var, t0, t1, t2, t3, t6, add, sub, mul, div, terms}
 use Rattle.exact_solver.proofs.Solver.{solve}
-use Rattle.exact_arithmetic.proofs.FieldLaws as Laws
 use Rattle.exact_spline.specs.Steps as Steps
 use Rattle.exact_spline.specs.Solve as Solve
 use Rattle.exact_spline.specs.Rows.{Solves, Dominant}

@@ -8,9 +8,7 @@ use Rattle.exact_solver.specs.Expressions.{Term, var, t2, t6, add, sub, mul, div
 use Rattle.exact_solver.proofs.Solver.{solve}
 use Rattle.exact_arithmetic.proofs.FieldLaws as Laws
 use Rattle.exact_spline.specs.Steps as Steps
-use Rattle.exact_spline.specs.Curve as Curve
 use Rattle.exact_spline.specs.Curve.{curve_in_cell, cubic, lower_slope, upper_slope}
-use Rattle.exact_spline.specs.Derivatives as Derivatives
 use Rattle.exact_spline.specs.Derivatives.{slope_in_cell, second_in_cell, slope, bend}
 use Rattle.exact_spline.proofs.Cell as Cell
 

@@ -7,7 +7,6 @@ use native.Mathlib.Omega.{arith}
 use Rattle.exact_arithmetic.specs.Arithmetic.{Arithmetic, IsField, IsOrdered}
 use Rattle.exact_solver.specs.Expressions.{Term, var, t0, t1, t2, add, sub, mul, div, terms}
 use Rattle.exact_solver.proofs.Solver.{solve}
-use Rattle.exact_arithmetic.proofs.FieldLaws as Laws
 use Rattle.exact_spline.specs.Steps as Steps
 use Rattle.exact_spline.specs.Solve as Solve
 use Rattle.exact_spline.specs.Rows.{Solves, SolvesCyclic}

@@ -8,7 +8,6 @@ use native.Mathlib.Omega.{arith}
 use Rattle.exact_arithmetic.specs.Arithmetic.{Arithmetic, IsField, IsOrdered}
 use Rattle.exact_solver.specs.Expressions.{Term, var, t2, add, sub, mul, div}
 use Rattle.exact_solver.proofs.Solver.{solve}
-use Rattle.exact_arithmetic.proofs.FieldLaws as Laws
 use Rattle.exact_spline.specs.Solve as Solve
 use Rattle.exact_spline.specs.Rows.{Solves, Dominant}
 
