@@ -48,7 +48,6 @@ tensor_length-end-requires c =
 pub slice_bounds-with_accepted-end : goal.slice_bounds-with_accepted-end
 slice_bounds-with_accepted-end c =
     let pre = c.requires in
-    let kept = c.tensor_in_scratch-refusal.kept in
     omega (arith, counted (goal.at.slice_bounds-with_accepted-end c).After-tensor_length-end, numbers_few _ _ pre.1 pre.2, pre.3.scratch_long)
 
 pub with_accepted-requires : goal.with_accepted-requires
