@@ -9,7 +9,7 @@ use Rattle.rules.specs.Sizes.{Grid}
 use Rattle.rules.specs.Calls.{or_else, QueryPromise}
 use Rattle.rules.specs.declared.QueryAnswer.{QueryAnswer}
 use Rattle.sheet_patterns.specs.Patterns.{coordinates, unused_refused, answer_pattern}
-use Rattle.sheet_read.specs.Fields.{edition, sheet_grid}
+use Rattle.sheet_read.specs.Fields.{sheet_grid}
 use Rattle.sheet_read.specs.Faults.{sheet_refusal}
 use Rattle.sheet_build.specs.SheetTensor.{building_refusal, own_refusal, SheetPromise}
 use Rattle.sheet_build.specs.LentEnough.{Enough}

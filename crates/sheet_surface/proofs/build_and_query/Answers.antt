@@ -8,7 +8,6 @@ use Rattle.sheet_read.specs.Fields.{sheet_grid}
 use Rattle.sheet_in_scratch.proofs.OfSheet.{range, tensor_is, knots_within, knots_taken}
 use Rattle.sheet_surface.specs.SheetSurface.{asked}
 use Rattle.sheet_surface.proofs.Answers.{read_of, built_few, four_long, build_refused, query_asked, answer_fine, query_answered}
-use borrow.Author.Rules.{rules}
 use Rattle.sheet_surface.proofs.build_and_query.Goals as goal
 use Rattle.sheet_surface.proofs.build_and_query.Goals.{After-query-answer, After-tensor_length-end}
 
@@ -22,7 +21,7 @@ is_asked : (c : After-query-answer)
 is_asked c =
     let left = c.tensor_in_scratch-refusal.ensures in
     let s = c.requires.0 in
-    query_asked _ _ _ _ _ (read_of s) _ c.tensor_in_scratch-refusal.last.1.1.1.1.1.1.0 _ _ _
+    query_asked _ _ _ _ _ (read_of s) _ c.tensor_in_scratch-refusal.new.scratch _ _ _
     (knots_taken _ _ _ _ _ _ s _ left.knots _ c.knots_length-knots_end.ensures.0)
     (add-sub_cancel_left _ _ ∙ (c.tensor_length-end.ensures.0 ∙ tensor_is _ _ _ _ _ _ c.requires.0)) (left.output c.if-refusal-ne0.false)
     c.coordinates_of-coordinates.ensures c.query-answer.ensures
@@ -46,7 +45,7 @@ slice_bounds-query-end c = knots_within _ _ _ _ _ _ c.requires.0 _ c.tensor_in_s
 
 pub slice_bounds-query-end-2 : goal.slice_bounds-query-end-2
 slice_bounds-query-end-2 c =
-    let kept = c.tensor_in_scratch-refusal.kept in
+    let kept = c.tensor_in_scratch-refusal.auto in
     omega (arith, length_is (goal.at.slice_bounds-query-end-2 c).After-tensor_length-end, c.requires.1)
 
 pub slice_bounds-query-end-3 : goal.slice_bounds-query-end-3
@@ -59,7 +58,5 @@ answer_pattern-requires c = answer_fine _ _ _ (is_asked (goal.at.answer_pattern-
 
 pub returns : goal.returns
 returns c =
-    let Asked-here = (goal.at.returns c).After-query-answer in
-    let l = Asked-here.before.before.before.before.before.before.before.before in
     c.answer_pattern.ensures
-    ∙ query_answered _ _ _ (is_asked Asked-here) _ (built l).tensor_in_scratch.ensures.refused l.before.before.if1.false
+    ∙ query_answered _ _ _ (is_asked (goal.at.returns c).After-query-answer) _ c.tensor_in_scratch-refusal.ensures.refused c.if-refusal-ne0.false

@@ -2,7 +2,6 @@
 use lib.ListN.{length-replicate}
 use Rattle.rules.specs.Numbers.{plus_zero, zeros}
 use Rattle.sheet_surface.proofs.Small.{stack_room}
-use borrow.Author.Rules.{rules}
 use Rattle.sheet_surface.proofs.on_the_stack.Goals as goal
 
 pub build_and_query-requires : goal.build_and_query-requires

@@ -14,7 +14,6 @@ use Rattle.sheet_surface.proofs.Answers.{
   unused_refuses,
   sheet_asked,
 }
-use borrow.Author.Rules.{rules}
 use Rattle.sheet_surface.proofs.surface.Goals as goal
 use Rattle.sheet_surface.proofs.surface.Goals.{After-tensor_length-numbers}
 
