@@ -9,7 +9,7 @@ use Rattle.c_verify.proofs.verify.Goals as goal
 pub returns-then-refusal-ne0 : goal.returns-then-refusal-ne0
 returns-then-refusal-ne0 c =
     verify_refused _ _ _ _ _ _ _ _ _ c.verify_own_refusal-refusal.ensures c.if-refusal-ne0.true _ c.refused-nothing.ensures _ _
-    c.Store_found.ensures
+    c.store_found.ensures
 
 pub axes_given-all-requires : goal.axes_given-all-requires
 axes_given-all-requires c =
