@@ -3,4 +3,3 @@
 // `surface`, and no code.
 
 #![tactic(auto)]
-
