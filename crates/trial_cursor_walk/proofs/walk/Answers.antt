@@ -1,8 +1,5 @@
-use Prim.Native.Nat.{◌+◌, ◌-◌, ◌≤◌}
 use native.Mathlib.Omega.{arith}
-use Rattle.device_cursor.specs.DeviceCurve.{last_cursor}
 use Rattle.trial_cursor_walk.proofs.Walking.{further, not_past}
-use borrow.Author.Rules.{rules}
 use Rattle.trial_cursor_walk.proofs.walk.Goals as goal
 
 pub loop-moved-init : goal.loop-moved-init
