@@ -7,7 +7,6 @@ use Prim.Native.Nat.{ℕ}
 use Rattle.base_text.specs.Lines.{decimal_digits, decimal, hex_digits, word_line}
 use Rattle.report_totals.specs.declared.OrderTotals.{OrderTotals}
 use Rattle.report_totals.specs.declared.Totals.{Totals}
-use Rattle.report_totals.specs.declared.Report.{Report}
 use Rattle.program_report_text.specs.ReportText.{
   sheets_line,
   accepted_line,

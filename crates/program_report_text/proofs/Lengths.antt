@@ -1,13 +1,13 @@
 -- How long the lines of a report are at most, and so its text.
-use mathlib.Core.Path.{◌≡◌, refl, ◌∙◌}
+use mathlib.Core.Path.{◌≡◌}
 use mathlib.Core.Bool.{Bool, true, false, cond}
-use mathlib.Core.List.{List, [], ◌∷◌, ◌++◌}
+use mathlib.Core.List.{List, [], ◌++◌}
 use Prim.Native.Nat.{ℕ, zero, suc, ◌+◌, ◌*◌, ◌<◌, ◌≤◌}
 use native.Mathlib.Nat.{mul-suc}
 use native.Mathlib.Omega.{arith}
 use lib.Dec.{eqb}
 use lib.ListN.{length, get_or, length-append}
-use Rattle.base_text.specs.Lines.{line_end, hex_digits, decimal, word_line}
+use Rattle.base_text.specs.Lines.{decimal, word_line}
 use Rattle.base_text.proofs.Decimals.{decimal_most, decimal_length, length_word_line}
 use Rattle.base_text.proofs.HexDigits.{length_hex_digits}
 use Rattle.report_totals.specs.declared.OrderTotals.{OrderTotals}

@@ -1,7 +1,7 @@
 -- The lines of a report from the parts that are put one after the other.
 use mathlib.Core.Path.{◌≡◌}
 use mathlib.Core.Bool.{Bool, true, false}
-use mathlib.Core.List.{List, [], ◌∷◌}
+use mathlib.Core.List.{List}
 use Prim.Native.Nat.{ℕ}
 use borrow.Author.Tests.{eq-eqb, ne_eqb}
 use Rattle.base_text.specs.Lines.{line_end, hex_digits, word_line}
