@@ -8,6 +8,7 @@ import re
 import shutil
 import subprocess
 import sys
+import tempfile
 from pathlib import Path
 
 ROOT = Path(__file__).resolve().parent.parent
@@ -54,11 +55,9 @@ def tool(name):
     return kit() / "toolchain" / "bin" / name
 
 
-def linked_home(module):
-    """A folder that stands for the kit: links to all of it but `rt` itself, and a clang that keeps the module it is given."""
+def link_home(copy, module):
+    """Makes a folder stand for the kit: links to all of it but `rt` itself, and a clang that keeps the module it is given."""
     home = kit()
-    copy = OUT / "kit"
-    shutil.rmtree(copy, ignore_errors=True)
     tools = copy / "toolchain" / "bin"
     tools.mkdir(parents=True)
     (copy / "bin").mkdir()
@@ -75,7 +74,6 @@ for word in "$@"; do case $word in *.bc) cp "$word" "{module}" ;; esac; done
 exec "{tool("clang")}" "$@"
 """)
     keeping.chmod(0o755)
-    return copy
 
 
 def kept(crate, word):
@@ -83,7 +81,10 @@ def kept(crate, word):
     OUT.mkdir(parents=True, exist_ok=True)
     module = OUT / f"{crate}.bc"
     module.unlink(missing_ok=True)
-    run([linked_home(module) / "bin" / "rt", word], cwd=ROOT / "crates" / crate, stdin=subprocess.DEVNULL, stdout=subprocess.DEVNULL)
+    # (not below the repository, where `rt` wants no links)
+    with tempfile.TemporaryDirectory() as home:
+        link_home(Path(home), module)
+        run([f"{home}/bin/rt", word], cwd=ROOT / "crates" / crate, stdin=subprocess.DEVNULL, stdout=subprocess.DEVNULL)
     if not module.is_file():
         sys.exit(f"{crate}: the kit hands its module to clang in another way: none was kept")
     return module
