@@ -20,6 +20,9 @@ WORDS = ["--no-default-config", "-no-canonical-prefixes", "-fintegrated-cc1", "-
          "-mllvm", "-disable-postra-machine-licm", "-mllvm", "-sink-common-insts=false"]
 X86_64 = ["--target=x86_64-unknown-linux-gnu", "-march=x86-64", "-mllvm", "-no-x86-call-frame-opt", "-fPIC", "-O3"]
 
+# What `rt` is told: the archive and the programs are for every x86-64.
+CPU = ["--cpu", "x86-64"]
+
 # What the kit says beside that where it makes a program.
 OF_PROGRAMS = ["-fPIE", "-Xclang", "-fmerge-functions", "-mllvm", "-mergefunc-use-aliases"]
 
@@ -31,9 +34,9 @@ OF_X86_64 = re.compile(r' "(probe-stack"="inline-asm|stack-probe-size"="\d+|targ
 QUOTED = re.compile(r'@"([^"]+)"')
 UNREADABLE = re.compile(r"[^\w.]+")
 
-# Where a program begins: it looks whether the processor has what its code needs, and goes on. On another processor it goes on at once.
-LOOK = re.compile(r"^(define i32 @main\(\).*\n)start:\n(?:.*\n)*?run:.*\n((?:.*\n)*?  ret .*\n)(?:.*\n)*?\}\n", re.M)
-LOOKED = re.compile(r"^declare .*@__x86_get_cpuid_feature_leaf\(.*\n", re.M)
+# Where a program begins: it sets what its system does at a closed pipe, may look at its processor, and goes on. Here it goes on at once.
+BEGINS = re.compile(r"^(define i32 @main\(\).*\nstart:\n)(?:.*\n)*?(  %\w+ = call i32 @\".*\+start\"\(\)\n  ret .*\n)(?:.*\n)*?\}\n", re.M)
+OF_ITS_SYSTEM = re.compile(r"^declare .*@(__x86_get_cpuid_feature_leaf|__sysv_signal|__write)\(.*\n", re.M)
 
 # Lines that say where a module comes from, by a path that may have any words.
 OF_ITS_PLACE = ("; ModuleID", "source_filename")
@@ -84,7 +87,7 @@ def kept(crate, word):
     # (not below the repository, where `rt` wants no links)
     with tempfile.TemporaryDirectory() as home:
         link_home(Path(home), module)
-        run([f"{home}/bin/rt", word], cwd=ROOT / "crates" / crate, stdin=subprocess.DEVNULL, stdout=subprocess.DEVNULL)
+        run([f"{home}/bin/rt", word, *CPU], cwd=ROOT / "crates" / crate, stdin=subprocess.DEVNULL, stdout=subprocess.DEVNULL)
     if not module.is_file():
         sys.exit(f"{crate}: the kit hands its module to clang in another way: none was kept")
     return module
@@ -109,7 +112,7 @@ def text_of(crate, module):
     words = [tool("clang"), "--target=x86_64-unknown-linux-gnu", "--no-default-config", "-S", "-emit-llvm", "-O0", "-Xclang",
              "-disable-llvm-passes"]
     text = run([*words, "-x", "ir", module, "-o", "-"], stdout=subprocess.PIPE, text=True).stdout
-    text = LOOKED.sub("", LOOK.sub(r"\1start:\n\2}\n", OF_X86_64.sub("", MACHINE.sub("", text))))
+    text = OF_ITS_SYSTEM.sub("", BEGINS.sub(r"\1\2}\n", OF_X86_64.sub("", MACHINE.sub("", text))))
     text = QUOTED.sub(lambda name: "@" + UNREADABLE.sub(".", name.group(1)), text)
     hold_to_the_rules(crate, text)
     path = OUT / f"{crate}.ll"

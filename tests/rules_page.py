@@ -123,9 +123,9 @@ AGAIN, BESIDE = "exact_spline", "AnyArithmetic"
 
 MODULE = re.compile(r"pub mod (\w+)")
 DEFINITION = re.compile(r"\s*(?:(?:abbrev|unfoldable)(?: pub)?|pub record) (\S+)")
-USE = re.compile(r"use Rattle·(\w+)(?:·specs)?\.specs\.(\w+)")
-IMPORTED = re.compile(r"use Rattle·(\w+?)(?:·specs)?\.specs\.([\w.-]+?)\.\{([^}]*)\}")
-RENAMED = re.compile(r"use Rattle·[^\s{]+ as ")
+USE = re.compile(r"use Rattle\.(?!std\.)(\w+)\.specs\.(\w+)")
+IMPORTED = re.compile(r"use Rattle\.(?!std\.)(\w+)\.specs\.([\w.-]+?)\.\{([^}]*)\}")
+RENAMED = re.compile(r"use Rattle\.(?!std\.)[^\s{]+ as ")
 CODE = re.compile(r"`([^` ]+)`")
 
 # Where a crate's types stand, which its code declares.
@@ -145,13 +145,13 @@ DOUBLES_ROW = "hullashlar_soft_add"
 # Of a file of definitions: the words of a definition, and what binds a name in it.
 COMMENT = re.compile(r"--.*")
 SCOPE = re.compile(r" *module _ ")
-FIELD_OF = re.compile(r"(?<=[\s(])\.\S+")
+FIELD_OF = re.compile(r"(?<=[\w')])\.\w[\w']*")
 WORD = re.compile(r"[^\s(){};,]+")
 BINDS = re.compile(r"[({]([^(){}:]+) :|λ ([^.]+)\.|let (\S+) |pub (\S+) :|(\S+) =")
 
 # Of the code of the exports and of the headers.
-GHOST_USE = re.compile(r"ghost use Rattle·(\w+?)(?:·specs)?\.specs\.(\w+)\.\{([^}]*)\}")
-EXPORT = re.compile(r'pub extern "C" fn (\w+)\(.*?ensures \{ λ r\.\s*⌜ (\w+)', re.S)
+GHOST_USE = re.compile(r"ghost use Rattle\.(\w+)\.specs\.(\w+)\.\{([^}]*)\}")
+EXPORT = re.compile(r'pub extern "C" fn (\w+)\(.*?ensures \{ (\w+)', re.S)
 DECLARED_CALL = re.compile(r"^uint\d+_t (hullashlar_\w+)\(", re.M)
 UNNAMED = re.compile(r"\brefus\w+(?: \w+)? by \d+\b(?! \(\w+\)|, | to )", re.I)
 REFUSAL_NAME = re.compile(r"HULLASHLAR_REFUSED_(\w+) = (\d+)")
@@ -268,7 +268,7 @@ def stands_on_directly():
             sides = [line.split(" =")[0] for line in body.splitlines()[2:] if line.split()[0] == name and " =" in line]
             local = around | words_bound(body) | {word for side in sides for word in WORD.findall(side)}
             words = set(WORD.findall(FIELD_OF.sub("", body))) - local
-            found[crate, file, name] = {known[word] for word in known if word != name and {word, word.strip("_")} & words}
+            found[crate, file, name] = {known[word] for word in known if word != name and {word, word.strip("◌")} & words}
     return found
 
 

@@ -8,62 +8,62 @@ from repository import Repository
 
 # The definition that says what each public call refuses: its file, and its name there.
 DEFINED = {
-    "axis_curve::moments": "rules/Calls moments-refusal",
-    "axis_curve::curve": "rules/Calls curve-refusal",
-    "axis_curve::knot_slopes": "rules/Calls slopes-refusal",
-    "tensor::build": "rules/Calls build-refusal",
-    "tensor::change": "rules/Calls change-refusal",
-    "tensor_verify::verify": "tensor_verify/Verify verify-refusal",
-    "query_full::query": "rules/Calls query-refusal",
-    "query_quick::quick_query": "rules/Calls quick-query-refusal",
-    "query_even::even_query": "rules/EvenCalls even-query-refusal",
-    "query_direct::direct_query": "query_direct/DirectCalls direct-query-refusal",
-    "query_profile::even_profile": "query_profile/ProfileCalls even-profile-refusal",
-    "query_many::quick_queries": "query_many/ManyCalls queries-refusal",
-    "query_many::direct_queries": "query_many/ManyCalls queries-refusal",
-    "step_axis::exact_index": "rules/StepCalls exact-refusal",
-    "step_axis::locate_axis": "rules/StepCalls axis-refusal",
-    "step_axis::locate_step_index": "rules/StepCalls step-refusal",
-    "step_surface::stepped": "rules/StepCalls stepped-refusal",
-    "step_many::stepped_many": "step_many/ManySteps stepped-many-refusal",
-    "sheet_read::read": "sheet_read/Read read-refusal",
-    "sheet_read::read_edition_1": "sheet_read/Read read-edition-1-refusal",
-    "sheet_build::tensor_of_sheet": "sheet_build/SheetTensor sheet-tensor-refusal",
-    "sheet_write::write": "sheet_write/Write write-refusal",
-    "sheet_surface::surface": "sheet_surface/SheetSurface surface-refusal",
-    "program_sheet_text::sheet_text": "program_sheet_text/SheetText lent-refusal",
-    "device_cell::cell_value": "device_cell/DeviceCell cell-refusal",
+    "axis_curve::moments": "rules/Calls moments_refusal",
+    "axis_curve::curve": "rules/Calls curve_refusal",
+    "axis_curve::knot_slopes": "rules/Calls slopes_refusal",
+    "tensor::build": "rules/Calls build_refusal",
+    "tensor::change": "rules/Calls change_refusal",
+    "tensor_verify::verify": "tensor_verify/Verify verify_refusal",
+    "query_full::query": "rules/Calls query_refusal",
+    "query_quick::quick_query": "rules/Calls quick_query_refusal",
+    "query_even::even_query": "rules/EvenCalls even_query_refusal",
+    "query_direct::direct_query": "query_direct/DirectCalls direct_query_refusal",
+    "query_profile::even_profile": "query_profile/ProfileCalls even_profile_refusal",
+    "query_many::quick_queries": "query_many/ManyCalls queries_refusal",
+    "query_many::direct_queries": "query_many/ManyCalls queries_refusal",
+    "step_axis::exact_index": "rules/StepCalls exact_refusal",
+    "step_axis::locate_axis": "rules/StepCalls axis_refusal",
+    "step_axis::locate_step_index": "rules/StepCalls step_refusal",
+    "step_surface::stepped": "rules/StepCalls stepped_refusal",
+    "step_many::stepped_many": "step_many/ManySteps stepped_many_refusal",
+    "sheet_read::read": "sheet_read/Read read_refusal",
+    "sheet_read::read_edition_1": "sheet_read/Read read_edition_1_refusal",
+    "sheet_build::tensor_of_sheet": "sheet_build/SheetTensor sheet_tensor_refusal",
+    "sheet_write::write": "sheet_write/Write write_refusal",
+    "sheet_surface::surface": "sheet_surface/SheetSurface surface_refusal",
+    "program_sheet_text::sheet_text": "program_sheet_text/SheetText lent_refusal",
+    "device_cell::cell_value": "device_cell/DeviceCell cell_refusal",
     "device_cursor::Cursor::start": "",
-    "device_cursor::Cursor::next": "device_cursor/DeviceCurve next-refusal",
-    "program_device_text::device_text": "program_device_text/DeviceText device-text-refusal",
+    "device_cursor::Cursor::next": "device_cursor/DeviceCurve next_refusal",
+    "program_device_text::device_text": "program_device_text/DeviceText device_text_refusal",
     "report::report_of_bytes": "",
-    "program_report_text::report_text": "program_report_text/ReportText report-text-refusal",
+    "program_report_text::report_text": "program_report_text/ReportText report_text_refusal",
 }
 
 # Each exported call: the call that it hands over to, and the definition of what the host itself refuses before; of the device it is 4 alone.
 EXPORTED = {
-    "hullashlar_moments": ("axis_curve::moments", "c_refusals/OwnRefusals moments-own-rows"),
-    "hullashlar_curve": ("axis_curve::curve", "c_refusals/OwnRefusals curve-own-rows"),
+    "hullashlar_moments": ("axis_curve::moments", "c_refusals/OwnRefusals moments_own_rows"),
+    "hullashlar_curve": ("axis_curve::curve", "c_refusals/OwnRefusals curve_own_rows"),
     "hullashlar_slopes": ("axis_curve::knot_slopes", ""),
-    "hullashlar_build": ("tensor::build", "c_refusals/OwnRefusals build-own-rows"),
-    "hullashlar_change": ("tensor::change", "c_refusals/OwnRefusals change-own-rows"),
-    "hullashlar_verify": ("tensor_verify::verify", "c_verify/VerifyExports verify-own-rows"),
-    "hullashlar_query": ("query_full::query", "c_refusals/OwnRefusals query-own-rows"),
-    "hullashlar_quick_query": ("query_quick::quick_query", "c_refusals/OwnRefusals query-own-rows"),
-    "hullashlar_even_query": ("query_even::even_query", "c_refusals/OwnRefusals even-query-own-rows"),
-    "hullashlar_direct_query": ("query_direct::direct_query", "c_refusals/OwnRefusals query-own-rows"),
-    "hullashlar_even_profile": ("query_profile::even_profile", "c_profile/ProfileExports even-profile-own-rows"),
-    "hullashlar_quick_queries": ("query_many::quick_queries", "c_many/ManyExports queries-own-rows"),
-    "hullashlar_direct_queries": ("query_many::direct_queries", "c_many/ManyExports queries-own-rows"),
-    "hullashlar_read": ("sheet_read::read", "c_refusals/OwnRefusals read-own-refusal"),
-    "hullashlar_read_edition_1": ("sheet_read::read_edition_1", "c_refusals/OwnRefusals read-edition-1-own-refusal"),
-    "hullashlar_sheet_tensor": ("sheet_build::tensor_of_sheet", "c_refusals/OwnRefusals sheet-tensor-own-refusal"),
-    "hullashlar_write": ("sheet_write::write", "c_refusals/OwnRefusals write-own-rows"),
-    "hullashlar_exact_index": ("step_axis::exact_index", "c_step/StepExports exact-own-rows"),
-    "hullashlar_locate_axis": ("step_axis::locate_axis", "c_step/StepExports axis-own-rows"),
-    "hullashlar_locate_step_index": ("step_axis::locate_step_index", "c_step/StepExports step-own-rows"),
-    "hullashlar_stepped": ("step_surface::stepped", "c_step/StepExports stepped-own-rows"),
-    "hullashlar_stepped_many": ("step_many::stepped_many", "c_step_many/ManyStepExports many-own-rows"),
+    "hullashlar_build": ("tensor::build", "c_refusals/OwnRefusals build_own_rows"),
+    "hullashlar_change": ("tensor::change", "c_refusals/OwnRefusals change_own_rows"),
+    "hullashlar_verify": ("tensor_verify::verify", "c_verify/VerifyExports verify_own_rows"),
+    "hullashlar_query": ("query_full::query", "c_refusals/OwnRefusals query_own_rows"),
+    "hullashlar_quick_query": ("query_quick::quick_query", "c_refusals/OwnRefusals query_own_rows"),
+    "hullashlar_even_query": ("query_even::even_query", "c_refusals/OwnRefusals even_query_own_rows"),
+    "hullashlar_direct_query": ("query_direct::direct_query", "c_refusals/OwnRefusals query_own_rows"),
+    "hullashlar_even_profile": ("query_profile::even_profile", "c_profile/ProfileExports even_profile_own_rows"),
+    "hullashlar_quick_queries": ("query_many::quick_queries", "c_many/ManyExports queries_own_rows"),
+    "hullashlar_direct_queries": ("query_many::direct_queries", "c_many/ManyExports queries_own_rows"),
+    "hullashlar_read": ("sheet_read::read", "c_refusals/OwnRefusals read_own_refusal"),
+    "hullashlar_read_edition_1": ("sheet_read::read_edition_1", "c_refusals/OwnRefusals read_edition_1_own_refusal"),
+    "hullashlar_sheet_tensor": ("sheet_build::tensor_of_sheet", "c_refusals/OwnRefusals sheet_tensor_own_refusal"),
+    "hullashlar_write": ("sheet_write::write", "c_refusals/OwnRefusals write_own_rows"),
+    "hullashlar_exact_index": ("step_axis::exact_index", "c_step/StepExports exact_own_rows"),
+    "hullashlar_locate_axis": ("step_axis::locate_axis", "c_step/StepExports axis_own_rows"),
+    "hullashlar_locate_step_index": ("step_axis::locate_step_index", "c_step/StepExports step_own_rows"),
+    "hullashlar_stepped": ("step_surface::stepped", "c_step/StepExports stepped_own_rows"),
+    "hullashlar_stepped_many": ("step_many::stepped_many", "c_step_many/ManyStepExports many_own_rows"),
     "hullashlar_cell_value": ("device_cell::cell_value", "4"),
     "hullashlar_cursor_next": ("device_cursor::Cursor::next", "4"),
     "hullashlar_surface": ("sheet_surface::surface", ""),
@@ -72,9 +72,9 @@ EXPORTED = {
 # What goes through the fields of a sheet, axis after axis, or builds from its parts and asks; Faults, SheetTensor and SheetSurface say it.
 READING = [11, 12, 1, 2, 13, 22, 3, 14]
 BY_RECURSION = {
-    "sheet-refusal": READING,
-    "edition-1-refusal": [number for number in READING if number != 22],
-    "building-refusal": [7, 8, 9, 10],
+    "sheet_refusal": READING,
+    "edition_1_refusal": [number for number in READING if number != 22],
+    "building_refusal": [7, 8, 9, 10],
     "asked": [7, 18, 10],
 }
 
@@ -88,9 +88,9 @@ def body(text: str, name: str) -> str:
 
 
 def tree(text: str) -> list:
-    """The brackets of a definition as lists of words."""
+    """The brackets of a definition as lists of words; what a field is taken of stands for it."""
     stack: list[list] = [[]]
-    for token in re.findall(r"[(){}]|[^\s(){}]+", re.sub(r"--.*", "", text)):
+    for token in re.findall(r"[(){}]|[^\s(){}]+", re.sub(r"--.*|(?<=[\w')])\.\w+", "", text)):
         if token in "({":
             stack.append([])
         elif token in ")}":
@@ -137,7 +137,7 @@ class Definitions:
         if said[0] == "cond" and len(said) == 4:
             first, second = self.of(file, said[2]), self.of(file, said[3])
             return second + first if isinstance(said[3], str) and said[3].isdigit() else first + second
-        if said[0] in ("or-else", "refused-first", "lowest", "after"):
+        if said[0] in ("or_else", "refused_first", "lowest", "after"):
             return [number for part in said[1:] for number in self.of(file, part)]
         if said[0] == "row":
             return [int(said[1])]

@@ -91,7 +91,7 @@ def constant(repository: Repository, name: str) -> int | None:
     for file in repository.matching(r"crates/\w+/specs/\w+\.antt"):
         match = re.search(rf"^{re.escape(name)} = ([\w +*()-]+)$", repository.text(file), re.M)
         if match:
-            said = re.sub(r"[a-z][\w-]*", lambda word: str(constant(repository, word[0])), match[1])
+            said = re.sub(r"[a-z]\w*", lambda word: str(constant(repository, word[0])), match[1])
             return eval(said) if re.fullmatch(r"[\d +*()]+", said) else None
     return None
 
@@ -167,9 +167,9 @@ COUNTED: list[tuple[str, str, Callable[[Repository], set[int]]]] = [
     ("bytes of scratch", r"\bscratch #, the two buffers", in_bytes("MOST_SCRATCH")),
     ("bytes of two buffers", r"\btwo buffers of a sheet #", in_bytes("BUFFER", "BUFFER")),
     ("bytes together", r"\blargest grid takes # bytes|\btogether # ?\.", in_bytes("TENSOR", "MOST_SCRATCH", "BUFFER", "BUFFER")),
-    ("bytes of the text of a sheet", r"\b# bytes (?:that `sheet_text` asks|are enough for the text of any sheet)", defined("text-length")),
-    ("bytes of the text of a curve", r"\b# bytes (?:that `device_text` asks|that it lends are enough for any curve)", defined("device-text-length")),
-    ("bytes of the text of a report", r"\b# bytes that `report_text` asks", defined("report-length")),
+    ("bytes of the text of a sheet", r"\b# bytes (?:that `sheet_text` asks|are enough for the text of any sheet)", defined("text_length")),
+    ("bytes of the text of a curve", r"\b# bytes (?:that `device_text` asks|that it lends are enough for any curve)", defined("device_text_length")),
+    ("bytes of the text of a report", r"\b# bytes that `report_text` asks", defined("report_length")),
     ("cases under memcheck", r"`make memcheck` makes # cases", option("memcheck", "cases")),
     ("cases under each float setting", r"`make float-settings` makes # cases", option("float-settings", "settings")),
     ("rows of docs/TRACE.md", r"\bThen # rows", traced),
@@ -188,7 +188,7 @@ SAME: list[tuple[str, str]] = [
 ]
 
 # A figure with the definition that it is in brackets behind it.
-BESIDE = re.compile(r"(?<![\d,.^−-])(?<! to )(\d+(?:,\d{3})*)(?: [a-z]+)? \(`([a-z][a-z-]+)`[;,)]")
+BESIDE = re.compile(r"(?<![\d,.^−-])(?<! to )(\d+(?:,\d{3})*)(?: [a-z]+)? \(`([a-z][a-z_]+)`[;,)]")
 
 
 def places(repository: Repository) -> list[str]:

@@ -90,9 +90,14 @@ def constant_exists(repository: Repository, word: str) -> bool:
 
 
 def definition_exists(repository: Repository, word: str) -> bool:
-    """A definition or a theorem; a make target, a processor that archives are made for, or a folder has a name of this form too."""
+    return word in repository.definitions
+
+
+def name_exists(repository: Repository, word: str) -> bool:
+    """A name of several parts: of a definition, a theorem or the code; a make target, a processor that archives are made for, or a folder has one too."""
     processors = re.findall(r'"([a-z0-9-]+)"', repository.text("firmware/make_archives.py"))
-    return word in repository.definitions or word in repository.targets or word in processors or path_exists(repository, word)
+    known = word in repository.targets or word in processors or path_exists(repository, word)
+    return known or definition_exists(repository, word) or word_exists(repository, word)
 
 
 def type_exists(repository: Repository, word: str) -> bool:
@@ -142,7 +147,7 @@ CLASSES: list[tuple[str, Known, str]] = [
     (r".*/.*", path_or_edit, "no file and no edit"),
     (SUFFIX.pattern, path_exists, "no file"),
     (r".*::.*", item_exists, "no item of the code"),
-    (r"[^\W\d_][\w′]*(?:-[\w′]+)+|_\W_|\W", definition_exists, "no definition and no theorem"),
+    (r"[^\W\d_][\w']*(?:[-_][\w']+)+|◌\W◌|\W", name_exists, "no definition, no theorem and no name of the code"),
     (r"[A-Z]\w*", type_exists, "no record and no type"),
     (r"\w+(?:\.\w+)+", parts_exist, "no name of the code"),
     (r"[a-z]+_", begins_a_crate, "no beginning of a crate's name"),
@@ -161,7 +166,7 @@ PLAIN: list[tuple[re.Pattern, Known, str]] = [
 
 def formula_fault(repository: Repository, text: str) -> str | None:
     """What is wrong with a formula of definitions: a name in it, of several parts, that none of them has."""
-    names = re.findall(r"(?<![\w-])(?:[a-z]+(?:-[a-z]+)+|(?:[A-Z][a-z]+){2,})(?![\w-])", text) if re.search("[≡→]", text) else []
+    names = re.findall(r"(?<![\w.-])(?:[a-z]+(?:_[a-z]+)+|(?:[A-Z][a-z]+){2,})(?![\w-])", text) if re.search("[≡→]", text) else []
     unknown = [name for name in names if not definition_exists(repository, name)]
     return f"`{unknown[0]}` is no definition" if unknown else None
 

@@ -10,7 +10,7 @@ from repository import Fault, Repository, line_of
 
 # What words say for the refusals of a reader and of a build.
 SAID = [
-    (r"the same numbers without 22", [4, *BY_RECURSION["edition-1-refusal"]]),
+    (r"the same numbers without 22", [4, *BY_RECURSION["edition_1_refusal"]]),
     (r"what (?:the reader|a read) refuses|the reader's(?! \d)|the sheet's fault|[Aa] fault of the sheet", READING),
     (r"as a read does", [4, *READING]),
     (r"the build's(?! \d)|what the build refuses", [5, 7, 8, 9, 10]),
@@ -92,7 +92,7 @@ def unknown_calls(repository: Repository) -> Iterator[Fault]:
 def export_faults(repository: Repository, definitions: Definitions) -> Iterator[Fault]:
     """The comments of the exports in the code: the order of the call or of the export, and behind it which numbers are the host's own."""
     file = "crates/hullashlar/src/lib.rt"
-    comment = re.compile(r"((?:^// .*\n)+)#\[no_mangle\]\npub extern \"C\" fn (\w+)", re.M)
+    comment = re.compile(r"((?:^// .*\n)+)#\[unsafe\(no_mangle\)\]\npub extern \"C\" fn (\w+)", re.M)
     for match in comment.finditer(repository.text(file)):
         line = line_of(repository.text(file), match.start(2))
         words, export = refusing_words(re.sub(r"\n?// ", " ", match[1])), match[2]
@@ -139,5 +139,5 @@ def chapter_faults(repository: Repository, definitions: Definitions, name: str) 
             begun = []
         if heading := re.match(r"#+ (\w+)$", text):
             file = next(iter(repository.matching(rf"crates/\w+/specs/{heading[1]}\.antt")), "")
-        if match := re.match(r"- Refuses? \(`([\w-]+-refusal)`[^)]*\)[^:]*:(.*)", text):
+        if match := re.match(r"- Refuses? \(`(\w+_refusal)`[^)]*\)[^:]*:(.*)", text):
             begun = [line, match[1], match[2]]

@@ -24,7 +24,7 @@ def promised(repository: Repository) -> dict[str, str]:
 
 
 def first_record(text: str) -> str:
-    match = re.search(r"⌜ (\w+)", text)
+    match = re.search(r"(?:requires|ensures)(?: \w+)? \{ (\w+)", text)
     return match[1] if match else ""
 
 

@@ -10,10 +10,9 @@ from typing import Iterator, NamedTuple
 # Folders that hold what is made, and nothing that is written; of those that begin with a point one alone is ours.
 MADE = re.compile(r"(?:.*/)?(?:target|__pycache__|venv|[\w.]+\.egg-info|\.(?!ci$)[\w-]+)|python/build|python/hullashlar/proved")
 
-# The notes of what landed keep the names and the figures of their day.
-NOTES = "docs/landings/"
+# The notes of what landed, and of the port, keep the names and the figures of their day.
+NOTES = ("docs/landings/", "docs/PORT.md")
 
-WORD = re.compile(r"[^\W\d][\w·′-]*")
 CODE_WORD = re.compile(r"`([^`]+)`")
 
 
@@ -154,7 +153,7 @@ class Repository:
     def crates(self) -> dict[str, list[str]]:
         """The crates in their order, each with those that it stands on."""
         lines = [line.split(":") for _, line in self.lines("crates.txt") if ":" in line and not line.startswith("#")]
-        return {name: over.split() for name, over in lines}
+        return {name.removesuffix(" staticlib"): over.split() for name, over in lines}
 
     @cached_property
     def items(self) -> dict[str, set[str]]:

@@ -14,7 +14,7 @@ ROOT = HERE.parent.parent
 OUT = ROOT / "target" / "fuzz"
 sys.dont_write_bytecode = True
 sys.path.insert(0, str(ROOT / "firmware"))
-from module import WORDS, X86_64, hold_to_the_archive, kept, run, tool  # noqa: E402
+from module import CPU, WORDS, X86_64, hold_to_the_archive, kept, run, tool  # noqa: E402
 
 CRATE = "hullashlar_c"
 COVERAGE = "-fsanitize-coverage=inline-8bit-counters,pc-table,trace-cmp"
@@ -39,7 +39,7 @@ def compiled_archive():
 def program(name):
     """A program's object with its main, its reads and its writes under other names."""
     folder = ROOT / "crates" / name
-    run(["rt", "run"], cwd=folder, stdin=subprocess.DEVNULL, stdout=subprocess.DEVNULL)
+    run(["rt", "run", *CPU], cwd=folder, stdin=subprocess.DEVNULL, stdout=subprocess.DEVNULL)
     code = OUT / f"{name}.o"
     names = {"main": f"{name}_main", "read": "program_read", "write": "program_write"}
     run(["objcopy", *(f"--redefine-sym={old}={new}" for old, new in names.items()), folder / "out" / f"{name}.o", code])

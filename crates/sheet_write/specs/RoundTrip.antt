@@ -6,7 +6,7 @@
 -- 3. What is written is read back, all parts of it.
 -- 4. An accepted sheet whose parts pass the checks is written back in its own edition, byte by byte.
 --
--- The checks are those of `no-sheet-refusal`: the build's but for 5 and 10, which have no meaning here.
+-- The checks are those of `no_sheet_refusal`: the build's but for 5 and 10, which have no meaning here.
 -- They cannot be left out of 2 and 4: every pattern of a NaN is read as the one NaN, so two sheets may have the same parts.
 -- Such parts do not pass: a NaN is refused by 7.
 use Rattle.std.specs.Prelude.{◌≡◌, cond, List, ℕ, ◌<◌, ◌≤◌, T, ltb, length, get_or, take, Float}
