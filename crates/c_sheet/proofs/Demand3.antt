@@ -5,7 +5,6 @@ use mathlib.Core.List.{List, [], ◌∷◌}
 use Prim.Native.Nat.{ℕ, ◌≤◌}
 use lib.ListN.{take, get_or}
 use lib.Ieee.{Float}
-use Rattle.rules.specs.Numbers.{at}
 use Rattle.rules.specs.Sizes.{Grid, knots_length, samples_length}
 use Rattle.rules.specs.Outside.{with_axes, ButForModes}
 use Rattle.rules.specs.declared.Axis.{Axis}

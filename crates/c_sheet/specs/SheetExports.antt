@@ -1,5 +1,5 @@
 -- The chapter SheetExports of docs/RULES.md: the exported calls of sheets, in the manner of CurveExports.
-use Rattle.std.specs.Prelude.{◌≡◌, List, [], ◌∷◌, ℕ, length, Float}
+use Rattle.std.specs.Prelude.{◌≡◌, List, [], ◌∷◌, ℕ, Float}
 use Rattle.rules.specs.Tensor.{tensor}
 use Rattle.rules.specs.Calls.{or_else, stored, scratch_after, counted}
 use Rattle.rules.specs.declared.Axis.{Axis}
