@@ -1,0 +1,30 @@
+-- Refused by the host, nothing is written (`none_written`); else each point has the answer of the quick query on the grid in its modes
+-- (`each-quick`), which `points-fit` gives what is required for.
+use mathlib.Core.Path.{refl, sym, ◌∙◌}
+use Rattle.many_points.proofs.Answered.{none_written, all_written}
+use Rattle.query_many.proofs.Answered.{each_quick}
+use Rattle.c_query.proofs.Given.{axes_given}
+use Rattle.c_many.proofs.Given.{few, points_fit}
+use borrow.Author.Rules.{rules}
+use Rattle.c_many.proofs.quick_queries.Goals as goal
+
+pub returns-then-refusal-ne0 : goal.returns-then-refusal-ne0
+returns-then-refusal-ne0 c = none_written _ _ _ _ _ c.queries_own_refusal-refusal.ensures c.if-refusal-ne0.true
+
+pub answer_each-requires : goal.answer_each-requires
+answer_each-requires c = points_fit _ _ _ _ _ _ _ _ _ (sym c.queries_own_refusal-refusal.ensures ∙ c.if-refusal-ne0.false)
+
+pub returns : goal.returns
+returns c =
+    let none = sym c.queries_own_refusal-refusal.ensures ∙ c.if-refusal-ne0.false in
+    let s = c.args in
+    let fit =
+    points_fit s.axes s.points.now s.modes.now s.knots.now s.tensor.now s.coordinates.now s.values.now
+    s.labels.now s.refusals.now none in
+    let are =
+    axes_given s.axes s.points.now s.modes.now
+    (few s.axes s.points.now s.modes.now s.knots.now s.tensor.now s.coordinates.now s.values.now
+    s.labels.now s.refusals.now none) in
+    all_written _ s.axes s.coordinates.now _ _
+    (each_quick s.axes s.points.now s.modes.now s.knots.now s.tensor.now s.coordinates.now _ are _ fit.fits)
+    _ _ _ c.answer_each.ensures _ none _ _ _ refl
