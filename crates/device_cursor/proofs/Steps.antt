@@ -7,7 +7,7 @@ use native.Mathlib.Omega.{arith}
 use lib.Dec.{ltb}
 use lib.IntN.{ℤ, pos}
 use borrow.Author.Tests.{lt-ltb, le-ltb, ltb-false}
-use Rattle.device_cell.specs.DeviceCell.{cell_number, valued}
+use Rattle.device_cell.specs.DeviceCell.{cell_number}
 use Rattle.device_cell.proofs.Answers.{no_value}
 use Rattle.device_cursor.specs.DeviceCurve.{
   cell_at,

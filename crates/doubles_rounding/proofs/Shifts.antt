@@ -26,7 +26,7 @@ use lib.Count.{count_leading_zeros, leading_top, leading_unique}
 use lib.Ieee.{Format, binary64, prec, hid, size}
 use lib.Ieee.Digits.{size-le}
 use lib.Ieee.Nearest.{closest, closest_same}
-use lib.Ieee.Order.{drop, kept}
+use lib.Ieee.Order.{drop}
 use Rattle.doubles_patterns.specs.Patterns.{word, top_place, second_place, leading, infinity, capped, pattern}
 use Rattle.doubles_rounding.specs.Shifted.{Shifted}
 use Rattle.doubles_patterns.proofs.Sizes.{le_or_lt, digits_between}

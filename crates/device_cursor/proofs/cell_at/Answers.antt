@@ -1,7 +1,6 @@
 -- The 16 bytes of cell i as four numbers in the order p0, p1, d0, d1; all of them lie within the curve.
 use mir.Syntax.{w64}
 use mir.ValLaws.{to_z-of_z}
-use borrow.Author.Rules.{rules}
 use Rattle.device_cursor.proofs.cell_at.Goals as goal
 
 pub returns : goal.returns

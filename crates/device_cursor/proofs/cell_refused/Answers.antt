@@ -1,6 +1,5 @@
 -- A flag for each of the four numbers of the cell, laid over each other.
 use Rattle.device_cursor.proofs.Judged.{cell_flags}
-use borrow.Author.Rules.{rules}
 use Rattle.device_cursor.proofs.cell_refused.Goals as goal
 
 pub returns : goal.returns

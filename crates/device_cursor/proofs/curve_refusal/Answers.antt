@@ -2,7 +2,6 @@
 use mathlib.Core.Path.{sym, ◌∙◌}
 use borrow.Author.Tests.{not-true, not-false}
 use Rattle.device_cursor.proofs.Judged.{broken_length, out_of_range, good}
-use borrow.Author.Rules.{rules}
 use Rattle.device_cursor.proofs.curve_refusal.Goals as goal
 
 pub returns-then-some_cell_refused : goal.returns-then-some_cell_refused

@@ -1,7 +1,6 @@
 -- Little-endian: the four bytes times 1, 256, 65,536 and 16,777,216, whose sum is below 2 ^ 32. All four lie within the curve.
 use native.Mathlib.Omega.{arith}
 use Rattle.device_cursor.specs.DeviceCurve.{four_bytes}
-use borrow.Author.Rules.{rules}
 use Rattle.device_cursor.proofs.four_bytes.Goals as goal
 
 pub returns : goal.returns

@@ -1,5 +1,4 @@
 -- Four slopes, each with a flag of its own, laid over each other.
-use borrow.Author.Rules.{rules}
 use Rattle.device_cursor.proofs.four_slopes_refused.Goals as goal
 
 pub returns : goal.returns

@@ -6,7 +6,6 @@ use lib.ListN.{length}
 use Rattle.device_cursor.specs.DeviceCurve.{curve_refusal}
 use Rattle.device_cursor.proofs.Judged.{Whole, length_known}
 use Rattle.device_cursor.proofs.Steps.{curve_refused, past_the_end, not_refused}
-use borrow.Author.Rules.{rules}
 use Rattle.device_cursor.proofs.next_refusal.Goals as goal
 use Rattle.device_cursor.proofs.next_refusal.Goals.{Else-refusal-ne0}
 

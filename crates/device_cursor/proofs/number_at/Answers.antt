@@ -9,7 +9,6 @@ use mir.ValLaws.{to_z_pos, to_z-of_z}
 use Rattle.base_integers.proofs.Sizes.{sized_pos, sized_sub, sized_fits}
 use Rattle.device_cursor.specs.DeviceCurve.{signed}
 use Rattle.device_cursor.proofs.Judged.{low, high}
-use borrow.Author.Rules.{rules}
 use Rattle.device_cursor.proofs.number_at.Goals as goal
 use Rattle.device_cursor.proofs.number_at.Goals.{Else-bits-lt2147483648}
 

@@ -4,7 +4,6 @@ use mir.Syntax.{w32}
 use mir.ValLaws.{to_z-of_z}
 use Rattle.device_cell.specs.DeviceCell.{cell_number}
 use Rattle.device_cell.specs.declared.Cell.{Cell}
-use borrow.Author.Rules.{rules}
 use Rattle.device_cursor.proofs.number_of.Goals as goal
 
 pub cell_number-requires : goal.cell_number-requires

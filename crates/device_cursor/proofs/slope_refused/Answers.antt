@@ -6,7 +6,6 @@ use native.Mathlib.Omega.{arith}
 use Rattle.device_cell.specs.DeviceCell.{slope_in_range}
 use Rattle.device_cursor.specs.DeviceCurve.{signed}
 use Rattle.device_cursor.proofs.Lifted.{lifted_above}
-use borrow.Author.Rules.{rules}
 use Rattle.device_cursor.proofs.slope_refused.Goals as goal
 
 pub returns : goal.returns

@@ -1,6 +1,5 @@
-use Prim.Native.Nat.{◌≤◌, ◌-◌}
 use native.Mathlib.Omega.{arith}
-use Rattle.device_cursor.proofs.Columns.{Kept, kept_first, kept_next, kept_last}
+use Rattle.device_cursor.proofs.Columns.{kept_first, kept_next, kept_last}
 use borrow.Author.Rules.{rules}
 use Rattle.device_cursor.proofs.some_of_fours_refused.Goals as goal
 

@@ -1,8 +1,6 @@
 -- Each flag says whether the column of its number is out of range in a cell below `4 * i`. The measure is the fours left.
 use Prim.Native.Nat.{◌≤◌, ◌-◌}
-use native.Mathlib.Omega.{arith}
-use Rattle.device_cursor.proofs.Columns.{Kept, kept_first, kept_next, kept_last}
-use borrow.Author.Rules.{rules}
+use Rattle.device_cursor.proofs.Columns.{Kept}
 use Rattle.device_cursor.proofs.some_of_fours_refused.Given as goal
 
 abbrev pub invariant-loop-i : goal.invariant-loop-i

@@ -1,7 +1,6 @@
 -- Less, and then it is (`le-less`), or else as equality says (`le-other`).
 use mathlib.Core.Path.{sym, ◌∙◌}
 use Rattle.doubles_compared.proofs.Compared.{le_less, le_other}
-use borrow.Author.Rules.{rules}
 use Rattle.doubles_compared.proofs.at_most.Goals as goal
 
 pub returns-then-less : goal.returns-then-less

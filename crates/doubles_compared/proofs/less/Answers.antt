@@ -2,7 +2,6 @@
 -- minus they must not both be zero (`lt_up`).
 use native.Mathlib.Omega.{arith}
 use Rattle.doubles_compared.proofs.Compared.{nan_first, nan_second, lt_above, lt_down, lt_up, lt_below}
-use borrow.Author.Rules.{rules}
 use Rattle.doubles_compared.proofs.less.Goals as goal
 
 pub returns-then-p-gt9218868437227405312 : goal.returns-then-p-gt9218868437227405312

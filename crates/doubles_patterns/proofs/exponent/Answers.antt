@@ -4,7 +4,6 @@ use Prim.Native.Nat.{◌-◌, ◌/◌}
 use native.Mathlib.Omega.{arith}
 use Rattle.doubles_patterns.specs.Patterns.{leading, exponent_of}
 use Rattle.doubles_patterns.proofs.Magnitudes.{fields_of}
-use borrow.Author.Rules.{rules}
 use Rattle.doubles_patterns.proofs.exponent.Goals as goal
 
 pub returns-then-field-eq0 : goal.returns-then-field-eq0

@@ -1,7 +1,6 @@
 -- A plus is made a minus (`opposite-up`), and a minus a plus (`opposite-down`); the other places stay as they are.
 use native.Mathlib.Omega.{arith}
 use Rattle.doubles_patterns.proofs.Signs.{opposite_up, opposite_down}
-use borrow.Author.Rules.{rules}
 use Rattle.doubles_patterns.proofs.opposite.Goals as goal
 
 pub returns-then-b-lt9223372036854775808 : goal.returns-then-b-lt9223372036854775808

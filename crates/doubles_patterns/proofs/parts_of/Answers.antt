@@ -3,7 +3,6 @@
 use native.Mathlib.Omega.{arith}
 use lib.Count.{leading_le}
 use Rattle.doubles_patterns.proofs.Magnitudes.{places_up, raised_normal, raised_subnormal}
-use borrow.Author.Rules.{rules}
 use Rattle.doubles_patterns.proofs.parts_of.Goals as goal
 
 pub overflow_cast-up : goal.overflow_cast-up

@@ -1,6 +1,5 @@
 -- Where it says so, all four tests held; else it says nothing.
 use mathlib.Core.Bool.{false≢true}
-use borrow.Author.Rules.{rules}
 use Rattle.doubles_product.proofs.both_normal.Goals as goal
 
 pub returns-then-p-lt4503599627370496 : goal.returns-then-p-lt4503599627370496

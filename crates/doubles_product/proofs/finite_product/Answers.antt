@@ -2,7 +2,6 @@
 -- the signs are unlike.
 use native.Mathlib.Omega.{arith}
 use Rattle.doubles_product.proofs.Answers.{product_signed, product_nothing, product_zero, product_zero_back}
-use borrow.Author.Rules.{rules}
 use Rattle.doubles_product.proofs.finite_product.Goals as goal
 
 pub returns-then-p-eq0 : goal.returns-then-p-eq0

@@ -10,7 +10,6 @@ use Rattle.doubles_product.proofs.Answers.{
   product_special,
   at_zero,
 }
-use borrow.Author.Rules.{rules}
 use Rattle.doubles_product.proofs.infinite_product.Goals as goal
 
 pub returns-then-p-gt9218868437227405312 : goal.returns-then-p-gt9218868437227405312

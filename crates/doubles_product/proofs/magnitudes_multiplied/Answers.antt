@@ -3,7 +3,6 @@
 use mathlib.Core.Path.{◌∙◌}
 use native.Mathlib.Omega.{arith}
 use Rattle.doubles_product.proofs.Products.{product_large, product_is}
-use borrow.Author.Rules.{rules}
 use Rattle.doubles_product.proofs.magnitudes_multiplied.Goals as goal
 
 pub placed-requires : goal.placed-requires

@@ -9,7 +9,6 @@ use Rattle.doubles_patterns.specs.Patterns.{leading}
 use Rattle.doubles_patterns.proofs.Magnitudes.{raised_normal}
 use Rattle.doubles_rounding.proofs.Placing.{place_above}
 use Rattle.doubles_product.proofs.Products.{product_large, product_is}
-use borrow.Author.Rules.{rules}
 use Rattle.doubles_product.proofs.normals_multiplied.Goals as goal
 
 pub top_rounded-requires : goal.top_rounded-requires

@@ -1,7 +1,6 @@
 -- Two normal numbers have the product of their magnitudes with its sign (`product-signed`); all others are left to `other_product`.
 use native.Mathlib.Omega.{arith}
 use Rattle.doubles_product.proofs.Answers.{product_signed}
-use borrow.Author.Rules.{rules}
 use Rattle.doubles_product.proofs.product.Goals as goal
 
 pub normals_multiplied-requires : goal.normals_multiplied-requires

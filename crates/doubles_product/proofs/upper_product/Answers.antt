@@ -12,7 +12,6 @@ use Rattle.doubles_product.proofs.Halves.{
   product_exact,
   product_lost,
 }
-use borrow.Author.Rules.{rules}
 use Rattle.doubles_product.proofs.upper_product.Goals as goal
 
 pub overflow_mul-lowest : goal.overflow_mul-lowest

@@ -2,7 +2,6 @@
 -- else the magnitudes are divided. The sign is a minus where the signs are unlike.
 use native.Mathlib.Omega.{arith}
 use Rattle.doubles_quotient.proofs.Answers.{quotient_zeros, quotient_by_zero, quotient_nothing, quotient_signed}
-use borrow.Author.Rules.{rules}
 use Rattle.doubles_quotient.proofs.finite_quotient.Goals as goal
 
 pub returns-then-p-eq0 : goal.returns-then-p-eq0

@@ -2,7 +2,6 @@
 -- (`quotient-by-inf`), an infinity by a finite number an infinity (`quotient-of-inf`).
 use native.Mathlib.Omega.{arith}
 use Rattle.doubles_quotient.proofs.Answers.{quotient_nan, quotient_nan_back, quotient_by_inf, quotient_of_inf, quotient_infs}
-use borrow.Author.Rules.{rules}
 use Rattle.doubles_quotient.proofs.infinite_quotient.Goals as goal
 
 pub returns-then-p-gt9218868437227405312 : goal.returns-then-p-gt9218868437227405312

@@ -1,17 +1,5 @@
-use Prim.Native.Nat.{◌-◌}
 use native.Mathlib.Omega.{arith}
-use Rattle.doubles_quotient.proofs.Turns.{
-  Turn,
-  turn_first,
-  fits,
-  few_places,
-  turn_next,
-  turn_more,
-  quotient_below,
-  quotient_exact,
-  quotient_lost,
-}
-use borrow.Author.Rules.{rules}
+use Rattle.doubles_quotient.proofs.Turns.{turn_first, fits, few_places, turn_next, turn_more, quotient_below, quotient_exact, quotient_lost}
 use Rattle.doubles_quotient.proofs.long_division.Goals as goal
 
 pub loop-i-init : goal.loop-i-init

@@ -2,19 +2,7 @@
 -- digits are missing. The guess fits (`fits`), and where it leaves n or more the digit is one more (`turn_more`). At the end nothing is
 -- left (`quotient-exact`), or the odd number stands for what is (`quotient-lost`).
 use Prim.Native.Nat.{◌-◌}
-use native.Mathlib.Omega.{arith}
-use Rattle.doubles_quotient.proofs.Turns.{
-  Turn,
-  turn_first,
-  fits,
-  few_places,
-  turn_next,
-  turn_more,
-  quotient_below,
-  quotient_exact,
-  quotient_lost,
-}
-use borrow.Author.Rules.{rules}
+use Rattle.doubles_quotient.proofs.Turns.{Turn}
 use Rattle.doubles_quotient.proofs.long_division.Given as goal
 
 abbrev pub invariant-loop-i : goal.invariant-loop-i

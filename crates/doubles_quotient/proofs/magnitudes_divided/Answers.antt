@@ -4,7 +4,6 @@ use mathlib.Core.Path.{◌∙◌}
 use native.Mathlib.Omega.{arith}
 use Rattle.doubles_patterns.proofs.Magnitudes.{units_some}
 use Rattle.doubles_quotient.proofs.Quotients.{quotient_large, quotient_small, quotient_is}
-use borrow.Author.Rules.{rules}
 use Rattle.doubles_quotient.proofs.magnitudes_divided.Goals as goal
 
 pub overflow_mul-long_division : goal.overflow_mul-long_division

@@ -5,7 +5,6 @@ use native.Mathlib.Nat.{div-le_self}
 use native.Mathlib.Omega.{arith}
 use lib.Pow.{pow_pos}
 use Rattle.doubles_rounding.proofs.Placing.{up_again, standing_exact, standing_lost, standing_none, standing_far}
-use borrow.Author.Rules.{rules}
 use Rattle.doubles_rounding.proofs.moved_down.Goals as goal
 
 pub overflow_mul-result : goal.overflow_mul-result

@@ -1,7 +1,6 @@
 -- Below infinity's pattern the sum of exponent and digits is the pattern (`packed-under`); from there on it is infinity's (`packed-over`).
 use native.Mathlib.Omega.{arith}
 use Rattle.doubles_rounding.proofs.Shifts.{packed_under, packed_over}
-use borrow.Author.Rules.{rules}
 use Rattle.doubles_rounding.proofs.packed.Goals as goal
 
 pub returns-then-p-lt9218868437227405312 : goal.returns-then-p-lt9218868437227405312

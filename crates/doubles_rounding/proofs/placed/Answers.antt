@@ -5,7 +5,6 @@ use native.Mathlib.Omega.{arith}
 use lib.Dec.{lit<}
 use lib.Ieee.{binary64}
 use Rattle.doubles_rounding.proofs.Placing.{place_above, placed_down}
-use borrow.Author.Rules.{rules}
 use Rattle.doubles_rounding.proofs.placed.Goals as goal
 
 pub top_rounded-requires : goal.top_rounded-requires

@@ -1,7 +1,6 @@
 -- Moved up by `shift`, the digits that are kept stand above the last eleven places (`moved_to`), and packing them is rounding.
 use mathlib.Core.Path.{refl, sym, ◌∙◌}
 use Rattle.doubles_rounding.proofs.Shifts.{moved_to}
-use borrow.Author.Rules.{rules}
 use Rattle.doubles_rounding.proofs.rounded.Goals as goal
 
 pub returns : goal.returns

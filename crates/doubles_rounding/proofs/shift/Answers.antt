@@ -3,7 +3,6 @@ use mathlib.Core.Path.{refl}
 use native.Mathlib.Omega.{arith}
 use lib.Count.{leading_le}
 use Rattle.doubles_rounding.proofs.Shifts.{shifted_high, shifted_low}
-use borrow.Author.Rules.{rules}
 use Rattle.doubles_rounding.proofs.shift.Goals as goal
 
 pub overflow_cast-zeros : goal.overflow_cast-zeros

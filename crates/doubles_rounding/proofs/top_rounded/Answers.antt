@@ -3,7 +3,6 @@
 use mathlib.Core.Path.{◌∙◌}
 use native.Mathlib.Omega.{arith}
 use Rattle.doubles_rounding.proofs.Shifts.{packed_none, packed_one, shifted_none, shifted_one}
-use borrow.Author.Rules.{rules}
 use Rattle.doubles_rounding.proofs.top_rounded.Goals as goal
 
 pub returns-then-s-lt9223372036854775808 : goal.returns-then-s-lt9223372036854775808

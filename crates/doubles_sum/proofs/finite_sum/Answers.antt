@@ -7,7 +7,6 @@ use Rattle.doubles_patterns.specs.Patterns.{top_place, magnitude}
 use Rattle.doubles_patterns.proofs.Signs.{signed, signs_alike, signs_unlike}
 use Rattle.doubles_patterns.proofs.Magnitudes.{units_less}
 use Rattle.doubles_sum.proofs.Sums.{sum_of_alike, sum_of_unlike, sum_of_equal}
-use borrow.Author.Rules.{rules}
 use Rattle.doubles_sum.proofs.finite_sum.Goals as goal
 
 pub returns-then-a-b : goal.returns-then-a-b

@@ -2,7 +2,6 @@
 use mathlib.Core.Path.{refl}
 use native.Mathlib.Omega.{arith}
 use Rattle.doubles_sum.proofs.Sums.{sum_of_nan}
-use borrow.Author.Rules.{rules}
 use Rattle.doubles_sum.proofs.larger_first.Goals as goal
 
 pub returns-else-p-eq9218868437227405312 : goal.returns-else-p-eq9218868437227405312

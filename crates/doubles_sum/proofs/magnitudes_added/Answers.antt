@@ -3,7 +3,6 @@
 use mathlib.Core.Path.{◌∙◌}
 use native.Mathlib.Omega.{arith}
 use Rattle.doubles_sum.proofs.Combined.{exponents_of, aligned_most, sum_is, sum_high}
-use borrow.Author.Rules.{rules}
 use Rattle.doubles_sum.proofs.magnitudes_added.Goals as goal
 
 pub overflow_sub-e : goal.overflow_sub-e

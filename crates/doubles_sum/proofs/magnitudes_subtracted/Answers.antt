@@ -3,7 +3,6 @@
 use mathlib.Core.Path.{◌∙◌}
 use native.Mathlib.Omega.{arith}
 use Rattle.doubles_sum.proofs.Combined.{exponents_of, less_of, difference_is}
-use borrow.Author.Rules.{rules}
 use Rattle.doubles_sum.proofs.magnitudes_subtracted.Goals as goal
 
 pub overflow_sub-e : goal.overflow_sub-e

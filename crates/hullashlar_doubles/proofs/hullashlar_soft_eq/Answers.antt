@@ -1,6 +1,5 @@
 -- Whether a is equal to b, as a number.
 use Rattle.hullashlar_doubles.proofs.Truths.{as_one, as_none}
-use borrow.Author.Rules.{rules}
 use Rattle.hullashlar_doubles.proofs.hullashlar_soft_eq.Goals as goal
 
 pub returns-then-equal : goal.returns-then-equal

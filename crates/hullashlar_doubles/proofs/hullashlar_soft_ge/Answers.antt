@@ -1,6 +1,5 @@
 -- Whether a is at least b, as a number.
 use Rattle.hullashlar_doubles.proofs.Truths.{as_one, as_none}
-use borrow.Author.Rules.{rules}
 use Rattle.hullashlar_doubles.proofs.hullashlar_soft_ge.Goals as goal
 
 pub returns-then-at_most : goal.returns-then-at_most

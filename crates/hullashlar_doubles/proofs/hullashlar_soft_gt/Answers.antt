@@ -1,6 +1,5 @@
 -- Whether a is greater than b, as a number.
 use Rattle.hullashlar_doubles.proofs.Truths.{as_one, as_none}
-use borrow.Author.Rules.{rules}
 use Rattle.hullashlar_doubles.proofs.hullashlar_soft_gt.Goals as goal
 
 pub returns-then-less : goal.returns-then-less

@@ -9,7 +9,6 @@ use mir.ValLaws.{to_z-of_z}
 use Rattle.device_cursor.specs.DeviceCurve.{curve_refusal, last_cursor, next_refusal}
 use Rattle.device_cursor.proofs.Judged.{Whole, length_known}
 use Rattle.device_cursor.proofs.Steps.{passed, step_refused, step_given}
-use borrow.Author.Rules.{rules}
 use Rattle.device_cursor.proofs.Cursor.next.Goals as goal
 use Rattle.device_cursor.proofs.Cursor.next.Goals.{Else-refusal-ne0}
 
