@@ -35,7 +35,7 @@ knots_told c =
 past_knots : (c : Else-length_refused-2) → Past ((let given = c.args in
     queries_own_rows given.axes given.points.now given.modes.now given.knots.now given.tensor.now
     given.coordinates.now given.values.now given.labels.now given.refusals.now)) 6
-past_knots c answer e = ((axes_pass _ _ c.axes_own_sizes-found.ensures.refusal _ c.if-found-ne0.false (pass _ c.length_refused.ensures c.if-length_refused.false (pass _ ((rw (← c.axes_own_sizes-found.ensures.knots c.if-found-ne0.false) c.length_refused-2.ensures)) c.if-length_refused-2.false e))))
+past_knots c answer e = ((axes_pass _ _ c.axes_own_sizes-found.ensures.refusal _ c.if-found-ne0.false (pass _ c.length_refused.ensures c.if-length_refused.false (pass {b = length_refused (length c.args.knots.now) (knots_length (sizes_given c.args.axes c.args.points.now))} _ ((rw (← c.axes_own_sizes-found.ensures.knots c.if-found-ne0.false) c.length_refused-2.ensures)) c.if-length_refused-2.false e))))
 
 numbers_told : (c : After-length_refused-3) → let given =
     c.args in
@@ -47,12 +47,12 @@ numbers_told c =
 past_tensor : (c : Else-length_refused-3) → Past ((let given = c.args in
     queries_own_rows given.axes given.points.now given.modes.now given.knots.now given.tensor.now
     given.coordinates.now given.values.now given.labels.now given.refusals.now)) 7
-past_tensor c answer e = (((axes_pass _ _ c.axes_own_sizes-found.ensures.refusal _ c.if-found-ne0.false (pass _ c.length_refused.ensures c.if-length_refused.false (pass _ ((rw (← c.axes_own_sizes-found.ensures.knots c.if-found-ne0.false) c.length_refused-2.ensures)) c.if-length_refused-2.false (pass _ ((rw (← c.axes_own_sizes-found.ensures.numbers c.if-found-ne0.false) c.length_refused-3.ensures)) c.if-length_refused-3.false e))))))
+past_tensor c answer e = (((axes_pass _ _ c.axes_own_sizes-found.ensures.refusal _ c.if-found-ne0.false (pass _ c.length_refused.ensures c.if-length_refused.false (pass {b = length_refused (length c.args.knots.now) (knots_length (sizes_given c.args.axes c.args.points.now))} _ ((rw (← c.axes_own_sizes-found.ensures.knots c.if-found-ne0.false) c.length_refused-2.ensures)) c.if-length_refused-2.false (pass {b = length_refused (length c.args.tensor.now) (tensor_length (sizes_given c.args.axes c.args.points.now))} _ ((rw (← c.axes_own_sizes-found.ensures.numbers c.if-found-ne0.false) c.length_refused-3.ensures)) c.if-length_refused-3.false e))))))
 
 past_points : (c : Else-points_lengths_refused) → Past ((let given = c.args in
     queries_own_rows given.axes given.points.now given.modes.now given.knots.now given.tensor.now
     given.coordinates.now given.values.now given.labels.now given.refusals.now)) 8
-past_points c answer e = ((((axes_pass _ _ c.axes_own_sizes-found.ensures.refusal _ c.if-found-ne0.false (pass _ c.length_refused.ensures c.if-length_refused.false (pass _ ((rw (← c.axes_own_sizes-found.ensures.knots c.if-found-ne0.false) c.length_refused-2.ensures)) c.if-length_refused-2.false (pass _ ((rw (← c.axes_own_sizes-found.ensures.numbers c.if-found-ne0.false) c.length_refused-3.ensures)) c.if-length_refused-3.false (pass _ c.points_lengths_refused.ensures c.if-points_lengths_refused.false e))))))))
+past_points c answer e = ((((axes_pass _ _ c.axes_own_sizes-found.ensures.refusal _ c.if-found-ne0.false (pass _ c.length_refused.ensures c.if-length_refused.false (pass {b = length_refused (length c.args.knots.now) (knots_length (sizes_given c.args.axes c.args.points.now))} _ ((rw (← c.axes_own_sizes-found.ensures.knots c.if-found-ne0.false) c.length_refused-2.ensures)) c.if-length_refused-2.false (pass {b = length_refused (length c.args.tensor.now) (tensor_length (sizes_given c.args.axes c.args.points.now))} _ ((rw (← c.axes_own_sizes-found.ensures.numbers c.if-found-ne0.false) c.length_refused-3.ensures)) c.if-length_refused-3.false (pass _ c.points_lengths_refused.ensures c.if-points_lengths_refused.false e))))))))
 
 pub returns-then-found-ne0 : goal.returns-then-found-ne0
 unfolding queries_own_refusal
