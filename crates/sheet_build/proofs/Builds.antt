@@ -8,7 +8,7 @@ use lib.Ieee.{Float}
 use Rattle.rules.proofs.Tables.{length_table}
 use Rattle.rules.specs.Sizes.{Grid, knots_length, samples_length, tensor_length}
 use Rattle.rules.specs.Tensor.{tensor}
-use Rattle.rules.specs.Calls.{stored, counted, BuildPromise}
+use Rattle.rules.specs.Calls.{stored, BuildPromise}
 use Rattle.rules.specs.declared.Axis.{Axis}
 use Rattle.grid.specs.GridOfCall.{grid, sizes_of}
 use Rattle.sheet_read.specs.Read.{over}

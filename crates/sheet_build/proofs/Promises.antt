@@ -14,7 +14,7 @@ use Rattle.rules.proofs.Refused.{or_else_met, unchanged}
 use Rattle.grid_checks.proofs.Rows.{axes_few, in_range, exact}
 use Rattle.grid_codes.specs.Classes.{class, unread}
 use Rattle.grid_codes.proofs.Classed.{read_none}
-use Rattle.sheet_read.specs.Fields.{edition, axes, sheet_grid, sheet_samples}
+use Rattle.sheet_read.specs.Fields.{edition, sheet_grid, sheet_samples}
 use Rattle.sheet_read.specs.Faults.{sheet_refusal}
 use Rattle.sheet_read.specs.Read.{over, read_refusal, ReadPromise}
 use Rattle.sheet_read.specs.declared.ReadAnswer.{ReadAnswer}

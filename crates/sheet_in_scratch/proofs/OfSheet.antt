@@ -1,5 +1,5 @@
 -- The same of a sheet: its knots and its samples stand in the first places of their buffers, so its grid and its samples are built.
-use mathlib.Core.Path.{◌≡◌, sym, ap, ◌∙◌}
+use mathlib.Core.Path.{◌≡◌, sym, ◌∙◌}
 use mathlib.Core.Bool.{false}
 use mathlib.Core.List.{List}
 use Prim.Native.Nat.{ℕ, ◌-◌, ◌≤◌}
@@ -11,7 +11,6 @@ use Rattle.rules.specs.Numbers.{plus_zero, zeros}
 use Rattle.rules.specs.Sizes.{Grid, points, knots_length, samples_length, tensor_length, scratch_length}
 use Rattle.rules.specs.Refusals.{outcome_refused}
 use Rattle.rules.specs.Tensor.{tensor}
-use Rattle.rules.specs.Calls.{build_refusal}
 use Rattle.rules.specs.declared.Axis.{Axis}
 use Rattle.rules.proofs.Cases.{passed}
 use Rattle.rules.proofs.Refused.{or_else_passed}

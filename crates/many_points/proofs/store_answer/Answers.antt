@@ -2,7 +2,6 @@
 use mathlib.Core.Path.{refl}
 use native.Mathlib.Omega.{arith}
 use lib.ListN.{length-set}
-use borrow.Author.Rules.{rules}
 use Rattle.many_points.proofs.store_answer.Goals as goal
 
 pub bounds-labels-place-2 : goal.bounds-labels-place-2

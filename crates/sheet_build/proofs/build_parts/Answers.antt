@@ -1,6 +1,5 @@
 -- The build of a sheet that was read: its refusal is the build's, and the tensor is there only where nothing is refused.
 use mathlib.Core.Path.{sym, ◌∙◌}
-use borrow.Author.Rules.{rules}
 use Rattle.grid_codes.proofs.Classed.{built_none, unbuilt_met}
 use Rattle.sheet_build.proofs.Builds.{parts_refused, parts_built}
 use Rattle.sheet_build.proofs.build_parts.Goals as goal

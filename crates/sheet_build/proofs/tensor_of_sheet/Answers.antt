@@ -1,7 +1,6 @@
 -- The promise of a sheet's tensor: the lengths, then the reader's faults, then what the build refuses.
 use mathlib.Core.Path.{◌≡◌, sym, ◌∙◌}
 use native.Mathlib.Omega.{arith}
-use borrow.Author.Rules.{rules}
 use lib.ListN.{length}
 use Rattle.grid_codes.proofs.Classed.{unread_met}
 use Rattle.sheet_build.proofs.Promises.{reader_passed, buffer_refused, sheet_refused, parts_given, sheet_built}

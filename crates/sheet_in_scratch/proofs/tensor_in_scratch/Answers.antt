@@ -1,6 +1,5 @@
 -- The sheet's knots and samples stand in the first places of their buffers, so what is built there is the sheet's tensor.
 use Rattle.sheet_in_scratch.proofs.OfSheet.{range, knots_within, knots_over, samples_within, sheet_stands}
-use borrow.Author.Rules.{rules}
 use Rattle.sheet_in_scratch.proofs.tensor_in_scratch.Goals as goal
 
 pub knots_length-knots_end-requires : goal.knots_length-knots_end-requires

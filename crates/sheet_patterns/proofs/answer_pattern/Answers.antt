@@ -1,7 +1,6 @@
 -- A refusal has its own pattern; where there is none the value is finite, and its bits are the pattern.
 use mathlib.Core.Path.{◌∙◌}
 use Rattle.sheet_patterns.proofs.Refusals.{refused_with, accepted_with}
-use borrow.Author.Rules.{rules}
 use Rattle.sheet_patterns.proofs.answer_pattern.Goals as goal
 
 pub returns-then-refusal-ne0 : goal.returns-then-refusal-ne0

@@ -1,12 +1,8 @@
-use Prim.Native.Nat.{◌+◌, ◌-◌, ◌≤◌}
-use mathlib.Core.Path.{◌≡◌, sym, ap}
-use mathlib.Core.Bool.{false, not}
+use mathlib.Core.Path.{sym, ap}
+use mathlib.Core.Bool.{not}
 use native.Mathlib.Omega.{arith}
-use lib.Dec.{eqb}
 use borrow.Author.Tests.{eq-eqb, ne_eqb}
-use Rattle.rules.specs.Numbers.{any}
 use Rattle.base_numbers.proofs.Scan.{any_none, any_more, any_found, any_end}
-use Rattle.sheet_patterns.specs.Patterns.{pattern}
 use borrow.Author.Rules.{rules}
 use Rattle.sheet_patterns.proofs.is_unused_refused.Goals as goal
 

@@ -1,14 +1,10 @@
 -- 17: of the patterns past the axes in use the first `k` are 0, and one that is not ends the loop. The measure is those left.
 use Prim.Native.Nat.{◌+◌, ◌-◌, ◌≤◌}
-use mathlib.Core.Path.{◌≡◌, sym, ap}
+use mathlib.Core.Path.{◌≡◌}
 use mathlib.Core.Bool.{false, not}
-use native.Mathlib.Omega.{arith}
 use lib.Dec.{eqb}
-use borrow.Author.Tests.{eq-eqb, ne_eqb}
 use Rattle.rules.specs.Numbers.{any}
-use Rattle.base_numbers.proofs.Scan.{any_none, any_more, any_found, any_end}
 use Rattle.sheet_patterns.specs.Patterns.{pattern}
-use borrow.Author.Rules.{rules}
 use Rattle.sheet_patterns.proofs.is_unused_refused.Given as goal
 
 abbrev pub invariant-loop-k : goal.invariant-loop-k

@@ -1,6 +1,5 @@
 -- The promise of the exact index: with 2 4 6 7 8 none is found; where none of them applies both knots are there to compare.
 use Rattle.step_axis.proofs.Answers.{next_inside, exact_refused, exact_answered}
-use borrow.Author.Rules.{rules}
 use Rattle.step_axis.proofs.exact_index.Goals as goal
 
 pub returns-then-refusal-ne0 : goal.returns-then-refusal-ne0

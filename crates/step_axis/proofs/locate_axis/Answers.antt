@@ -1,7 +1,6 @@
 -- The promise of the location: that of the rules, or knot 0 beside 2 4 7 8, or beside 10 for a fraction that is not finite.
 use mathlib.Core.Path.{sym, ◌∙◌}
 use Rattle.step_axis.proofs.Answers.{point_accepted, axis_refused, location_bad, location_good}
-use borrow.Author.Rules.{rules}
 use Rattle.step_axis.proofs.locate_axis.Goals as goal
 
 pub returns-then-refusal-ne0 : goal.returns-then-refusal-ne0

@@ -1,6 +1,5 @@
 -- The promise of a step on one axis: index 0 beside 2 4 7 8, else the knot that the rules step to in the direction given.
 use Rattle.step_axis.proofs.Answers.{point_accepted, step_refused, step_answered}
-use borrow.Author.Rules.{rules}
 use Rattle.step_axis.proofs.locate_step_index.Goals as goal
 
 pub returns-then-refusal-ne0 : goal.returns-then-refusal-ne0

@@ -2,7 +2,6 @@
 use mathlib.Core.Path.{refl}
 use Rattle.grid_checks.proofs.Rows.{stop, pass}
 use Rattle.step_checks.specs.StepChecks.{axis_check}
-use borrow.Author.Rules.{rules}
 use Rattle.step_checks.proofs.axis_refusal.Goals as goal
 
 pub returns-then-points_refused : goal.returns-then-points_refused

@@ -6,7 +6,6 @@ use Rattle.base_numbers.proofs.Scan.{neither}
 use Rattle.grid_checks.proofs.Rows.{stop, pass}
 use Rattle.step_checks.specs.StepChecks.{exact_check}
 use Rattle.step_checks.proofs.Rows.{axis_stop, axis_pass, axis_fits, knots_fit, numbers_of_points}
-use borrow.Author.Rules.{rules}
 use Rattle.step_checks.proofs.exact_refusal.Goals as goal
 
 pub returns-then-refusal-ne0 : goal.returns-then-refusal-ne0

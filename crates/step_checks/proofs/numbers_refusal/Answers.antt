@@ -3,7 +3,6 @@ use mathlib.Core.Path.{refl}
 use Rattle.grid_checks.proofs.Rows.{first, second, stop, pass}
 use Rattle.grid_checks.proofs.FiniteKnots.{axis_finite}
 use Rattle.step_checks.specs.StepChecks.{numbers_check}
-use borrow.Author.Rules.{rules}
 use Rattle.step_checks.proofs.numbers_refusal.Goals as goal
 
 pub some_knot_refused-requires : goal.some_knot_refused-requires

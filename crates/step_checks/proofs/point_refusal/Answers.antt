@@ -1,7 +1,6 @@
 -- 2 or 4 where the axis has one; else there are as many knots as points, and what their numbers meet is the answer.
 use Rattle.step_checks.specs.StepChecks.{point_check}
 use Rattle.step_checks.proofs.Rows.{axis_stop, axis_pass, knots_fit, numbers_of_points}
-use borrow.Author.Rules.{rules}
 use Rattle.step_checks.proofs.point_refusal.Goals as goal
 
 pub returns-then-refusal-ne0 : goal.returns-then-refusal-ne0

@@ -1,7 +1,6 @@
 -- Knots, samples and coordinates, each held against the length that the sizes ask for: true at the first that differs.
 use mathlib.Core.Path.{refl}
 use Rattle.grid_checks.proofs.Rows.{first, second}
-use borrow.Author.Rules.{rules}
 use Rattle.step_checks.proofs.stepped_lengths_refused.Goals as goal
 
 pub returns-then-length_refused : goal.returns-then-length_refused

@@ -3,7 +3,6 @@
 use mathlib.Core.Path.{sym, ◌∙◌}
 use Rattle.grid_checks.proofs.Rows.{exact, axes_few}
 use Rattle.c_refusals.proofs.Rows.{refused_axes, refused_points, sizes_of_four}
-use borrow.Author.Rules.{rules}
 use Rattle.c_refusals.proofs.own.axes_own_sizes.Goals as goal
 
 pub returns-then-axes_refused : goal.returns-then-axes_refused

@@ -1,15 +1,12 @@
 -- A build's own refusals, row by row in their order: those of the axes, 4 for the ends and then for knots, samples and tensor, 13.
 -- Each row passed gives what the next test asks: four points, then axes in range, then eight kinds.
 use mathlib.Core.Path.{refl, sym, ◌∙◌}
-use mathlib.Core.List.{List}
 use Rattle.grid.specs.GridOfCall.{points_of, InRange}
-use Rattle.grid_checks.specs.Tables.{Refusal}
 use Rattle.grid_checks.proofs.Rows.{first, second, stop, pass, Past}
 use Rattle.c_axes.specs.Axes.{axes_without_ends}
 use Rattle.c_refusals.specs.OwnRefusals.{build_own_rows, build_own_refusal}
 use Rattle.c_refusals.proofs.Rows.{axes_stop, axes_pass, points_four, points_in_range}
 use Rattle.c_refusals.proofs.Lengths.{eight_lengths}
-use borrow.Author.Rules.{rules}
 use Rattle.c_refusals.proofs.own.build_own_refusal.Goals as goal
 use Rattle.c_refusals.proofs.own.build_own_refusal.Goals.{Else-build_refused, Else-refusal-ne0}
 

@@ -1,15 +1,12 @@
 -- A change's own refusals are the rows of its table: after the axes one 4 for the ends, for the place or the slot of the count, and
 -- for knots and tensor, whichever of the three tests meets it; and 13 last.
 use mathlib.Core.Path.{refl, sym, ◌∙◌}
-use mathlib.Core.List.{List}
 use Rattle.grid.specs.GridOfCall.{points_of, InRange}
-use Rattle.grid_checks.specs.Tables.{Refusal}
 use Rattle.grid_checks.proofs.Rows.{first, second, stop, pass, Past}
 use Rattle.c_axes.specs.Axes.{axes_without_ends}
 use Rattle.c_refusals.specs.OwnRefusals.{change_own_rows, change_own_refusal}
 use Rattle.c_refusals.proofs.Rows.{axes_stop, axes_pass, points_four, points_in_range}
 use Rattle.c_refusals.proofs.Lengths.{eight_lengths}
-use borrow.Author.Rules.{rules}
 use Rattle.c_refusals.proofs.own.change_own_refusal.Goals as goal
 use Rattle.c_refusals.proofs.own.change_own_refusal.Goals.{Else-change_refused, Else-refusal-ne0}
 

@@ -1,6 +1,5 @@
 -- Two lengths asked one after the other are one test: the kinds are not eight, or the values are not.
 use Rattle.grid_checks.proofs.Rows.{first, second}
-use borrow.Author.Rules.{rules}
 use Rattle.c_refusals.proofs.own.eight_ends_refused.Goals as goal
 
 pub returns-then-length_refused : goal.returns-then-length_refused

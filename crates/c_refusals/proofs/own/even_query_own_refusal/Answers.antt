@@ -3,7 +3,6 @@
 use Rattle.grid_checks.proofs.Rows.{stop, pass}
 use Rattle.c_refusals.specs.OwnRefusals.{even_query_own_refusal}
 use Rattle.c_refusals.proofs.Rows.{axes_stop, axes_pass, points_in_range, later_of_sizes}
-use borrow.Author.Rules.{rules}
 use Rattle.c_refusals.proofs.own.even_query_own_refusal.Goals as goal
 
 pub returns-then-found-ne0 : goal.returns-then-found-ne0

@@ -1,7 +1,6 @@
 -- True exactly where the slot of the number of axes is not one, the points are not four, or kinds or values are not eight.
 use mathlib.Core.Path.{refl}
 use Rattle.grid_checks.proofs.Rows.{first, second}
-use borrow.Author.Rules.{rules}
 use Rattle.c_refusals.proofs.own.found_slots_refused.Goals as goal
 
 pub returns-then-length_refused : goal.returns-then-length_refused

@@ -1,6 +1,5 @@
 -- The answer of the two tests in turn: modes that are not four, or a slot that is not one number.
 use Rattle.grid_checks.proofs.Rows.{first, second}
-use borrow.Author.Rules.{rules}
 use Rattle.c_refusals.proofs.own.modes_or_slot_refused.Goals as goal
 
 pub returns-then-length_refused : goal.returns-then-length_refused

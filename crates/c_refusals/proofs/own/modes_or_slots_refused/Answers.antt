@@ -1,6 +1,5 @@
 -- Modes that are not four are refused, and else what is refused of the slots of value and labels.
 use Rattle.grid_checks.proofs.Rows.{first, second}
-use borrow.Author.Rules.{rules}
 use Rattle.c_refusals.proofs.own.modes_or_slots_refused.Goals as goal
 
 pub returns-then-length_refused : goal.returns-then-length_refused

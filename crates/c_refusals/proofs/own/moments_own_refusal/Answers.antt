@@ -2,15 +2,12 @@
 -- test of the ends, which leaves exactly two of them.
 use mathlib.Core.Path.{◌≡◌, refl, sym, ◌∙◌}
 use mathlib.Core.Bool.{true, false}
-use mathlib.Core.List.{List}
 use native.Mathlib.Omega.{arith}
 use lib.ListN.{length, get_or}
 use Rattle.grid_codes.specs.Kinds.{kinds_refused}
-use Rattle.grid_checks.specs.Tables.{Refusal}
 use Rattle.grid_checks.proofs.Rows.{first, second, stop, pass, Past}
 use Rattle.c_refusals.specs.OwnRefusals.{moments_own_rows, moments_own_refusal}
 use Rattle.c_refusals.proofs.Lengths.{two_lengths}
-use borrow.Author.Rules.{rules}
 use Rattle.c_refusals.proofs.own.moments_own_refusal.Goals as goal
 use Rattle.c_refusals.proofs.own.moments_own_refusal.Goals.{Else-axis_refused, Else-points_refused, Else-two_ends_refused}
 

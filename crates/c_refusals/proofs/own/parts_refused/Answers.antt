@@ -4,7 +4,6 @@ use mathlib.Core.Bool.{or-false}
 use borrow.Author.Tests.{eq-eqb}
 use Rattle.rules.specs.Sizes.{tensor_length}
 use Rattle.grid.specs.GridOfCall.{sizes_of}
-use borrow.Author.Rules.{rules}
 use Rattle.c_refusals.proofs.own.parts_refused.Goals as goal
 
 pub returns : goal.returns

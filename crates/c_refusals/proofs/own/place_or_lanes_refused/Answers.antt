@@ -1,6 +1,5 @@
 -- A change's place that is not four numbers, or a slot of its count that is not one: the first test answers, or the second.
 use Rattle.grid_checks.proofs.Rows.{first, second}
-use borrow.Author.Rules.{rules}
 use Rattle.c_refusals.proofs.own.place_or_lanes_refused.Goals as goal
 
 pub returns-then-length_refused : goal.returns-then-length_refused

@@ -1,12 +1,9 @@
 -- What a query meets after its axes, with the sizes that were found: 4 for modes and slots, 4 for its slices, then 22. That the modes
 -- are four, which the test of 22 asks, is left by the first of these.
 use mathlib.Core.Path.{refl, sym, ◌∙◌}
-use mathlib.Core.List.{List}
-use Rattle.grid_checks.specs.Tables.{Refusal}
 use Rattle.grid_checks.proofs.Rows.{first, second, stop, pass, Past}
 use Rattle.c_refusals.specs.OwnSizes.{rows_of_sizes}
 use Rattle.c_refusals.proofs.Lengths.{mode_lengths}
-use borrow.Author.Rules.{rules}
 use Rattle.c_refusals.proofs.own.query_later_refusal.Goals as goal
 use Rattle.c_refusals.proofs.own.query_later_refusal.Goals.{Else-query_lengths_refused}
 

@@ -2,7 +2,6 @@
 -- are those by the points.
 use Rattle.c_refusals.specs.OwnRefusals.{query_own_refusal}
 use Rattle.c_refusals.proofs.Rows.{axes_stop, axes_pass, points_in_range, later_of_sizes}
-use borrow.Author.Rules.{rules}
 use Rattle.c_refusals.proofs.own.query_own_refusal.Goals as goal
 
 pub returns-then-found-ne0 : goal.returns-then-found-ne0

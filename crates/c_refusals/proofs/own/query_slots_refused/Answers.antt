@@ -1,6 +1,5 @@
 -- The slots of a query's answer: true where the value's is not one number or the labels are not four.
 use Rattle.grid_checks.proofs.Rows.{first, second}
-use borrow.Author.Rules.{rules}
 use Rattle.c_refusals.proofs.own.query_slots_refused.Goals as goal
 
 pub returns-then-length_refused : goal.returns-then-length_refused

@@ -2,7 +2,6 @@
 use mathlib.Core.Path.{refl}
 use Rattle.grid_checks.proofs.Rows.{stop, pass}
 use Rattle.c_refusals.specs.OwnRefusals.{read_edition_1_own_refusal}
-use borrow.Author.Rules.{rules}
 use Rattle.c_refusals.proofs.own.read_edition_1_own_refusal.Goals as goal
 
 pub returns-then-found_slots_refused : goal.returns-then-found_slots_refused

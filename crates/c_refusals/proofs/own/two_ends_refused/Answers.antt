@@ -1,6 +1,5 @@
 -- True exactly where one axis's kinds are not two or its values are not two.
 use Rattle.grid_checks.proofs.Rows.{first, second}
-use borrow.Author.Rules.{rules}
 use Rattle.c_refusals.proofs.own.two_ends_refused.Goals as goal
 
 pub returns-then-length_refused : goal.returns-then-length_refused

@@ -1,15 +1,12 @@
 -- A writer's own refusals: the rows of the axes, 4 for ends, modes and slot, knots and samples, then 13, then 22. What each test
 -- requires (four points, axes in range, eight kinds, four modes) is left by the rows before it.
 use mathlib.Core.Path.{refl, sym, ◌∙◌}
-use mathlib.Core.List.{List}
 use Rattle.grid.specs.GridOfCall.{points_of, InRange}
-use Rattle.grid_checks.specs.Tables.{Refusal}
 use Rattle.grid_checks.proofs.Rows.{first, second, stop, pass, Past}
 use Rattle.c_axes.specs.Axes.{axes_without_ends}
 use Rattle.c_refusals.specs.OwnRefusals.{write_own_rows, write_own_refusal}
 use Rattle.c_refusals.proofs.Rows.{axes_stop, axes_pass, points_four, points_in_range}
 use Rattle.c_refusals.proofs.Lengths.{eight_lengths, mode_slot_lengths}
-use borrow.Author.Rules.{rules}
 use Rattle.c_refusals.proofs.own.write_own_refusal.Goals as goal
 use Rattle.c_refusals.proofs.own.write_own_refusal.Goals.{Else-parts_refused, Else-refusal-ne0, Else-some_kinds_refused}
 

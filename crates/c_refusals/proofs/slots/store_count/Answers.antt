@@ -1,7 +1,6 @@
 -- A slot of one number holds the count alone afterwards; a slice of another length stays as it was.
 use borrow.Author.Tests.{eq-eqb, ne_eqb}
 use Rattle.c_axes.proofs.Slots.{one_stored}
-use borrow.Author.Rules.{rules}
 use Rattle.c_refusals.proofs.slots.store_count.Goals as goal
 
 pub returns-then-slot-ne1 : goal.returns-then-slot-ne1

@@ -4,7 +4,6 @@ use mathlib.Core.Path.{sym, ◌∙◌}
 use native.Mathlib.Omega.{arith}
 use lib.ListN.{length-set}
 use Rattle.c_refusals.proofs.EvenSlots.{other_query_slots, other_third_slot, all_stored}
-use borrow.Author.Rules.{rules}
 use Rattle.c_refusals.proofs.slots.store_even_query.Goals as goal
 
 pub returns-then-query_slots_refused : goal.returns-then-query_slots_refused

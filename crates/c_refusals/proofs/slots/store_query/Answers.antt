@@ -3,7 +3,6 @@ use mathlib.Core.Path.{sym, ◌∙◌}
 use native.Mathlib.Omega.{arith}
 use Rattle.c_refusals.proofs.Lengths.{slot_lengths}
 use Rattle.c_axes.proofs.Slots.{one_stored}
-use borrow.Author.Rules.{rules}
 use Rattle.c_refusals.proofs.slots.store_query.Goals as goal
 
 pub returns-then-query_slots_refused : goal.returns-then-query_slots_refused

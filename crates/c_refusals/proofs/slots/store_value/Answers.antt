@@ -1,7 +1,6 @@
 -- Where the slot is one number, the value stands in it afterwards; any other slice is untouched.
 use borrow.Author.Tests.{eq-eqb, ne_eqb}
 use Rattle.c_axes.proofs.Slots.{one_stored}
-use borrow.Author.Rules.{rules}
 use Rattle.c_refusals.proofs.slots.store_value.Goals as goal
 
 pub returns-then-slot-ne1 : goal.returns-then-slot-ne1

@@ -1,7 +1,6 @@
 -- Coordinates, values and labels are asked one after the other.
 use mathlib.Core.Path.{refl}
 use Rattle.grid_checks.proofs.Rows.{first, second}
-use borrow.Author.Rules.{rules}
 use Rattle.many_points.proofs.lengths.points_lengths_refused.Goals as goal
 
 pub returns-then-parts_refused : goal.returns-then-parts_refused

@@ -1,6 +1,5 @@
 -- The lower knot is compared first and then the next: found there, found one on, and not found are the three cases of the rules.
 use Rattle.step_axis.proofs.Found.{exact_lower, exact_upper, exact_none}
-use borrow.Author.Rules.{rules}
 use Rattle.step_axis.proofs.among.exact_index.Goals as goal
 
 pub returns-then-knots-lower : goal.returns-then-knots-lower

@@ -1,7 +1,6 @@
 -- The location in the cell that was found: exact where one of its knots equals the point (`on-knot`), else the cell and the
 -- fraction (`in_cell`).
 use Rattle.step_axis.proofs.Found.{on_knot, in_cell}
-use borrow.Author.Rules.{rules}
 use Rattle.step_axis.proofs.among.locate_axis.Goals as goal
 
 pub returns-in-Found : goal.returns-in-Found

@@ -1,7 +1,6 @@
 -- Downward, from the cell that was found: the last knot where the point equals it, then the cell's upper knot where it
 -- equals that, else its lower one; each is the rules' step and a knot's index.
 use Rattle.step_axis.proofs.Found.{down_to_last, down_to_upper, down_to_lower}
-use borrow.Author.Rules.{rules}
 use Rattle.step_axis.proofs.among.lower_step.Goals as goal
 
 pub returns-then-point-knots : goal.returns-then-point-knots

@@ -1,5 +1,4 @@
 -- Lower and Upper each have their own step, and what that one ensures holds of the direction given.
-use borrow.Author.Rules.{rules}
 use Rattle.step_axis.proofs.among.step_index.Goals as goal
 
 pub returns-in-Lower : goal.returns-in-Lower

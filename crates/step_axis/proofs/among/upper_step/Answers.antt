@@ -1,6 +1,5 @@
 -- Upward: knot 0 where the point equals it, without a search, and else the upper knot of the cell, as the rules have it.
 use Rattle.step_axis.proofs.Found.{up_to_first, up_to_upper}
-use borrow.Author.Rules.{rules}
 use Rattle.step_axis.proofs.among.upper_step.Goals as goal
 
 pub returns-then-point-knots : goal.returns-then-point-knots
