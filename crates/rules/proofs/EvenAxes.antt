@@ -79,8 +79,8 @@ abbrev 8' : Float
 abbrev huge : Float
 huge = pattern 0x7FE1_CCF3_85EB_C8A0
 
-abbrev _huge : Float
-_huge = pattern 0xFFE1_CCF3_85EB_C8A0
+abbrev -huge : Float
+-huge = pattern 0xFFE1_CCF3_85EB_C8A0
 
 -- 2 to the -1030, which is 2 to the 44 units of the least number above zero
 abbrev tiny : Float
@@ -90,7 +90,7 @@ abbrev knots_3 : List Float
 knots_3 = 0' ∷ 1' ∷ 2' ∷ []
 
 abbrev knots_huge : List Float
-knots_huge = _huge ∷ 0' ∷ huge ∷ []
+knots_huge = -huge ∷ 0' ∷ huge ∷ []
 
 -- 1e-17 is too small to show beside 1
 abbrev knots_close : List Float
@@ -151,7 +151,7 @@ pub record EvenExamples : Type 0 where
   -- at the last of the knots -1e308 0 1e308, an even axis, the quotient is infinite: the cell is 0, the fraction there infinite, and a
   -- blend of samples 0 with slopes 0 is no number
   pub huge_is_even : first_failing knots_huge 3 ≡ 0
-  pub direct_at_huge : direct_cell _huge (h knots_huge 0) 3 huge ≡ 0
+  pub direct_at_huge : direct_cell -huge (h knots_huge 0) 3 huge ≡ 0
   pub searched_at_huge : locate knots_huge 2 huge ≡ 1
   pub fraction_at_huge : fraction knots_huge 0 huge ≡ inf false
   pub blend_at_huge : hermite 0' 0' 0' 0' (h knots_huge 0) (inf false) ≡ nan

@@ -1,14 +1,7 @@
 -- The promise of the curve's value: that of the rules in the cell that was found, or +0.0 beside a refusal met before the work,
 -- or beside 10 where the value is not finite.
 use mathlib.Core.Path.{sym, ◌∙◌}
-use borrow.Author.Rules.{rules}
 use Rattle.axis_curve.proofs.PublicCalls.{curve_refused, curve_lengths, few_knots, curve_good, curve_bad}
-use Rattle.axis_curve.proofs.curve.Reads as reads
-use Rattle.axis_curve.proofs.curve.Lts as lts
-use Rattle.base_numbers.proofs.is_finite.Reads as is_finite_reads
-use Rattle.grid_checks.proofs.curve_refusal.Reads as curve_refusal_reads
-use Rattle.axis_locate.proofs.locate_lower_index.Reads as locate_lower_index_reads
-use Rattle.axis_moments.proofs.curve.curve_in_cell.Reads as curve_in_cell_reads
 use Rattle.axis_curve.proofs.curve.Goals as goal
 
 pub returns-then-refusal-ne0 : goal.returns-then-refusal-ne0

@@ -4,16 +4,7 @@ use mathlib.Core.Path.{◌≡◌, sym, ◌∙◌}
 use lib.ListN.{length, length-append, length-take, length-replicate}
 use Rattle.rules.specs.Numbers.{plus_zero}
 use Rattle.grid_checks.specs.Check.{slopes_check}
-use Rattle.axis_curve.proofs.PublicCalls.{
-  slopes_refused,
-  slopes_known,
-  slopes_lengths,
-  slopes_row,
-  part_length,
-  slopes_bad,
-  slopes_good,
-}
-use borrow.Author.Rules.{rules}
+use Rattle.axis_curve.proofs.PublicCalls.{slopes_refused, slopes_known, slopes_lengths, slopes_row, part_length, slopes_bad, slopes_good}
 use Rattle.axis_curve.proofs.knot_slopes.Goals as goal
 use Rattle.axis_curve.proofs.knot_slopes.Goals.{Else-refusal-ne0}
 

@@ -1,19 +1,7 @@
 -- The promise of the moments: 2 4 5 7 8 9 leave output and scratch untouched, and where none of them applies all that
 -- `work_moments` asks is known.
 use mathlib.Core.Path.{sym, ◌∙◌}
-use borrow.Author.Rules.{rules}
-use Rattle.axis_curve.proofs.PublicCalls.{
-  moments_refused,
-  moments_lane,
-  moments_fewest,
-  moments_samples,
-  moments_out,
-  moments_worked,
-}
-use Rattle.axis_curve.proofs.moments.Reads as reads
-use Rattle.axis_curve.proofs.moments.Lts as lts
-use Rattle.grid_checks.proofs.moments_refusal.Reads as moments_refusal_reads
-use Rattle.axis_curve.proofs.work_moments.Reads as work_moments_reads
+use Rattle.axis_curve.proofs.PublicCalls.{moments_refused, moments_lane, moments_fewest, moments_samples, moments_out, moments_worked}
 use Rattle.axis_curve.proofs.moments.Goals as goal
 
 pub returns-then-refusal-ne0 : goal.returns-then-refusal-ne0

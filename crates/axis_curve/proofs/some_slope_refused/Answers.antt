@@ -2,8 +2,7 @@ use native.Mathlib.Omega.{arith}
 use Prim.Native.Nat.{◌-◌}
 use mathlib.Core.Path.{refl}
 use lib.ListN.{length}
-use Rattle.axis_curve.proofs.SlopeTurns.{Turn, turn_first, turn_next, turn_last}
-use borrow.Author.Rules.{rules}
+use Rattle.axis_curve.proofs.SlopeTurns.{turn_first, turn_next, turn_last}
 use Rattle.axis_curve.proofs.some_slope_refused.Goals as goal
 
 pub loop-i-init : goal.loop-i-init

@@ -4,14 +4,7 @@ use native.Mathlib.Omega.{arith}
 use Prim.Native.Nat.{◌+◌, ◌-◌}
 use native.Mathlib.Nat.{sub-zero}
 use lib.ListN.{length}
-use borrow.Author.Rules.{rules}
 use Rattle.axis_curve.proofs.PublicCalls.{moments_bad, moments_good}
-use Rattle.axis_curve.proofs.work_moments.Reads as reads
-use Rattle.axis_curve.proofs.work_moments.Lts as lts
-use Rattle.base_numbers.proofs.any_not_finite.Reads as any_not_finite_reads
-use Rattle.base_numbers.proofs.clear.Reads as clear_reads
-use Rattle.base_numbers.proofs.copy.Reads as copy_reads
-use Rattle.axis_moments.proofs.compute_m.Reads as compute_m_reads
 use Rattle.axis_curve.proofs.work_moments.Goals as goal
 
 pub returns-then-any_not_finite : goal.returns-then-any_not_finite

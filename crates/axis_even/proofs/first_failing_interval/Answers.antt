@@ -1,8 +1,7 @@
-use Rattle.std.proofs.Common.{◌-◌, length, refl, ◌∙◌, arith, rules}
+use Rattle.std.proofs.Common.{refl, ◌∙◌, arith}
 use Rattle.rules.specs.Steps.{h}
-use Rattle.rules.specs.Even.{fails}
 use Rattle.axis_even.proofs.Spacing.{fails_is, failing_is}
-use Rattle.axis_even.proofs.First.{Turn, turn_first, turn_next, turn_found, turn_last}
+use Rattle.axis_even.proofs.First.{turn_first, turn_next, turn_found, turn_last}
 use Rattle.axis_even.proofs.first_failing_interval.Goals as goal
 
 pub loop-i-init : goal.loop-i-init

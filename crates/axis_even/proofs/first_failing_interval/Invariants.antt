@@ -1,10 +1,8 @@
 -- The first interval that fails, looked for from 1 on, is the first from `i` on: the one found is answered, or 0 where none is.
 -- The measure is the knots left.
-use Rattle.std.proofs.Common.{◌-◌, length, refl, ◌∙◌, arith, rules}
-use Rattle.rules.specs.Steps.{h}
+use Rattle.std.proofs.Common.{◌-◌, length}
 use Rattle.rules.specs.Even.{fails}
-use Rattle.axis_even.proofs.Spacing.{fails_is, failing_is}
-use Rattle.axis_even.proofs.First.{Turn, turn_first, turn_next, turn_found, turn_last}
+use Rattle.axis_even.proofs.First.{Turn}
 use Rattle.axis_even.proofs.first_failing_interval.Given as goal
 
 abbrev pub invariant-loop-i : goal.invariant-loop-i

@@ -1,6 +1,6 @@
 -- The cell by the quotient: 0 below zero, its whole part up to the last cell, and 0 again from 2^64 on or for NaN. The cast is asked
 -- only for a quotient from 0 to below 2^64, so `above_minus_one` gives it what it requires.
-use Rattle.std.proofs.Common.{T, sym, subst, arith, rules}
+use Rattle.std.proofs.Common.{T, sym, subst, arith}
 use lib.Ieee.{of_bits}
 use Rattle.axis_even.proofs.Direct.{above_minus_one, direct_below, direct_too_large, direct_held}
 use Rattle.axis_even.proofs.locate_lower_index_uniform.Goals as goal

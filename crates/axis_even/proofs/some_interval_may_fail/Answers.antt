@@ -1,9 +1,8 @@
-use Rattle.std.proofs.Common.{◌≡◌, ◌-◌, ◌≤◌, false, length, sym, refl, ◌∙◌, arith, rules}
+use Rattle.std.proofs.Common.{sym, refl, ◌∙◌, arith}
 use Rattle.base_numbers.proofs.Scan.{neither}
 use Rattle.rules.specs.Steps.{h}
-use Rattle.rules.specs.Even.{fails}
 use Rattle.axis_even.proofs.Spacing.{fails_is, failing_is, neither_above}
-use Rattle.axis_even.proofs.First.{Turn, turn_first, turn_next, turn_last}
+use Rattle.axis_even.proofs.First.{turn_first, turn_next, turn_last}
 use Rattle.axis_even.proofs.some_interval_may_fail.Goals as goal
 
 pub loop-interval-init : goal.loop-interval-init

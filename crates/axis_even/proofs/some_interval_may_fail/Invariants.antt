@@ -1,10 +1,7 @@
 -- While the flag is down no interval below `interval` fails. The measure is the intervals left.
-use Rattle.std.proofs.Common.{◌≡◌, ◌-◌, ◌≤◌, false, length, sym, refl, ◌∙◌, arith, rules}
-use Rattle.base_numbers.proofs.Scan.{neither}
-use Rattle.rules.specs.Steps.{h}
+use Rattle.std.proofs.Common.{◌≡◌, ◌-◌, ◌≤◌, false, length}
 use Rattle.rules.specs.Even.{fails}
-use Rattle.axis_even.proofs.Spacing.{fails_is, failing_is, neither_above}
-use Rattle.axis_even.proofs.First.{Turn, turn_first, turn_next, turn_last}
+use Rattle.axis_even.proofs.First.{Turn}
 use Rattle.axis_even.proofs.some_interval_may_fail.Given as goal
 
 abbrev pub invariant-loop-interval : goal.invariant-loop-interval

@@ -1,9 +1,6 @@
-use Prim.Native.Nat.{◌-◌}
 use native.Mathlib.Omega.{arith}
-use borrow.Author.Rules.{rules}
 use denote.Floats.{passes}
-use lib.ListN.{length}
-use Rattle.axis_locate.proofs.Halving.{Kept, kept_first, kept_down, kept_up, kept_last, none_left}
+use Rattle.axis_locate.proofs.Halving.{kept_first, kept_down, kept_up, kept_last, none_left}
 use Rattle.axis_locate.proofs.Answered.{below_all, above_all, inside, located}
 use Rattle.axis_locate.proofs.locate_lower_index.Goals as goal
 

@@ -1,11 +1,7 @@
 -- A turn is one halving, or a look at the knot at high again once low and high have met; the measure is how many of 8 turns are left.
 use Prim.Native.Nat.{◌-◌}
-use native.Mathlib.Omega.{arith}
-use borrow.Author.Rules.{rules}
-use denote.Floats.{passes}
 use lib.ListN.{length}
-use Rattle.axis_locate.proofs.Halving.{Kept, kept_first, kept_down, kept_up, kept_last, none_left}
-use Rattle.axis_locate.proofs.Answered.{below_all, above_all, inside, located}
+use Rattle.axis_locate.proofs.Halving.{Kept}
 use Rattle.axis_locate.proofs.locate_lower_index.Given as goal
 
 abbrev pub invariant-loop-halvings : goal.invariant-loop-halvings

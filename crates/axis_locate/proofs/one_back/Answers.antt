@@ -1,6 +1,5 @@
 -- Back by one where the search ended behind the first knot on one at or above the point; the other two ways out stay.
 use Rattle.axis_locate.proofs.Answered.{back_from_above, stay_below, stay_first}
-use borrow.Author.Rules.{rules}
 use Rattle.axis_locate.proofs.one_back.Goals as goal
 
 pub returns-then-knots-low : goal.returns-then-knots-low

@@ -4,10 +4,6 @@ use native.Mathlib.Omega.{arith}
 use mathlib.Core.Path.{ap}
 use borrow.Author.Rules.{rules}
 use Rattle.rules.specs.Ends.{fewest_points}
-use Rattle.axis_moments.proofs.compute_m.Reads as reads
-use Rattle.axis_moments.proofs.compute_m.Lts as lts
-use Rattle.axis_moments.proofs.endpoint_moments.Reads as endpoint_moments_reads
-use Rattle.axis_moments.proofs.periodic_moments.Reads as periodic_moments_reads
 use Rattle.axis_moments.proofs.compute_m.Goals as goal
 
 pub enum_known-condition : goal.enum_known-condition

@@ -6,12 +6,6 @@ use lib.ListN.{length-set}
 use borrow.Author.Rules.{rules}
 use Rattle.rules.specs.Steps.{h}
 use Rattle.axis_moments.proofs.PeriodicLane.{cyclic_solved}
-use Rattle.axis_moments.proofs.cyclic_moments.Reads as reads
-use Rattle.axis_moments.proofs.cyclic_moments.Lts as lts
-use Rattle.axis_solve.proofs.cyclic_thomas.Reads as cyclic_thomas_reads
-use Rattle.axis_rows.proofs.first_row.Reads as first_row_reads
-use Rattle.axis_rows.proofs.interior_rows.Reads as interior_rows_reads
-use Rattle.axis_rows.proofs.periodic_row.Reads as periodic_row_reads
 use Rattle.axis_moments.proofs.cyclic_moments.Goals as goal
 
 pub overflow_sub-n : goal.overflow_sub-n

@@ -5,8 +5,6 @@ use borrow.Author.Rules.{rules}
 use Rattle.rules.specs.Ends.{dropped}
 use Rattle.axis_moments.specs.SolvedMoments.{lower_moment}
 use Rattle.axis_moments.proofs.Stores.{one_stored, none_stored}
-use Rattle.axis_moments.proofs.drop_lower.Reads as reads
-use Rattle.axis_moments.proofs.drop_lower.Lts as lts
 use Rattle.axis_moments.proofs.drop_lower.Goals as goal
 
 pub enum_told-1 : goal.enum_told-1

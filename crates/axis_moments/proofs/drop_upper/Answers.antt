@@ -7,8 +7,6 @@ use borrow.Author.Rules.{rules}
 use Rattle.rules.specs.Ends.{dropped}
 use Rattle.axis_moments.specs.SolvedMoments.{upper_moment}
 use Rattle.axis_moments.proofs.Stores.{one_stored, none_stored}
-use Rattle.axis_moments.proofs.drop_upper.Reads as reads
-use Rattle.axis_moments.proofs.drop_upper.Lts as lts
 use Rattle.axis_moments.proofs.drop_upper.Goals as goal
 
 pub enum_told-1 : goal.enum_told-1

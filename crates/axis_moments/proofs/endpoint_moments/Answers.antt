@@ -2,11 +2,6 @@
 -- under two ends; samples and tensor in the scratch stand as they were.
 use borrow.Author.Rules.{rules}
 use Rattle.axis_moments.proofs.Endpoints.{moments_solved}
-use Rattle.axis_moments.proofs.endpoint_moments.Reads as reads
-use Rattle.axis_moments.proofs.endpoint_moments.Lts as lts
-use Rattle.axis_moments.proofs.drop_lower.Reads as drop_lower_reads
-use Rattle.axis_moments.proofs.drop_upper.Reads as drop_upper_reads
-use Rattle.axis_moments.proofs.inner_moments.Reads as inner_moments_reads
 use Rattle.axis_moments.proofs.endpoint_moments.Goals as goal
 
 pub inner_moments-requires : goal.inner_moments-requires

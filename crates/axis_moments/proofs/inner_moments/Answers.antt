@@ -5,14 +5,6 @@ use native.Mathlib.Nat.{sub-zero}
 use borrow.Author.Rules.{rules}
 use Rattle.rules.proofs.Ends.{dropped_most}
 use Rattle.axis_moments.proofs.RowsOfBothEnds.{lower_drops, upper_drops, rows_solved}
-use Rattle.axis_moments.proofs.inner_moments.Reads as reads
-use Rattle.axis_moments.proofs.inner_moments.Lts as lts
-use Rattle.axis_solve.proofs.thomas.Reads as thomas_reads
-use Rattle.axis_rows.proofs.first_row.Reads as first_row_reads
-use Rattle.axis_rows.proofs.interior_rows.Reads as interior_rows_reads
-use Rattle.axis_rows.proofs.last_row.Reads as last_row_reads
-use Rattle.axis_rows.proofs.lower_row.Reads as lower_row_reads
-use Rattle.axis_rows.proofs.upper_row.Reads as upper_row_reads
 use Rattle.axis_moments.proofs.inner_moments.Goals as goal
 
 pub slice_bounds-lower_row-count : goal.slice_bounds-lower_row-count

@@ -3,9 +3,6 @@ use native.Mathlib.Omega.{arith}
 use lib.ListN.{length-set}
 use borrow.Author.Rules.{rules}
 use Rattle.axis_moments.proofs.PeriodicLane.{one_interval}
-use Rattle.axis_moments.proofs.periodic_moments.Reads as reads
-use Rattle.axis_moments.proofs.periodic_moments.Lts as lts
-use Rattle.axis_moments.proofs.cyclic_moments.Reads as cyclic_moments_reads
 use Rattle.axis_moments.proofs.periodic_moments.Goals as goal
 
 pub bounds-w-1792 : goal.bounds-w-1792

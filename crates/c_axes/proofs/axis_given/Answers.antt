@@ -1,7 +1,6 @@
 -- Below the number of axes the entry has the points and the condition given and is in extend; from there on it is the unused axis.
 use borrow.Author.Tests.{lt-ltb, le-ltb}
 use Rattle.c_axes.specs.Axes.{axis_given}
-use borrow.Author.Rules.{rules}
 use Rattle.c_axes.proofs.axis_given.Goals as goal
 
 pub returns-then-i-axes : goal.returns-then-i-axes

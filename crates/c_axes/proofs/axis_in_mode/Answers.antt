@@ -1,7 +1,6 @@
 -- An axis in use keeps its points and condition and takes the mode of its number; one not in use stays as it is.
 use borrow.Author.Tests.{lt-ltb, le-ltb}
 use Rattle.c_axes.specs.Axes.{axis_in_mode}
-use borrow.Author.Rules.{rules}
 use Rattle.c_axes.proofs.axis_in_mode.Goals as goal
 
 pub returns-then-i-axes : goal.returns-then-i-axes

@@ -1,8 +1,6 @@
-use Prim.Native.Nat.{◌≤◌, ◌-◌}
 use mathlib.Core.Path.{◌≡◌, sym}
-use mathlib.Core.Bool.{true, false}
+use mathlib.Core.Bool.{true}
 use native.Mathlib.Omega.{arith}
-use Rattle.rules.specs.Numbers.{any}
 use Rattle.base_numbers.proofs.Scan.{any_none, any_more, any_found, any_end}
 use Rattle.grid_codes.specs.Kinds.{kinds_refused}
 use Rattle.c_axes.specs.Axes.{lower_kind, upper_kind, some_kinds_refused}

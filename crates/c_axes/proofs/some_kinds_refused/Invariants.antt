@@ -1,14 +1,11 @@
 -- The walk over the axes in use: no axis below `i` has kinds that 13 refuses, and the first that has ends it with true.
 -- The measure is the axes left.
 use Prim.Native.Nat.{◌≤◌, ◌-◌}
-use mathlib.Core.Path.{◌≡◌, sym}
-use mathlib.Core.Bool.{true, false}
-use native.Mathlib.Omega.{arith}
+use mathlib.Core.Path.{◌≡◌}
+use mathlib.Core.Bool.{false}
 use Rattle.rules.specs.Numbers.{any}
-use Rattle.base_numbers.proofs.Scan.{any_none, any_more, any_found, any_end}
 use Rattle.grid_codes.specs.Kinds.{kinds_refused}
-use Rattle.c_axes.specs.Axes.{lower_kind, upper_kind, some_kinds_refused}
-use borrow.Author.Rules.{rules}
+use Rattle.c_axes.specs.Axes.{lower_kind, upper_kind}
 use Rattle.c_axes.proofs.some_kinds_refused.Given as goal
 
 abbrev pub invariant-loop-i : goal.invariant-loop-i

@@ -1,8 +1,6 @@
-use Prim.Native.Nat.{◌≤◌, ◌-◌}
 use mathlib.Core.Path.{◌≡◌, sym}
-use mathlib.Core.Bool.{true, false}
+use mathlib.Core.Bool.{true}
 use native.Mathlib.Omega.{arith}
-use Rattle.rules.specs.Numbers.{any}
 use Rattle.base_numbers.proofs.Scan.{any_none, any_more, any_found, any_end}
 use lib.ListN.{get_or}
 use Rattle.grid_codes.specs.Modes.{unknown_mode}

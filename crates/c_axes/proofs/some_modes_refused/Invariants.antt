@@ -1,15 +1,11 @@
 -- No axis below `i` has an unknown mode; one that has makes the answer true, and past the last it is false.
 -- The measure is the axes left.
 use Prim.Native.Nat.{◌≤◌, ◌-◌}
-use mathlib.Core.Path.{◌≡◌, sym}
-use mathlib.Core.Bool.{true, false}
-use native.Mathlib.Omega.{arith}
+use mathlib.Core.Path.{◌≡◌}
+use mathlib.Core.Bool.{false}
 use Rattle.rules.specs.Numbers.{any}
-use Rattle.base_numbers.proofs.Scan.{any_none, any_more, any_found, any_end}
 use lib.ListN.{get_or}
 use Rattle.grid_codes.specs.Modes.{unknown_mode}
-use Rattle.c_axes.specs.Axes.{some_modes_refused}
-use borrow.Author.Rules.{rules}
 use Rattle.c_axes.proofs.some_modes_refused.Given as goal
 
 abbrev pub invariant-loop-i : goal.invariant-loop-i

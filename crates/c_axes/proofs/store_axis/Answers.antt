@@ -2,7 +2,6 @@
 use mathlib.Core.Path.{refl}
 use native.Mathlib.Omega.{arith}
 use lib.ListN.{length-set}
-use borrow.Author.Rules.{rules}
 use Rattle.c_axes.proofs.store_axis.Goals as goal
 
 pub bounds-kinds-i-2 : goal.bounds-kinds-i-2

@@ -1,7 +1,6 @@
 -- The host's number first, with +0.0 in a slot of one (`curve-refused`); else the curve's refusal and its value in the slot
 -- (`curve-called`).
 use Rattle.c_curve.proofs.Exported.{curve_refused, curve_called}
-use borrow.Author.Rules.{rules}
 use Rattle.c_curve.proofs.curve.Goals as goal
 
 pub returns-then-refusal-ne0 : goal.returns-then-refusal-ne0

@@ -4,7 +4,6 @@ use mathlib.Core.Path.{sym, ◌∙◌}
 use native.Mathlib.Omega.{arith}
 use Rattle.c_refusals.proofs.Lengths.{moments_lengths}
 use Rattle.c_curve.proofs.Exported.{moments_refused, moments_called}
-use borrow.Author.Rules.{rules}
 use Rattle.c_curve.proofs.moments.Goals as goal
 
 pub returns-then-refusal-ne0 : goal.returns-then-refusal-ne0

@@ -4,7 +4,6 @@ use mathlib.Core.Path.{sym, ◌∙◌}
 use Rattle.c_refusals.proofs.Lengths.{query_own_fits}
 use Rattle.c_query.proofs.Given.{query_fits}
 use Rattle.c_direct.proofs.Exported.{direct_query_refused, direct_query_called}
-use borrow.Author.Rules.{rules}
 use Rattle.c_direct.proofs.direct_query.Goals as goal
 
 pub returns-then-refusal-ne0 : goal.returns-then-refusal-ne0

@@ -5,7 +5,6 @@ use Rattle.many_points.proofs.Answered.{none_written, all_written}
 use Rattle.query_many.proofs.Answered.{each_direct}
 use Rattle.c_query.proofs.Given.{axes_given}
 use Rattle.c_many.proofs.Given.{few, points_fit}
-use borrow.Author.Rules.{rules}
 use Rattle.c_many.proofs.direct_queries.Goals as goal
 
 pub returns-then-refusal-ne0 : goal.returns-then-refusal-ne0

@@ -2,7 +2,6 @@
 -- call asks of points and knots is left (`own-fits`).
 use mathlib.Core.Path.{sym, ◌∙◌}
 use Rattle.c_profile.proofs.Exported.{own_fits, profile_refused, profile_called}
-use borrow.Author.Rules.{rules}
 use Rattle.c_profile.proofs.even_profile.Goals as goal
 
 pub returns-then-refusal-ne0 : goal.returns-then-refusal-ne0

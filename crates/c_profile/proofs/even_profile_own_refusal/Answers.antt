@@ -1,13 +1,9 @@
 -- After the rows of the axes one 4, of two tests: the slot is asked first, then the knots, by the number that the pass over the points
 -- found.
-use mathlib.Core.Path.{◌≡◌, refl}
-use Rattle.rules.specs.Sizes.{knots_length}
-use Rattle.rules.specs.Refusals.{length_refused}
+use mathlib.Core.Path.{refl}
 use Rattle.grid_checks.proofs.Rows.{stop, pass, first, second}
-use Rattle.c_refusals.specs.OwnRefusals.{sizes_given}
 use Rattle.c_refusals.proofs.Rows.{axes_stop, axes_pass}
 use Rattle.c_profile.specs.ProfileExports.{even_profile_own_refusal}
-use borrow.Author.Rules.{rules}
 use Rattle.c_profile.proofs.even_profile_own_refusal.Goals as goal
 
 pub returns-then-found-ne0 : goal.returns-then-found-ne0

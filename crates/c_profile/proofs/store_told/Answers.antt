@@ -3,7 +3,6 @@ use native.Mathlib.Omega.{arith}
 use lib.ListN.{length-set}
 use borrow.Author.Tests.{eq-eqb, ne_eqb}
 use Rattle.c_axes.proofs.Slots.{two_stored}
-use borrow.Author.Rules.{rules}
 use Rattle.c_profile.proofs.store_told.Goals as goal
 
 pub returns-then-slot-ne2 : goal.returns-then-slot-ne2

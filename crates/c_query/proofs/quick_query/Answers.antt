@@ -4,7 +4,6 @@ use mathlib.Core.Path.{sym, ◌∙◌}
 use Rattle.c_refusals.proofs.Lengths.{query_own_fits}
 use Rattle.c_query.proofs.Given.{query_fits}
 use Rattle.c_query.proofs.Exported.{quick_query_refused, quick_query_called}
-use borrow.Author.Rules.{rules}
 use Rattle.c_query.proofs.quick_query.Goals as goal
 
 pub returns-then-refusal-ne0 : goal.returns-then-refusal-ne0

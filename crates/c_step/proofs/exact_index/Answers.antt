@@ -1,7 +1,6 @@
 -- Refused by the host, a slot of two says 0 0 (`exact-refused`); else the refusal is the call's, and in the slot stands its exact
 -- index as two numbers (`exact-called`).
 use Rattle.c_step.proofs.Exported.{exact_refused, exact_called}
-use borrow.Author.Rules.{rules}
 use Rattle.c_step.proofs.exact_index.Goals as goal
 
 pub returns-then-refusal-ne0 : goal.returns-then-refusal-ne0

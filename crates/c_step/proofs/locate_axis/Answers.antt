@@ -1,7 +1,6 @@
 -- The host's own refusal comes first, and slots that fit then say 0 0 and +0.0 (`axis-refused`); else refusal and location are the
 -- call's (`axis-called`).
 use Rattle.c_step.proofs.Exported.{axis_refused, axis_called}
-use borrow.Author.Rules.{rules}
 use Rattle.c_step.proofs.locate_axis.Goals as goal
 
 pub returns-then-refusal-ne0 : goal.returns-then-refusal-ne0

@@ -1,7 +1,6 @@
 -- A refusal of the host's own puts 0 in a slot of one (`step-refused`); else the index stands there that the call gives for the
 -- direction of the number (`step-called`).
 use Rattle.c_step.proofs.Exported.{step_refused, step_called}
-use borrow.Author.Rules.{rules}
 use Rattle.c_step.proofs.locate_step_index.Goals as goal
 
 pub returns-then-refusal-ne0 : goal.returns-then-refusal-ne0

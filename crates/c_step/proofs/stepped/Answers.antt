@@ -3,7 +3,6 @@
 -- (`stepped-called`).
 use Rattle.c_step.proofs.Lengths.{four_directions, surface_fits}
 use Rattle.c_step.proofs.Exported.{stepped_refused, stepped_called}
-use borrow.Author.Rules.{rules}
 use Rattle.c_step.proofs.stepped.Goals as goal
 
 pub returns-then-refusal-ne0 : goal.returns-then-refusal-ne0

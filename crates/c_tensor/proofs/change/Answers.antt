@@ -3,7 +3,6 @@
 use mathlib.Core.Path.{sym, ◌∙◌}
 use Rattle.c_refusals.proofs.Lengths.{change_lengths}
 use Rattle.c_tensor.proofs.Exported.{change_refused, change_called}
-use borrow.Author.Rules.{rules}
 use Rattle.c_tensor.proofs.change.Goals as goal
 
 pub returns-then-refusal-ne0 : goal.returns-then-refusal-ne0

@@ -3,7 +3,6 @@
 use mathlib.Core.Path.{sym, ◌∙◌}
 use Rattle.c_verify.proofs.OwnRows.{own_fine}
 use Rattle.c_verify.proofs.Exported.{verify_refused, verify_called}
-use borrow.Author.Rules.{rules}
 use Rattle.c_verify.proofs.verify.Goals as goal
 
 pub returns-then-refusal-ne0 : goal.returns-then-refusal-ne0

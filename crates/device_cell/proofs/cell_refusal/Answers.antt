@@ -3,7 +3,6 @@ use mathlib.Core.Path.{◌≡◌, sym, ◌∙◌}
 use mir.Syntax.{w64}
 use mir.ValLaws.{to_z-of_z}
 use Rattle.device_cell.specs.DeviceCell.{position_in_range, cell_refusal}
-use borrow.Author.Rules.{rules}
 use Rattle.device_cell.proofs.cell_refusal.Goals as goal
 use Rattle.device_cell.proofs.cell_refusal.Goals.{After-in_range}
 

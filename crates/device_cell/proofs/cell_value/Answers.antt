@@ -6,9 +6,7 @@ use mir.Val.{to_z, of_z}
 use mir.ValLaws.{to_z-of_z}
 use Rattle.base_integers.proofs.Sizes.{wider}
 use Rattle.device_cell.specs.DeviceCell.{cell_refusal}
-use Rattle.device_cell.specs.declared.Cell.{Cell}
 use Rattle.device_cell.proofs.Answers.{Passed, passed, natural, answer_refused, answer_given}
-use borrow.Author.Rules.{rules}
 use Rattle.device_cell.proofs.cell_value.Goals as goal
 use Rattle.device_cell.proofs.cell_value.Goals.{After-cell_of-cell, After-cell_refusal-refusal, Else-refusal-ne0, Start}
 

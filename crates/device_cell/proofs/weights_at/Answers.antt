@@ -5,7 +5,6 @@ use mir.Syntax.{w64}
 use mir.ValLaws.{to_z_pos}
 use Rattle.device_cell.specs.CellWeights.{weight_p0, weight_p1, weight_d0, weight_d1}
 use Rattle.device_cell.proofs.Weighed.{Weighed, weighed}
-use borrow.Author.Rules.{rules}
 use Rattle.device_cell.proofs.weights_at.Goals as goal
 use Rattle.device_cell.proofs.weights_at.Goals.{Start}
 

@@ -2,14 +2,7 @@
 -- infinity with the product's sign (`product-special`).
 use native.Mathlib.Omega.{arith}
 use Rattle.doubles_patterns.specs.Patterns.{magnitude}
-use Rattle.doubles_product.proofs.Answers.{
-  product_nan,
-  product_nan_back,
-  product_zero_inf,
-  product_inf_zero,
-  product_special,
-  at_zero,
-}
+use Rattle.doubles_product.proofs.Answers.{product_nan, product_nan_back, product_zero_inf, product_inf_zero, product_special, at_zero}
 use Rattle.doubles_product.proofs.infinite_product.Goals as goal
 
 pub returns-then-p-gt9218868437227405312 : goal.returns-then-p-gt9218868437227405312

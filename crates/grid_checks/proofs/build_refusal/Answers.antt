@@ -1,16 +1,13 @@
 -- 1 to 5 and 7 to 9 of a build, the first row that applies: 1 to 3 by one call (`sizes-stop`, `sizes-pass`), the others one by one.
 -- Sizes in range and the exact count of knots are known past row 4; the pass over the knots and what 7 requires of them need both.
 use mathlib.Core.Path.{◌≡◌, refl, sym, ◌∙◌}
-use mathlib.Core.List.{List}
 use lib.ListN.{length}
 use Rattle.rules.specs.Sizes.{knots_length, samples_length, tensor_length}
 use Rattle.grid_checks.specs.Checked.{FiniteUnless}
 use Rattle.grid.specs.GridOfCall.{grid, sizes_of, points_of, InRange}
 use Rattle.grid_checks.specs.Check.{build_rows, build_check}
-use Rattle.grid_checks.specs.Tables.{Refusal}
 use Rattle.grid_checks.proofs.Rows.{stop, pass, Past, sizes_passed, sizes_stop, sizes_pass, exact_3}
 use Rattle.grid_checks.proofs.FiniteKnots.{grid_finite}
-use borrow.Author.Rules.{rules}
 use Rattle.grid_checks.proofs.build_refusal.Goals as goal
 use Rattle.grid_checks.proofs.build_refusal.Goals.{After-some_knots_refused-knots_refused, Else-build_refused, Else-build_refused-2, Else-knots_refused, Else-refusal-ne0, Else-scratch_refused, Else-some_fewness_refused}
 

@@ -1,16 +1,13 @@
 -- 1 to 9 of a change: the number returned is that of the first row that applies. Rows 1 to 3 are asked as one and leave sizes in
 -- range, row 4 leaves the exact count of knots, and by `grid-finite` those that pass 8 are finite, as the test for 7 requires.
 use mathlib.Core.Path.{◌≡◌, refl, sym, ◌∙◌}
-use mathlib.Core.List.{List}
 use lib.ListN.{length}
 use Rattle.rules.specs.Sizes.{knots_length, tensor_length, place_of}
 use Rattle.grid_checks.specs.Checked.{FiniteUnless}
 use Rattle.grid.specs.GridOfCall.{grid, sizes_of, points_of, InRange}
 use Rattle.grid_checks.specs.Check.{change_rows, change_check}
-use Rattle.grid_checks.specs.Tables.{Refusal}
 use Rattle.grid_checks.proofs.Rows.{stop, pass, Past, sizes_passed, sizes_stop, sizes_pass, exact_2}
 use Rattle.grid_checks.proofs.FiniteKnots.{grid_finite}
-use borrow.Author.Rules.{rules}
 use Rattle.grid_checks.proofs.change_refusal.Goals as goal
 use Rattle.grid_checks.proofs.change_refusal.Goals.{After-some_knots_refused-knots_refused, Else-change_refused, Else-change_refused-2, Else-knots_refused, Else-place_refused, Else-refusal-ne0, Else-scratch_refused, Else-some_fewness_refused}
 

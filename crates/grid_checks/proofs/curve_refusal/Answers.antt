@@ -2,15 +2,12 @@
 -- The pass for 8 comes before the test for 7, and what it says of finite knots is `axis-finite`.
 use mathlib.Core.Path.{◌≡◌, refl, sym, ◌∙◌}
 use mathlib.Core.Bool.{false}
-use mathlib.Core.List.{List}
 use lib.ListN.{length}
 use Rattle.rules.specs.Refusals.{points_refused}
 use Rattle.grid_checks.specs.Checked.{FiniteUnless}
 use Rattle.grid_checks.specs.Check.{curve_rows, curve_check}
-use Rattle.grid_checks.specs.Tables.{Refusal}
 use Rattle.grid_checks.proofs.Rows.{stop, pass, Past, exact_3, knots_row}
 use Rattle.grid_checks.proofs.FiniteKnots.{axis_finite}
-use borrow.Author.Rules.{rules}
 use Rattle.grid_checks.proofs.curve_refusal.Goals as goal
 use Rattle.grid_checks.proofs.curve_refusal.Goals.{After-knots_refused-knots_refused, Else-axis_refused, Else-curve_refused, Else-knots_refused, Else-points_refused}
 

@@ -2,16 +2,13 @@
 -- Rows 2 and 4 leave as many knots as points, so knots without refusal 8 are finite (`axis-finite`), as the test for 7 requires.
 use mathlib.Core.Path.{◌≡◌, refl, sym, ◌∙◌}
 use mathlib.Core.Bool.{false}
-use mathlib.Core.List.{List}
 use lib.ListN.{length}
 use borrow.Author.Tests.{lt-ltb, le-ltb}
 use Rattle.rules.specs.Refusals.{points_refused}
 use Rattle.grid_checks.specs.Checked.{FiniteUnless}
 use Rattle.grid_checks.specs.Check.{moments_rows, moments_check}
-use Rattle.grid_checks.specs.Tables.{Refusal}
 use Rattle.grid_checks.proofs.Rows.{stop, pass, Past, exact_3, knots_row}
 use Rattle.grid_checks.proofs.FiniteKnots.{axis_finite}
-use borrow.Author.Rules.{rules}
 use Rattle.grid_checks.proofs.moments_refusal.Goals as goal
 use Rattle.grid_checks.proofs.moments_refusal.Goals.{After-knots_refused-knots_refused, Else-axis_refused, Else-fewness_refused, Else-knots_refused, Else-moments_refused, Else-points_refused, Else-scratch_length-lt-ROWS}
 

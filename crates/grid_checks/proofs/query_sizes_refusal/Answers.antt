@@ -1,7 +1,6 @@
 -- 1 of the axes, then 2 or 3 as the one pass over the points finds it, then 4: where that pass finds no refusal, the knots and numbers
 -- it counted are the lengths that row 4 of a query asks for.
 use mathlib.Core.Path.{◌≡◌, refl, sym, ◌∙◌}
-use Prim.Native.Nat.{ℕ}
 use Rattle.rules.specs.Sizes.{place_of}
 use Rattle.grid_checks.specs.Check.{points_check, points_rows, lengths_of_points_refused, query_sizes_rows, query_sizes_check}
 use Rattle.grid_checks.proofs.Rows.{stop, pass, Past, rows_stop, rows_pass, axes_few}

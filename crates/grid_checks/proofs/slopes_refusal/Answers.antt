@@ -2,15 +2,12 @@
 -- the pass over all of them is row 8 (`knots-row`).
 use mathlib.Core.Path.{◌≡◌, refl, sym, ◌∙◌}
 use mathlib.Core.Bool.{false}
-use mathlib.Core.List.{List}
 use lib.ListN.{length}
 use Rattle.rules.specs.Refusals.{points_refused}
 use Rattle.grid_checks.specs.Checked.{FiniteUnless}
 use Rattle.grid_checks.specs.Check.{slopes_rows, slopes_check}
-use Rattle.grid_checks.specs.Tables.{Refusal}
 use Rattle.grid_checks.proofs.Rows.{stop, pass, Past, exact_4, knots_row}
 use Rattle.grid_checks.proofs.FiniteKnots.{axis_finite}
-use borrow.Author.Rules.{rules}
 use Rattle.grid_checks.proofs.slopes_refusal.Goals as goal
 use Rattle.grid_checks.proofs.slopes_refusal.Goals.{After-knots_refused-knots_refused, Else-knots_refused, Else-points_refused, Else-slices_refused, Else-slopes_refused}
 

@@ -1,5 +1,4 @@
 -- On two axes what was found refuses the point (`found-refuses`), or the cell is evaluated (`cell-answers`).
-use borrow.Author.Rules.{rules}
 use Rattle.query_answer.proofs.Answering.{found_refuses, cell_answers}
 use Rattle.query_answer.proofs.answer_on_two.Goals as goal
 

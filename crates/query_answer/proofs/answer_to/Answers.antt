@@ -1,5 +1,4 @@
 -- One axis and two are answered by themselves, and more by what the search on all of them finds.
-use borrow.Author.Rules.{rules}
 use Rattle.query_answer.proofs.Answering.{found_refuses, cell_answers}
 use Rattle.query_answer.proofs.answer_to.Goals as goal
 

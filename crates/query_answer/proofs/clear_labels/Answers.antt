@@ -1,5 +1,4 @@
 -- Four zeros, stored one after the other, are all that stands in a slice of four (`cleared`).
-use borrow.Author.Rules.{rules}
 use Rattle.query_answer.proofs.Answering.{cleared}
 use Rattle.query_answer.proofs.clear_labels.Goals as goal
 

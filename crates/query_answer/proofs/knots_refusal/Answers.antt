@@ -1,6 +1,5 @@
 -- Refused knots are 8 by every way, but for a walk they are 7 where one of them is infinite or NaN.
 use mathlib.Core.Path.{sym, ◌∙◌}
-use borrow.Author.Rules.{rules}
 use Rattle.query_answer.proofs.knots_refusal.Goals as goal
 
 pub returns-then-any_not_finite : goal.returns-then-any_not_finite

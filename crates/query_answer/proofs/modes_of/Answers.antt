@@ -1,5 +1,4 @@
 -- Four numbers, each that of its axis's mode: by `modes-taken` the modes are had back from them.
-use borrow.Author.Rules.{rules}
 use Rattle.query_answer.proofs.Modes.{modes_taken}
 use Rattle.query_answer.proofs.modes_of.Goals as goal
 

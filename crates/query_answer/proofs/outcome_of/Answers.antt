@@ -1,6 +1,5 @@
 -- A finite value is answered with its cell as labels, and any other by 10 with nothing but zeros beside it.
 use mathlib.Core.Path.{◌∙◌}
-use borrow.Author.Rules.{rules}
 use Rattle.query_answer.proofs.Answering.{accepted, not_accepted}
 use Rattle.query_answer.proofs.outcome_of.Goals as goal
 

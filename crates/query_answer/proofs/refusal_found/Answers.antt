@@ -1,6 +1,4 @@
 -- The first of 7, 8 and 18 that was found, or 0: where the knots refuse, what `knots_refusal` says.
-use mathlib.Core.Path.{◌∙◌, sym, refl}
-use borrow.Author.Rules.{rules}
 use Rattle.query_answer.proofs.refusal_found.Goals as goal
 
 pub returns-then-refusals-2 : goal.returns-then-refusals-2

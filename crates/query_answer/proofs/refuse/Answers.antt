@@ -1,6 +1,5 @@
 -- With its labels cleared a refusal has nothing but zeros beside its number.
 use mathlib.Core.Path.{refl}
-use borrow.Author.Rules.{rules}
 use Rattle.query_answer.proofs.refuse.Goals as goal
 
 pub returns : goal.returns

@@ -1,8 +1,5 @@
-use borrow.Author.Rules.{rules}
 use native.Mathlib.Omega.{arith}
-use Prim.Native.Nat.{◌-◌}
-use lib.ListN.{length}
-use Rattle.query_blend.proofs.Running.{Turn, turn_first, pairs_within, four_within, turn_next, turn_last}
+use Rattle.query_blend.proofs.Running.{turn_first, pairs_within, four_within, turn_next, turn_last}
 use Rattle.query_blend.proofs.blend_run.Goals as goal
 
 pub loop-e-init : goal.loop-e-init

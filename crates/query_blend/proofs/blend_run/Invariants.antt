@@ -1,10 +1,8 @@
 -- The run, four blends a turn: the numbers below `e` are blended, the others untouched, and `e` and the run come in fours, so
 -- the next four are there. The measure is the numbers left.
-use borrow.Author.Rules.{rules}
-use native.Mathlib.Omega.{arith}
 use Prim.Native.Nat.{◌-◌}
 use lib.ListN.{length}
-use Rattle.query_blend.proofs.Running.{Turn, turn_first, pairs_within, four_within, turn_next, turn_last}
+use Rattle.query_blend.proofs.Running.{Turn}
 use Rattle.query_blend.proofs.blend_run.Given as goal
 
 abbrev pub invariant-loop-e : goal.invariant-loop-e

@@ -1,6 +1,5 @@
 -- Four neighbouring pairs lie inside the numbers, and the answer is the list of their four blends in order.
 use mathlib.Core.Path.{refl}
-use borrow.Author.Rules.{rules}
 use Rattle.query_blend.proofs.four_blended.Goals as goal
 
 pub returns : goal.returns

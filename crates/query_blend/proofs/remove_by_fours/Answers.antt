@@ -1,7 +1,5 @@
-use borrow.Author.Rules.{rules}
 use native.Mathlib.Omega.{arith}
-use Prim.Native.Nat.{◌-◌}
-use Rattle.query_blend.proofs.Removal.{Turn, turn_first, pairs_within, four_within, turn_next, turn_last}
+use Rattle.query_blend.proofs.Removal.{turn_first, pairs_within, four_within, turn_next, turn_last}
 use Rattle.query_blend.proofs.remove_by_fours.Goals as goal
 
 pub loop-e-init : goal.loop-e-init

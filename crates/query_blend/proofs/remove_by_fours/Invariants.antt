@@ -1,9 +1,7 @@
 -- One axis removed in place: the numbers below `e` are the smaller cell's and those from `e` on still the old ones, so every
 -- pair is read as it was at entry. The measure is the numbers left.
-use borrow.Author.Rules.{rules}
-use native.Mathlib.Omega.{arith}
 use Prim.Native.Nat.{◌-◌}
-use Rattle.query_blend.proofs.Removal.{Turn, turn_first, pairs_within, four_within, turn_next, turn_last}
+use Rattle.query_blend.proofs.Removal.{Turn}
 use Rattle.query_blend.proofs.remove_by_fours.Given as goal
 
 abbrev pub invariant-loop-e : goal.invariant-loop-e

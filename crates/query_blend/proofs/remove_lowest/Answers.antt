@@ -1,5 +1,4 @@
 -- Size 1 is a single blend, stored in front (`one_left`); any other size comes in fours, as `remove_by_fours` asks.
-use borrow.Author.Rules.{rules}
 use native.Mathlib.Omega.{arith}
 use Rattle.query_blend.proofs.Removal.{one_left}
 use Rattle.query_blend.proofs.remove_lowest.Goals as goal

@@ -1,7 +1,6 @@
 -- Four stores inside the cell, none of which changes its length: the four numbers stand from `e` on.
 use native.Mathlib.Omega.{arith}
 use lib.ListN.{length-set}
-use borrow.Author.Rules.{rules}
 use Rattle.query_blend.proofs.store_four.Goals as goal
 
 pub bounds-cell-e-2 : goal.bounds-cell-e-2

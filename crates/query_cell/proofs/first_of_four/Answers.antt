@@ -1,5 +1,4 @@
 -- The runs fill the cell.
-use borrow.Author.Rules.{rules}
 use native.Mathlib.Omega.{arith}
 use lib.Seq.{length-take-le}
 use Rattle.query_cell.proofs.Spotting.{spots_of_four, four_small}

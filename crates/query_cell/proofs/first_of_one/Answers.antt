@@ -1,5 +1,4 @@
 -- One number is blended and stored.
-use borrow.Author.Rules.{rules}
 use native.Mathlib.Omega.{arith}
 use mathlib.Core.Path.{refl}
 use Rattle.query_cell.proofs.first_of_one.Goals as goal

@@ -1,5 +1,4 @@
 -- The runs stand in the front of the cell.
-use borrow.Author.Rules.{rules}
 use native.Mathlib.Omega.{arith}
 use lib.Seq.{length-take-le}
 use Rattle.query_cell.proofs.Spotting.{spots_of_three, three_small}

@@ -1,5 +1,4 @@
 -- The first axis is removed by the function for as many axes.
-use borrow.Author.Rules.{rules}
 use native.Mathlib.Omega.{arith}
 use Rattle.query_cell.proofs.Removing.{only_removed, one_within, four_axes}
 use Rattle.query_cell.proofs.remove_first.Goals as goal

@@ -1,5 +1,4 @@
 -- Where all axes are left the tensor's numbers are removed, and else the cell's.
-use borrow.Author.Rules.{rules}
 use native.Mathlib.Omega.{arith}
 use Rattle.query_cell.proofs.Removing.{in_place, removed_only, removed_first, removed_further}
 use Rattle.query_cell.proofs.remove_lowest.Goals as goal

@@ -1,5 +1,4 @@
 -- The first axis is removed from the tensor, and the other leaves one number of the cell.
-use borrow.Author.Rules.{rules}
 use native.Mathlib.Omega.{arith}
 use Rattle.query_cell.proofs.Removing.{removed_first, removed_last}
 use Rattle.query_cell.proofs.remove_of_two.Goals as goal

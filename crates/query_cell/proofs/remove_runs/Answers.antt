@@ -1,7 +1,5 @@
-use borrow.Author.Rules.{rules}
 use native.Mathlib.Omega.{arith}
-use Prim.Native.Nat.{◌-◌, ◌/◌}
-use Rattle.query_cell.proofs.Removing.{Turn, turn_first, room, run_given, turn_next, turn_last}
+use Rattle.query_cell.proofs.Removing.{turn_first, room, run_given, turn_next, turn_last}
 use Rattle.query_cell.proofs.remove_runs.Goals as goal
 
 pub masks-masks-requires : goal.masks-masks-requires

@@ -1,8 +1,6 @@
 -- The runs of a cell's first axis, one a turn: those below `run` are blended and the others untouched. The measure is the runs left.
-use borrow.Author.Rules.{rules}
-use native.Mathlib.Omega.{arith}
 use Prim.Native.Nat.{◌-◌, ◌/◌}
-use Rattle.query_cell.proofs.Removing.{Turn, turn_first, room, run_given, turn_next, turn_last}
+use Rattle.query_cell.proofs.Removing.{Turn}
 use Rattle.query_cell.proofs.remove_runs.Given as goal
 
 abbrev pub invariant-loop-run : goal.invariant-loop-run

@@ -1,5 +1,4 @@
 -- The blend with all axes left, which may be one.
-use borrow.Author.Rules.{rules}
 use native.Mathlib.Omega.{arith}
 use mathlib.Core.Path.{refl}
 use Rattle.query_cell.proofs.value.Goals as goal

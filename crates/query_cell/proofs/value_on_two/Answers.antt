@@ -1,6 +1,4 @@
 -- The blend with both axes left.
-use borrow.Author.Rules.{rules}
-use native.Mathlib.Omega.{arith}
 use mathlib.Core.Path.{refl}
 use Rattle.query_cell.proofs.value_on_two.Goals as goal
 

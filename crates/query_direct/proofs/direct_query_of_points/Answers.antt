@@ -1,6 +1,5 @@
 -- What a division answers is the direct query's answer as it stands, on any axes with these points and modes: `division-answers`.
 use Rattle.query_direct.proofs.Answers.{division_answers}
-use borrow.Author.Rules.{rules}
 use Rattle.query_direct.proofs.direct_query_of_points.Goals as goal
 
 pub returns : goal.returns

@@ -1,6 +1,5 @@
 -- By `walk-answers` the walk's answer is the query's: on finite knots that rise its cells are those of the rules, others it refuses.
 use Rattle.query_full.proofs.Answers.{walk_answers}
-use borrow.Author.Rules.{rules}
 use Rattle.query_full.proofs.query_of_points.Goals as goal
 
 pub returns : goal.returns

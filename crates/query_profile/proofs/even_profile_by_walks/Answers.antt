@@ -3,7 +3,6 @@
 use Rattle.rules.specs.Sizes.{place_of}
 use Rattle.grid_checks.proofs.FiniteKnots.{points_finite}
 use Rattle.query_profile.proofs.Answers.{told_7, told_8, told_21, told_0}
-use borrow.Author.Rules.{rules}
 use Rattle.query_profile.proofs.even_profile_by_walks.Goals as goal
 
 pub knots_of_points_refused-knots_refused-requires : goal.knots_of_points_refused-knots_refused-requires

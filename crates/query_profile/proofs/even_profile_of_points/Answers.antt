@@ -1,6 +1,5 @@
 -- Where the pass over the knots leaves its flag down nothing is refused (`passed-0`); else what the walks one after the other answer.
 use Rattle.query_profile.proofs.Answers.{passed_0}
-use borrow.Author.Rules.{rules}
 use Rattle.query_profile.proofs.even_profile_of_points.Goals as goal
 
 pub knots_may_be_refused-requires : goal.knots_may_be_refused-requires

@@ -1,6 +1,5 @@
 -- 1 of the axes, 2 or 3 as the pass over the points finds it, and 4 by the knots that this pass counts: the rows of the profile, in order.
 use mathlib.Core.Path.{◌≡◌, refl, sym, ◌∙◌}
-use Prim.Native.Nat.{ℕ}
 use Rattle.rules.specs.Sizes.{place_of, sum_below}
 use Rattle.rules.specs.Refusals.{length_refused}
 use Rattle.grid_checks.specs.Check.{points_check, points_rows}

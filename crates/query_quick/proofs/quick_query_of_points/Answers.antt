@@ -1,6 +1,5 @@
 -- What a search answers is the quick query's answer as it stands, on any axes with these points and modes: `search-answers`.
 use Rattle.query_quick.proofs.Answers.{search_answers}
-use borrow.Author.Rules.{rules}
 use Rattle.query_quick.proofs.quick_query_of_points.Goals as goal
 
 pub returns : goal.returns

@@ -2,21 +2,10 @@
 use mathlib.Core.Path.{◌≡◌, ◌∙◌}
 use native.Mathlib.Nat.{add-sub_cancel_left}
 use native.Mathlib.Omega.{arith}
-use Prim.Native.Nat.{◌+◌, ◌-◌, ◌≤◌}
-use lib.ListN.{length}
 use Rattle.rules.specs.Sizes.{tensor_length}
 use Rattle.sheet_read.specs.Fields.{sheet_grid}
 use Rattle.sheet_in_scratch.proofs.OfSheet.{range}
-use Rattle.report.proofs.CountedAlone.{
-  numbers_few,
-  room,
-  tensor_counted,
-  build_few,
-  build_counted,
-  in_places,
-  accepted_counted,
-}
-use borrow.Author.Rules.{rules}
+use Rattle.report.proofs.CountedAlone.{numbers_few, room, tensor_counted, build_few, build_counted, in_places, accepted_counted}
 use Rattle.report.proofs.count_read.Goals as goal
 use Rattle.report.proofs.count_read.Goals.{After-tensor_length-end}
 

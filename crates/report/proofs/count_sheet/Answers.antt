@@ -1,6 +1,5 @@
 -- A fault is counted by its number; a sheet without one is built and counted.
 use Rattle.report.proofs.CountedAlone.{fault_few, fault_counted}
-use borrow.Author.Rules.{rules}
 use Rattle.report.proofs.count_sheet.Goals as goal
 
 pub with_refused-requires : goal.with_refused-requires

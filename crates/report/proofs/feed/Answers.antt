@@ -2,7 +2,6 @@
 use native.Mathlib.Omega.{arith}
 use lib.ListN.{length-replicate}
 use Rattle.rules.specs.Numbers.{plus_zero}
-use borrow.Author.Rules.{rules}
 use Rattle.report.proofs.feed.Goals as goal
 
 pub take_sheets-requires : goal.take_sheets-requires

@@ -3,7 +3,6 @@
 use native.Mathlib.Omega.{arith}
 use Rattle.report_totals.proofs.Sheets.{running_none}
 use Rattle.report.proofs.Progressing.{stands_none, fed_last}
-use borrow.Author.Rules.{rules}
 use Rattle.report.proofs.report_of_bytes.Goals as goal
 
 pub feed-last-requires : goal.feed-last-requires

@@ -1,7 +1,6 @@
 -- One sheet further: the front sheet is looked at, built and counted by its own bytes, and the report stops where it was not read.
 use Rattle.report.specs.Report.{stops}
 use Rattle.report.proofs.Progressing.{progress_full, own_looked, took}
-use borrow.Author.Rules.{rules}
 use Rattle.report.proofs.take_sheet.Goals as goal
 
 pub returns-then-totals-eq1000000 : goal.returns-then-totals-eq1000000

@@ -1,10 +1,8 @@
-use borrow.Author.Rules.{rules}
 use mathlib.Core.Path.{refl}
 use native.Mathlib.Omega.{arith}
-use Prim.Native.Nat.{◌-◌}
-use lib.ListN.{length, drop, length-drop}
+use lib.ListN.{drop, length-drop}
 use Rattle.report.specs.Feeding.{Progressed}
-use Rattle.report.proofs.Progressing.{Alike, alike_buffers, Turn, turn_first, turn_part, turn_next, turn_stops, turn_last}
+use Rattle.report.proofs.Progressing.{alike_buffers, turn_first, turn_part, turn_next, turn_stops, turn_last}
 use Rattle.report.proofs.take_sheets.Goals as goal
 use Rattle.report.proofs.take_sheets.Goals.{After-take_sheet-next}
 

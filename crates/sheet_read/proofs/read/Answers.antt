@@ -4,17 +4,7 @@ use mathlib.Core.Path.{◌≡◌, sym, ◌∙◌}
 use native.Mathlib.Omega.{arith}
 use Rattle.grid_codes.proofs.Classed.{unread_met, read_none}
 use Rattle.sheet_read.proofs.Numbers.{sheet_of_reading}
-use Rattle.sheet_read.proofs.Promises.{
-  knots_refused,
-  samples_refused,
-  sheet_refused,
-  given_refusal,
-  not_refused,
-  given_edition,
-  given_axes,
-  given_all,
-  sheet_read,
-}
+use Rattle.sheet_read.proofs.Promises.{knots_refused, samples_refused, sheet_refused, given_refusal, not_refused, given_edition, given_axes, given_all, sheet_read}
 use Rattle.sheet_read.proofs.Parts.{parts_room}
 use Rattle.sheet_read.proofs.read.Goals as goal
 use Rattle.sheet_read.proofs.read.Goals.{Else-is_unread}

@@ -5,15 +5,7 @@ use Prim.Native.Nat.{ℕ, ◌<◌, ◌≤◌}
 use native.Mathlib.Omega.{arith}
 use Rattle.sheet_surface.specs.OnTheStack.{SmallSheet}
 use Rattle.sheet_surface.proofs.Small.{range}
-use Rattle.sheet_surface.proofs.Answers.{
-  fault_few,
-  sheet_read,
-  sheet_small,
-  reader_refuses,
-  stack_refuses,
-  unused_refuses,
-  sheet_asked,
-}
+use Rattle.sheet_surface.proofs.Answers.{fault_few, sheet_read, sheet_small, reader_refuses, stack_refuses, unused_refuses, sheet_asked}
 use Rattle.sheet_surface.proofs.surface.Goals as goal
 use Rattle.sheet_surface.proofs.surface.Goals.{After-tensor_length-numbers}
 

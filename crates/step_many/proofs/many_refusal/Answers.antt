@@ -1,7 +1,6 @@
 -- 1 to 4 of the axes, the knots and the samples, which some axis is left by, and then 4 of what is lent of the points stepped at.
 use mathlib.Core.Path.{refl}
 use Rattle.grid_checks.proofs.Rows.{stop, pass}
-use borrow.Author.Rules.{rules}
 use Rattle.many_points.proofs.InTurn.{sizes_stop, sizes_pass}
 use Rattle.step_many.proofs.Refusing.{some_axes}
 use Rattle.step_many.proofs.many_refusal.Goals as goal

@@ -5,7 +5,6 @@ use mathlib.Core.Path.{refl, sym, ◌∙◌}
 use Prim.Native.Nat.{◌<◌}
 use lib.ListN.{length}
 use Rattle.step_surface.proofs.Answers.{refused_by, refusal_is, axes_accepted, place_within, place_answers}
-use borrow.Author.Rules.{rules}
 use Rattle.step_surface.proofs.answer.Goals as goal
 use Rattle.step_surface.proofs.answer.Goals.{After-steps_on_axes-found}
 

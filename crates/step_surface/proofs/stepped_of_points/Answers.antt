@@ -1,7 +1,6 @@
 -- Sizes and lengths that are not refused leave what the look at knots and samples requires, and with the number that it gives the answer
 -- is the surface's.
 use Rattle.step_checks.proofs.Accepted.{sizes_accepted}
-use borrow.Author.Rules.{rules}
 use Rattle.step_surface.proofs.stepped_of_points.Goals as goal
 
 pub knots_and_coordinates_refusal-met-requires : goal.knots_and_coordinates_refusal-met-requires

@@ -1,8 +1,5 @@
 use native.Mathlib.Omega.{arith}
-use Prim.Native.Nat.{◌-◌}
-use Rattle.rules.specs.Sizes.{place_of}
-use Rattle.step_surface.proofs.Stepping.{Turn, turn_first, end_within, part_given, number_within, turn_next, turn_last}
-use borrow.Author.Rules.{rules}
+use Rattle.step_surface.proofs.Stepping.{turn_first, end_within, part_given, number_within, turn_next, turn_last}
 use Rattle.step_surface.proofs.steps_on_axes.Goals as goal
 
 pub loop-i-init : goal.loop-i-init

@@ -1,10 +1,8 @@
 -- The walk over the axes: the indices below `i` are the rules' steps, those from `i` on 0, `number` is that of their place, and `begin` is
 -- where the knots of axis `i` begin. The measure is the axes left.
-use native.Mathlib.Omega.{arith}
 use Prim.Native.Nat.{◌-◌}
 use Rattle.rules.specs.Sizes.{place_of}
-use Rattle.step_surface.proofs.Stepping.{Turn, turn_first, end_within, part_given, number_within, turn_next, turn_last}
-use borrow.Author.Rules.{rules}
+use Rattle.step_surface.proofs.Stepping.{Turn}
 use Rattle.step_surface.proofs.steps_on_axes.Given as goal
 
 abbrev pub invariant-loop-i : goal.invariant-loop-i

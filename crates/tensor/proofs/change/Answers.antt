@@ -1,6 +1,5 @@
 -- Three ways out, each kept to the promise: refused before the work (`change-refused`), 10 after it with no lane counted
 -- (`change-stopped`), or the changed tensor stored and its lanes counted (`change-done`). `spot_is` says where the new sample goes.
-use borrow.Author.Rules.{rules}
 use native.Mathlib.Omega.{arith}
 use mathlib.Core.Path.{◌≡◌, sym, ◌∙◌}
 use lib.ListN.{length}
@@ -11,15 +10,7 @@ use Rattle.grid_checks.specs.Check.{change_check}
 use Rattle.grid_checks.proofs.Accepted.{change_given}
 use Rattle.tensor_passes.proofs.Pass.{sizes_given}
 use Rattle.tensor_passes.proofs.MaskTurns.{given_again}
-use Rattle.tensor.proofs.Changing.{
-  change_refused,
-  change_given_passes,
-  spot_is,
-  changed_inside,
-  changed_small,
-  change_stopped,
-  change_done,
-}
+use Rattle.tensor.proofs.Changing.{change_refused, change_given_passes, spot_is, changed_inside, changed_small, change_stopped, change_done}
 use Rattle.tensor.proofs.change.Goals as goal
 use Rattle.tensor.proofs.change.Goals.{Else-refusal-ne0}
 

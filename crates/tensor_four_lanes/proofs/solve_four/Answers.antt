@@ -1,5 +1,4 @@
 -- Under either condition its own solve has all that it asks for (`ends-group`, `cycle-group`), and what it leaves are the knot slopes.
-use borrow.Author.Rules.{rules}
 use Rattle.tensor_four_lanes.proofs.Groups.{ends_group, cycle_group}
 use Rattle.tensor_four_lanes.proofs.solve_four.Goals as goal
 

@@ -1,8 +1,7 @@
-use borrow.Author.Rules.{rules}
 use native.Mathlib.Omega.{arith}
-use Prim.Native.Nat.{◌+◌, ◌-◌, ◌*◌, ◌<◌}
+use Prim.Native.Nat.{◌+◌, ◌*◌, ◌<◌}
 use lib.ListN.{length}
-use Rattle.tensor_lane.proofs.Gathering.{Turn, turn_first, turn_next, turn_last}
+use Rattle.tensor_lane.proofs.Gathering.{turn_first, turn_next, turn_last}
 use Rattle.tensor_lane.proofs.gather.Goals as goal
 use Rattle.tensor_lane.proofs.gather.Goals.{In-loop-k}
 

@@ -1,10 +1,7 @@
 -- The first `k` numbers of the lane are in the row of samples, and all behind that row is kept, the lane with it.
 -- The measure is the numbers left.
-use borrow.Author.Rules.{rules}
-use native.Mathlib.Omega.{arith}
-use Prim.Native.Nat.{◌+◌, ◌-◌, ◌*◌, ◌<◌}
-use lib.ListN.{length}
-use Rattle.tensor_lane.proofs.Gathering.{Turn, turn_first, turn_next, turn_last}
+use Prim.Native.Nat.{◌-◌}
+use Rattle.tensor_lane.proofs.Gathering.{Turn}
 use Rattle.tensor_lane.proofs.gather.Given as goal
 
 abbrev pub invariant-loop-k : goal.invariant-loop-k

@@ -1,5 +1,4 @@
 -- The knot slope of the rules, from the first numbers of the samples' row and of the moments' row, as many as the knots.
-use borrow.Author.Rules.{rules}
 use native.Mathlib.Nat.{sub-zero, add-sub_cancel_left}
 use Rattle.tensor_lane.proofs.slope.Goals as goal
 

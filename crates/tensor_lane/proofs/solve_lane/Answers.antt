@@ -1,6 +1,5 @@
 -- One lane gathered, its moments computed and its knot slopes stored: by `lane-solved` they are those of its spline, and behind the
 -- rows of the scratch no place changes but theirs.
-use borrow.Author.Rules.{rules}
 use mathlib.Core.Path.{◌∙◌}
 use Rattle.tensor_lane.proofs.Lane.{still_lies, lane_solved}
 use Rattle.tensor_lane.proofs.solve_lane.Goals as goal

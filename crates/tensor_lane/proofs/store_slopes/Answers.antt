@@ -1,10 +1,9 @@
 use borrow.Author.Rules.{rules}
 use native.Mathlib.Omega.{arith}
 use mathlib.Core.Path.{◌∙◌}
-use Prim.Native.Nat.{◌+◌, ◌-◌, ◌*◌, ◌<◌}
+use Prim.Native.Nat.{◌+◌, ◌*◌, ◌<◌}
 use lib.ListN.{length}
-use Rattle.tensor_lane.specs.LaneInScratch.{slope_of_rows}
-use Rattle.tensor_lane.proofs.Storing.{Turn, turn_first, turn_next, turn_last, slope_kept}
+use Rattle.tensor_lane.proofs.Storing.{turn_first, turn_next, turn_last, slope_kept}
 use Rattle.tensor_lane.proofs.store_slopes.Goals as goal
 use Rattle.tensor_lane.proofs.store_slopes.Goals.{After-slope}
 

@@ -1,12 +1,9 @@
 -- The first `k` slopes are stored `step` apart, and by `slope-kept` they leave the rows that the next is read from as they were.
 -- The measure is the knots left.
-use borrow.Author.Rules.{rules}
-use native.Mathlib.Omega.{arith}
-use mathlib.Core.Path.{◌∙◌}
-use Prim.Native.Nat.{◌+◌, ◌-◌, ◌*◌, ◌<◌}
+use Prim.Native.Nat.{◌-◌}
 use lib.ListN.{length}
 use Rattle.tensor_lane.specs.LaneInScratch.{slope_of_rows}
-use Rattle.tensor_lane.proofs.Storing.{Turn, turn_first, turn_next, turn_last, slope_kept}
+use Rattle.tensor_lane.proofs.Storing.{Turn}
 use Rattle.tensor_lane.proofs.store_slopes.Given as goal
 
 abbrev pub invariant-loop-k : goal.invariant-loop-k

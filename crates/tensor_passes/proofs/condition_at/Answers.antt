@@ -2,7 +2,6 @@
 use mathlib.Core.Path.{◌≡◌, refl, ◌∙◌}
 use mathlib.Core.Logic.{◌≢◌}
 use Prim.Native.Nat.{ℕ, zero, suc}
-use borrow.Author.Rules.{rules}
 use Rattle.rules.specs.Ends.{crossed, condition_at}
 use Rattle.rules.specs.declared.Condition.{Condition}
 use Rattle.tensor_passes.proofs.condition_at.Goals as goal

@@ -1,7 +1,6 @@
 -- Where the answer is yes, an axis with the fewest points of its condition has as many as a plan asks for, and at most 128.
 use mathlib.Core.Path.{refl}
 use mathlib.Core.Bool.{false}
-use borrow.Author.Rules.{rules}
 use borrow.Author.Tests.{ltb-true}
 use Rattle.rules.proofs.Cases.{not_both}
 use Rattle.tensor_passes.proofs.PlannedAxis.{ends_go, cycle_goes}

@@ -2,7 +2,6 @@
 -- of the numbers that stood before it. The count of lanes is that of these passes.
 use native.Mathlib.Omega.{arith}
 use mathlib.Core.Path.{refl}
-use borrow.Author.Rules.{rules}
 use Rattle.tensor_passes.proofs.Pass.{knots_are}
 use Rattle.tensor_passes.proofs.PlannedAxis.{points_enough, masks_given, axis_passed}
 use Rattle.tensor_passes.proofs.solve_along.Goals as goal

@@ -1,9 +1,5 @@
-use borrow.Author.Rules.{rules}
 use native.Mathlib.Omega.{arith}
-use Prim.Native.Nat.{◌-◌}
-use Rattle.rules.specs.Sizes.{place_of}
-use Rattle.grid.specs.GridOfCall.{grid}
-use Rattle.tensor_passes.proofs.AxisTurns.{Turn, turn_first, pass_given, count_fits, turn_next, turn_last}
+use Rattle.tensor_passes.proofs.AxisTurns.{turn_first, pass_given, count_fits, turn_next, turn_last}
 use Rattle.tensor_passes.proofs.solve_axes.Goals as goal
 
 pub loop-axis-init : goal.loop-axis-init

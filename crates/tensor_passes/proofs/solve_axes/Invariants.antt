@@ -1,11 +1,9 @@
 -- With the axes below `axis` done, each number at a mask of theirs is the refreshed one, every other stands as it did, and `lanes` is
 -- the count of the lanes solved, which cannot overflow (`count_fits`). The measure is the axes left.
-use borrow.Author.Rules.{rules}
-use native.Mathlib.Omega.{arith}
 use Prim.Native.Nat.{◌-◌}
 use Rattle.rules.specs.Sizes.{place_of}
 use Rattle.grid.specs.GridOfCall.{grid}
-use Rattle.tensor_passes.proofs.AxisTurns.{Turn, turn_first, pass_given, count_fits, turn_next, turn_last}
+use Rattle.tensor_passes.proofs.AxisTurns.{Turn}
 use Rattle.tensor_passes.proofs.solve_axes.Given as goal
 
 abbrev pub invariant-loop-axis : goal.invariant-loop-axis

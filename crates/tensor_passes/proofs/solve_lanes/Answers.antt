@@ -3,7 +3,6 @@ use native.Mathlib.Omega.{arith}
 use mathlib.Core.Path.{refl}
 use Rattle.tensor_passes.proofs.Pass.{sizes_given, knots_are, target_fits, step_fits, lanes_given, solve_given, solve_done}
 use Rattle.tensor_passes.proofs.PlannedPasses.{pass_stands}
-use borrow.Author.Rules.{rules}
 use Rattle.tensor_passes.proofs.solve_lanes.Goals as goal
 
 pub knots_before-begin-requires : goal.knots_before-begin-requires

@@ -1,10 +1,5 @@
-use borrow.Author.Rules.{rules}
 use native.Mathlib.Omega.{arith}
-use mathlib.Core.Path.{◌≡◌}
-use Prim.Native.Nat.{◌-◌, ◌^◌}
-use Rattle.rules.specs.Sizes.{place_of}
-use Rattle.grid.specs.GridOfCall.{grid}
-use Rattle.tensor_passes.proofs.MaskTurns.{Turn, turn_first, pass_given, count_fits, turn_next, turn_last}
+use Rattle.tensor_passes.proofs.MaskTurns.{turn_first, pass_given, count_fits, turn_next, turn_last}
 use Rattle.tensor_passes.proofs.solve_masks.Goals as goal
 
 pub masks-limit-requires : goal.masks-limit-requires

@@ -1,12 +1,10 @@
 -- The masks below `mask` have their slopes at the targets, the plan still stands for the next pass, and `lanes` is the sum of their
 -- lanes. The measure is the masks left below two to the power of the axis.
-use borrow.Author.Rules.{rules}
-use native.Mathlib.Omega.{arith}
 use mathlib.Core.Path.{◌≡◌}
 use Prim.Native.Nat.{◌-◌, ◌^◌}
 use Rattle.rules.specs.Sizes.{place_of}
 use Rattle.grid.specs.GridOfCall.{grid}
-use Rattle.tensor_passes.proofs.MaskTurns.{Turn, turn_first, pass_given, count_fits, turn_next, turn_last}
+use Rattle.tensor_passes.proofs.MaskTurns.{Turn}
 use Rattle.tensor_passes.proofs.solve_masks.Given as goal
 
 abbrev pub invariant-loop-mask : goal.invariant-loop-mask

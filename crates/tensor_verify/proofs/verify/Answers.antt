@@ -1,6 +1,5 @@
 -- A refusal before the work leaves the scratch as it was (`verify-refused`); else the passes over the tensor's own samples leave the fresh
 -- one, and by `verify-done` what is told of both is what the rules tell, and the scratch is cleared.
-use borrow.Author.Rules.{rules}
 use Prim.Native.Nat.{◌+◌, ◌-◌}
 use native.Mathlib.Omega.{arith}
 use mathlib.Core.Path.{◌≡◌, sym, ◌∙◌}

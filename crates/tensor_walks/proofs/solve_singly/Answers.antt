@@ -1,7 +1,5 @@
 use native.Mathlib.Omega.{arith}
-use Prim.Native.Nat.{◌-◌}
-use Rattle.tensor_walks.proofs.WalkTurns.{Turn, turn_first, inside, lane_given, next_given, turn_next, turn_last}
-use borrow.Author.Rules.{rules}
+use Rattle.tensor_walks.proofs.WalkTurns.{turn_first, inside, lane_given, next_given, turn_next, turn_last}
 use Rattle.tensor_walks.proofs.solve_singly.Goals as goal
 
 pub first-cursor-requires : goal.first-cursor-requires

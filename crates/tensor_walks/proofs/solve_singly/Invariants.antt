@@ -1,9 +1,7 @@
 -- One lane a turn: those below the cursor's are solved, and no slope stored so far stands on a number of a later lane.
 -- The measure is the lanes left.
-use native.Mathlib.Omega.{arith}
 use Prim.Native.Nat.{◌-◌}
-use Rattle.tensor_walks.proofs.WalkTurns.{Turn, turn_first, inside, lane_given, next_given, turn_next, turn_last}
-use borrow.Author.Rules.{rules}
+use Rattle.tensor_walks.proofs.WalkTurns.{Turn}
 use Rattle.tensor_walks.proofs.solve_singly.Given as goal
 
 abbrev pub invariant-loop-cursor : goal.invariant-loop-cursor

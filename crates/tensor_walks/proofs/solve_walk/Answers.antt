@@ -1,6 +1,5 @@
 -- A plan that was made takes the walk by four and is kept for the next one; without a plan it goes lane by lane. Either way every lane
 -- is solved and counted.
-use borrow.Author.Rules.{rules}
 use Rattle.rules.proofs.Cases.{not_both}
 use Rattle.tensor_walks.proofs.solve_walk.Goals as goal
 

@@ -1,6 +1,5 @@
 -- Below takes the first knot and Above the last, which are there since there is a knot; Inside takes the point itself.
 use Rattle.axis_locate.proofs.Sides.{nearest_below, nearest_above}
-use borrow.Author.Rules.{rules}
 use Rattle.axis_locate.proofs.outside.nearest.Goals as goal
 
 pub returns-in-Below : goal.returns-in-Below

@@ -1,7 +1,5 @@
 -- A number that is that of Hold, that of Refuse, and any other.
-use mathlib.Core.Path.{◌≡◌, sym, ◌∙◌}
-use borrow.Author.Rules.{rules}
-use Rattle.rules.specs.declared.Mode.TheVariants.{Extend, Hold, Refuse}
+use mathlib.Core.Path.{sym, ◌∙◌}
 use Rattle.grid_codes.specs.Modes.{mode_of_number}
 use Rattle.axis_locate.proofs.Sides.{placed_extend, placed_hold, placed_refuse}
 use Rattle.axis_locate.proofs.outside.place_on_axis.Goals as goal

@@ -1,6 +1,5 @@
 -- The two tests in the rules' order: under the first knot is Below, over the last is Above, and where neither holds Inside.
 use Rattle.axis_locate.proofs.Sides.{side_below, side_above, side_inside}
-use borrow.Author.Rules.{rules}
 use Rattle.axis_locate.proofs.outside.side_of.Goals as goal
 
 pub returns-then-point-knots : goal.returns-then-point-knots

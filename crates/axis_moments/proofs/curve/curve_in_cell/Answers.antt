@@ -2,8 +2,6 @@
 use mathlib.Core.Path.{refl}
 use borrow.Author.Rules.{rules}
 use Rattle.rules.specs.Curve.{curve_in_cell}
-use Rattle.axis_moments.proofs.curve.curve_in_cell.Reads as reads
-use Rattle.axis_moments.proofs.curve.curve_in_cell.Lts as lts
 use Rattle.axis_moments.proofs.curve.curve_in_cell.Goals as goal
 
 pub overflow_add-h : goal.overflow_add-h

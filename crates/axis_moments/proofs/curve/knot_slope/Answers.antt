@@ -2,8 +2,6 @@
 use borrow.Author.Rules.{rules}
 use borrow.Author.Tests.{lt-ltb, le-ltb}
 use Rattle.rules.specs.Curve.{knot_slope}
-use Rattle.axis_moments.proofs.curve.knot_slope.Reads as reads
-use Rattle.axis_moments.proofs.curve.knot_slope.Lts as lts
 use Rattle.axis_moments.proofs.curve.knot_slope.Goals as goal
 
 pub overflow_sub-n : goal.overflow_sub-n

@@ -2,16 +2,13 @@
 -- ---- the rows that were asked and do not apply
 -- ---- the answers
 use mathlib.Core.Path.{◌≡◌, refl, sym, ◌∙◌}
-use mathlib.Core.List.{List}
 use lib.ListN.{length}
 use Rattle.rules.specs.Sizes.{knots_length, tensor_length}
 use Rattle.rules.specs.Refusals.{length_refused}
-use Rattle.grid_checks.specs.Tables.{Refusal}
 use Rattle.grid_checks.proofs.Rows.{stop, pass, Past, exact}
 use Rattle.c_refusals.specs.OwnRefusals.{sizes_given}
 use Rattle.c_refusals.proofs.Rows.{axes_stop, axes_pass, points_in_range}
 use Rattle.c_many.specs.ManyExports.{queries_own_rows, queries_own_refusal}
-use borrow.Author.Rules.{rules}
 use Rattle.c_many.proofs.own.queries_own_refusal.Goals as goal
 use Rattle.c_many.proofs.own.queries_own_refusal.Goals.{After-length_refused-2, After-length_refused-3, Else-found-ne0, Else-length_refused, Else-length_refused-2, Else-length_refused-3, Else-points_lengths_refused}
 

@@ -1,7 +1,6 @@
 -- Below the number of axes the direction of its number, and Lower for an axis not in use.
 use borrow.Author.Tests.{lt-ltb, le-ltb}
 use Rattle.c_step.specs.Directions.{direction_given}
-use borrow.Author.Rules.{rules}
 use Rattle.c_step.proofs.directions.direction_given.Goals as goal
 
 pub returns-then-i-axes : goal.returns-then-i-axes

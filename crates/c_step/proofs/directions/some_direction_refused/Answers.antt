@@ -1,12 +1,8 @@
-use Prim.Native.Nat.{◌≤◌, ◌-◌}
-use mathlib.Core.Path.{◌≡◌, sym}
-use mathlib.Core.Bool.{false}
+use mathlib.Core.Path.{sym}
 use native.Mathlib.Omega.{arith}
-use lib.ListN.{get_or}
 use borrow.Author.Tests.{lt-ltb, le-ltb}
-use Rattle.rules.specs.Numbers.{any}
 use Rattle.base_numbers.proofs.Scan.{any_none, any_more, any_found, any_end}
-use Rattle.c_step.specs.Directions.{direction_refused, some_direction_refused}
+use Rattle.c_step.specs.Directions.{some_direction_refused}
 use borrow.Author.Rules.{rules}
 use Rattle.c_step.proofs.directions.some_direction_refused.Goals as goal
 

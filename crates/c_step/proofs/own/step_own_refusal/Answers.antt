@@ -1,11 +1,8 @@
 -- Three rows by four tests: 2, then 4 for the slot of the index or for the knots, then 22 for a direction above 1.
 use mathlib.Core.Path.{refl}
-use mathlib.Core.List.{List}
 use borrow.Author.Tests.{lt-ltb, le-ltb}
-use Rattle.grid_checks.specs.Tables.{Refusal}
 use Rattle.grid_checks.proofs.Rows.{first, second, stop, pass, Past}
 use Rattle.c_step.specs.StepExports.{step_own_rows, step_own_refusal}
-use borrow.Author.Rules.{rules}
 use Rattle.c_step.proofs.own.step_own_refusal.Goals as goal
 use Rattle.c_step.proofs.own.step_own_refusal.Goals.{Else-length_refused-2, Else-points_refused}
 

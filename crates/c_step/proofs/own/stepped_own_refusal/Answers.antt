@@ -2,12 +2,10 @@
 -- leave what the tests below them require: at most four axes, and four directions.
 use mathlib.Core.Path.{◌≡◌, refl, sym, ◌∙◌}
 use mathlib.Core.Bool.{◌||◌}
-use mathlib.Core.List.{List}
 use lib.ListN.{length}
 use Rattle.rules.specs.Sizes.{knots_length, samples_length}
 use Rattle.rules.specs.Refusals.{length_refused}
 use Rattle.grid.specs.GridOfCall.{points_of, InRange}
-use Rattle.grid_checks.specs.Tables.{Refusal}
 use Rattle.grid_checks.proofs.Rows.{first, second, stop, pass, Past}
 use Rattle.step_checks.proofs.Samples.{samples_told}
 use Rattle.c_axes.specs.Axes.{axes_without_ends}
@@ -15,7 +13,6 @@ use Rattle.c_refusals.specs.OwnRefusals.{sizes_given}
 use Rattle.c_refusals.proofs.Rows.{axes_stop, axes_pass, points_in_range}
 use Rattle.c_step.specs.StepExports.{stepped_slots_refused, stepped_own_rows, stepped_own_refusal}
 use Rattle.c_step.proofs.Lengths.{directions_four}
-use borrow.Author.Rules.{rules}
 use Rattle.c_step.proofs.own.stepped_own_refusal.Goals as goal
 use Rattle.c_step.proofs.own.stepped_own_refusal.Goals.{After-stepped_lengths_refused, Else-found-ne0, Else-stepped_lengths_refused}
 

@@ -1,6 +1,5 @@
 -- Directions that are not four answer true; else it is the test of the slots of value and indices.
 use Rattle.grid_checks.proofs.Rows.{first, second}
-use borrow.Author.Rules.{rules}
 use Rattle.c_step.proofs.own.stepped_slots_refused.Goals as goal
 
 pub returns-then-length_refused : goal.returns-then-length_refused

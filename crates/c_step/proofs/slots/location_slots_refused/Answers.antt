@@ -1,6 +1,5 @@
 -- True exactly where the slot of the location is not two numbers or that of the fraction is not one.
 use Rattle.grid_checks.proofs.Rows.{first, second}
-use borrow.Author.Rules.{rules}
 use Rattle.c_step.proofs.slots.location_slots_refused.Goals as goal
 
 pub returns-then-length_refused : goal.returns-then-length_refused

@@ -1,7 +1,6 @@
 -- A slot of two holds 1 and the index where a knot was found, and 0 0 where none was; a slot of another length stays as it was.
 use mathlib.Core.Path.{sym, ◌∙◌}
 use Rattle.grid_checks.proofs.Rows.{exact}
-use borrow.Author.Rules.{rules}
 use Rattle.c_step.proofs.slots.store_exact.Goals as goal
 
 pub returns-then-length_refused : goal.returns-then-length_refused

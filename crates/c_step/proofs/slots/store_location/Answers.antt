@@ -4,7 +4,6 @@ use mathlib.Core.Path.{sym, ◌∙◌}
 use native.Mathlib.Omega.{arith}
 use Rattle.c_axes.proofs.Slots.{one_stored}
 use Rattle.c_step.proofs.Lengths.{location_lengths}
-use borrow.Author.Rules.{rules}
 use Rattle.c_step.proofs.slots.store_location.Goals as goal
 
 pub returns-then-location_slots_refused : goal.returns-then-location_slots_refused

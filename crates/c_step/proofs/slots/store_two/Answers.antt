@@ -1,6 +1,5 @@
 -- A slice of two written at 0 and at 1 is these two numbers (`two-stored`).
 use Rattle.c_axes.proofs.Slots.{two_stored}
-use borrow.Author.Rules.{rules}
 use Rattle.c_step.proofs.slots.store_two.Goals as goal
 
 pub returns : goal.returns

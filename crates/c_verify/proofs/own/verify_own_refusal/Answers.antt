@@ -8,7 +8,6 @@ use Rattle.c_refusals.proofs.Rows.{axes_stop}
 use Rattle.c_verify.specs.VerifyExports.{verify_slots_refused, verify_own_refusal}
 use Rattle.c_verify.proofs.FoundSlots.{found_lengths}
 use Rattle.c_verify.proofs.OwnRows.{slots_met, own_of_change}
-use borrow.Author.Rules.{rules}
 use Rattle.c_verify.proofs.own.verify_own_refusal.Goals as goal
 use Rattle.c_verify.proofs.own.verify_own_refusal.Goals.{Else-slots_refused}
 

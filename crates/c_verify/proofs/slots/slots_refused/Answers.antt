@@ -1,6 +1,5 @@
 -- A place that is not four numbers, or another slot that is not three: the first test answers, or the second.
 use Rattle.grid_checks.proofs.Rows.{first, second}
-use borrow.Author.Rules.{rules}
 use Rattle.c_verify.proofs.slots.slots_refused.Goals as goal
 
 pub returns-then-length_refused : goal.returns-then-length_refused

@@ -6,7 +6,6 @@ use native.Mathlib.Omega.{arith}
 use lib.ListN.{length, length-set}
 use Rattle.c_verify.specs.VerifyExports.{verify_slots_refused}
 use Rattle.c_verify.proofs.FoundSlots.{found_lengths, other_slots, both_stored}
-use borrow.Author.Rules.{rules}
 use Rattle.c_verify.proofs.slots.store_found.Goals as goal
 use Rattle.c_verify.proofs.slots.store_found.Goals.{Else-slots_refused}
 

@@ -1,5 +1,4 @@
 -- Two, and with two ends the unknowns that each of them drops, as in the rules; at most one for each, so the sum does not overflow.
-use borrow.Author.Rules.{rules}
 use Rattle.grid_checks.proofs.ends.fewest_points.Goals as goal
 
 pub returns-in-Endpoints : goal.returns-in-Endpoints

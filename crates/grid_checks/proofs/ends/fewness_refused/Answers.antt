@@ -1,5 +1,4 @@
 -- Refusal 9 of one axis: its points against the fewest that its condition needs.
-use borrow.Author.Rules.{rules}
 use Rattle.grid_checks.proofs.ends.fewness_refused.Goals as goal
 
 pub returns : goal.returns

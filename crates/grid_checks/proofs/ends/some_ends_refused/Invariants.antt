@@ -1,13 +1,10 @@
 -- No axis below `i` has an end that is refused by 7, and the first that has one answers. The measure is the axes left.
 use Prim.Native.Nat.{◌≤◌, ◌-◌}
-use mathlib.Core.Path.{◌≡◌, sym, ◌∙◌}
+use mathlib.Core.Path.{◌≡◌}
 use mathlib.Core.Bool.{false}
-use native.Mathlib.Omega.{arith}
 use Rattle.rules.specs.Numbers.{any}
 use Rattle.rules.specs.Refusals.{ends_refused}
-use Rattle.base_numbers.proofs.Scan.{any_none, any_more, any_found, any_end}
 use Rattle.grid.specs.GridOfCall.{condition_of}
-use borrow.Author.Rules.{rules}
 use Rattle.grid_checks.proofs.ends.some_ends_refused.Given as goal
 
 abbrev pub invariant-loop-i : goal.invariant-loop-i

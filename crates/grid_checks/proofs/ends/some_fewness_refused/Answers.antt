@@ -1,11 +1,6 @@
-use Prim.Native.Nat.{◌≤◌, ◌-◌}
-use mathlib.Core.Path.{◌≡◌, sym, ◌∙◌}
-use mathlib.Core.Bool.{false}
+use mathlib.Core.Path.{sym, ◌∙◌}
 use native.Mathlib.Omega.{arith}
-use Rattle.rules.specs.Numbers.{any}
-use Rattle.rules.specs.Refusals.{fewness_refused}
 use Rattle.base_numbers.proofs.Scan.{any_none, any_more, any_found, any_end}
-use Rattle.grid.specs.GridOfCall.{points_of, condition_of}
 use borrow.Author.Rules.{rules}
 use Rattle.grid_checks.proofs.ends.some_fewness_refused.Goals as goal
 

@@ -1,7 +1,6 @@
 -- Row 4 of one axis: knots, samples, moments against its points; the first length that differs answers, and else the third test.
 use mathlib.Core.Path.{refl}
 use Rattle.grid_checks.proofs.Rows.{first, second}
-use borrow.Author.Rules.{rules}
 use Rattle.grid_checks.proofs.lengths.axis_refused.Goals as goal
 
 pub returns-then-length_refused : goal.returns-then-length_refused

@@ -1,7 +1,6 @@
 -- Row 4 of a build: knots, samples and tensor, each held against the length that the grid's sizes ask for, one after the other.
 use mathlib.Core.Path.{refl}
 use Rattle.grid_checks.proofs.Rows.{first, second}
-use borrow.Author.Rules.{rules}
 use Rattle.grid_checks.proofs.lengths.build_refused.Goals as goal
 
 pub returns-then-length_refused : goal.returns-then-length_refused

@@ -1,6 +1,5 @@
 -- Row 4 of a change has two tests: the length of the knots, and where that is exact the length of the tensor.
 use Rattle.grid_checks.proofs.Rows.{first, second}
-use borrow.Author.Rules.{rules}
 use Rattle.grid_checks.proofs.lengths.change_refused.Goals as goal
 
 pub returns-then-length_refused : goal.returns-then-length_refused

@@ -1,7 +1,6 @@
 -- Three tests in a row: knots and tensor against the sizes handed in, coordinates against the count of axes.
 use mathlib.Core.Path.{refl}
 use Rattle.grid_checks.proofs.Rows.{first, second}
-use borrow.Author.Rules.{rules}
 use Rattle.grid_checks.proofs.lengths.query_lengths_refused.Goals as goal
 
 pub returns-then-length_refused : goal.returns-then-length_refused

@@ -1,5 +1,4 @@
 -- Refusal 5 of a grid: scratch is held against the tensor's length and that of the rows, whose sum does not overflow.
-use borrow.Author.Rules.{rules}
 use Rattle.grid_checks.proofs.lengths.scratch_refused.Goals as goal
 
 pub returns : goal.returns

@@ -1,6 +1,5 @@
 -- Row 4 of the knot slopes: the three lengths of the axis, and past them that of the slopes.
 use Rattle.grid_checks.proofs.Rows.{first, second}
-use borrow.Author.Rules.{rules}
 use Rattle.grid_checks.proofs.lengths.slopes_refused.Goals as goal
 
 pub returns-then-axis_refused : goal.returns-then-axis_refused

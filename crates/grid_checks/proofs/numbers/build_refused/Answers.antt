@@ -1,6 +1,5 @@
 -- Refusal 7 of a build: the knots and ends of the grid together, and past them the samples.
 use Rattle.grid_checks.proofs.Rows.{first, second}
-use borrow.Author.Rules.{rules}
 use Rattle.grid_checks.proofs.numbers.build_refused.Goals as goal
 
 pub returns-then-grid_refused : goal.returns-then-grid_refused

@@ -1,7 +1,6 @@
 -- Refusal 7 of a change in three returns: the grid's knots and ends, the new sample, the numbers of the tensor.
 use mathlib.Core.Path.{refl}
 use Rattle.grid_checks.proofs.Rows.{first, second}
-use borrow.Author.Rules.{rules}
 use Rattle.grid_checks.proofs.numbers.change_refused.Goals as goal
 
 pub returns-then-grid_refused : goal.returns-then-grid_refused

@@ -1,6 +1,5 @@
 -- Refusal 7 of the curve's value: knots and samples by one test, and where it fails the point by another.
 use Rattle.grid_checks.proofs.Rows.{first, second}
-use borrow.Author.Rules.{rules}
 use Rattle.grid_checks.proofs.numbers.curve_refused.Goals as goal
 
 pub returns-then-slices_refused : goal.returns-then-slices_refused

@@ -1,6 +1,5 @@
 -- What build and change share of refusal 7: the knots, and where none is refused the ends of the axes in use.
 use Rattle.grid_checks.proofs.Rows.{first, second}
-use borrow.Author.Rules.{rules}
 use Rattle.grid_checks.proofs.numbers.grid_refused.Goals as goal
 
 pub returns-then-some_knot_refused : goal.returns-then-some_knot_refused

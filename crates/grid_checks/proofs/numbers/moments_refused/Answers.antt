@@ -1,7 +1,6 @@
 -- Refusal 7 of an axis: knots, then ends, then samples; each return is the three tests together, those before it having failed.
 use mathlib.Core.Path.{refl}
 use Rattle.grid_checks.proofs.Rows.{first, second}
-use borrow.Author.Rules.{rules}
 use Rattle.grid_checks.proofs.numbers.moments_refused.Goals as goal
 
 pub returns-then-some_knot_refused : goal.returns-then-some_knot_refused

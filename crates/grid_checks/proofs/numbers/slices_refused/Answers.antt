@@ -1,6 +1,5 @@
 -- A knot that is refused answers for both slices; where there is none, the pass over the others does.
 use Rattle.grid_checks.proofs.Rows.{first, second}
-use borrow.Author.Rules.{rules}
 use Rattle.grid_checks.proofs.numbers.slices_refused.Goals as goal
 
 pub returns-then-some_knot_refused : goal.returns-then-some_knot_refused

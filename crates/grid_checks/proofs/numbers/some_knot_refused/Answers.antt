@@ -1,6 +1,5 @@
 -- Knots that 8 refuses are looked at one by one; of the others it is required that they are finite, and the answer is false.
 use mathlib.Core.Path.{sym}
-use borrow.Author.Rules.{rules}
 use Rattle.grid_checks.proofs.numbers.some_knot_refused.Goals as goal
 
 pub returns-then-knots_refused : goal.returns-then-knots_refused

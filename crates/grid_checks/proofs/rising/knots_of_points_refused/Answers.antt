@@ -1,12 +1,10 @@
 use Prim.Native.Nat.{ℕ, ◌+◌, ◌-◌, ◌≤◌}
 use mathlib.Core.Path.{◌≡◌, sym, ap, ◌∙◌}
-use mathlib.Core.Bool.{false}
 use mathlib.Core.List.{List}
 use native.Mathlib.Omega.{arith}
 use lib.ListN.{length, take, drop, length-drop}
 use lib.Seq.{length-take-le}
 use lib.Ieee.{Float}
-use Rattle.rules.specs.Numbers.{any}
 use Rattle.rules.specs.Sizes.{place_of, sum_below}
 use Rattle.rules.specs.Refusals.{knots_refused}
 use Rattle.base_numbers.proofs.Scan.{any_none, any_more, any_found, any_end}

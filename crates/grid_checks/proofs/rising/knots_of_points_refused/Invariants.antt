@@ -1,19 +1,12 @@
 -- `start` is how many knots the axes below `i` have, and none of those axes is refused by 8; the part lent is the knots of axis `i`
 -- (`part-refused`). The measure is the axes left.
-use Prim.Native.Nat.{ℕ, ◌+◌, ◌-◌, ◌≤◌}
-use mathlib.Core.Path.{◌≡◌, sym, ap, ◌∙◌}
+use Prim.Native.Nat.{◌-◌, ◌≤◌}
+use mathlib.Core.Path.{◌≡◌}
 use mathlib.Core.Bool.{false}
-use mathlib.Core.List.{List}
-use native.Mathlib.Omega.{arith}
-use lib.ListN.{length, take, drop, length-drop}
-use lib.Seq.{length-take-le}
-use lib.Ieee.{Float}
+use lib.ListN.{take, drop}
 use Rattle.rules.specs.Numbers.{any}
 use Rattle.rules.specs.Sizes.{place_of, sum_below}
 use Rattle.rules.specs.Refusals.{knots_refused}
-use Rattle.base_numbers.proofs.Scan.{any_none, any_more, any_found, any_end}
-use Rattle.grid.proofs.Products.{sum_none, sum_more, sum_within}
-use borrow.Author.Rules.{rules}
 use Rattle.grid_checks.proofs.rising.knots_of_points_refused.Given as goal
 
 abbrev pub invariant-loop-i : goal.invariant-loop-i

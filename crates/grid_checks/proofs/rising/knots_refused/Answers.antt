@@ -4,7 +4,6 @@ use native.Mathlib.Omega.{arith}
 use mathlib.Core.Path.{sym, ◌∙◌}
 use lib.ListN.{length}
 use Rattle.grid_checks.proofs.RisingKnots.{no_steps, not_risen, finite_steps}
-use borrow.Author.Rules.{rules}
 use Rattle.grid_checks.proofs.rising.knots_refused.Goals as goal
 
 pub returns-then-knots-lt2 : goal.returns-then-knots-lt2

@@ -1,12 +1,9 @@
 -- The flag says whether a knot below `i` fails to lie below the next: one comparison a turn. The measure is the knots left.
 use Prim.Native.Nat.{◌≤◌, ◌-◌}
-use mathlib.Core.Path.{◌≡◌, sym, ap, ◌∙◌}
-use native.Mathlib.Omega.{arith}
+use mathlib.Core.Path.{◌≡◌}
 use lib.ListN.{length}
 use Rattle.rules.specs.Numbers.{any}
-use Rattle.base_numbers.proofs.Scan.{any_none, any_next}
 use Rattle.grid_checks.specs.Rising.{not_rising}
-use borrow.Author.Rules.{rules}
 use Rattle.grid_checks.proofs.rising.some_knot_not_rising.Given as goal
 
 abbrev pub invariant-loop-i : goal.invariant-loop-i

@@ -1,14 +1,10 @@
 -- The flag says whether a step below `i` is refused by 8; each turn adds the step from knot `i` to the next. The measure is the
 -- knots left.
 use Prim.Native.Nat.{◌≤◌, ◌-◌}
-use mathlib.Core.Path.{◌≡◌, sym, ap, ◌∙◌}
-use native.Mathlib.Omega.{arith}
+use mathlib.Core.Path.{◌≡◌}
 use lib.ListN.{length}
 use Rattle.rules.specs.Numbers.{any}
-use Rattle.rules.specs.Steps.{h}
 use Rattle.rules.specs.Refusals.{step_refused}
-use Rattle.base_numbers.proofs.Scan.{any_none, any_next}
-use borrow.Author.Rules.{rules}
 use Rattle.grid_checks.proofs.rising.some_step_refused.Given as goal
 
 abbrev pub invariant-loop-i : goal.invariant-loop-i

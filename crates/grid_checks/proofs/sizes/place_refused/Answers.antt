@@ -1,13 +1,7 @@
-use Prim.Native.Nat.{◌≤◌, ◌-◌}
-use mathlib.Core.Path.{◌≡◌, sym}
-use mathlib.Core.Bool.{false}
+use mathlib.Core.Path.{sym}
 use native.Mathlib.Omega.{arith}
 use borrow.Author.Tests.{le-leb, lt-leb}
-use lib.Dec.{leb}
-use Rattle.rules.specs.Numbers.{any}
-use Rattle.rules.specs.Sizes.{place_of}
 use Rattle.base_numbers.proofs.Scan.{any_none, any_more, any_found, any_end}
-use Rattle.grid.specs.GridOfCall.{points_of}
 use borrow.Author.Rules.{rules}
 use Rattle.grid_checks.proofs.sizes.place_refused.Goals as goal
 

@@ -1,19 +1,9 @@
 use mathlib.Core.Path.{sym, ◌∙◌}
-use Prim.Native.Nat.{◌+◌, ◌*◌, ◌-◌}
+use Prim.Native.Nat.{◌+◌, ◌*◌}
 use native.Mathlib.Omega.{arith}
 use Rattle.rules.specs.Sizes.{place_of}
 use Rattle.grid.proofs.Products.{fits_64}
-use Rattle.grid_checks.proofs.Counting.{
-  Counted,
-  counted_none,
-  counted_more,
-  few_numbers,
-  counted_all,
-  found_points,
-  found_large,
-  found_sizes,
-}
-use borrow.Author.Rules.{rules}
+use Rattle.grid_checks.proofs.Counting.{Counted, counted_none, counted_more, few_numbers, counted_all, found_points, found_large, found_sizes}
 use Rattle.grid_checks.proofs.sizes.sizes_of_points.Goals as goal
 use Rattle.grid_checks.proofs.sizes.sizes_of_points.Goals.{Else-points_refused}
 

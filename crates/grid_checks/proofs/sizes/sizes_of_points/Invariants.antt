@@ -1,21 +1,8 @@
 -- `Counted` holds of the axes below `i`: none has points that are refused, `knots` is their sum, `numbers` their product times the
 -- masks of all axes, which four axes keep within 2^36. The measure is the axes left; 2 answers inside the loop, 3 or 0 behind it.
-use mathlib.Core.Path.{sym, ◌∙◌}
-use Prim.Native.Nat.{◌+◌, ◌*◌, ◌-◌}
-use native.Mathlib.Omega.{arith}
+use Prim.Native.Nat.{◌-◌}
 use Rattle.rules.specs.Sizes.{place_of}
-use Rattle.grid.proofs.Products.{fits_64}
-use Rattle.grid_checks.proofs.Counting.{
-  Counted,
-  counted_none,
-  counted_more,
-  few_numbers,
-  counted_all,
-  found_points,
-  found_large,
-  found_sizes,
-}
-use borrow.Author.Rules.{rules}
+use Rattle.grid_checks.proofs.Counting.{Counted}
 use Rattle.grid_checks.proofs.sizes.sizes_of_points.Given as goal
 
 abbrev pub invariant-loop-i : goal.invariant-loop-i

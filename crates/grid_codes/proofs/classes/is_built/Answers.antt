@@ -1,8 +1,5 @@
 -- The class is None, or one of the others.
-use native.Mathlib.Omega.{arith}
-use Rattle.grid_codes.specs.Classes.{built}
-use Rattle.grid_codes.proofs.Classed.{one_of_four, other_than_none}
-use borrow.Author.Rules.{rules}
+use Rattle.grid_codes.proofs.Classed.{other_than_none}
 use Rattle.grid_codes.proofs.classes.is_built.Goals as goal
 
 pub returns-in-None : goal.returns-in-None

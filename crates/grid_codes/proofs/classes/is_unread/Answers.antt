@@ -1,8 +1,5 @@
 -- The class is Reading, or one of the others.
-use native.Mathlib.Omega.{arith}
-use Rattle.grid_codes.specs.Classes.{unread}
-use Rattle.grid_codes.proofs.Classed.{one_of_four, other_than_reading}
-use borrow.Author.Rules.{rules}
+use Rattle.grid_codes.proofs.Classed.{other_than_reading}
 use Rattle.grid_codes.proofs.classes.is_unread.Goals as goal
 
 pub returns-in-Reading : goal.returns-in-Reading

@@ -1,5 +1,4 @@
 -- Refusal 23: in edition 1 the mode's number is compared with 0, which is Extend; any other edition refuses no mode.
-use borrow.Author.Rules.{rules}
 use borrow.Author.Tests.{ne_eqb}
 use Rattle.grid_codes.specs.Editions.{mode_refused}
 use Rattle.grid_codes.proofs.editions.mode_refused.Goals as goal

@@ -1,7 +1,6 @@
 -- Refusal 13: the lower kind is unknown, or else the upper, or else kind 3 stands at one end only.
 use mathlib.Core.Path.{sym, ◌∙◌}
 use Rattle.grid_codes.specs.Kinds.{kinds_refused}
-use borrow.Author.Rules.{rules}
 use Rattle.grid_codes.proofs.ends.kinds_refused.Goals as goal
 
 pub returns-then-is_unknown : goal.returns-then-is_unknown

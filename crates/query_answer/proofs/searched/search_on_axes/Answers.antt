@@ -1,17 +1,5 @@
 use native.Mathlib.Omega.{arith}
-use Prim.Native.Nat.{◌-◌}
-use Rattle.query_answer.proofs.Finding.{
-  Turn,
-  turn_first,
-  end_within,
-  size_given,
-  some_knot,
-  axis_few,
-  fewer_left,
-  turn_next,
-  turn_last,
-}
-use borrow.Author.Rules.{rules}
+use Rattle.query_answer.proofs.Finding.{turn_first, end_within, size_given, some_knot, axis_few, fewer_left, turn_next, turn_last}
 use Rattle.query_answer.proofs.searched.search_on_axes.Goals as goal
 
 pub loop-i-init : goal.loop-i-init

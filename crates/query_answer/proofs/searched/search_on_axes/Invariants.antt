@@ -1,19 +1,7 @@
 -- The axes below `i` have their cells, their weights and what they refuse, those from `i` on have cell 0, and `begin` is the sum of
 -- the points below `i`, so every part lent lies within the knots. The measure is the axes left.
-use native.Mathlib.Omega.{arith}
 use Prim.Native.Nat.{◌-◌}
-use Rattle.query_answer.proofs.Finding.{
-  Turn,
-  turn_first,
-  end_within,
-  size_given,
-  some_knot,
-  axis_few,
-  fewer_left,
-  turn_next,
-  turn_last,
-}
-use borrow.Author.Rules.{rules}
+use Rattle.query_answer.proofs.Finding.{Turn}
 use Rattle.query_answer.proofs.searched.search_on_axes.Given as goal
 
 abbrev pub invariant-loop-i : goal.invariant-loop-i

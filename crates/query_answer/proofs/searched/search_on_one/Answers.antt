@@ -1,7 +1,6 @@
 -- What the turn of the first axis finds (`first_found`) is all that there is to find; the part that is lent is all of the knots.
 use native.Mathlib.Omega.{arith}
 use Rattle.query_answer.proofs.Finding.{turn_last, four_cells, front_within, front_size, first_found}
-use borrow.Author.Rules.{rules}
 use Rattle.query_answer.proofs.searched.search_on_one.Goals as goal
 
 pub slice_bounds-place_on_axis-end : goal.slice_bounds-place_on_axis-end

@@ -3,17 +3,7 @@
 use native.Mathlib.Omega.{arith}
 use mathlib.Core.Path.{◌∙◌}
 use lib.ListN.{length-set}
-use Rattle.query_answer.proofs.Finding.{
-  turn_next,
-  turn_last,
-  four_cells,
-  front_within,
-  front_size,
-  first_found,
-  back_within,
-  back_size,
-}
-use borrow.Author.Rules.{rules}
+use Rattle.query_answer.proofs.Finding.{turn_next, turn_last, four_cells, front_within, front_size, first_found, back_within, back_size}
 use Rattle.query_answer.proofs.searched.search_on_two.Goals as goal
 
 pub slice_bounds-place_on_axis-end : goal.slice_bounds-place_on_axis-end

@@ -1,6 +1,5 @@
 -- Each way's cell is the one that is named for it and has a knot above it; on rising knots the search finds the cell of the rules.
 use mathlib.Core.Path.{sym, ◌∙◌}
-use borrow.Author.Rules.{rules}
 use Rattle.query_answer.proofs.Cells.{found_by_search, found_by_division}
 use Rattle.query_answer.proofs.ways.cell_on_axis.Goals as goal
 

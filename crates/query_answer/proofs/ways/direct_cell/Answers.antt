@@ -1,5 +1,4 @@
 -- The cell by one division, counted from the first knot in steps as wide as the first.
-use borrow.Author.Rules.{rules}
 use Rattle.rules.specs.Steps.{h}
 use Rattle.query_answer.proofs.ways.direct_cell.Goals as goal
 

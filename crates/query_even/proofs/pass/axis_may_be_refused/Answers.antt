@@ -1,6 +1,5 @@
-use Prim.Native.Nat.{◌-◌, ◌≤◌}
-use mathlib.Core.Path.{◌≡◌, refl, sym, ap, ◌∙◌}
-use mathlib.Core.Bool.{false, true≢false}
+use mathlib.Core.Path.{refl, sym, ◌∙◌}
+use mathlib.Core.Bool.{true≢false}
 use native.Mathlib.Omega.{arith}
 use borrow.Author.Rules.{rules}
 use borrow.Author.Tests.{not-false}
@@ -10,7 +9,7 @@ use Rattle.rules.specs.Steps.{h}
 use Rattle.grid_checks.proofs.RisingKnots.{finite_steps}
 use Rattle.axis_even.proofs.Spacing.{fails_is, failing_is, neither_above}
 use Rattle.axis_even.proofs.First.{turn_last}
-use Rattle.query_even.proofs.Passing.{Rises, rises_first, rises_next}
+use Rattle.query_even.proofs.Passing.{rises_first, rises_next}
 use Rattle.query_even.proofs.pass.axis_may_be_refused.Goals as goal
 
 pub loop-i-init : goal.loop-i-init

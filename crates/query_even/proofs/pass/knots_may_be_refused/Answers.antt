@@ -1,12 +1,9 @@
 use native.Mathlib.Omega.{arith}
-use Prim.Native.Nat.{◌-◌}
 use mathlib.Core.Path.{refl, sym, ap}
 use mathlib.Core.Bool.{true≢false}
 use lib.Dec.{ltb}
-use Rattle.query_even.specs.declared.qualities.Quality.TheVariants.{Rising, Even}
 use Rattle.query_even.proofs.LackingAxis.{walk_within, walk_size, walk_next}
-use Rattle.query_even.proofs.Passing.{Passing, passing_first, passing_last}
-use borrow.Author.Rules.{rules}
+use Rattle.query_even.proofs.Passing.{passing_first, passing_last}
 use Rattle.query_even.proofs.pass.knots_may_be_refused.Goals as goal
 
 pub loop-i-init : goal.loop-i-init

@@ -1,5 +1,4 @@
 -- For each quality the place that the function of its own finds.
-use borrow.Author.Rules.{rules}
 use Rattle.query_even.proofs.qualities.first_lack.Goals as goal
 
 pub returns-in-Finite : goal.returns-in-Finite

@@ -1,7 +1,5 @@
 use native.Mathlib.Omega.{arith}
-use Prim.Native.Nat.{◌-◌}
-use Rattle.query_even.proofs.LackingAxis.{Walk, walk_first, walk_within, walk_size, walk_found, walk_next, walk_last}
-use borrow.Author.Rules.{rules}
+use Rattle.query_even.proofs.LackingAxis.{walk_first, walk_within, walk_size, walk_found, walk_next, walk_last}
 use Rattle.query_even.proofs.qualities.first_lacking.Goals as goal
 
 pub loop-i-init : goal.loop-i-init

@@ -1,9 +1,7 @@
 -- No axis below `i` lacks the quality, and `begin` is where the knots of axis `i` begin; the first axis that does ends the walk with its
 -- place. The measure is the axes left.
-use native.Mathlib.Omega.{arith}
 use Prim.Native.Nat.{◌-◌}
-use Rattle.query_even.proofs.LackingAxis.{Walk, walk_first, walk_within, walk_size, walk_found, walk_next, walk_last}
-use borrow.Author.Rules.{rules}
+use Rattle.query_even.proofs.LackingAxis.{Walk}
 use Rattle.query_even.proofs.qualities.first_lacking.Given as goal
 
 abbrev pub invariant-loop-i : goal.invariant-loop-i

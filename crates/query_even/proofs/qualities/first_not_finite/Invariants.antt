@@ -1,15 +1,10 @@
 -- The first knot that is infinite or NaN is looked for from `i` on: the one found is answered, or 0 where none is. The measure is the
 -- knots left.
 use Prim.Native.Nat.{◌-◌}
-use mathlib.Core.Path.{sym, ap, ◌∙◌}
-use mathlib.Core.Bool.{not}
-use native.Mathlib.Nat.{sub-zero}
-use native.Mathlib.Omega.{arith}
-use borrow.Author.Rules.{rules}
 use lib.ListN.{length}
 use Rattle.rules.specs.Numbers.{at}
 use Rattle.rules.specs.Refusals.{number_refused}
-use Rattle.axis_even.proofs.First.{Turn, turn_first, turn_next, turn_found, turn_last}
+use Rattle.axis_even.proofs.First.{Turn}
 use Rattle.query_even.proofs.qualities.first_not_finite.Given as goal
 
 abbrev pub invariant-loop-i : goal.invariant-loop-i

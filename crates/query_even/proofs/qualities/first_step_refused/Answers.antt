@@ -1,12 +1,9 @@
-use Prim.Native.Nat.{◌-◌}
 use mathlib.Core.Path.{sym, ◌∙◌}
 use native.Mathlib.Nat.{sub-zero}
 use native.Mathlib.Omega.{arith}
-use borrow.Author.Rules.{rules}
-use lib.ListN.{length}
 use Rattle.rules.specs.Steps.{h}
 use Rattle.rules.specs.Refusals.{step_refused}
-use Rattle.axis_even.proofs.First.{Turn, turn_first, turn_next, turn_found, turn_last}
+use Rattle.axis_even.proofs.First.{turn_first, turn_next, turn_found, turn_last}
 use Rattle.query_even.proofs.qualities.first_step_refused.Goals as goal
 
 pub loop-i-init : goal.loop-i-init

@@ -1,7 +1,6 @@
 -- For each quality the test that is named for it.
 use mathlib.Core.Path.{ap}
 use lib.Dec.{ltb}
-use borrow.Author.Rules.{rules}
 use Rattle.query_even.proofs.qualities.lacks.Goals as goal
 
 pub returns-in-Finite : goal.returns-in-Finite

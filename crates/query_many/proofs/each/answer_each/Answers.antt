@@ -1,10 +1,6 @@
 use native.Mathlib.Omega.{arith}
 use mathlib.Core.Path.{refl, sym, ◌∙◌}
-use Prim.Native.Nat.{◌-◌}
-use Rattle.query_answer.specs.PointsAndModes.{QueryFits}
-use Rattle.query_answer.specs.AnswerByWay.{AnswerAmong}
-use Rattle.many_points.proofs.Turns.{Turn, turn_first, end_within, part_fits, room, fewer_left, turn_next, turn_last}
-use borrow.Author.Rules.{rules}
+use Rattle.many_points.proofs.Turns.{turn_first, end_within, part_fits, room, fewer_left, turn_next, turn_last}
 use Rattle.query_many.proofs.each.answer_each.Goals as goal
 
 pub loop-j-init : goal.loop-j-init

@@ -1,12 +1,9 @@
 -- The points below `j` have their answers in their places, and `begin` is the place of the coordinates of point `j`, so every part lent
 -- lies within them. The measure is the points left.
-use native.Mathlib.Omega.{arith}
-use mathlib.Core.Path.{refl, sym, ◌∙◌}
 use Prim.Native.Nat.{◌-◌}
 use Rattle.query_answer.specs.PointsAndModes.{QueryFits}
 use Rattle.query_answer.specs.AnswerByWay.{AnswerAmong}
-use Rattle.many_points.proofs.Turns.{Turn, turn_first, end_within, part_fits, room, fewer_left, turn_next, turn_last}
-use borrow.Author.Rules.{rules}
+use Rattle.many_points.proofs.Turns.{Turn}
 use Rattle.query_many.proofs.each.answer_each.Given as goal
 
 abbrev pub invariant-loop-j : goal.invariant-loop-j

@@ -1,13 +1,7 @@
 use native.Mathlib.Omega.{arith}
-use mathlib.Core.Path.{◌≡◌, refl, sym, ◌∙◌}
-use mathlib.Core.List.{List}
-use Prim.Native.Nat.{◌-◌}
-use lib.ListN.{length}
-use lib.Ieee.{Float}
-use Rattle.many_points.proofs.Turns.{Turn, turn_first, end_within, part_fits, room, fewer_left, turn_next, turn_last}
-use Rattle.step_many.specs.StepByStep.{SteppedAmong}
+use mathlib.Core.Path.{refl, sym, ◌∙◌}
+use Rattle.many_points.proofs.Turns.{turn_first, end_within, part_fits, room, fewer_left, turn_next, turn_last}
 use Rattle.step_many.proofs.Stepping.{knots_fit, point_fits, among}
-use borrow.Author.Rules.{rules}
 use Rattle.step_many.proofs.each.answer_each.Goals as goal
 
 pub knots_and_coordinates_refusal-met-requires : goal.knots_and_coordinates_refusal-met-requires

@@ -1,15 +1,12 @@
 -- The points below `j` have their answers in their places, and `begin` is the place of the coordinates of point `j`, so every part lent
 -- lies within them; knots and samples were looked at before the loop. The measure is the points left.
-use native.Mathlib.Omega.{arith}
-use mathlib.Core.Path.{◌≡◌, refl, sym, ◌∙◌}
+use mathlib.Core.Path.{◌≡◌}
 use mathlib.Core.List.{List}
 use Prim.Native.Nat.{◌-◌}
 use lib.ListN.{length}
 use lib.Ieee.{Float}
-use Rattle.many_points.proofs.Turns.{Turn, turn_first, end_within, part_fits, room, fewer_left, turn_next, turn_last}
+use Rattle.many_points.proofs.Turns.{Turn}
 use Rattle.step_many.specs.StepByStep.{SteppedAmong}
-use Rattle.step_many.proofs.Stepping.{knots_fit, point_fits, among}
-use borrow.Author.Rules.{rules}
 use Rattle.step_many.proofs.each.answer_each.Given as goal
 
 abbrev pub invariant-loop-j : goal.invariant-loop-j

@@ -1,7 +1,6 @@
 -- One number that is not finite makes it 10 with the tensor as it was, else what came out is copied; the scratch is zeros either way.
 use native.Mathlib.Nat.{add-sub_cancel_left}
 use Rattle.tensor.proofs.Finishing.{finished_10, finished_0}
-use borrow.Author.Rules.{rules}
 use Rattle.tensor.proofs.working.finish.Goals as goal
 
 pub returns-then-any_of_many_not_finite : goal.returns-then-any_of_many_not_finite

@@ -1,7 +1,6 @@
 -- Behind the rows stands a copy of the tensor, with the one number new at its spot: `loaded`.
 use native.Mathlib.Nat.{add-sub_cancel_left}
 use Rattle.tensor.proofs.Loading.{loaded}
-use borrow.Author.Rules.{rules}
 use Rattle.tensor.proofs.working.load.Goals as goal
 
 pub returns : goal.returns

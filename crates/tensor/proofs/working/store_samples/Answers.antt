@@ -1,10 +1,8 @@
-use borrow.Author.Rules.{rules}
 use native.Mathlib.Omega.{arith}
 use mathlib.Core.Path.{refl}
-use Prim.Native.Nat.{◌+◌, ◌-◌, ◌*◌, ◌<◌}
+use Prim.Native.Nat.{◌+◌, ◌*◌, ◌<◌}
 use lib.ListN.{length}
-use Rattle.rules.specs.Numbers.{at}
-use Rattle.tensor_lane.proofs.Storing.{Turn, turn_first, turn_next, turn_last}
+use Rattle.tensor_lane.proofs.Storing.{turn_first, turn_next, turn_last}
 use Rattle.tensor.proofs.working.store_samples.Goals as goal
 use Rattle.tensor.proofs.working.store_samples.Goals.{After-shared_slice_known-1}
 

@@ -1,12 +1,9 @@
 -- The first `k` samples stand at mask 0, `masks` apart behind the rows, and no other place has changed.
 -- The measure is the samples left.
-use borrow.Author.Rules.{rules}
-use native.Mathlib.Omega.{arith}
-use mathlib.Core.Path.{refl}
-use Prim.Native.Nat.{◌+◌, ◌-◌, ◌*◌, ◌<◌}
+use Prim.Native.Nat.{◌-◌}
 use lib.ListN.{length}
 use Rattle.rules.specs.Numbers.{at}
-use Rattle.tensor_lane.proofs.Storing.{Turn, turn_first, turn_next, turn_last}
+use Rattle.tensor_lane.proofs.Storing.{Turn}
 use Rattle.tensor.proofs.working.store_samples.Given as goal
 
 abbrev pub invariant-loop-k : goal.invariant-loop-k

@@ -4,7 +4,6 @@ use native.Mathlib.Omega.{arith}
 use mathlib.Core.Path.{refl, ◌∙◌}
 use Rattle.tensor_four_lanes.proofs.CyclicMoments.{cycle_solved}
 use Rattle.tensor_four_lanes.proofs.Groups.{still_lies}
-use borrow.Author.Rules.{rules}
 use Rattle.tensor_four_lanes.proofs.cycle.cyclic_moments.Goals as goal
 
 pub slopes-requires : goal.slopes-requires

@@ -1,7 +1,6 @@
 -- The knot slopes of four periodic lanes go to their places, since `group-solved` makes them of the cyclic moments; the plan stays.
 use native.Mathlib.Omega.{arith}
 use Rattle.tensor_four_lanes.proofs.Groups.{still_lies, group_solved}
-use borrow.Author.Rules.{rules}
 use Rattle.tensor_four_lanes.proofs.cycle.solve_periodic.Goals as goal
 
 pub store_slopes-requires : goal.store_slopes-requires

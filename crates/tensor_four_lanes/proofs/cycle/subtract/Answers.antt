@@ -1,6 +1,4 @@
-use Prim.Native.Nat.{◌-◌}
-use Rattle.tensor_four_lanes.proofs.SubtractTurns.{Turn, turn_first, turn_next, turn_last}
-use borrow.Author.Rules.{rules}
+use Rattle.tensor_four_lanes.proofs.SubtractTurns.{turn_first, turn_next, turn_last}
 use Rattle.tensor_four_lanes.proofs.cycle.subtract.Goals as goal
 
 pub loop-k-init : goal.loop-k-init

@@ -1,7 +1,6 @@
 -- The rows below `k` are less by each lane's factor times z, and those from `k` on are as they were. The measure is the rows left.
 use Prim.Native.Nat.{◌-◌}
-use Rattle.tensor_four_lanes.proofs.SubtractTurns.{Turn, turn_first, turn_next, turn_last}
-use borrow.Author.Rules.{rules}
+use Rattle.tensor_four_lanes.proofs.SubtractTurns.{Turn}
 use Rattle.tensor_four_lanes.proofs.cycle.subtract.Given as goal
 
 abbrev pub invariant-loop-k : goal.invariant-loop-k

@@ -3,7 +3,6 @@ use mathlib.Core.Path.{sym, ap, ◌∙◌}
 use Rattle.rules.specs.declared.End.{End}
 use Rattle.tensor_four_lanes.specs.Groups.{lower_right}
 use Rattle.tensor_fours.proofs.Fours.{number, composed}
-use borrow.Author.Rules.{rules}
 use Rattle.tensor_four_lanes.proofs.ends.lower_right.Goals as goal
 
 pub returns-in-NotAKnot : goal.returns-in-NotAKnot

@@ -5,7 +5,6 @@ use Rattle.rules.specs.Ends.{dropped}
 use Rattle.rules.specs.declared.End.{End}
 use Rattle.tensor_four_lanes.specs.Groups.{upper_right}
 use Rattle.tensor_fours.proofs.Fours.{number, composed}
-use borrow.Author.Rules.{rules}
 use Rattle.tensor_four_lanes.proofs.ends.upper_right.Goals as goal
 
 pub overflow_sub-n : goal.overflow_sub-n

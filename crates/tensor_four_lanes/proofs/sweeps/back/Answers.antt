@@ -1,5 +1,4 @@
-use Rattle.tensor_four_lanes.proofs.BackTurns.{Turn, turn_first, turn_next, turn_last}
-use borrow.Author.Rules.{rules}
+use Rattle.tensor_four_lanes.proofs.BackTurns.{turn_first, turn_next, turn_last}
 use Rattle.tensor_four_lanes.proofs.sweeps.back.Goals as goal
 
 pub loop-k-init : goal.loop-k-init

@@ -1,7 +1,6 @@
 -- From knot `from` down to knot `k` the moments stand, below `k` the block is as it was, and in hand is the four of knot `k`.
 -- The measure is `k`.
-use Rattle.tensor_four_lanes.proofs.BackTurns.{Turn, turn_first, turn_next, turn_last}
-use borrow.Author.Rules.{rules}
+use Rattle.tensor_four_lanes.proofs.BackTurns.{Turn}
 use Rattle.tensor_four_lanes.proofs.sweeps.back.Given as goal
 
 abbrev pub invariant-loop-k : goal.invariant-loop-k

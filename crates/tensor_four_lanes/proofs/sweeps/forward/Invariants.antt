@@ -1,10 +1,7 @@
 -- Behind `first` and up to knot `k` both blocks have their rows, each by the row before it; in hand are the slopes and the row of knot
 -- `k` and the numbers at the knot behind it. The measure is the knots left before `stop`.
-use native.Mathlib.Omega.{arith}
-use Prim.Native.Nat.{◌+◌, ◌-◌}
-use Rattle.tensor_fours.proofs.Fours.{lane, each}
-use Rattle.tensor_four_lanes.proofs.ForwardTurns.{Turn, turn_first, turn_next, turn_last}
-use borrow.Author.Rules.{rules}
+use Prim.Native.Nat.{◌-◌}
+use Rattle.tensor_four_lanes.proofs.ForwardTurns.{Turn}
 use Rattle.tensor_four_lanes.proofs.sweeps.forward.Given as goal
 
 abbrev pub invariant-loop-k : goal.invariant-loop-k

@@ -1,6 +1,5 @@
 -- Five operations on fours, read lane by lane: the slope of the step less its width times (twice this moment and the next) over six.
 use Rattle.tensor_fours.proofs.Fours.{number, composed}
-use borrow.Author.Rules.{rules}
 use Rattle.tensor_four_lanes.proofs.sweeps.inner_slope.Goals as goal
 
 pub returns : goal.returns

@@ -1,6 +1,5 @@
 -- In each lane the last step's slope and, added to it, its width times (the moment before and twice the last) over six.
 use Rattle.tensor_fours.proofs.Fours.{number, composed}
-use borrow.Author.Rules.{rules}
 use Rattle.tensor_four_lanes.proofs.sweeps.last_slope.Goals as goal
 
 pub returns : goal.returns

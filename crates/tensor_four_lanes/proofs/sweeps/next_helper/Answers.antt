@@ -1,6 +1,5 @@
 -- Lane by lane: six times the difference of two slopes, less the step times the number before it, over the divisor.
 use Rattle.tensor_fours.proofs.Fours.{number, composed}
-use borrow.Author.Rules.{rules}
 use Rattle.tensor_four_lanes.proofs.sweeps.next_helper.Goals as goal
 
 pub returns : goal.returns

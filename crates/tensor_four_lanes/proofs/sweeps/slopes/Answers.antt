@@ -1,8 +1,7 @@
 use native.Mathlib.Omega.{arith}
-use Prim.Native.Nat.{◌+◌, ◌-◌}
+use Prim.Native.Nat.{◌+◌}
 use Rattle.tensor_fours.proofs.Fours.{lane, each}
-use Rattle.tensor_four_lanes.proofs.SlopeTurns.{Turn, turn_first, turn_next, turn_last}
-use borrow.Author.Rules.{rules}
+use Rattle.tensor_four_lanes.proofs.SlopeTurns.{turn_first, turn_next, turn_last}
 use Rattle.tensor_four_lanes.proofs.sweeps.slopes.Goals as goal
 
 pub overflow_mul-from : goal.overflow_mul-from

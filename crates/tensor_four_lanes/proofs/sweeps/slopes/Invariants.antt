@@ -1,10 +1,7 @@
 -- The steps from `from` to knot `k` have their four slopes, in hand are the lanes' numbers at knot `k`, and no other place is touched.
 -- The measure is the steps left.
-use native.Mathlib.Omega.{arith}
-use Prim.Native.Nat.{◌+◌, ◌-◌}
-use Rattle.tensor_fours.proofs.Fours.{lane, each}
-use Rattle.tensor_four_lanes.proofs.SlopeTurns.{Turn, turn_first, turn_next, turn_last}
-use borrow.Author.Rules.{rules}
+use Prim.Native.Nat.{◌-◌}
+use Rattle.tensor_four_lanes.proofs.SlopeTurns.{Turn}
 use Rattle.tensor_four_lanes.proofs.sweeps.slopes.Given as goal
 
 abbrev pub invariant-loop-k : goal.invariant-loop-k

@@ -1,8 +1,6 @@
 use native.Mathlib.Omega.{arith}
-use Prim.Native.Nat.{◌-◌}
 use Rattle.tensor_fours.proofs.Fours.{lane, each}
-use Rattle.tensor_four_lanes.proofs.StoreTurns.{Turn, turn_first, turn_next, turn_last}
-use borrow.Author.Rules.{rules}
+use Rattle.tensor_four_lanes.proofs.StoreTurns.{turn_first, turn_next, turn_last}
 use Rattle.tensor_four_lanes.proofs.sweeps.store_inner_slopes.Goals as goal
 
 pub loop-k-init : goal.loop-k-init

@@ -1,10 +1,7 @@
 -- The knot slopes below `k` are at their places, the moments in hand are those of knot `k`, and of the rows only the slopes below `k`
 -- are overwritten, which no later turn reads. The measure is the knots left.
-use native.Mathlib.Omega.{arith}
 use Prim.Native.Nat.{◌-◌}
-use Rattle.tensor_fours.proofs.Fours.{lane, each}
-use Rattle.tensor_four_lanes.proofs.StoreTurns.{Turn, turn_first, turn_next, turn_last}
-use borrow.Author.Rules.{rules}
+use Rattle.tensor_four_lanes.proofs.StoreTurns.{Turn}
 use Rattle.tensor_four_lanes.proofs.sweeps.store_inner_slopes.Given as goal
 
 abbrev pub invariant-loop-k : goal.invariant-loop-k

@@ -2,7 +2,6 @@
 use native.Mathlib.Omega.{arith}
 use Rattle.tensor_fours.proofs.Fours.{lane, each, number}
 use Rattle.tensor_four_lanes.proofs.StoreTurns.{settled}
-use borrow.Author.Rules.{rules}
 use Rattle.tensor_four_lanes.proofs.sweeps.store_slopes.Goals as goal
 
 pub overflow_mul-n : goal.overflow_mul-n

@@ -4,7 +4,6 @@ use native.Mathlib.Omega.{arith}
 use mathlib.Core.Path.{◌∙◌}
 use lib.ListN.{length-set}
 use Rattle.tensor_plan.proofs.PlanOfCycle.{cycle_plan_made}
-use borrow.Author.Rules.{rules}
 use Rattle.tensor_plan.proofs.cycle.plan_cycle.Goals as goal
 
 pub second_forth-requires : goal.second_forth-requires

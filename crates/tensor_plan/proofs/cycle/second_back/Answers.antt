@@ -1,5 +1,4 @@
-use Rattle.tensor_plan.proofs.SecondTurns.{BackTurn, back_first, back_next, back_last}
-use borrow.Author.Rules.{rules}
+use Rattle.tensor_plan.proofs.SecondTurns.{back_first, back_next, back_last}
 use Rattle.tensor_plan.proofs.cycle.second_back.Goals as goal
 
 pub loop-k-init : goal.loop-k-init

@@ -1,7 +1,6 @@
 -- From `l` down to `k` the numbers of `SECOND` are those of the way back, each by the one above it; below `k` they are as they were,
 -- and the z in hand is number `k`. The measure is `k`.
-use Rattle.tensor_plan.proofs.SecondTurns.{BackTurn, back_first, back_next, back_last}
-use borrow.Author.Rules.{rules}
+use Rattle.tensor_plan.proofs.SecondTurns.{BackTurn}
 use Rattle.tensor_plan.proofs.cycle.second_back.Given as goal
 
 abbrev pub invariant-loop-k : goal.invariant-loop-k

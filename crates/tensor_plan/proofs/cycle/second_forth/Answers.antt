@@ -1,8 +1,6 @@
 use native.Mathlib.Omega.{arith}
-use Prim.Native.Nat.{◌-◌}
 use lib.ListN.{length-set}
-use Rattle.tensor_plan.proofs.SecondTurns.{ForthTurn, forth_first, forth_next, forth_last}
-use borrow.Author.Rules.{rules}
+use Rattle.tensor_plan.proofs.SecondTurns.{forth_first, forth_next, forth_last}
 use Rattle.tensor_plan.proofs.cycle.second_forth.Goals as goal
 
 pub loop-k-init : goal.loop-k-init

@@ -1,10 +1,7 @@
 -- Once the z in hand is stored at row `k`, the rows from 0 to `k` hold the way forth of the second solve, each by the one before it.
 -- The measure is the rows left before `l`.
-use native.Mathlib.Omega.{arith}
 use Prim.Native.Nat.{◌-◌}
-use lib.ListN.{length-set}
-use Rattle.tensor_plan.proofs.SecondTurns.{ForthTurn, forth_first, forth_next, forth_last}
-use borrow.Author.Rules.{rules}
+use Rattle.tensor_plan.proofs.SecondTurns.{ForthTurn}
 use Rattle.tensor_plan.proofs.cycle.second_forth.Given as goal
 
 abbrev pub invariant-loop-k : goal.invariant-loop-k

@@ -1,8 +1,6 @@
 use native.Mathlib.Omega.{arith}
-use Prim.Native.Nat.{◌-◌}
 use lib.ListN.{length-set}
-use Rattle.tensor_plan.proofs.DivisorTurns.{Turn, turn_first, turn_next, turn_last}
-use borrow.Author.Rules.{rules}
+use Rattle.tensor_plan.proofs.DivisorTurns.{turn_first, turn_next, turn_last}
 use Rattle.tensor_plan.proofs.ends.divisors.Goals as goal
 
 pub loop-k-init : goal.loop-k-init

@@ -1,10 +1,7 @@
 -- Once the pair in hand is stored at knot `k`, the knots from `low` to `k` have theirs in `DIVISORS` and `HELPERS`, each by the pair
 -- before it and the steps in front. The measure is the knots left before `last`.
-use native.Mathlib.Omega.{arith}
 use Prim.Native.Nat.{◌-◌}
-use lib.ListN.{length-set}
-use Rattle.tensor_plan.proofs.DivisorTurns.{Turn, turn_first, turn_next, turn_last}
-use borrow.Author.Rules.{rules}
+use Rattle.tensor_plan.proofs.DivisorTurns.{Turn}
 use Rattle.tensor_plan.proofs.ends.divisors.Given as goal
 
 abbrev pub invariant-loop-k : goal.invariant-loop-k

@@ -5,7 +5,6 @@ use lib.ListN.{length-set}
 use mathlib.Core.Path.{ap, ◌∙◌}
 use Rattle.axis_rows.specs.declared.EndRow.{EndRow}
 use Rattle.tensor_plan.proofs.PlanOfEnds.{plan_made}
-use borrow.Author.Rules.{rules}
 use Rattle.tensor_plan.proofs.ends.plan_ends.Goals as goal
 
 pub overflow_sub-last-2 : goal.overflow_sub-last-2

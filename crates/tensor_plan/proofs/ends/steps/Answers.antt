@@ -1,7 +1,4 @@
-use Prim.Native.Nat.{◌-◌}
-use lib.ListN.{length}
-use Rattle.tensor_plan.proofs.StepTurns.{Turn, turn_first, turn_next, turn_last}
-use borrow.Author.Rules.{rules}
+use Rattle.tensor_plan.proofs.StepTurns.{turn_first, turn_next, turn_last}
 use Rattle.tensor_plan.proofs.ends.steps.Goals as goal
 
 pub loop-k-init : goal.loop-k-init

@@ -1,8 +1,7 @@
 -- The steps below knot `k` stand in front of the scratch, and from the row of divisors on it is kept. The measure is the knots left.
 use Prim.Native.Nat.{◌-◌}
 use lib.ListN.{length}
-use Rattle.tensor_plan.proofs.StepTurns.{Turn, turn_first, turn_next, turn_last}
-use borrow.Author.Rules.{rules}
+use Rattle.tensor_plan.proofs.StepTurns.{Turn}
 use Rattle.tensor_plan.proofs.ends.steps.Given as goal
 
 abbrev pub invariant-loop-k : goal.invariant-loop-k

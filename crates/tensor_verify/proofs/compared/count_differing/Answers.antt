@@ -1,10 +1,7 @@
-use Prim.Native.Nat.{◌-◌, ◌≤◌}
 use mathlib.Core.Path.{◌≡◌, ap, ◌∙◌}
 use native.Mathlib.Omega.{arith}
-use borrow.Author.Rules.{rules}
 use lib.ListN.{length}
 use Rattle.tensor_verify.specs.Verify.{count_that}
-use Rattle.tensor_verify.specs.Compared.{differs_at}
 use Rattle.tensor_verify.proofs.Numbers.{count_none, count_more, count_fits, ours_finite, others_finite}
 use Rattle.tensor_verify.proofs.compared.count_differing.Goals as goal
 

@@ -1,12 +1,9 @@
 -- `count` is how many of the first `i` numbers differ, so no more than `i`. The measure is the numbers left.
 use Prim.Native.Nat.{◌-◌, ◌≤◌}
-use mathlib.Core.Path.{◌≡◌, ap, ◌∙◌}
-use native.Mathlib.Omega.{arith}
-use borrow.Author.Rules.{rules}
+use mathlib.Core.Path.{◌≡◌}
 use lib.ListN.{length}
 use Rattle.tensor_verify.specs.Verify.{count_that}
 use Rattle.tensor_verify.specs.Compared.{differs_at}
-use Rattle.tensor_verify.proofs.Numbers.{count_none, count_more, count_fits, ours_finite, others_finite}
 use Rattle.tensor_verify.proofs.compared.count_differing.Given as goal
 
 abbrev pub invariant-loop-i : goal.invariant-loop-i

@@ -1,11 +1,7 @@
-use Prim.Native.Nat.{◌-◌}
 use mathlib.Core.Path.{sym, ◌∙◌}
 use native.Mathlib.Nat.{sub-zero}
 use native.Mathlib.Omega.{arith}
-use borrow.Author.Rules.{rules}
-use lib.ListN.{length}
-use Rattle.axis_even.proofs.First.{Turn, turn_first, turn_next, turn_found, turn_last}
-use Rattle.tensor_verify.specs.Compared.{differs_at}
+use Rattle.axis_even.proofs.First.{turn_first, turn_next, turn_found, turn_last}
 use Rattle.tensor_verify.proofs.Numbers.{ours_finite, others_finite}
 use Rattle.tensor_verify.proofs.compared.first_differing.Goals as goal
 

@@ -1,13 +1,8 @@
 -- The first number that differs is the first from `i` on: the one found is answered, or 0 where none is. The measure is the numbers left.
 use Prim.Native.Nat.{◌-◌}
-use mathlib.Core.Path.{sym, ◌∙◌}
-use native.Mathlib.Nat.{sub-zero}
-use native.Mathlib.Omega.{arith}
-use borrow.Author.Rules.{rules}
 use lib.ListN.{length}
-use Rattle.axis_even.proofs.First.{Turn, turn_first, turn_next, turn_found, turn_last}
+use Rattle.axis_even.proofs.First.{Turn}
 use Rattle.tensor_verify.specs.Compared.{differs_at}
-use Rattle.tensor_verify.proofs.Numbers.{ours_finite, others_finite}
 use Rattle.tensor_verify.proofs.compared.first_differing.Given as goal
 
 abbrev pub invariant-loop-i : goal.invariant-loop-i

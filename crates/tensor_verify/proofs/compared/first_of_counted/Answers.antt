@@ -1,6 +1,5 @@
 -- Where none is counted, none is the first (`none_first`); else the search answers.
 use mathlib.Core.Path.{sym, ◌∙◌}
-use borrow.Author.Rules.{rules}
 use Rattle.tensor_verify.proofs.Numbers.{none_first}
 use Rattle.tensor_verify.proofs.compared.first_of_counted.Goals as goal
 

@@ -2,7 +2,6 @@
 use mathlib.Core.Path.{sym, ap, ◌∙◌}
 use mathlib.Core.Bool.{Bool, cond}
 use Prim.Native.Nat.{ℕ}
-use borrow.Author.Rules.{rules}
 use Rattle.tensor_verify.proofs.compared.one_if_differs.Goals as goal
 
 pub returns-then-differs : goal.returns-then-differs

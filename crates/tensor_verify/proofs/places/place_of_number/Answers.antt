@@ -1,8 +1,6 @@
 use Prim.Native.Nat.{◌-◌}
 use native.Mathlib.Omega.{arith}
-use borrow.Author.Rules.{rules}
-use Rattle.grid.specs.GridOfCall.{points_of}
-use Rattle.tensor_verify.proofs.Indices.{Turn, turn_first, turn_next, turn_last}
+use Rattle.tensor_verify.proofs.Indices.{turn_first, turn_next, turn_last}
 use Rattle.tensor_verify.proofs.places.place_of_number.Goals as goal
 
 pub loop-left-init : goal.loop-left-init

@@ -1,10 +1,7 @@
 -- The axes from `left` on have their indices, and `rest` gives those of the others: each axis takes the remainder by its points off it.
 -- The measure is the axes left.
-use Prim.Native.Nat.{◌-◌}
-use native.Mathlib.Omega.{arith}
-use borrow.Author.Rules.{rules}
 use Rattle.grid.specs.GridOfCall.{points_of}
-use Rattle.tensor_verify.proofs.Indices.{Turn, turn_first, turn_next, turn_last}
+use Rattle.tensor_verify.proofs.Indices.{Turn}
 use Rattle.tensor_verify.proofs.places.place_of_number.Given as goal
 
 abbrev pub invariant-loop-left : goal.invariant-loop-left

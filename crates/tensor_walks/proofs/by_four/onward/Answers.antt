@@ -1,7 +1,6 @@
 -- `onward` meets its contract: a walk at a lane goes on to the next or, from the last, behind it; behind the last it stays.
 use native.Mathlib.Omega.{arith}
 use mathlib.Core.Path.{refl}
-use borrow.Author.Rules.{rules}
 use Rattle.tensor_walks.proofs.FourTurns.{on_to_next, behind_last}
 use Rattle.tensor_walks.proofs.by_four.onward.Goals as goal
 

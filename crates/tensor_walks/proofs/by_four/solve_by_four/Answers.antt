@@ -1,7 +1,5 @@
 use native.Mathlib.Omega.{arith}
-use Prim.Native.Nat.{◌-◌}
-use borrow.Author.Rules.{rules}
-use Rattle.tensor_walks.proofs.FourTurns.{Turn, turn_first, still_given, still_planned, turn_next, turn_last}
+use Rattle.tensor_walks.proofs.FourTurns.{turn_first, still_given, still_planned, turn_next, turn_last}
 use Rattle.tensor_walks.proofs.by_four.solve_by_four.Goals as goal
 
 pub first-cursor-requires : goal.first-cursor-requires

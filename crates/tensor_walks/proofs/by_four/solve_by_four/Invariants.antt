@@ -1,8 +1,6 @@
 -- All lanes of a walk by four: those below the cursor's lane are solved, and the plan is kept. The measure is the lanes left.
-use native.Mathlib.Omega.{arith}
 use Prim.Native.Nat.{◌-◌}
-use borrow.Author.Rules.{rules}
-use Rattle.tensor_walks.proofs.FourTurns.{Turn, turn_first, still_given, still_planned, turn_next, turn_last}
+use Rattle.tensor_walks.proofs.FourTurns.{Turn}
 use Rattle.tensor_walks.proofs.by_four.solve_by_four.Given as goal
 
 abbrev pub invariant-loop-cursor : goal.invariant-loop-cursor

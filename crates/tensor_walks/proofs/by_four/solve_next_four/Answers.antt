@@ -1,6 +1,5 @@
 -- Four lanes of a walk: the cursor goes on past each, and where fewer are left the last stands in and is not counted.
 use native.Mathlib.Omega.{arith}
-use borrow.Author.Rules.{rules}
 use Rattle.tensor_walks.proofs.FourTurns.{at_lane, onward_given, group_given, starts, four_solved}
 use Rattle.tensor_walks.proofs.by_four.solve_next_four.Goals as goal
 

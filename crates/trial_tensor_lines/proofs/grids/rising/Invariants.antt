@@ -2,9 +2,7 @@
 -- length, and the measure is the knots left.
 use Prim.Native.Nat.{◌≤◌, ◌-◌}
 use mathlib.Core.Path.{◌≡◌}
-use native.Mathlib.Omega.{arith}
-use lib.ListN.{length, length-set}
-use borrow.Author.Rules.{rules}
+use lib.ListN.{length}
 use Rattle.trial_tensor_lines.proofs.grids.rising.Given as goal
 
 abbrev pub invariant-loop-i : goal.invariant-loop-i

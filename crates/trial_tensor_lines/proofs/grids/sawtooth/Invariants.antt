@@ -1,9 +1,7 @@
 -- The samples' values are not promised: `i` never passes the length, which is kept, and the measure is the numbers left.
 use Prim.Native.Nat.{◌≤◌, ◌-◌}
 use mathlib.Core.Path.{◌≡◌}
-use native.Mathlib.Omega.{arith}
-use lib.ListN.{length, length-set}
-use borrow.Author.Rules.{rules}
+use lib.ListN.{length}
 use Rattle.trial_tensor_lines.proofs.grids.sawtooth.Given as goal
 
 abbrev pub invariant-loop-i : goal.invariant-loop-i
