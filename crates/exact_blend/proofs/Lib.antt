@@ -1,4 +1,5 @@
 pub mod Weights
+pub mod FirstWeight
 pub mod OneAxis
 pub mod AnyAxes
 pub mod InClosedForm

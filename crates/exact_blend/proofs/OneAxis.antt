@@ -29,7 +29,6 @@ use Rattle.exact_blend.specs.BlendErrors as Total
 use Rattle.exact_blend.proofs.Weights.{
   amount,
   approx_exact,
-  approx_h00,
   approx_h10,
   approx_h01,
   approx_h11,
@@ -42,6 +41,7 @@ use Rattle.exact_blend.proofs.Weights.{
   f01,
   f11,
 }
+use Rattle.exact_blend.proofs.FirstWeight.{approx_h00}
 
 share00 : Least (minus (amount 19456) (Total.again rationals u
     (Total.again rationals u (Total.again rationals u (Total.again rationals u (amount 14347))))))

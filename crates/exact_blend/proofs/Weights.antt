@@ -78,7 +78,7 @@ check_d00 : Least (minus (amount 13322) (Errors.sum_error rationals u (number 1)
 unfolding Least minus plus times negative number
 check_d00 = leb→le _ _ tt
 
-check_h00 : Least (minus (amount 14347) (Errors.sum_error rationals u (number 1) (amount 13322) (number 0)))
+pub check_h00 : Least (minus (amount 14347) (Errors.sum_error rationals u (number 1) (amount 13322) (number 0)))
 unfolding Least minus plus times negative number
 check_h00 = leb→le _ _ tt
 
@@ -145,7 +145,7 @@ approx_three =
           (sym value_three) (near_same _ _ least_nought);
     }
 
-approx_one : Approx one (number 1) (number 1) (number 0)
+pub approx_one : Approx one (number 1) (number 1) (number 0)
 approx_one =
     record {
       fits = of_bits-fits binary64 _;
@@ -364,18 +364,12 @@ module _ (t : Float) (good : T (fits binary64 t)) (low : Least (value t)) (high 
   abbrev pub f11 : Float
   f11 = (t ⊗ t ⊗ t) ⊖ (t ⊗ t)
 
-  approx_d00 : T (finite g00) → Approx g00 exact_d00 (number 1) (amount 13322)
+  pub approx_d00 : T (finite g00) → Approx g00 exact_d00 (number 1) (amount 13322)
   approx_d00 f =
       let h = sub_finite (two ⊗ (t ⊗ t ⊗ t)) (three ⊗ (t ⊗ t)) f in
       approx_wider _ _ _ _ _
       (approx_sub (two ⊗ (t ⊗ t ⊗ t)) (three ⊗ (t ⊗ t)) (times (number 2) (times (times X X) X)) (number 2) (amount 6149)
       (times (number 3) (times X X)) (number 3) (amount 6148) (approx_w2 h.0) (approx_w3 h.1) (number 1) f within_d00) check_d00
-
-  pub approx_h00 : T (finite f00) → Approx f00 exact_h00 (number 1) (amount 14347)
-  approx_h00 f =
-      approx_wider _ _ _ _ _
-      (approx_add g00 one exact_d00 (number 1) (amount 13322) (number 1) (number 1) (number 0)
-      (approx_d00 (add_finite g00 one f).0) approx_one (number 1) f within_h00) check_h00
 
   approx_d10 : T (finite g10) → Approx g10 exact_d10 (number 1) (amount 7174)
   approx_d10 f =
