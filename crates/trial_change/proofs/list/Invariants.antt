@@ -7,7 +7,7 @@ use borrow.Author.Rules.{rules}
 use Rattle.trial_change.proofs.list.Given as goal
 
 abbrev pub invariant-loop-i : goal.invariant-loop-i
-invariant-loop-i l = (l.tensor ≤ 6) × (length l.initial.i ≡ length l.knots) × (length l.samples ≡ length l.initial.samples)
+invariant-loop-i l = (l.i ≤ 6) × (length l.samples ≡ length l.initial.samples) × (length l.tensor ≡ length l.initial.tensor)
 
 abbrev pub decreases-loop-i : goal.decreases-loop-i
-decreases-loop-i l = 6 - l.tensor
+decreases-loop-i l = 6 - l.i
