@@ -1,5 +1,5 @@
--- Either slot of another length is 4 with nothing written (`cursor-refused`, `value-refused`); else the refusal, the cursor and the
--- value are those of one step from the cursor that stood in its slot (`next-called`).
+-- Either slot of another length is 4 with nothing written (`cursor_refused`, `value_refused`); else the refusal, the cursor and the
+-- value are those of one step from the cursor that stood in its slot (`next_called`).
 use mir.Syntax.{w32}
 use mir.Val.{SFits}
 use mir.ValLaws.{to_z-of_z}

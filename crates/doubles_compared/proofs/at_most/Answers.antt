@@ -1,4 +1,4 @@
--- Less, and then it is (`le-less`), or else as equality says (`le-other`).
+-- Less, and then it is (`le_less`), or else as equality says (`le_other`).
 use mathlib.Core.Path.{sym, ◌∙◌}
 use Rattle.doubles_compared.proofs.Compared.{le_less, le_other}
 use Rattle.doubles_compared.proofs.at_most.Goals as goal

@@ -1,4 +1,4 @@
--- A NaN is equal to nothing; zeros are equal (`eq-zero`), and other doubles where their patterns are (`eq-other`).
+-- A NaN is equal to nothing; zeros are equal (`eq_zero`), and other doubles where their patterns are (`eq_other`).
 use mathlib.Core.Path.{◌≡◌}
 use native.Mathlib.Omega.{arith}
 use Rattle.doubles_patterns.specs.Patterns.{magnitude}

@@ -1,4 +1,4 @@
--- A NaN is less than nothing (`nan-first`, `nan-second`); else the magnitudes decide by the two signs, and where the first alone has a
+-- A NaN is less than nothing (`nan_first`, `nan_second`); else the magnitudes decide by the two signs, and where the first alone has a
 -- minus they must not both be zero (`lt_up`).
 use native.Mathlib.Omega.{arith}
 use Rattle.doubles_compared.proofs.Compared.{nan_first, nan_second, lt_above, lt_down, lt_up, lt_below}

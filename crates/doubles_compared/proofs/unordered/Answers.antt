@@ -1,4 +1,4 @@
--- The patterns above infinity's are the NaNs: the first is one (`unordered-first`), or the second decides (`unordered-second`).
+-- The patterns above infinity's are the NaNs: the first is one (`unordered_first`), or the second decides (`unordered_second`).
 use native.Mathlib.Omega.{arith}
 use Rattle.doubles_compared.proofs.Compared.{unordered_first, unordered_second}
 use Rattle.doubles_compared.proofs.unordered.Goals as goal

@@ -1,4 +1,4 @@
--- A plus is made a minus (`opposite-up`), and a minus a plus (`opposite-down`); the other places stay as they are.
+-- A plus is made a minus (`opposite_up`), and a minus a plus (`opposite_down`); the other places stay as they are.
 use native.Mathlib.Omega.{arith}
 use Rattle.doubles_patterns.proofs.Signs.{opposite_up, opposite_down}
 use Rattle.doubles_patterns.proofs.opposite.Goals as goal

@@ -1,4 +1,4 @@
--- A normal number has its leading digit in its place (`raised-normal`); a subnormal one is moved up to it (`raised-subnormal`), by eleven
+-- A normal number has its leading digit in its place (`raised_normal`); a subnormal one is moved up to it (`raised_subnormal`), by eleven
 -- places fewer than its word has zeros in front.
 use native.Mathlib.Omega.{arith}
 use lib.Count.{leading_le}

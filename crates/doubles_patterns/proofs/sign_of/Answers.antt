@@ -1,4 +1,4 @@
--- The sign is a minus where the signs of the two are unlike (`sign-unlike`), and none where they are alike (`sign-alike`).
+-- The sign is a minus where the signs of the two are unlike (`sign_unlike`), and none where they are alike (`sign_alike`).
 use mathlib.Core.Path.{◌≡◌, sym}
 use Prim.Native.Nat.{◌/◌}
 use native.Mathlib.Omega.{arith}

@@ -1,4 +1,4 @@
--- Zero times a finite number is zero (`product-zero`, `product-zero-back`); else the magnitudes are multiplied. The sign is a minus where
+-- Zero times a finite number is zero (`product_zero`, `product_zero_back`); else the magnitudes are multiplied. The sign is a minus where
 -- the signs are unlike.
 use native.Mathlib.Omega.{arith}
 use Rattle.doubles_product.proofs.Answers.{product_signed, product_nothing, product_zero, product_zero_back}

@@ -1,5 +1,5 @@
--- NaN with a NaN (`product-nan`, `product-nan-back`), and for an infinity and zero (`product-inf-zero`, `product-zero-inf`); else an
--- infinity with the product's sign (`product-special`).
+-- NaN with a NaN (`product_nan`, `product_nan_back`), and for an infinity and zero (`product_inf_zero`, `product_zero_inf`); else an
+-- infinity with the product's sign (`product_special`).
 use native.Mathlib.Omega.{arith}
 use Rattle.doubles_patterns.specs.Patterns.{magnitude}
 use Rattle.doubles_product.proofs.Answers.{product_nan, product_nan_back, product_zero_inf, product_inf_zero, product_special, at_zero}

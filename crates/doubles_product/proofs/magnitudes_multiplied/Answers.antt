@@ -1,4 +1,4 @@
--- The upper word of the product of the digits, moved up to the tops of their words, has 62 places below its highest (`product-large`), and
+-- The upper word of the product of the digits, moved up to the tops of their words, has 62 places below its highest (`product_large`), and
 -- in its place it stands for the product of the units (`product_is`).
 use mathlib.Core.Path.{◌∙◌}
 use native.Mathlib.Omega.{arith}

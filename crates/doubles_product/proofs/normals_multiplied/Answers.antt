@@ -1,5 +1,5 @@
--- The parts of normal magnitudes stand in their patterns (`raised-normal`); their product is that of `magnitudes_multiplied`
--- (`product_is`), and where it is normal nothing is moved down (`place-above`).
+-- The parts of normal magnitudes stand in their patterns (`raised_normal`); their product is that of `magnitudes_multiplied`
+-- (`product_is`), and where it is normal nothing is moved down (`place_above`).
 use mathlib.Core.Path.{sym, ◌∙◌}
 use Prim.Native.Nat.{◌+◌, ◌/◌}
 use native.Mathlib.Omega.{arith}

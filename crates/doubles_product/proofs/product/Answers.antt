@@ -1,4 +1,4 @@
--- Two normal numbers have the product of their magnitudes with its sign (`product-signed`); all others are left to `other_product`.
+-- Two normal numbers have the product of their magnitudes with its sign (`product_signed`); all others are left to `other_product`.
 use native.Mathlib.Omega.{arith}
 use Rattle.doubles_product.proofs.Answers.{product_signed}
 use Rattle.doubles_product.proofs.product.Goals as goal

@@ -1,5 +1,5 @@
--- Four products of halves, each sum carrying its upper half to the next: what they make is the upper word (`product-exact`), or the odd
--- number that stands for it and for what is below (`product-lost`).
+-- Four products of halves, each sum carrying its upper half to the next: what they make is the upper word (`product_exact`), or the odd
+-- number that stands for it and for what is below (`product_lost`).
 use native.Mathlib.Omega.{arith}
 use Rattle.doubles_product.proofs.Halves.{lowest_fits, middle_fits, other_fits, first_fits, high_fits, even_fits, odd_fits, product_exact, product_lost}
 use Rattle.doubles_product.proofs.upper_product.Goals as goal

@@ -1,4 +1,4 @@
--- By zero: NaN for zero (`quotient-zeros`), else an infinity (`quotient-by-zero`). Zero by another number is zero (`quotient-nothing`);
+-- By zero: NaN for zero (`quotient_zeros`), else an infinity (`quotient_by_zero`). Zero by another number is zero (`quotient_nothing`);
 -- else the magnitudes are divided. The sign is a minus where the signs are unlike.
 use native.Mathlib.Omega.{arith}
 use Rattle.doubles_quotient.proofs.Answers.{quotient_zeros, quotient_by_zero, quotient_nothing, quotient_signed}

@@ -1,5 +1,5 @@
--- NaN with a NaN (`quotient-nan`, `quotient-nan-back`) and for two infinities (`quotient-infs`); a finite number by an infinity is zero
--- (`quotient-by-inf`), an infinity by a finite number an infinity (`quotient-of-inf`).
+-- NaN with a NaN (`quotient_nan`, `quotient_nan_back`) and for two infinities (`quotient_infs`); a finite number by an infinity is zero
+-- (`quotient_by_inf`), an infinity by a finite number an infinity (`quotient_of_inf`).
 use native.Mathlib.Omega.{arith}
 use Rattle.doubles_quotient.proofs.Answers.{quotient_nan, quotient_nan_back, quotient_by_inf, quotient_of_inf, quotient_infs}
 use Rattle.doubles_quotient.proofs.infinite_quotient.Goals as goal

@@ -1,4 +1,4 @@
--- The quotient of the digits has 55 or 56 places (`quotient-large`, `quotient-small`), and in its place it stands for the quotient of the
+-- The quotient of the digits has 55 or 56 places (`quotient_large`, `quotient_small`), and in its place it stands for the quotient of the
 -- units (`quotient_is`).
 use mathlib.Core.Path.{◌∙◌}
 use native.Mathlib.Omega.{arith}

@@ -1,5 +1,5 @@
--- What comes back when it is moved up again was moved down without loss (`standing-exact`); else the last place stands for what was lost
--- (`standing-lost`). By 64 places or more nothing is left but that (`standing-far`).
+-- What comes back when it is moved up again was moved down without loss (`standing_exact`); else the last place stands for what was lost
+-- (`standing_lost`). By 64 places or more nothing is left but that (`standing_far`).
 use Prim.Native.Nat.{◌^◌}
 use native.Mathlib.Nat.{div-le_self}
 use native.Mathlib.Omega.{arith}

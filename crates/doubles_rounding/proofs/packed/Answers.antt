@@ -1,4 +1,4 @@
--- Below infinity's pattern the sum of exponent and digits is the pattern (`packed-under`); from there on it is infinity's (`packed-over`).
+-- Below infinity's pattern the sum of exponent and digits is the pattern (`packed_under`); from there on it is infinity's (`packed_over`).
 use native.Mathlib.Omega.{arith}
 use Rattle.doubles_rounding.proofs.Shifts.{packed_under, packed_over}
 use Rattle.doubles_rounding.proofs.packed.Goals as goal

@@ -1,5 +1,5 @@
--- A power of two above the fraction is the exponent's (`place-above`); one below it is moved down by, and what is lost there stays the last
--- place (`placed-down`).
+-- A power of two above the fraction is the exponent's (`place_above`); one below it is moved down by, and what is lost there stays the last
+-- place (`placed_down`).
 use mathlib.Core.Path.{sym, ◌∙◌}
 use native.Mathlib.Omega.{arith}
 use lib.Dec.{lit<}

@@ -1,4 +1,4 @@
--- All zeros in front are taken where the exponent has as many steps (`shifted-high`), and else one more than its steps (`shifted-low`).
+-- All zeros in front are taken where the exponent has as many steps (`shifted_high`), and else one more than its steps (`shifted_low`).
 use mathlib.Core.Path.{refl}
 use native.Mathlib.Omega.{arith}
 use lib.Count.{leading_le}

@@ -1,5 +1,5 @@
--- Of like signs the magnitudes are added (`sum-of-alike`), of unlike ones subtracted (`sum-of-unlike`); equal ones leave +0
--- (`sum-of-equal`). The sign is that of the larger magnitude.
+-- Of like signs the magnitudes are added (`sum_of_alike`), of unlike ones subtracted (`sum_of_unlike`); equal ones leave +0
+-- (`sum_of_equal`). The sign is that of the larger magnitude.
 use mathlib.Core.Path.{◌≡◌, refl}
 use Prim.Native.Nat.{◌/◌}
 use native.Mathlib.Omega.{arith}

@@ -1,5 +1,5 @@
--- Two infinities of like signs are that infinity (`sum-of-infs`), of unlike ones NaN (`sum-of-infs-unlike`); beside a finite number an
--- infinity stays (`sum-of-inf`).
+-- Two infinities of like signs are that infinity (`sum_of_infs`), of unlike ones NaN (`sum_of_infs_unlike`); beside a finite number an
+-- infinity stays (`sum_of_inf`).
 use mathlib.Core.Path.{◌≡◌, refl}
 use Prim.Native.Nat.{◌/◌}
 use native.Mathlib.Omega.{arith}

@@ -1,4 +1,4 @@
--- A finite sum, a sum with an infinity, or NaN where the larger magnitude is one (`sum-of-nan`).
+-- A finite sum, a sum with an infinity, or NaN where the larger magnitude is one (`sum_of_nan`).
 use mathlib.Core.Path.{refl}
 use native.Mathlib.Omega.{arith}
 use Rattle.doubles_sum.proofs.Sums.{sum_of_nan}

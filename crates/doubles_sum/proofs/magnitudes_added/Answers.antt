@@ -1,5 +1,5 @@
 -- The digits of both on the scale of the larger one: their sum stands for the sum of the units (`sum_is`), and has its highest digit in one
--- of the two top places unless the exponent is 0 (`sum-high`).
+-- of the two top places unless the exponent is 0 (`sum_high`).
 use mathlib.Core.Path.{◌∙◌}
 use native.Mathlib.Omega.{arith}
 use Rattle.doubles_sum.proofs.Combined.{exponents_of, aligned_most, sum_is, sum_high}

@@ -1,5 +1,5 @@
--- The digits of both on the scale of the larger one: what stands for the smaller one is less (`less-of`), and the difference stands for
--- that of the units (`difference-is`).
+-- The digits of both on the scale of the larger one: what stands for the smaller one is less (`less_of`), and the difference stands for
+-- that of the units (`difference_is`).
 use mathlib.Core.Path.{◌∙◌}
 use native.Mathlib.Omega.{arith}
 use Rattle.doubles_sum.proofs.Combined.{exponents_of, less_of, difference_is}
