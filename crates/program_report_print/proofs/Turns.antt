@@ -1,6 +1,6 @@
 -- The loop of `report_through`, turn by turn: the pieces that came so far are one input, whose last bytes stand in the buffer's front.
-use mathlib.Core.Path.{◌≡◌, refl, sym, ap, ◌∙◌}
-use mathlib.Core.Bool.{Bool, true, false}
+use mathlib.Core.Path.{◌≡◌, refl, sym, ◌∙◌}
+use mathlib.Core.Bool.{true, false}
 use mathlib.Core.List.{List, [], ◌++◌, append-nil, append_assoc}
 use Prim.Native.Nat.{ℕ, ◌+◌, ◌-◌, ◌*◌, ◌<◌, ◌≤◌}
 use native.Mathlib.Omega.{arith}
@@ -15,7 +15,7 @@ use Rattle.program_streams.specs.declared.Input.{Input}
 use Rattle.report.specs.Feeding.{Stands, Fed}
 use Rattle.report.specs.declared.Progress.{Progress}
 use Rattle.report.proofs.Progressing.{stands_none, fed_last}
-use Rattle.program_report_print.specs.AroundReads.{said, Lent, Refilled, Whole, Told}
+use Rattle.program_report_print.specs.AroundReads.{said, Lent, Refilled, Told}
 use Rattle.program_report_print.specs.declared.Outcome.{Outcome}
 
 -- the buffer after a read into its part behind the first `kept` bytes
