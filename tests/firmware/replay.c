@@ -9,6 +9,8 @@ extern const uint8_t list_begin[], list_end[];
 int main(void);
 int64_t read(int32_t stream, void *to, uint64_t length);
 int64_t write(int32_t stream, const void *from, uint64_t length);
+int32_t rattle_errno(void);
+int32_t __xpg_strerror_r(int32_t number, char *text, uint64_t length);
 
 int64_t read(int32_t stream, void *to, uint64_t length)
 {
@@ -25,6 +27,20 @@ int64_t write(int32_t stream, const void *from, uint64_t length)
     (void)stream;
     emit(from, (uint32_t)length);
     return (int64_t)length;
+}
+
+/* Of an error, which the two above never answer. */
+int32_t rattle_errno(void)
+{
+    return 0;
+}
+
+int32_t __xpg_strerror_r(int32_t number, char *text, uint64_t length)
+{
+    (void)number;
+    if (length > 0)
+        text[0] = 0;
+    return 0;
 }
 
 int program(void)
