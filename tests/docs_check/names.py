@@ -100,6 +100,11 @@ def name_exists(repository: Repository, word: str) -> bool:
     return known or definition_exists(repository, word) or word_exists(repository, word)
 
 
+def place_exists(repository: Repository, word: str) -> bool:
+    """What is known at a place of a proof, as an answer says it."""
+    return any(word in repository.text(name) for name in repository.matching(r"crates/\w+/proofs/.*/Answers\.antt"))
+
+
 def type_exists(repository: Repository, word: str) -> bool:
     return word in repository.definitions or any(word in items for items in repository.items.values()) or word in classes(repository)
 
@@ -147,6 +152,7 @@ CLASSES: list[tuple[str, Known, str]] = [
     (r".*/.*", path_or_edit, "no file and no edit"),
     (SUFFIX.pattern, path_exists, "no file"),
     (r".*::.*", item_exists, "no item of the code"),
+    (r"c\.[\w.-]+", place_exists, "said in no proof"),
     (r"[^\W\d_][\w']*(?:[-_][\w']+)+|◌\W◌|\W", name_exists, "no definition, no theorem and no name of the code"),
     (r"[A-Z]\w*", type_exists, "no record and no type"),
     (r"\w+(?:\.\w+)+", parts_exist, "no name of the code"),

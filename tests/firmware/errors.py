@@ -47,7 +47,7 @@ def hold_make_firmware_fails():
 
 def contracted(target):
     """The code of the module with leave to fuse, once it has been refused as text, as a listing and as an object."""
-    text = re.sub(r"= (fadd|fsub|fmul) double", r"= \1 contract double", (ARCHIVES / "hullashlar.ll").read_text())
+    text = re.sub(r"= (fadd|fsub|fmul) double", r"= \1 contract double", (ARCHIVES / f"{make_archives.CRATE}.ll").read_text())
     listing = make_archives.listing_of(text, target, "speed")
     if not refused(module.hold_to_the_rules, "hullashlar", text):
         sys.exit("a module with leave to fuse was not refused")
