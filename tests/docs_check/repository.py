@@ -8,7 +8,7 @@ from pathlib import Path
 from typing import Iterator, NamedTuple
 
 # Folders that hold what is made, and nothing that is written; of those that begin with a point one alone is ours.
-MADE = re.compile(r"(?:.*/)?(?:target|__pycache__|venv|[\w.]+\.egg-info|\.(?!ci$)[\w-]+)|python/build|python/hullashlar/proved")
+MADE = re.compile(r"(?:.*/)?(?:target|__pycache__|venv|[\w.]+\.egg-info|\.(?!ci$)[\w-]+)|python/build|python/hullashlar/proved|crates/\w+/out")
 
 # The notes of what landed, and of the port, keep the names and the figures of their day.
 NOTES = ("docs/landings/", "docs/PORT.md")
