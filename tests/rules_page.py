@@ -317,7 +317,7 @@ def faults_of_calls(page):
     header = (ROOT / "include" / "hullashlar.h").read_text()
     doubles = (ROOT / "include" / "hullashlar_doubles.h").read_text()
     renamed = {name for crate, name, text in named_files() if crate != AGAIN and RENAMED.search(text)}
-    promises = exports("hullashlar")
+    promises = exports("hullashlar_c")
     declared = DECLARED_CALL.findall(header)
     if set(page.calls) != {*declared, DOUBLES_ROW} or set(declared) != set(promises):
         faults.append(f"calls: {set(page.calls) ^ {*declared, DOUBLES_ROW} or set(declared) ^ set(promises)}")

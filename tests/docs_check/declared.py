@@ -1,5 +1,6 @@
 """Declarations: the exported calls are the same, with as many parameters, in the headers, in the code that exports them and in the declarations for
-Rust; the Python package has each of them, and the header's sizes and names of refusals."""
+Rust; the archive's crate exports those of the library, with the same clauses; the Python package has each of them, and the header's sizes and names
+of refusals."""
 
 import re
 from typing import Iterator
@@ -7,7 +8,8 @@ from typing import Iterator
 from repository import Fault, Repository, line_of
 
 HEADER = "include/hullashlar.h"
-EXPORTS = {HEADER: "crates/hullashlar/src/lib.rt", "include/hullashlar_doubles.h": "crates/hullashlar_doubles/src/lib.rt"}
+EXPORTS = {HEADER: "crates/hullashlar_c/src/lib.rt", "include/hullashlar_doubles.h": "crates/hullashlar_doubles/src/lib.rt"}
+LIBRARY = "crates/hullashlar/src/lib.rt"
 
 
 def exported_by(text: str) -> dict[str, int]:
@@ -17,6 +19,23 @@ def exported_by(text: str) -> dict[str, int]:
         kinds = [part.split(":")[1] for part in parameters.split(",") if ":" in part]
         found[name] = len(kinds) + sum("[" in kind for kind in kinds)
     return found
+
+
+def stated_by(text: str) -> dict[str, str]:
+    """Each exported call of the code from its name to the brace of its body: its parameters and its clauses."""
+    return dict(re.findall(r'pub extern "C" fn (\w+)(\(.*?)\n\{\n', text, re.S))
+
+
+def library_faults(repository: Repository) -> Iterator[Fault]:
+    """The archive's crate states each call as the library does, and hands it over."""
+    text, exports = repository.text(EXPORTS[HEADER]), stated_by(repository.text(EXPORTS[HEADER]))
+    library = stated_by(repository.text(LIBRARY))
+    for name in sorted(exports.keys() | library.keys()):
+        line = line_of(text, max(text.find(f"fn {name}("), 0))
+        if " ".join(exports.get(name, "").split()) != " ".join(library.get(name, "").split()):
+            yield Fault(EXPORTS[HEADER], line, f"{name} is not stated as in {LIBRARY}")
+        elif f"    hullashlar::{name}(" not in text:
+            yield Fault(EXPORTS[HEADER], line, f"{name} does not call hullashlar::{name}")
 
 
 def declared_for_rust(text: str) -> dict[str, int]:
@@ -44,6 +63,7 @@ def faults(repository: Repository) -> Iterator[Fault]:
         there = declared_for_rust(repository.text(name))
         if 2 * len(there) > len(repository.calls):
             yield from compared(repository, HEADER, name, there)
+    yield from library_faults(repository)
     yield from python_faults(repository)
 
 

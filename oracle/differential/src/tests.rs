@@ -1,6 +1,6 @@
 //! The exported calls are declared alike in our code, for C and for Rust.
 
-const OURS: &str = include_str!("../../../crates/hullashlar/src/lib.rt");
+const OURS: &str = include_str!("../../../crates/hullashlar_c/src/lib.rt");
 const FOR_C: &str = include_str!("../../../include/hullashlar.h");
 const FOR_RUST: &str = include_str!("../../../rust/hullashlar/src/declared.rs");
 
