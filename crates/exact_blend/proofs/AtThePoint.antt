@@ -150,7 +150,7 @@ module _
 
 -- the rules' value in a cell of one axis, between its knots x and y at a point p from x on: values p0, p1 and slopes m0, m1 at the knots
 module _
-    (x p y : Float) (x_Fits : T (fits binary64 x)) (p_fits : T (fits binary64 p)) (y_fits : T (fits binary64 y))
+    (x p y : Float) (x_fits : T (fits binary64 x)) (p_fits : T (fits binary64 p)) (y_fits : T (fits binary64 y))
     (x_finite : finite x ≡ true) (p_finite : finite p ≡ true) (y_finite : finite y ≡ true)
     (above : le x p ≡ true) (wide : lt x y ≡ true) (under : le p y ≡ true)
     (first : finite (p ⊖ x) ≡ true) (second : finite (y ⊖ x) ≡ true) (whole : finite ((p ⊖ x) ⊘ (y ⊖ x)) ≡ true) where
@@ -179,12 +179,12 @@ module _
 
   pub fraction_off : Near (value ((p ⊖ x) ⊘ (y ⊖ x))) (over D H) (amount 3074)
   fraction_off =
-      fraction_near p x y p_fits x_Fits y_fits (passes _ p_finite) (passes _ x_finite) (passes _ y_finite) low high rising
+      fraction_near p x y p_fits x_fits y_fits (passes _ p_finite) (passes _ x_finite) (passes _ y_finite) low high rising
       (passes _ first) (passes _ second) (passes _ whole)
 
   pub width_off : Near (value (y ⊖ x)) H (times u H)
   width_off =
-      sub_bound binary64 y x y_fits x_Fits (passes _ y_finite) (passes _ x_finite) (passes _ second) H
+      sub_bound binary64 y x y_fits x_fits (passes _ y_finite) (passes _ x_finite) (passes _ second) H
       (within_self H (positive_least _ rising))
 
   -- at the lower knot itself the fraction is nought, and exact
@@ -198,7 +198,7 @@ module _
     from_knot : Near (value (p ⊖ x)) (number 0) (times u (number 0))
     from_knot =
         subst (λ z. Near (value (p ⊖ x)) z (times u z)) none
-        (sub_bound binary64 p x p_fits x_Fits (passes _ p_finite) (passes _ x_finite) (passes _ first) D (within_self D low))
+        (sub_bound binary64 p x p_fits x_fits (passes _ p_finite) (passes _ x_finite) (passes _ first) D (within_self D low))
 
     difference_nought : value (p ⊖ x) ≡ number 0
     difference_nought =
@@ -214,14 +214,14 @@ module _
   s_low = go (lt x p) refl
     where
       go : (b : Bool) → lt x p ≡ b → Least (value ((p ⊖ x) ⊘ (y ⊖ x)))
-      go true e = fraction_at_least_nought x p y x_Fits p_fits y_fits x_finite p_finite y_finite e wide places first second whole
+      go true e = fraction_at_least_nought x p y x_fits p_fits y_fits x_finite p_finite y_finite e wide places first second whole
       go false e = subst Least (sym (fraction_nought e)) (least_number 0)
 
   pub s_high : Least (minus (number 1) (value ((p ⊖ x) ⊘ (y ⊖ x))))
   s_high = go (lt x p) refl
     where
       go : (b : Bool) → lt x p ≡ b → Least (minus (number 1) (value ((p ⊖ x) ⊘ (y ⊖ x))))
-      go true e = fraction_at_most_one x p y x_Fits p_fits y_fits x_finite p_finite y_finite e wide places first second whole
+      go true e = fraction_at_most_one x p y x_fits p_fits y_fits x_finite p_finite y_finite e wide places first second whole
       go false e =
           subst (λ z. Least (minus (number 1) z)) (sym (fraction_nought e)) (subst Least (ring [] t1 (sub t1 t0) tt tt tt) (least_number 1))
 
@@ -230,7 +230,7 @@ module _
 
   pub t_high : Least (minus (number 1) (over D H))
   t_high =
-      one_or_less p x y p_fits x_Fits y_fits (passes _ p_finite) (passes _ x_finite) (passes _ y_finite) low high rising
+      one_or_less p x y p_fits x_fits y_fits (passes _ p_finite) (passes _ x_finite) (passes _ y_finite) low high rising
 
   pub value_near : (p0 m0 p1 m1 : Float) → T (fits binary64 p0) → T (fits binary64 m0) → T (fits binary64 p1) → T (fits binary64 m1)
       → T (finite (Rules.hermite p0 m0 p1 m1 (y ⊖ x) ((p ⊖ x) ⊘ (y ⊖ x))))

@@ -119,7 +119,7 @@ module _ (f H d h : ℚ) (dn : Near d (times f H) (times u (times f H))) (hn : N
             h_positive);
       })
 
-module _ (p x y : Float) (p_fits : T (fits binary64 p)) (x_Fits : T (fits binary64 x)) (y_fits : T (fits binary64 y))
+module _ (p x y : Float) (p_fits : T (fits binary64 p)) (x_fits : T (fits binary64 x)) (y_fits : T (fits binary64 y))
     (p_finite : T (finite p)) (x_finite : T (finite x)) (y_finite : T (finite y))
     (low : Least (minus (value p) (value x))) (high : Least (minus (minus (value y) (value x)) (minus (value p) (value x))))
     (wide : Positive (minus (value y) (value x)))
@@ -142,8 +142,8 @@ module _ (p x y : Float) (p_fits : T (fits binary64 p)) (x_Fits : T (fits binary
     pub fraction_near : T (finite (p ⊖ x)) → T (finite (y ⊖ x)) → T (finite ((p ⊖ x) ⊘ (y ⊖ x)))
         → Near (value ((p ⊖ x) ⊘ (y ⊖ x))) (over D H) (amount 3074)
     fraction_near a b c =
-        let dn : Near (value (p ⊖ x)) D (times u D) = sub_bound binary64 p x p_fits x_Fits p_finite x_finite a D (within_self D low) in
-        let hn : Near (value (y ⊖ x)) H (times u H) = sub_bound binary64 y x y_fits x_Fits y_finite x_finite b H
+        let dn : Near (value (p ⊖ x)) D (times u D) = sub_bound binary64 p x p_fits x_fits p_finite x_finite a D (within_self D low) in
+        let hn : Near (value (y ⊖ x)) H (times u H) = sub_bound binary64 y x y_fits x_fits y_finite x_finite b H
         (within_self H (positive_least _ wide)) in
         let f_least : Least (over D H) = least_over _ _ low wide in
         let q : Near (over (value (p ⊖ x)) (value (y ⊖ x))) (over D H) e =

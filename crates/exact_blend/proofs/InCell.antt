@@ -27,7 +27,7 @@ use Rattle.exact_rationals.proofs.Comparisons.{at_most}
 
 -- x < p <= y by their places, all finite, and both differences and the quotient finite
 module _
-    (x p y : Float) (x_Fits : T (fits binary64 x)) (p_fits : T (fits binary64 p)) (y_fits : T (fits binary64 y))
+    (x p y : Float) (x_fits : T (fits binary64 x)) (p_fits : T (fits binary64 p)) (y_fits : T (fits binary64 y))
     (x_finite : finite x ≡ true) (p_finite : finite p ≡ true) (y_finite : finite y ≡ true)
     (above : lt x p ≡ true) (wide : lt x y ≡ true) (under : place_in binary64 p ≤ place_in binary64 y)
     (first : finite (p ⊖ x) ≡ true) (second : finite (y ⊖ x) ≡ true) (whole : finite ((p ⊖ x) ⊘ (y ⊖ x)) ≡ true) where
@@ -38,20 +38,20 @@ module _
   B = grid binary64 (place_in binary64 y - place_in binary64 x) (2 ^ low binary64)
 
   holds_A : Holds binary64 (p ⊖ x) A
-  holds_A = sub_holds binary64 p x p_fits x_Fits p_finite x_finite above first
+  holds_A = sub_holds binary64 p x p_fits x_fits p_finite x_finite above first
 
   holds_B : Holds binary64 (y ⊖ x) B
-  holds_B = sub_holds binary64 y x y_fits x_Fits y_finite x_finite wide second
+  holds_B = sub_holds binary64 y x y_fits x_fits y_finite x_finite wide second
 
   positive_A : T (positive (p ⊖ x))
-  positive_A = sub_positive binary64 p x p_fits x_Fits p_finite x_finite above first
+  positive_A = sub_positive binary64 p x p_fits x_fits p_finite x_finite above first
 
   positive_B : T (positive (y ⊖ x))
-  positive_B = sub_positive binary64 y x y_fits x_Fits y_finite x_finite wide second
+  positive_B = sub_positive binary64 y x y_fits x_fits y_finite x_finite wide second
 
   ordered : T (le (p ⊖ x) (y ⊖ x))
   ordered =
-      rw (sub_places binary64 p x p_fits x_Fits p_finite x_finite above, sub_places binary64 y x y_fits x_Fits y_finite x_finite wide)
+      rw (sub_places binary64 p x p_fits x_fits p_finite x_finite above, sub_places binary64 y x y_fits x_fits y_finite x_finite wide)
       (round_mono binary64 (place_in binary64 p - place_in binary64 x) (2 ^ low binary64) (place_in binary64 y - place_in binary64 x)
       (2 ^ low binary64) (pow_pos (low binary64)) (pow_pos (low binary64)) (mul-le-mul_right (2 ^ low binary64) (omega arith)))
 

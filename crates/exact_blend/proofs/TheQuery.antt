@@ -59,16 +59,16 @@ unfolding Least minus plus negative number
 one_rounding = leb→le _ _ tt
 
 module _
-    (x p y : Float) (x_Fits : T (fits binary64 x)) (p_fits : T (fits binary64 p)) (y_fits : T (fits binary64 y)) (here : InCell x p y) where
+    (x p y : Float) (x_fits : T (fits binary64 x)) (p_fits : T (fits binary64 p)) (y_fits : T (fits binary64 y)) (here : InCell x p y) where
   wide_enough : Least (exact_width x y)
   wide_enough =
       positive_least _
-      (AtThePoint.rising x p y x_Fits p_fits y_fits here.x_finite here.p_finite here.y_finite here.above here.wide
+      (AtThePoint.rising x p y x_fits p_fits y_fits here.x_finite here.p_finite here.y_finite here.above here.wide
       here.under here.first here.second here.whole)
 
   width_off : Near (value (y ⊖ x)) (exact_width x y) (times u (exact_width x y))
   width_off =
-      AtThePoint.width_off x p y x_Fits p_fits y_fits here.x_finite here.p_finite here.y_finite here.above here.wide
+      AtThePoint.width_off x p y x_fits p_fits y_fits here.x_finite here.p_finite here.y_finite here.above here.wide
       here.under here.first here.second here.whole
 
   -- the computed width is nought or more too
@@ -83,15 +83,15 @@ module _
       (times u (exact_width x y))
   axis_moved =
       record {
-        t_low = AtThePoint.t_low x p y x_Fits p_fits y_fits here.x_finite here.p_finite here.y_finite here.above here.wide
+        t_low = AtThePoint.t_low x p y x_fits p_fits y_fits here.x_finite here.p_finite here.y_finite here.above here.wide
             here.under here.first here.second here.whole;
-        t_high = AtThePoint.t_high x p y x_Fits p_fits y_fits here.x_finite here.p_finite here.y_finite here.above here.wide
+        t_high = AtThePoint.t_high x p y x_fits p_fits y_fits here.x_finite here.p_finite here.y_finite here.above here.wide
             here.under here.first here.second here.whole;
-        s_low = AtThePoint.s_low x p y x_Fits p_fits y_fits here.x_finite here.p_finite here.y_finite here.above here.wide
+        s_low = AtThePoint.s_low x p y x_fits p_fits y_fits here.x_finite here.p_finite here.y_finite here.above here.wide
             here.under here.first here.second here.whole;
-        s_high = AtThePoint.s_high x p y x_Fits p_fits y_fits here.x_finite here.p_finite here.y_finite here.above here.wide
+        s_high = AtThePoint.s_high x p y x_fits p_fits y_fits here.x_finite here.p_finite here.y_finite here.above here.wide
             here.under here.first here.second here.whole;
-        fraction = AtThePoint.fraction_off x p y x_Fits p_fits y_fits here.x_finite here.p_finite here.y_finite here.above
+        fraction = AtThePoint.fraction_off x p y x_fits p_fits y_fits here.x_finite here.p_finite here.y_finite here.above
             here.wide here.under here.first here.second here.whole;
         width = width_off;
         wide = within_self _ wide_enough;

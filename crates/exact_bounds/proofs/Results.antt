@@ -158,18 +158,18 @@ far y Y d f n = go (signs y f)
 
 -- ---- the four operations, on x near X by e and y near Y by d
 
-module _ (x y : Float) (X Y e d : ℚ) (x_Fits : T (fits binary64 x)) (y_fits : T (fits binary64 y))
+module _ (x y : Float) (X Y e d : ℚ) (x_fits : T (fits binary64 x)) (y_fits : T (fits binary64 y))
     (x_finite : T (finite x)) (y_finite : T (finite y)) (x_near : Near (value x) X e) (y_near : Near (value y) Y d) where
   pub sum_near : T (finite (x ⊕ y)) → Near (value (x ⊕ y)) (plus X Y) (sum_off rationals part (size (x ⊕ y)) e d)
   sum_near f =
       near_through _ _ _ _ _
-      (part_of_result _ _ _ (within_size (x ⊕ y)) (add_bound binary64 x y x_Fits y_fits x_finite y_finite f))
+      (part_of_result _ _ _ (within_size (x ⊕ y)) (add_bound binary64 x y x_fits y_fits x_finite y_finite f))
       (near_plus _ _ _ _ _ _ x_near y_near)
 
   pub difference_near : T (finite (x ⊖ y)) → Near (value (x ⊖ y)) (minus X Y) (sum_off rationals part (size (x ⊖ y)) e d)
   difference_near f =
       near_through _ _ _ _ _
-      (part_of_result _ _ _ (within_size (x ⊖ y)) (sub_bound binary64 x y x_Fits y_fits x_finite y_finite f))
+      (part_of_result _ _ _ (within_size (x ⊖ y)) (sub_bound binary64 x y x_fits y_fits x_finite y_finite f))
       (near_minus _ _ _ _ _ _ x_near y_near)
 
   pub product_near : T (finite (x ⊗ y)) → Near (value (x ⊗ y)) (times X Y) (product_off rationals u v (size x) e (size y) d)

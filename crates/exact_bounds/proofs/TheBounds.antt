@@ -141,7 +141,7 @@ condition_float Periodic = refl
 
 -- ---- the moments of a curve, and the curve
 
-module _ (x y : List Float) (n : ℕ) (c : Condition) (x_Fits : AllFit x) (y_fits : AllFit y) (c_fits : ConditionFits c) where
+module _ (x y : List Float) (n : ℕ) (c : Condition) (x_fits : AllFit x) (y_fits : AllFit y) (c_fits : ConditionFits c) where
   abbrev in_bounds : ℕ → Bounded
   in_bounds = moment bounded (λ i. given (at x i)) (λ i. given (at y i)) n (given_condition c)
 
@@ -150,7 +150,7 @@ module _ (x y : List Float) (n : ℕ) (c : Condition) (x_Fits : AllFit x) (y_fit
       across Stands (λ d. moment bounded (λ i. given (at x i)) (λ i. given (at y i)) n d k)
       (λ d. moment rationals (exact x) (exact y) n d k) _ _ _ _ (condition_bounds c c_fits) (condition_exact c c_fits)
       (Relations.moment_alike bounded rationals Stands operations_keep_bounds (λ i. given (at x i)) (exact x)
-      (λ i. given_stands (at x i) (x_Fits i)) (λ i. given (at y i)) (exact y) (λ i. given_stands (at y i) (y_fits i)) n
+      (λ i. given_stands (at x i) (x_fits i)) (λ i. given (at y i)) (exact y) (λ i. given_stands (at y i) (y_fits i)) n
       (with_condition c c_fits) k)
 
   is : (k : ℕ) → Is (in_bounds k) (moment floats (at x) (at y) n (Floats.condition c) k)
@@ -180,7 +180,7 @@ module _ (x y : List Float) (n : ℕ) (c : Condition) (x_Fits : AllFit x) (y_fit
       across Stands (λ d. lane_slope bounded (λ k. given (at x k)) n d (map given y) i)
       (λ d. lane_slope rationals (exact x) n d (values y) i) _ _ _ _ (condition_bounds c c_fits) (condition_exact c c_fits)
       (Relations.lane_slope_alike bounded rationals Stands operations_keep_bounds (λ k. given (at x k)) (exact x)
-      (λ k. given_stands (at x k) (x_Fits k)) n (with_condition c c_fits) (map given y) (values y)
+      (λ k. given_stands (at x k) (x_fits k)) n (with_condition c c_fits) (map given y) (values y)
       (λ k. across Stands (λ a. a) (λ a. a) _ _ _ _ (sample_at k) (value_at k) (given_stands (at y k) (y_fits k))) i)
 
   slope_is : (i : ℕ) → Is (slope_there i) (lane_slope floats (at x) n (Floats.condition c) y i)
@@ -203,7 +203,7 @@ module _ (x y : List Float) (n : ℕ) (c : Condition) (x_Fits : AllFit x) (y_fit
         (curve_in_cell rationals (exact x) (exact y) (moment rationals (exact x) (exact y) n (exact_condition c)) i (value p))
     curve_stands =
         Relations.curve_alike bounded rationals Stands operations_keep_bounds (λ k. given (at x k)) (exact x)
-        (λ k. given_stands (at x k) (x_Fits k)) (λ k. given (at y k)) (exact y) (λ k. given_stands (at y k) (y_fits k)) in_bounds
+        (λ k. given_stands (at x k) (x_fits k)) (λ k. given (at y k)) (exact y) (λ k. given_stands (at y k) (y_fits k)) in_bounds
         (moment rationals (exact x) (exact y) n (exact_condition c)) stands i (given p) (value p) (given_stands p p_fits)
 
     curve_is : Is curve_there (curve_in_cell floats (at x) (at y) (moment floats (at x) (at y) n (Floats.condition c)) i p)

@@ -385,7 +385,7 @@ module _ (A : Arithmetic) (F : IsField A) (O : IsOrdered A) where
           }
 
     -- one cell: the moments are nought, and the curve is a straight line
-    module _ (one_Cell : n ≡ 1) where
+    module _ (one_cell : n ≡ 1) where
       abbrev m1 : ℕ → Number
       m1 = Moments.moment A x y n Periodic
 
@@ -414,7 +414,7 @@ module _ (A : Arithmetic) (F : IsField A) (O : IsOrdered A) where
           record {
             slopes_close =
                 let e : n - 1 ≡ 0 = omega arith in
-                ap₂ (λ i k. slope_in_cell A x y m1 i (x k)) e one_Cell
+                ap₂ (λ i k. slope_in_cell A x y m1 i (x k)) e one_cell
                 ∙ Knots.slope_at_upper_knot A F x y m1 0 (wide1 0 (omega arith))
                 ∙ ap₂ (upper_slope A (h 0) (Steps.s A x y 0)) (moment_nought 0) (moment_nought 1)
                 ∙ straight (h 0) (Steps.s A x y 0)
@@ -422,7 +422,7 @@ module _ (A : Arithmetic) (F : IsField A) (O : IsOrdered A) where
                 ∙ sym (Knots.slope_at_lower_knot A F x y m1 0 (wide1 0 (omega arith)));
             seconds_close =
                 let e : n - 1 ≡ 0 = omega arith in
-                ap₂ (λ i k. second_in_cell A x y m1 i (x k)) e one_Cell
+                ap₂ (λ i k. second_in_cell A x y m1 i (x k)) e one_cell
                 ∙ Knots.second_at_upper_knot A F x y m1 0 (wide1 0 (omega arith))
                 ∙ moment_nought 1
                 ∙ sym (moment_nought 0)
