@@ -87,7 +87,7 @@ class Names:
             whole = m[0]
             if re.search(r"\.(py|md|txt|sh|c|h|rs|edit)\b|/|--|make |rt ", whole):
                 return whole
-            return TOKEN.sub(lambda w: self.turn_word(w[0], lent) if w[0] in self.own else w[0], whole)
+            return "`" + TOKEN.sub(lambda w: self.turn_word(w[0], lent) if w[0] in self.own else w[0], whole[1:-1]) + "`"
 
         return SPAN.sub(one, text)
 

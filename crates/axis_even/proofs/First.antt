@@ -1,4 +1,4 @@
--- The laws of `first-that`: what a loop knows that looks for the first number of which a test holds.
+-- The laws of `first_that`: what a loop knows that looks for the first number of which a test holds.
 use Rattle.std.proofs.Common.{◌≡◌, ℕ, zero, suc, ◌+◌, ◌-◌, ◌<◌, ◌≤◌, Bool, true, false, ltb, sym, refl, ap, ◌∙◌, add-one, arith, ltb-false, ltb-true}
 use Rattle.rules.specs.Even.{first_that}
 

@@ -101,7 +101,7 @@ module _
           scratch = rw both_none.0 at p.scratch;
         })
 
-    -- ---- the statements; the fourth, `counts-its-lanes`, is about any tensor, and so about this one
+    -- ---- the statements; the fourth, `counts_its_lanes`, is about any tensor, and so about this one
 
     pub sheet_has_bits_of_fresh_build : BitsOfFreshBuild (grid_made given k) (samples_made given s) (tensor_made given t)
     sheet_has_bits_of_fresh_build = has_bits_of_fresh_build _ _ _ _ _ _ sheet_is_built

@@ -1,4 +1,4 @@
--- One product with 2^-42 is the tolerance of the rules, since ten doublings of 2^-52 are that number: `tolerance-is`.
+-- One product with 2^-42 is the tolerance of the rules, since ten doublings of 2^-52 are that number: `tolerance_is`.
 use Rattle.std.proofs.Common.{rules}
 use Rattle.axis_even.proofs.Spacing.{tolerance_is}
 use Rattle.axis_even.proofs.tolerance.Goals as goal

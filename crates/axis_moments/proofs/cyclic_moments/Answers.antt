@@ -1,4 +1,4 @@
--- The periodic row and those behind it are the rows of the rules, so by `cyclic-solved` the cyclic solve leaves their moments;
+-- The periodic row and those behind it are the rows of the rules, so by `cyclic_solved` the cyclic solve leaves their moments;
 -- the last is stored from the first.
 use native.Mathlib.Omega.{arith}
 use native.Mathlib.Nat.{sub-zero}

@@ -1,4 +1,4 @@
--- The moments that the rows gave and those that the ends dropped are, by `moments-solved`, all the moments of the rules
+-- The moments that the rows gave and those that the ends dropped are, by `moments_solved`, all the moments of the rules
 -- under two ends; samples and tensor in the scratch stand as they were.
 use borrow.Author.Rules.{rules}
 use Rattle.axis_moments.proofs.Endpoints.{moments_solved}

@@ -1,4 +1,4 @@
--- The rows written are those of the rules, the first and last from the ends, so by `rows-solved` their solve gives the
+-- The rows written are those of the rules, the first and last from the ends, so by `rows_solved` their solve gives the
 -- moments of the knots that are not dropped, each at its knot's place.
 use native.Mathlib.Omega.{arith}
 use native.Mathlib.Nat.{sub-zero}

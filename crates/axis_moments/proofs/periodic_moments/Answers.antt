@@ -1,4 +1,4 @@
--- With one interval both moments are +0.0, which `one-interval` says of two stores; with more they are the cyclic solve's.
+-- With one interval both moments are +0.0, which `one_interval` says of two stores; with more they are the cyclic solve's.
 use native.Mathlib.Omega.{arith}
 use lib.ListN.{length-set}
 use borrow.Author.Rules.{rules}

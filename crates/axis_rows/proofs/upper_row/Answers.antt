@@ -1,4 +1,4 @@
--- The upper end's row is that of the rules for each kind; for NotAKnot `upper-not-a-knot` puts the rules' `u` in place of six
+-- The upper end's row is that of the rules for each kind; for NotAKnot `upper_not_a_knot` puts the rules' `u` in place of six
 -- times the difference of the last two slopes.
 use native.Mathlib.Omega.{arith}
 use mathlib.Core.Path.{sym, ap, ◌∙◌}

@@ -1,4 +1,4 @@
--- The six steps together, by `cyclic-solved`: the diagonal without corners, y, the second right side, z, the factor and the
+-- The six steps together, by `cyclic_solved`: the diagonal without corners, y, the second right side, z, the factor and the
 -- difference leave the cyclic result of the rules in the row of moments.
 use Rattle.axis_solve.proofs.Cyclic.{cyclic_solved}
 use Rattle.axis_solve.proofs.cyclic_thomas.Goals as goal

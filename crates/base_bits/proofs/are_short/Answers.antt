@@ -1,4 +1,4 @@
--- All the patterns are asked for as one field: by `short-together` it ends behind the last bit just where one of them does.
+-- All the patterns are asked for as one field: by `short_together` it ends behind the last bit just where one of them does.
 use mathlib.Core.Path.{◌∙◌}
 use Rattle.base_bits.proofs.Runs.{short_together}
 use Rattle.base_bits.proofs.are_short.Goals as goal

@@ -1,4 +1,4 @@
--- `n` is the field of the first `read` bits, and each turn joins a narrow field to it (`field-add`). The measure is the bits left.
+-- `n` is the field of the first `read` bits, and each turn joins a narrow field to it (`field_add`). The measure is the bits left.
 use mathlib.Core.Path.{◌≡◌}
 use Prim.Native.Nat.{◌≤◌, ◌-◌}
 use Rattle.base_bits.specs.Bits.{field}

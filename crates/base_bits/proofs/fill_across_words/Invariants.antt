@@ -1,5 +1,5 @@
 -- The first `k` numbers are stored, and `word` is the word in which the next one begins; it ends in the word that the turn reads
--- (`across-word`), and the last one in a byte (`across-byte`). The measure is the places left.
+-- (`across_word`), and the last one in a byte (`across_byte`). The measure is the places left.
 use mathlib.Core.Path.{◌≡◌}
 use Prim.Native.Nat.{◌<◌, ◌-◌, ◌+◌, ◌*◌}
 use lib.ListN.{length}

@@ -1,5 +1,5 @@
 -- Bit `at` is bit `at % 8` of its byte, so the field is a run within that byte, or it fills the byte's end and goes on in the next
--- (`field-byte`, `field-two-bytes`).
+-- (`field_byte`, `field_two_bytes`).
 use mathlib.Core.Path.{◌≡◌, sym, ◌∙◌}
 use Prim.Native.Nat.{◌+◌, ◌-◌, ◌*◌, ◌/◌, ◌%◌}
 use native.Mathlib.Omega.{arith}

@@ -1,4 +1,4 @@
--- Where `at` begins a byte the field is the word there; else it begins within that word and ends in the byte behind it (`across-byte`).
+-- Where `at` begins a byte the field is the word there; else it begins within that word and ends in the byte behind it (`across_byte`).
 use mathlib.Core.Path.{◌≡◌, ◌∙◌}
 use Prim.Native.Nat.{◌+◌, ◌*◌, ◌/◌, ◌%◌}
 use native.Mathlib.Omega.{arith}

@@ -1,4 +1,4 @@
--- Where no difference of four is refused, no number of the four quarters is (`quarters-finite`); else the answer is 0 numbers.
+-- Where no difference of four is refused, no number of the four quarters is (`quarters_finite`); else the answer is 0 numbers.
 use Prim.Native.Nat.{◌/◌}
 use mathlib.Core.Path.{sym, ◌∙◌}
 use lib.ListN.{length}

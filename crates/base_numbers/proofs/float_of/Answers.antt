@@ -1,4 +1,4 @@
--- A pattern above the infinity's, its sign dropped, gives the one NaN (`nan_pattern`); any other is no NaN's (`other-pattern`) and is
+-- A pattern above the infinity's, its sign dropped, gives the one NaN (`nan_pattern`); any other is no NaN's (`other_pattern`) and is
 -- read as it stands.
 use Rattle.base_numbers.proofs.Finite.{nan_pattern, other_pattern}
 use Rattle.base_numbers.proofs.float_of.Goals as goal

@@ -1,5 +1,5 @@
--- Two comparisons tell it: what lies below the upper infinity is finite just where it lies above the lower (`below-infinity`), and
--- what does not lie below it, NaN included, is not finite (`not-below-infinity`).
+-- Two comparisons tell it: what lies below the upper infinity is finite just where it lies above the lower (`below_infinity`), and
+-- what does not lie below it, NaN included, is not finite (`not_below_infinity`).
 use lib.Ieee.{nan_bits, is_nan, of_bits}
 use Rattle.base_numbers.proofs.Finite.{below_infinity, not_below_infinity}
 use Rattle.base_numbers.proofs.is_finite.Goals as goal

@@ -1,4 +1,4 @@
--- Four entries read in turn from a slice of four are the slice (`four-read`).
+-- Four entries read in turn from a slice of four are the slice (`four_read`).
 use Rattle.c_axes.proofs.Slots.{four_read}
 use borrow.Author.Rules.{rules}
 use Rattle.c_axes.proofs.place_given.Goals as goal

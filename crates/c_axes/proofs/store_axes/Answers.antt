@@ -1,5 +1,5 @@
--- Four stores in turn, each keeping the lengths that the next one asks (`still-for-four`); together they leave the points, kinds and
--- values of the four axes (`four-axes-stored`).
+-- Four stores in turn, each keeping the lengths that the next one asks (`still_for_four`); together they leave the points, kinds and
+-- values of the four axes (`four_axes_stored`).
 use mathlib.Core.Path.{◌≡◌}
 use lib.ListN.{length}
 use Rattle.c_axes.proofs.Found.{still_for_four, four_axes_stored}

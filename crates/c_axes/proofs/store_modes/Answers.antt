@@ -1,4 +1,4 @@
--- After four stores the slice holds the numbers of the four modes and nothing of what stood there (`four-modes-stored`).
+-- After four stores the slice holds the numbers of the four modes and nothing of what stood there (`four_modes_stored`).
 use mathlib.Core.Path.{◌≡◌}
 use lib.ListN.{length}
 use Rattle.c_axes.proofs.Found.{four_modes_stored}

@@ -1,5 +1,5 @@
--- The host's number first, with +0.0 in a slot of one (`curve-refused`); else the curve's refusal and its value in the slot
--- (`curve-called`).
+-- The host's number first, with +0.0 in a slot of one (`curve_refused`); else the curve's refusal and its value in the slot
+-- (`curve_called`).
 use Rattle.c_curve.proofs.Exported.{curve_refused, curve_called}
 use Rattle.c_curve.proofs.curve.Goals as goal
 

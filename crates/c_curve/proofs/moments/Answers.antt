@@ -1,5 +1,5 @@
--- Where the host refuses, moments and scratch stay (`moments-refused`); where it does not, kinds and values are two each, so that the
--- condition can be read, and all else is what the call gives under it (`moments-called`).
+-- Where the host refuses, moments and scratch stay (`moments_refused`); where it does not, kinds and values are two each, so that the
+-- condition can be read, and all else is what the call gives under it (`moments_called`).
 use mathlib.Core.Path.{sym, ◌∙◌}
 use native.Mathlib.Omega.{arith}
 use Rattle.c_refusals.proofs.Lengths.{moments_lengths}

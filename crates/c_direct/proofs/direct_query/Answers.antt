@@ -1,5 +1,5 @@
 -- The slots and the own refusal are those of the query; past it value and labels are those of the cell that one division finds
--- (`direct-query-called`), and what that call asks of points, modes and slices is left by the own refusal (`query-own-fits`).
+-- (`direct_query_called`), and what that call asks of points, modes and slices is left by the own refusal (`query_own_fits`).
 use mathlib.Core.Path.{sym, ◌∙◌}
 use Rattle.c_refusals.proofs.Lengths.{query_own_fits}
 use Rattle.c_query.proofs.Given.{query_fits}

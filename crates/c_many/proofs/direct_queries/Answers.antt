@@ -1,5 +1,5 @@
 -- Refused by the host, nothing is written (`none_written`); else each point has the answer of the direct query on the grid in its modes
--- (`each-direct`), which `points-fit` gives what is required for.
+-- (`each_direct`), which `points_fit` gives what is required for.
 use mathlib.Core.Path.{refl, sym, ◌∙◌}
 use Rattle.many_points.proofs.Answered.{none_written, all_written}
 use Rattle.query_many.proofs.Answered.{each_direct}

@@ -1,5 +1,5 @@
--- The host's own refusal tells no axis and no place (`profile-refused`); past it the answer is the call's (`profile-called`), and what that
--- call asks of points and knots is left (`own-fits`).
+-- The host's own refusal tells no axis and no place (`profile_refused`); past it the answer is the call's (`profile_called`), and what that
+-- call asks of points and knots is left (`own_fits`).
 use mathlib.Core.Path.{sym, ◌∙◌}
 use Rattle.c_profile.proofs.Exported.{own_fits, profile_refused, profile_called}
 use Rattle.c_profile.proofs.even_profile.Goals as goal

@@ -1,5 +1,5 @@
--- Refused by the host, all three slots, where they fit, say zeros (`even-query-refused`); else value, labels, uneven axis and interval
--- are the answer on the grid in its modes (`even-query-called`). `even-query-own-fits` gives the lengths that the call asks.
+-- Refused by the host, all three slots, where they fit, say zeros (`even_query_refused`); else value, labels, uneven axis and interval
+-- are the answer on the grid in its modes (`even_query_called`). `even_query_own_fits` gives the lengths that the call asks.
 use mathlib.Core.Path.{sym, ◌∙◌}
 use Rattle.c_refusals.proofs.Lengths.{even_query_own_fits}
 use Rattle.c_query.proofs.Given.{query_fits}

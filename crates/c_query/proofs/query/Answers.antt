@@ -1,5 +1,5 @@
--- The host's own refusal puts +0.0 and labels 0 in slots that fit (`query-refused`). Past it every slice fits (`query-own-fits`), and
--- what is answered by points and modes is the query's answer on the grid in its modes (`query-called`).
+-- The host's own refusal puts +0.0 and labels 0 in slots that fit (`query_refused`). Past it every slice fits (`query_own_fits`), and
+-- what is answered by points and modes is the query's answer on the grid in its modes (`query_called`).
 use mathlib.Core.Path.{sym, ◌∙◌}
 use Rattle.c_refusals.proofs.Lengths.{query_own_fits}
 use Rattle.c_query.proofs.Given.{query_fits}

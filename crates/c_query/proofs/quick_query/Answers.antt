@@ -1,5 +1,5 @@
 -- The same slots and the same own refusal as the query's; past it value and labels are those of the cell that the search finds
--- (`quick-query-called`), and what that call asks of points, modes and slices is left by the own refusal (`query-own-fits`).
+-- (`quick_query_called`), and what that call asks of points, modes and slices is left by the own refusal (`query_own_fits`).
 use mathlib.Core.Path.{sym, ◌∙◌}
 use Rattle.c_refusals.proofs.Lengths.{query_own_fits}
 use Rattle.c_query.proofs.Given.{query_fits}

@@ -1,5 +1,5 @@
--- The host's own 4 leaves all that was lent as it was (`read-refused`). Else each slot and slice has its length (`read-lengths`), and
--- both buffers, the axes as numbers, their modes and the edition are what the reader gives of the bytes (`read-called`).
+-- The host's own 4 leaves all that was lent as it was (`read_refused`). Else each slot and slice has its length (`read_lengths`), and
+-- both buffers, the axes as numbers, their modes and the edition are what the reader gives of the bytes (`read_called`).
 use mathlib.Core.Path.{sym, ◌∙◌}
 use native.Mathlib.Omega.{arith}
 use Rattle.c_refusals.proofs.Lengths.{read_lengths}

@@ -1,5 +1,5 @@
 -- With the host's own 4 nothing is written; else refusal and buffers are those of the reader of edition 1, and the number of axes,
--- points, kinds and values stand in slices whose lengths `read-edition-1-lengths` gives.
+-- points, kinds and values stand in slices whose lengths `read_edition_1_lengths` gives.
 use mathlib.Core.Path.{sym, ◌∙◌}
 use native.Mathlib.Omega.{arith}
 use Rattle.c_refusals.proofs.Lengths.{read_edition_1_lengths}

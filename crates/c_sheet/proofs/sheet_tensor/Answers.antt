@@ -1,5 +1,5 @@
--- The host's own 4 writes nothing (`sheet-tensor-refused`). Else `sheet-tensor-lengths` gives every slot its length, and the three
--- buffers, scratch, axes, modes, edition and length are those of the sheet, read and built (`sheet-tensor-called`).
+-- The host's own 4 writes nothing (`sheet_tensor_refused`). Else `sheet_tensor_lengths` gives every slot its length, and the three
+-- buffers, scratch, axes, modes, edition and length are those of the sheet, read and built (`sheet_tensor_called`).
 use mathlib.Core.Path.{sym, ◌∙◌}
 use native.Mathlib.Omega.{arith}
 use Rattle.c_refusals.proofs.Lengths.{sheet_tensor_lengths}

@@ -1,4 +1,4 @@
--- The modes are the numbers of the axes' modes, and the one write of the edition fills its slot (`one-stored`).
+-- The modes are the numbers of the axes' modes, and the one write of the edition fills its slot (`one_stored`).
 use Rattle.c_axes.proofs.Slots.{one_stored}
 use Rattle.c_sheet.proofs.store_told.Goals as goal
 

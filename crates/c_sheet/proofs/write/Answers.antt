@@ -1,5 +1,5 @@
--- The host's own refusal leaves the bytes and puts 0 in a slot of one (`write-refused`). Else axes are made of points and ends, then
--- put in their modes, and refusal, bytes and length are the writer's on these (`write-called`).
+-- The host's own refusal leaves the bytes and puts 0 in a slot of one (`write_refused`). Else axes are made of points and ends, then
+-- put in their modes, and refusal, bytes and length are the writer's on these (`write_called`).
 use mathlib.Core.Path.{sym, ◌∙◌}
 use Rattle.c_refusals.proofs.Lengths.{write_lengths}
 use Rattle.c_sheet.proofs.Exported.{write_refused, write_called}

@@ -1,5 +1,5 @@
--- Refused by the host, a slot of two says 0 0 (`exact-refused`); else the refusal is the call's, and in the slot stands its exact
--- index as two numbers (`exact-called`).
+-- Refused by the host, a slot of two says 0 0 (`exact_refused`); else the refusal is the call's, and in the slot stands its exact
+-- index as two numbers (`exact_called`).
 use Rattle.c_step.proofs.Exported.{exact_refused, exact_called}
 use Rattle.c_step.proofs.exact_index.Goals as goal
 

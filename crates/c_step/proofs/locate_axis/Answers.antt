@@ -1,5 +1,5 @@
--- The host's own refusal comes first, and slots that fit then say 0 0 and +0.0 (`axis-refused`); else refusal and location are the
--- call's (`axis-called`).
+-- The host's own refusal comes first, and slots that fit then say 0 0 and +0.0 (`axis_refused`); else refusal and location are the
+-- call's (`axis_called`).
 use Rattle.c_step.proofs.Exported.{axis_refused, axis_called}
 use Rattle.c_step.proofs.locate_axis.Goals as goal
 

@@ -1,5 +1,5 @@
--- A refusal of the host's own puts 0 in a slot of one (`step-refused`); else the index stands there that the call gives for the
--- direction of the number (`step-called`).
+-- A refusal of the host's own puts 0 in a slot of one (`step_refused`); else the index stands there that the call gives for the
+-- direction of the number (`step_called`).
 use Rattle.c_step.proofs.Exported.{step_refused, step_called}
 use Rattle.c_step.proofs.locate_step_index.Goals as goal
 

@@ -1,6 +1,6 @@
--- Where the host refuses, slots that fit take +0.0 and four zeros (`stepped-refused`); where it does not, points and directions are four
--- and the surface can be stepped on (`surface-fits`), and the sample and its indices are the call's for the points and directions given
--- (`stepped-called`).
+-- Where the host refuses, slots that fit take +0.0 and four zeros (`stepped_refused`); where it does not, points and directions are four
+-- and the surface can be stepped on (`surface_fits`), and the sample and its indices are the call's for the points and directions given
+-- (`stepped_called`).
 use Rattle.c_step.proofs.Lengths.{four_directions, surface_fits}
 use Rattle.c_step.proofs.Exported.{stepped_refused, stepped_called}
 use Rattle.c_step.proofs.stepped.Goals as goal

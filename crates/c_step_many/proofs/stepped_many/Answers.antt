@@ -1,5 +1,5 @@
 -- Refused by the host, nothing is written (`none_written`); else each point has the answer of the stepped surface in the directions given
--- (`each-stepped`), which `all_fit` gives what is required for.
+-- (`each_stepped`), which `all_fit` gives what is required for.
 use mathlib.Core.Path.{refl, sym, ◌∙◌}
 use Rattle.many_points.proofs.Answered.{none_written, all_written}
 use Rattle.step_many.specs.StepByStep.{SteppedAmong}

@@ -1,5 +1,5 @@
--- What the host refuses leaves tensor and scratch untouched (`build-refused`). Else points, kinds and values have their lengths
--- (`build-lengths`), and refusal, tensor and scratch are the build's on the axes that they make (`build-called`).
+-- What the host refuses leaves tensor and scratch untouched (`build_refused`). Else points, kinds and values have their lengths
+-- (`build_lengths`), and refusal, tensor and scratch are the build's on the axes that they make (`build_called`).
 use mathlib.Core.Path.{sym, ◌∙◌}
 use Rattle.c_refusals.proofs.Lengths.{build_lengths}
 use Rattle.c_tensor.proofs.Exported.{build_refused, build_called}

@@ -1,5 +1,5 @@
--- A refusal of the host's own leaves tensor and scratch and puts 0 in a slot of one (`change-refused`). Else four axes and a place of
--- four can be made (`change-lengths`), and the tensor, the scratch and the count of lanes are the change's (`change-called`).
+-- A refusal of the host's own leaves tensor and scratch and puts 0 in a slot of one (`change_refused`). Else four axes and a place of
+-- four can be made (`change_lengths`), and the tensor, the scratch and the count of lanes are the change's (`change_called`).
 use mathlib.Core.Path.{sym, ◌∙◌}
 use Rattle.c_refusals.proofs.Lengths.{change_lengths}
 use Rattle.c_tensor.proofs.Exported.{change_refused, change_called}

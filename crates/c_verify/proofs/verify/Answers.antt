@@ -1,5 +1,5 @@
--- A refusal of the host's own leaves the scratch and puts nothing found in the slots (`verify-refused`). Else four axes can be made
--- (`own-fine`), and the scratch and what was found are the call's (`verify-called`).
+-- A refusal of the host's own leaves the scratch and puts nothing found in the slots (`verify_refused`). Else four axes can be made
+-- (`own_fine`), and the scratch and what was found are the call's (`verify_called`).
 use mathlib.Core.Path.{sym, ◌∙◌}
 use Rattle.c_verify.proofs.OwnRows.{own_fine}
 use Rattle.c_verify.proofs.Exported.{verify_refused, verify_called}

@@ -1,5 +1,5 @@
--- For a cell in range at a position up to 256, all on the way to the sum fits 64 bits (`room`) and the sum is `exact` (`exact-is`);
--- rounded it is the rule's number, which lies in -65,536..65,536 (`number-sized`), so the cast to 32 bits keeps it.
+-- For a cell in range at a position up to 256, all on the way to the sum fits 64 bits (`room`) and the sum is `exact` (`exact_is`);
+-- rounded it is the rule's number, which lies in -65,536..65,536 (`number_sized`), so the cast to 32 bits keeps it.
 use mathlib.Core.Path.{◌≡◌, sym, ap, ◌∙◌}
 use Prim.Native.Nat.{◌<◌}
 use native.Mathlib.Omega.{arith}

@@ -1,4 +1,4 @@
--- There are four axes, and the four numbers taken out of them are their points at each index (`points-taken`).
+-- There are four axes, and the four numbers taken out of them are their points at each index (`points_taken`).
 use mathlib.Core.Path.{◌≡◌}
 use lib.ListN.{length}
 use Rattle.grid.proofs.Points.{points_taken}

@@ -1,4 +1,4 @@
--- `step` is the stride of `axis` on the axes below `j`, of which `axis` is one; it never passes 4096 (`stride-fits`). The measure is
+-- `step` is the stride of `axis` on the axes below `j`, of which `axis` is one; it never passes 4096 (`stride_fits`). The measure is
 -- the axes left behind `axis`.
 use mathlib.Core.Path.{◌≡◌}
 use Prim.Native.Nat.{◌-◌, ◌<◌, ◌≤◌}

@@ -1,4 +1,4 @@
--- 1 to 5 and 7 to 9 of a build, the first row that applies: 1 to 3 by one call (`sizes-stop`, `sizes-pass`), the others one by one.
+-- 1 to 5 and 7 to 9 of a build, the first row that applies: 1 to 3 by one call (`sizes_stop`, `sizes_pass`), the others one by one.
 -- Sizes in range and the exact count of knots are known past row 4; the pass over the knots and what 7 requires of them need both.
 use mathlib.Core.Path.{◌≡◌, refl, sym, ◌∙◌}
 use lib.ListN.{length}

@@ -1,5 +1,5 @@
 -- 1 to 9 of a change: the number returned is that of the first row that applies. Rows 1 to 3 are asked as one and leave sizes in
--- range, row 4 leaves the exact count of knots, and by `grid-finite` those that pass 8 are finite, as the test for 7 requires.
+-- range, row 4 leaves the exact count of knots, and by `grid_finite` those that pass 8 are finite, as the test for 7 requires.
 use mathlib.Core.Path.{◌≡◌, refl, sym, ◌∙◌}
 use lib.ListN.{length}
 use Rattle.rules.specs.Sizes.{knots_length, tensor_length, place_of}

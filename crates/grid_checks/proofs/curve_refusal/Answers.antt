@@ -1,5 +1,5 @@
 -- 2, 4, 7, 8 of the curve's value: the number returned is that of the first row that applies, and 0 where four rows have passed.
--- The pass for 8 comes before the test for 7, and what it says of finite knots is `axis-finite`.
+-- The pass for 8 comes before the test for 7, and what it says of finite knots is `axis_finite`.
 use mathlib.Core.Path.{◌≡◌, refl, sym, ◌∙◌}
 use mathlib.Core.Bool.{false}
 use lib.ListN.{length}

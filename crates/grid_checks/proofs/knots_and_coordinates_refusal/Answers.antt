@@ -1,5 +1,5 @@
 -- A query's rows 7 and 8, the first that applies, or 0. That knots which pass 8 are finite, as the test for 7 requires, is
--- `points-finite`.
+-- `points_finite`.
 use mathlib.Core.Path.{refl}
 use Rattle.rules.specs.Sizes.{place_of}
 use Rattle.grid_checks.specs.Check.{knots_and_coordinates_check}

@@ -1,5 +1,5 @@
 -- 2, 4, 5, 7, 8, 9 of the curve's moments: each return gives the first row that applies; `Past` carries that those above do not.
--- Rows 2 and 4 leave as many knots as points, so knots without refusal 8 are finite (`axis-finite`), as the test for 7 requires.
+-- Rows 2 and 4 leave as many knots as points, so knots without refusal 8 are finite (`axis_finite`), as the test for 7 requires.
 use mathlib.Core.Path.{◌≡◌, refl, sym, ◌∙◌}
 use mathlib.Core.Bool.{false}
 use lib.ListN.{length}

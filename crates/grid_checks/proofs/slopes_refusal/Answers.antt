@@ -1,5 +1,5 @@
 -- 2, 4, 7, 8 of the knot slopes, the first row that applies. Row 4, of four lengths, makes the knots as many as the points, so that
--- the pass over all of them is row 8 (`knots-row`).
+-- the pass over all of them is row 8 (`knots_row`).
 use mathlib.Core.Path.{◌≡◌, refl, sym, ◌∙◌}
 use mathlib.Core.Bool.{false}
 use lib.ListN.{length}

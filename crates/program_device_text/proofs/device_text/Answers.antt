@@ -1,5 +1,5 @@
--- Two ends: a text shorter than 456,967 bytes is refused by 15 and stays as it was (`text-refused`); any other
--- has the curve's text at its front, which is never longer than that (`text-written`).
+-- Two ends: a text shorter than 456,967 bytes is refused by 15 and stays as it was (`text_refused`); any other
+-- has the curve's text at its front, which is never longer than that (`text_written`).
 use Rattle.program_device_text.proofs.Promises.{text_refused, text_written}
 use Rattle.program_device_text.proofs.device_text.Goals as goal
 

@@ -1,5 +1,5 @@
--- The bytes put are those of the rule's line: "-" and the magnitude for a number below zero (`line-below`), else the magnitude alone
--- (`line-above`). The room that is required is that of this line.
+-- The bytes put are those of the rule's line: "-" and the magnitude for a number below zero (`line_below`), else the magnitude alone
+-- (`line_above`). The room that is required is that of this line.
 use mathlib.Core.Path.{◌≡◌}
 use lib.IntN.{nat_abs}
 use mir.Syntax.{w32}

@@ -1,5 +1,5 @@
--- A refused curve gives the one line `refused K`, for which there is room as K is at most 20 (`refused-line-fits`);
--- any other gives the lines of its numbers. Either is `device-text`.
+-- A refused curve gives the one line `refused K`, for which there is room as K is at most 20 (`refused_line_fits`);
+-- any other gives the lines of its numbers. Either is `device_text`.
 use mathlib.Core.Path.{◌≡◌, sym, ◌∙◌}
 use Rattle.device_cursor.specs.DeviceCurve.{curve_refusal}
 use Rattle.program_device_text.proofs.Promises.{refused_line_fits, numbers_told, refused_told}

@@ -1,4 +1,4 @@
--- The order in at most 7 bytes and each of its two counts in at most 21, a space before it: the front of its line (`counts-put`).
+-- The order in at most 7 bytes and each of its two counts in at most 21, a space before it: the front of its line (`counts_put`).
 use native.Mathlib.Omega.{arith}
 use Rattle.base_text.proofs.Puts.{put_length}
 use Rattle.program_report_text.proofs.Lengths.{order_front_most, spaced_most}

@@ -1,5 +1,5 @@
--- A refusal that did not occur has no line (`occurred-none`); else its number, in at most 10 bytes with the word, and its count, in at
--- most 22 with space and LF, make one (`occurred-put`).
+-- A refusal that did not occur has no line (`occurred_none`); else its number, in at most 10 bytes with the word, and its count, in at
+-- most 22 with space and LF, make one (`occurred_put`).
 use native.Mathlib.Omega.{arith}
 use Rattle.base_text.proofs.Puts.{put_length}
 use Rattle.program_report_text.specs.ReportText.{space}

@@ -1,4 +1,4 @@
--- Counts, space, 16 hex digits of the largest magnitude and LF are the line of an order (`order-put`): 49 + 1 + 16 + 1 bytes at most.
+-- Counts, space, 16 hex digits of the largest magnitude and LF are the line of an order (`order_put`): 49 + 1 + 16 + 1 bytes at most.
 use native.Mathlib.Omega.{arith}
 use Rattle.base_text.proofs.Puts.{put_length}
 use Rattle.base_text.proofs.HexDigits.{length_hex_digits}

@@ -1,4 +1,4 @@
--- The lines `sheets` and `accepted`, at most 28 and 30 bytes by `line-most`, and behind them the refusals', joined by `put-more`.
+-- The lines `sheets` and `accepted`, at most 28 and 30 bytes by `line_most`, and behind them the refusals', joined by `put_more`.
 use native.Mathlib.Omega.{arith}
 use lib.ListN.{get_or}
 use Rattle.base_text.proofs.Puts.{put_more, put_length}

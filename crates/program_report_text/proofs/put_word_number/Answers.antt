@@ -1,4 +1,4 @@
--- The digits stand right behind the word (`put-more`); a number has at most 20 of them (`decimal-most`), the room that is required.
+-- The digits stand right behind the word (`put_more`); a number has at most 20 of them (`decimal_most`), the room that is required.
 use native.Mathlib.Omega.{arith}
 use Rattle.base_text.proofs.Puts.{put_more, put_length}
 use Rattle.base_text.proofs.Decimals.{decimal_most}

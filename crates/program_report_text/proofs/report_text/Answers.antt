@@ -1,5 +1,5 @@
 -- A text of fewer than 1,137 bytes is refused by 15 and stays (`too_short`); any other has the report's text at its front
--- (`text-written`).
+-- (`text_written`).
 use Rattle.program_report_text.proofs.Promises.{too_short, text_written}
 use Rattle.program_report_text.proofs.report_text.Goals as goal
 

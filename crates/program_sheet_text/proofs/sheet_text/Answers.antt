@@ -1,5 +1,5 @@
--- A wrong length is refused, and all that was lent stays as it was (`lent-refused`); else the text is that of the sheet's own refusal
--- or tensor (`text-written`), whose at most 4,096 numbers lie in the tensor and have room in the text.
+-- A wrong length is refused, and all that was lent stays as it was (`lent_refused`); else the text is that of the sheet's own refusal
+-- or tensor (`text_written`), whose at most 4,096 numbers lie in the tensor and have room in the text.
 use mathlib.Core.Path.{◌≡◌, sym, ◌∙◌}
 use Prim.Native.Nat.{ℕ}
 use native.Mathlib.Nat.{sub-zero}

@@ -1,4 +1,4 @@
--- The line of the count and behind it the lines of the numbers are the tensor's text; `length-text` divides the room between them.
+-- The line of the count and behind it the lines of the numbers are the tensor's text; `length_text` divides the room between them.
 use native.Mathlib.Omega.{arith}
 use Rattle.base_text.proofs.Puts.{put_more, put_length}
 use Rattle.base_text.proofs.Decimals.{length_word_line}

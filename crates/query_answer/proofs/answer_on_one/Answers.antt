@@ -1,4 +1,4 @@
--- On one axis what was found refuses the point (`found-refuses`), or the cell is evaluated (`cell-answers`).
+-- On one axis what was found refuses the point (`found_refuses`), or the cell is evaluated (`cell_answers`).
 use Rattle.query_answer.proofs.Answering.{found_refuses, cell_answers}
 use Rattle.query_answer.proofs.answer_on_one.Goals as goal
 

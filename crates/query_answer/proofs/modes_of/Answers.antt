@@ -1,4 +1,4 @@
--- Four numbers, each that of its axis's mode: by `modes-taken` the modes are had back from them.
+-- Four numbers, each that of its axis's mode: by `modes_taken` the modes are had back from them.
 use Rattle.query_answer.proofs.Modes.{modes_taken}
 use Rattle.query_answer.proofs.modes_of.Goals as goal
 

@@ -1,4 +1,4 @@
--- Refusals 1 to 4 are those of the sizes and lengths, with axis and interval 0 (`sizes-answer`); past them the promise is that of the
+-- Refusals 1 to 4 are those of the sizes and lengths, with axis and interval 0 (`sizes_answer`); past them the promise is that of the
 -- points and modes taken out of these axes.
 use mathlib.Core.Path.{sym, ◌∙◌}
 use Rattle.query_answer.proofs.Promised.{axes_of, query_fits}

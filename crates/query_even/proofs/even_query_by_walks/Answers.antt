@@ -1,5 +1,5 @@
--- On any axes with these points and modes the first that applies decides: 7 or 8 (`check-refuses`), 21 with the uneven axis and its
--- interval (`axis-refuses`), else the knots pass (`knots-pass`) and the cell by division answers, 18 and 10 among it (`direct-answers`).
+-- On any axes with these points and modes the first that applies decides: 7 or 8 (`check_refuses`), 21 with the uneven axis and its
+-- interval (`axis_refuses`), else the knots pass (`knots_pass`) and the cell by division answers, 18 and 10 among it (`direct_answers`).
 use Rattle.query_even.proofs.Answers.{check_refuses, axis_refuses, knots_pass, direct_answers}
 use Rattle.query_even.proofs.even_query_by_walks.Goals as goal
 

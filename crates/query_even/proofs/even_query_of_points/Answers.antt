@@ -1,4 +1,4 @@
--- Where the pass over the knots leaves its flag down, they pass 7, 8 and 21, and the cell by division answers (`direct-answers`); else the
+-- Where the pass over the knots leaves its flag down, they pass 7, 8 and 21, and the cell by division answers (`direct_answers`); else the
 -- three are looked for one after the other.
 use Rattle.query_even.proofs.Answers.{direct_answers}
 use Rattle.query_even.proofs.even_query_of_points.Goals as goal

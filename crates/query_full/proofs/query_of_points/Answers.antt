@@ -1,4 +1,4 @@
--- By `walk-answers` the walk's answer is the query's: on finite knots that rise its cells are those of the rules, others it refuses.
+-- By `walk_answers` the walk's answer is the query's: on finite knots that rise its cells are those of the rules, others it refuses.
 use Rattle.query_full.proofs.Answers.{walk_answers}
 use Rattle.query_full.proofs.query_of_points.Goals as goal
 

@@ -1,5 +1,5 @@
 -- 1 to 4 by sizes and lengths, and then nothing is written (`none_written`); past them each point has the answer of the quick query of
--- these axes (`each-quick`), which `points-fit` gives what is required for.
+-- these axes (`each_quick`), which `points_fit` gives what is required for.
 use mathlib.Core.Path.{refl, sym, ◌∙◌}
 use Rattle.many_points.proofs.Answered.{none_written, all_written}
 use Rattle.query_answer.proofs.Promised.{axes_of}

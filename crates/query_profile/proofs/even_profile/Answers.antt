@@ -1,5 +1,5 @@
--- 1 to 4 by the sizes and the number of knots, with no axis and no place told (`sizes-answer`); past them the profile of the four axes'
--- points, for which `profile-fits` gives what is required.
+-- 1 to 4 by the sizes and the number of knots, with no axis and no place told (`sizes_answer`); past them the profile of the four axes'
+-- points, for which `profile_fits` gives what is required.
 use mathlib.Core.Path.{sym, ap, ◌∙◌}
 use Prim.Native.Nat.{ℕ}
 use Rattle.query_profile.proofs.Answers.{profile_fits, sizes_answer}

@@ -1,5 +1,5 @@
--- The knots decide by the first quality that an axis lacks, 7, 8 or 21, and tell where (`told-7`, `told-8`, `told-21`), or nothing is
--- refused (`told-0`); that knots which pass 8 are finite, as the test for 7 requires, is `points-finite`.
+-- The knots decide by the first quality that an axis lacks, 7, 8 or 21, and tell where (`told_7`, `told_8`, `told_21`), or nothing is
+-- refused (`told_0`); that knots which pass 8 are finite, as the test for 7 requires, is `points_finite`.
 use Rattle.rules.specs.Sizes.{place_of}
 use Rattle.grid_checks.proofs.FiniteKnots.{points_finite}
 use Rattle.query_profile.proofs.Answers.{told_7, told_8, told_21, told_0}

@@ -1,4 +1,4 @@
--- Where the pass over the knots leaves its flag down nothing is refused (`passed-0`); else what the walks one after the other answer.
+-- Where the pass over the knots leaves its flag down nothing is refused (`passed_0`); else what the walks one after the other answer.
 use Rattle.query_profile.proofs.Answers.{passed_0}
 use Rattle.query_profile.proofs.even_profile_of_points.Goals as goal
 

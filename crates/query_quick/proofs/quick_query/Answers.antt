@@ -1,5 +1,5 @@
 -- 1 to 4 by the sizes and lengths, with nothing but zeros beside; past them the quick query of the four axes' points and modes, for
--- which `query-fits` gives what is required.
+-- which `query_fits` gives what is required.
 use mathlib.Core.Path.{sym, ◌∙◌}
 use Rattle.query_answer.proofs.Promised.{axes_of, query_fits}
 use Rattle.query_quick.proofs.Answers.{sizes_answer}

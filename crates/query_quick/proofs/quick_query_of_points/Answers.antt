@@ -1,4 +1,4 @@
--- What a search answers is the quick query's answer as it stands, on any axes with these points and modes: `search-answers`.
+-- What a search answers is the quick query's answer as it stands, on any axes with these points and modes: `search_answers`.
 use Rattle.query_quick.proofs.Answers.{search_answers}
 use Rattle.query_quick.proofs.quick_query_of_points.Goals as goal
 

@@ -1,5 +1,5 @@
--- From the totals of nothing, which stand before the first byte (`stands-none`), a feeding that leaves no byte unless it stops has the
--- report of all of them (`fed-last`).
+-- From the totals of nothing, which stand before the first byte (`stands_none`), a feeding that leaves no byte unless it stops has the
+-- report of all of them (`fed_last`).
 use native.Mathlib.Omega.{arith}
 use Rattle.report_totals.proofs.Sheets.{running_none}
 use Rattle.report.proofs.Progressing.{stands_none, fed_last}

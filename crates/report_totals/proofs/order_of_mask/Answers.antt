@@ -1,4 +1,4 @@
--- A mask below 16 has at most 4 ones (`ones-le`), so its order is one of the five.
+-- A mask below 16 has at most 4 ones (`ones_le`), so its order is one of the five.
 use mathlib.Core.Path.{refl}
 use native.Mathlib.Omega.{arith}
 use lib.Count.{ones-le}

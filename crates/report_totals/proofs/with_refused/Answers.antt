@@ -1,4 +1,4 @@
--- A refused sheet adds no entries, so the orders stay as they are (`nothing-tallied`).
+-- A refused sheet adds no entries, so the orders stay as they are (`nothing_tallied`).
 use Rattle.report_totals.proofs.Sheets.{sheet_adds, nothing_tallied}
 use Rattle.report_totals.proofs.with_refused.Goals as goal
 

@@ -1,5 +1,5 @@
--- A refusal before the work leaves the scratch as it was (`refused-before`); else the passes over the samples at mask 0 leave the tensor of
--- the rules, which is refused by 10 or stays (`outcome-bad`, `outcome-good`).
+-- A refusal before the work leaves the scratch as it was (`refused_before`); else the passes over the samples at mask 0 leave the tensor of
+-- the rules, which is refused by 10 or stays (`outcome_bad`, `outcome_good`).
 use native.Mathlib.Nat.{add-sub_cancel_left}
 use native.Mathlib.Omega.{arith}
 use mathlib.Core.Path.{◌≡◌, sym, ◌∙◌}

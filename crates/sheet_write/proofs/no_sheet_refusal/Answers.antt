@@ -1,5 +1,5 @@
 -- 1, 2 and 3 end it by the sizes alone; behind them stand the build's tests, told a tensor and a scratch of just their lengths, so
--- that 5 cannot come (`as-the-build`).
+-- that 5 cannot come (`as_the_build`).
 use Rattle.grid.specs.GridOfCall.{grid}
 use Rattle.grid_checks.proofs.Rows.{sizes_passed, sizes_stop}
 use Rattle.sheet_write.specs.Write.{no_sheet_refusal}

@@ -1,4 +1,4 @@
--- 7 is answered before 8 although the pass for 8 comes first: by `axis-finite` knots that pass it need no look for 7.
+-- 7 is answered before 8 although the pass for 8 comes first: by `axis_finite` knots that pass it need no look for 7.
 use mathlib.Core.Path.{refl}
 use Rattle.grid_checks.proofs.Rows.{first, second, stop, pass}
 use Rattle.grid_checks.proofs.FiniteKnots.{axis_finite}

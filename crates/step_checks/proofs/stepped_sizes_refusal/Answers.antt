@@ -1,5 +1,5 @@
 -- 1 of the axes, then 2 or 3 as the one pass over the points finds it, then 4: where that pass finds no refusal, a sample for each mask
--- fewer than the numbers it counted is a sample for each place (`samples-told`).
+-- fewer than the numbers it counted is a sample for each place (`samples_told`).
 use mathlib.Core.Path.{◌≡◌, refl, sym, ◌∙◌}
 use Rattle.rules.specs.Sizes.{place_of}
 use Rattle.grid_checks.specs.Check.{points_check, points_rows}

@@ -1,4 +1,4 @@
--- The promise of the stepped surface: 1 to 4 by sizes and lengths, with +0.0 and indices 0 beside them (`sizes-refuse`), else the answer on
+-- The promise of the stepped surface: 1 to 4 by sizes and lengths, with +0.0 and indices 0 beside them (`sizes_refuse`), else the answer on
 -- the points, which are those of these axes.
 use mathlib.Core.Path.{sym, ap, ◌∙◌}
 use Prim.Native.Nat.{ℕ}

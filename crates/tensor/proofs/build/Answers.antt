@@ -1,5 +1,5 @@
--- A refusal before the work leaves all as it was (`build-refused`); else the passes over the samples at mask 0 leave the tensor of the
--- rules, which by `build-done` is stored, or refused by 10, and the scratch is cleared.
+-- A refusal before the work leaves all as it was (`build_refused`); else the passes over the samples at mask 0 leave the tensor of the
+-- rules, which by `build_done` is stored, or refused by 10, and the scratch is cleared.
 use native.Mathlib.Omega.{arith}
 use mathlib.Core.Path.{◌≡◌, sym, ◌∙◌}
 use lib.ListN.{length}

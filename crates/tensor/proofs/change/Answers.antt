@@ -1,5 +1,5 @@
--- Three ways out, each kept to the promise: refused before the work (`change-refused`), 10 after it with no lane counted
--- (`change-stopped`), or the changed tensor stored and its lanes counted (`change-done`). `spot_is` says where the new sample goes.
+-- Three ways out, each kept to the promise: refused before the work (`change_refused`), 10 after it with no lane counted
+-- (`change_stopped`), or the changed tensor stored and its lanes counted (`change_done`). `spot_is` says where the new sample goes.
 use native.Mathlib.Omega.{arith}
 use mathlib.Core.Path.{◌≡◌, sym, ◌∙◌}
 use lib.ListN.{length}

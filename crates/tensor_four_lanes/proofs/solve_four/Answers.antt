@@ -1,4 +1,4 @@
--- Under either condition its own solve has all that it asks for (`ends-group`, `cycle-group`), and what it leaves are the knot slopes.
+-- Under either condition its own solve has all that it asks for (`ends_group`, `cycle_group`), and what it leaves are the knot slopes.
 use Rattle.tensor_four_lanes.proofs.Groups.{ends_group, cycle_group}
 use Rattle.tensor_four_lanes.proofs.solve_four.Goals as goal
 

@@ -1,4 +1,4 @@
--- Row `k` holds the four numbers and every other place keeps its own: `row-set`.
+-- Row `k` holds the four numbers and every other place keeps its own: `row_set`.
 use native.Mathlib.Omega.{arith}
 use lib.ListN.{length-set}
 use Rattle.tensor_fours.proofs.Fours.{row_set}

@@ -1,4 +1,4 @@
--- One lane gathered, its moments computed and its knot slopes stored: by `lane-solved` they are those of its spline, and behind the
+-- One lane gathered, its moments computed and its knot slopes stored: by `lane_solved` they are those of its spline, and behind the
 -- rows of the scratch no place changes but theirs.
 use mathlib.Core.Path.{◌∙◌}
 use Rattle.tensor_lane.proofs.Lane.{still_lies, lane_solved}

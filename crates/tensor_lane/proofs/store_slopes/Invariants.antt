@@ -1,4 +1,4 @@
--- The first `k` slopes are stored `step` apart, and by `slope-kept` they leave the rows that the next is read from as they were.
+-- The first `k` slopes are stored `step` apart, and by `slope_kept` they leave the rows that the next is read from as they were.
 -- The measure is the knots left.
 use Prim.Native.Nat.{◌-◌}
 use lib.ListN.{length}

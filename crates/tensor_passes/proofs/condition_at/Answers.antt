@@ -1,4 +1,4 @@
--- At mask 0 the axis's own condition; at any other, by `crossed-at`, the crossed one.
+-- At mask 0 the axis's own condition; at any other, by `crossed_at`, the crossed one.
 use mathlib.Core.Path.{◌≡◌, refl, ◌∙◌}
 use mathlib.Core.Logic.{◌≢◌}
 use Prim.Native.Nat.{ℕ, zero, suc}

@@ -1,4 +1,4 @@
--- A plan that is made stands in its rows (`plan-made`), and where there is none nothing is stored (`none_made`); the working tensor
+-- A plan that is made stands in its rows (`plan_made`), and where there is none nothing is stored (`none_made`); the working tensor
 -- stays as it was.
 use Rattle.tensor_passes.proofs.PlannedAxis.{plan_given, plan_made, none_made}
 use Rattle.tensor_passes.proofs.plan_for.Goals as goal

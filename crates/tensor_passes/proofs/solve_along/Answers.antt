@@ -1,4 +1,4 @@
--- The masks of one axis, by its plan or without: making the plan leaves the working tensor alone, so by `axis-passed` the slopes are
+-- The masks of one axis, by its plan or without: making the plan leaves the working tensor alone, so by `axis_passed` the slopes are
 -- of the numbers that stood before it. The count of lanes is that of these passes.
 use native.Mathlib.Omega.{arith}
 use mathlib.Core.Path.{refl}

@@ -1,4 +1,4 @@
--- The plan that stands is the condition's: `ends-planned` under two ends, `cycle-planned` on a periodic axis, and nothing behind the
+-- The plan that stands is the condition's: `ends_planned` under two ends, `cycle_planned` on a periodic axis, and nothing behind the
 -- plan's rows is touched.
 use Rattle.tensor_plan.proofs.Plans.{ends_given, ends_planned, cycle_given, cycle_planned}
 use Rattle.tensor_plan.proofs.plan_axis.Goals as goal

@@ -1,5 +1,5 @@
 -- A number that is not finite came out: 10. Else the numbers can be compared, and what is counted, found first and made a place of it is
--- what the rules tell (`told-found`).
+-- what the rules tell (`told_found`).
 use mathlib.Core.Path.{sym, ◌∙◌}
 use lib.Pow.{pow_pos}
 use Rattle.tensor_verify.proofs.Telling.{comparable, told_10, told_found}

@@ -1,5 +1,5 @@
--- A refusal before the work leaves the scratch as it was (`verify-refused`); else the passes over the tensor's own samples leave the fresh
--- one, and by `verify-done` what is told of both is what the rules tell, and the scratch is cleared.
+-- A refusal before the work leaves the scratch as it was (`verify_refused`); else the passes over the tensor's own samples leave the fresh
+-- one, and by `verify_done` what is told of both is what the rules tell, and the scratch is cleared.
 use Prim.Native.Nat.{◌+◌, ◌-◌}
 use native.Mathlib.Omega.{arith}
 use mathlib.Core.Path.{◌≡◌, sym, ◌∙◌}

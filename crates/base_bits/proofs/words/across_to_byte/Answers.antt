@@ -1,4 +1,4 @@
--- The shift leaves room for as many bits as the byte gives (`shifted-room`), so nothing wraps.
+-- The shift leaves room for as many bits as the byte gives (`shifted_room`), so nothing wraps.
 use Prim.Native.Nat.{◌-◌}
 use native.Mathlib.Omega.{arith}
 use Rattle.base_bits.proofs.Shifts.{shifted_room}

@@ -1,4 +1,4 @@
--- As many bits of the next word as the shift made room for: their sum does not wrap (`shifted-room`).
+-- As many bits of the next word as the shift made room for: their sum does not wrap (`shifted_room`).
 use mathlib.Core.Path.{◌≡◌}
 use Prim.Native.Nat.{◌+◌, ◌-◌}
 use native.Mathlib.Omega.{arith}

@@ -1,4 +1,4 @@
--- No shift loses a bit and the sum stays below 256 (`small`, `patch-below`): it is the byte with the run of bits replaced.
+-- No shift loses a bit and the sum stays below 256 (`small`, `patch_below`): it is the byte with the run of bits replaced.
 use mathlib.Core.Path.{sym}
 use Prim.Native.Nat.{◌+◌, ◌/◌, ◌^◌, ◌<◌}
 use native.Mathlib.Omega.{arith}

@@ -1,4 +1,4 @@
--- The heaviest `written` bits of the field stand and every bit beside them is as at entry; by `written-more` each turn is a narrow field
+-- The heaviest `written` bits of the field stand and every bit beside them is as at entry; by `written_more` each turn is a narrow field
 -- more. The measure is the bits left.
 use mathlib.Core.Path.{◌≡◌}
 use Prim.Native.Nat.{◌≤◌, ◌-◌, ◌/◌, ◌^◌}

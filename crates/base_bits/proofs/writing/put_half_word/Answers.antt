@@ -1,4 +1,4 @@
--- Four bytes of the number side by side, the heaviest first, are its 32 bits (`half-written`).
+-- Four bytes of the number side by side, the heaviest first, are its 32 bits (`half_written`).
 use Rattle.base_bits.proofs.WordsWritten.{half_written}
 use Rattle.base_bits.proofs.writing.put_half_word.Goals as goal
 

@@ -1,4 +1,4 @@
--- A run of bits within one byte is one store of the byte with that run replaced (`in-byte`).
+-- A run of bits within one byte is one store of the byte with that run replaced (`in_byte`).
 use native.Mathlib.Omega.{arith}
 use Rattle.base_bits.proofs.Writes.{in_byte}
 use Rattle.base_bits.proofs.writing.put_in_byte.Goals as goal

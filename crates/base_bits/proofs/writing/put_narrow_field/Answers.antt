@@ -1,5 +1,5 @@
 -- Bit `at` is bit `at % 8` of its byte; a field that does not end there is a run up to the byte's end and one from the next byte's first
--- bit on (`written-add`).
+-- bit on (`written_add`).
 use mathlib.Core.Path.{◌≡◌, ◌∙◌}
 use Prim.Native.Nat.{◌+◌, ◌-◌, ◌*◌, ◌/◌, ◌%◌}
 use native.Mathlib.Omega.{arith}

@@ -1,5 +1,5 @@
 -- Where `at` begins a byte the word is the field; else the bits before it are written as they stood, so only the 64 behind them change
--- (`pattern-written`).
+-- (`pattern_written`).
 use mathlib.Core.Path.{◌≡◌, ◌∙◌}
 use Prim.Native.Nat.{◌+◌, ◌*◌, ◌/◌, ◌%◌}
 use native.Mathlib.Omega.{arith}

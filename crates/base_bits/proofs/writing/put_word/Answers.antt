@@ -1,4 +1,4 @@
--- The upper half of the number and behind it the lower one are its 64 bits (`word-written`).
+-- The upper half of the number and behind it the lower one are its 64 bits (`word_written`).
 use Rattle.base_bits.proofs.WordsWritten.{word_written}
 use Rattle.base_bits.proofs.writing.put_word.Goals as goal
 

@@ -1,5 +1,5 @@
 -- The refusal found is the first of 1, 4, 2 and 3 that applies to the axes and their points; where it is 0, the knots and the
--- numbers found beside it are those of the grid. `sizes-of-four` carries the sizes of the points over to those of the axes in use.
+-- numbers found beside it are those of the grid. `sizes_of_four` carries the sizes of the points over to those of the axes in use.
 use mathlib.Core.Path.{sym, ◌∙◌}
 use Rattle.grid_checks.proofs.Rows.{exact, axes_few}
 use Rattle.c_refusals.proofs.Rows.{refused_axes, refused_points, sizes_of_four}

@@ -1,5 +1,5 @@
 -- Between the rows of the axes and a query's later rows stands one more 4, for the slot of the uneven axis; the rows told by the sizes
--- found are those by the points, by `later-of-sizes`.
+-- found are those by the points, by `later_of_sizes`.
 use Rattle.grid_checks.proofs.Rows.{stop, pass}
 use Rattle.c_refusals.specs.OwnRefusals.{even_query_own_refusal}
 use Rattle.c_refusals.proofs.Rows.{axes_stop, axes_pass, points_in_range, later_of_sizes}

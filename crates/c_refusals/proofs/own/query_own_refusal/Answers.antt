@@ -1,4 +1,4 @@
--- A number of the axes is the answer; where there is none, the later rows answer, and by `later-of-sizes` the rows by the sizes found
+-- A number of the axes is the answer; where there is none, the later rows answer, and by `later_of_sizes` the rows by the sizes found
 -- are those by the points.
 use Rattle.c_refusals.specs.OwnRefusals.{query_own_refusal}
 use Rattle.c_refusals.proofs.Rows.{axes_stop, axes_pass, points_in_range, later_of_sizes}

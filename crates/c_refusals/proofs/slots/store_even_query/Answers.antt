@@ -1,5 +1,5 @@
 -- All three slots are written or none is: a slot of another length, be it value, labels or the third, leaves all as they were; where
--- they fit, `all-stored` says that value, labels, axis and interval stand in them.
+-- they fit, `all_stored` says that value, labels, axis and interval stand in them.
 use mathlib.Core.Path.{sym, ◌∙◌}
 use native.Mathlib.Omega.{arith}
 use lib.ListN.{length-set}

@@ -1,4 +1,4 @@
--- Four writes fill a slice of four (`four-stored`), and what they write is the labels found, read one by one (`four-read`).
+-- Four writes fill a slice of four (`four_stored`), and what they write is the labels found, read one by one (`four_read`).
 use mathlib.Core.Path.{◌∙◌}
 use Rattle.c_axes.proofs.Slots.{four_stored, four_read}
 use borrow.Author.Rules.{rules}

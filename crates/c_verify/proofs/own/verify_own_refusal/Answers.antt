@@ -1,4 +1,4 @@
--- After the axes one 4 for the slots; past them the table is that of a change with a slot of one (`own-of-change`).
+-- After the axes one 4 for the slots; past them the table is that of a change with a slot of one (`own_of_change`).
 use mathlib.Core.Path.{◌≡◌, sym, ◌∙◌}
 use mathlib.Core.Bool.{false}
 use native.Mathlib.Omega.{arith}

@@ -1,5 +1,5 @@
 -- `start` is how many knots the axes below `i` have, and none of those axes is refused by 8; the part lent is the knots of axis `i`
--- (`part-refused`). The measure is the axes left.
+-- (`part_refused`). The measure is the axes left.
 use Prim.Native.Nat.{◌-◌, ◌≤◌}
 use mathlib.Core.Path.{◌≡◌}
 use mathlib.Core.Bool.{false}

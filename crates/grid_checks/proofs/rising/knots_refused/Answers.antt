@@ -1,5 +1,5 @@
--- Refusal 8 in four returns: fewer than two knots have no step (`no_steps`), a knot that does not rise is refused (`not-risen`),
--- knots that rise along a finite length have finite steps (`finite-steps`), and for the rest each step is looked at.
+-- Refusal 8 in four returns: fewer than two knots have no step (`no_steps`), a knot that does not rise is refused (`not_risen`),
+-- knots that rise along a finite length have finite steps (`finite_steps`), and for the rest each step is looked at.
 use native.Mathlib.Omega.{arith}
 use mathlib.Core.Path.{sym, ◌∙◌}
 use lib.ListN.{length}

@@ -1,4 +1,4 @@
--- The points taken out of the axes are theirs, so what the pass over the points says is refusal 8 of the grid (`knots-of-points`).
+-- The points taken out of the axes are theirs, so what the pass over the points says is refusal 8 of the grid (`knots_of_points`).
 use mathlib.Core.Path.{sym, ap, ◌∙◌}
 use Prim.Native.Nat.{ℕ}
 use Rattle.rules.specs.Sizes.{sum_below}

@@ -1,4 +1,4 @@
--- Where the knot lies below the next, their difference is finite just where it lies below the infinity (`rising-difference`); where it
+-- Where the knot lies below the next, their difference is finite just where it lies below the infinity (`rising_difference`); where it
 -- does not, the step is refused whatever its width.
 use mathlib.Core.Path.{◌≡◌, ap}
 use mathlib.Core.Bool.{true, false, not, ◌||◌}

@@ -1,4 +1,4 @@
--- 1 where it applies; past it there are one to four axes, and the points taken out of them answer rows 2 and 3 (`sizes-of-points`).
+-- 1 where it applies; past it there are one to four axes, and the points taken out of them answer rows 2 and 3 (`sizes_of_points`).
 use mathlib.Core.Path.{sym, ◌∙◌}
 use Rattle.grid_checks.specs.Check.{sizes_check}
 use Rattle.grid_checks.proofs.Rows.{stop, pass, axes_few}

@@ -1,4 +1,4 @@
--- Another quotient than the count is another length; with this one the remainder tells (`same-quotient`).
+-- Another quotient than the count is another length; with this one the remainder tells (`same_quotient`).
 use Rattle.many_points.proofs.Parts.{other_quotient, same_quotient}
 use Rattle.many_points.proofs.lengths.parts_refused.Goals as goal
 

@@ -1,4 +1,4 @@
--- What the turns of both axes find (`first_found`, `turn-next`) is all that there is to find; the parts that are lent are the knots of the
+-- What the turns of both axes find (`first_found`, `turn_next`) is all that there is to find; the parts that are lent are the knots of the
 -- first axis and those of the second.
 use native.Mathlib.Omega.{arith}
 use mathlib.Core.Path.{◌∙◌}

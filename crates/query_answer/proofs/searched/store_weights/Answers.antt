@@ -1,4 +1,4 @@
--- The four weights at the places of the axis are those of its step and fraction, and those of the other axes stay: `weights-stored`.
+-- The four weights at the places of the axis are those of its step and fraction, and those of the other axes stay: `weights_stored`.
 use native.Mathlib.Omega.{arith}
 use lib.ListN.{length-set}
 use Rattle.rules.specs.Steps.{h}

@@ -1,5 +1,5 @@
 -- What 8 looks at by each way: all knots for a walk, the found cell's for a search and for a division on knots that were not looked at
--- before, whose step says all (`step-of-cell`), else none.
+-- before, whose step says all (`step_of_cell`), else none.
 use Rattle.query_answer.proofs.Cells.{step_of_cell}
 use Rattle.query_answer.proofs.ways.knots_refused.Goals as goal
 

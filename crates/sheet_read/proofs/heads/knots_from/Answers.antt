@@ -1,4 +1,4 @@
--- Two patterns at most stand before the knots (`values-most`), so no sum overflows.
+-- Two patterns at most stand before the knots (`values_most`), so no sum overflows.
 use native.Mathlib.Omega.{arith}
 use Rattle.sheet_read.proofs.HeadFields.{values_most}
 use Rattle.sheet_read.proofs.heads.knots_from.Goals as goal

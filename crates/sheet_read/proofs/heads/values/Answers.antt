@@ -1,4 +1,4 @@
--- A kind has one pattern at most (`value-most`), so the sum over the two ends fits.
+-- A kind has one pattern at most (`value_most`), so the sum over the two ends fits.
 use native.Mathlib.Omega.{arith}
 use Rattle.sheet_read.proofs.Extents.{value_most}
 use Rattle.sheet_read.proofs.heads.values.Goals as goal

@@ -1,5 +1,5 @@
 -- Behind the last axis the refusals come as the rules order them: 3 for the tensor's length, 11 for samples cut short, 14 for more
--- bits than zeros up to a whole byte. `begin-small` and `samples-few` keep the places small.
+-- bits than zeros up to a whole byte. `begin_small` and `samples_few` keep the places small.
 use mathlib.Core.Path.{◌≡◌, sym, ◌∙◌}
 use mathlib.Core.Bool.{true, false}
 use Prim.Native.Nat.{◌≤◌}

@@ -1,5 +1,5 @@
--- Where a whole byte fits behind `at`, 8 bits or more are left (`many-left`); of fewer bits one is set just where their field is not 0
--- (`few-left`). Either way it is the test of refusal 14.
+-- Where a whole byte fits behind `at`, 8 bits or more are left (`many_left`); of fewer bits one is set just where their field is not 0
+-- (`few_left`). Either way it is the test of refusal 14.
 use native.Mathlib.Omega.{arith}
 use Rattle.sheet_read.proofs.Samples.{many_left, few_left}
 use Rattle.sheet_read.proofs.look.has_more.Goals as goal

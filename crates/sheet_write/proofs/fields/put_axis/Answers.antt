@@ -1,5 +1,5 @@
--- Head, numbers of the ends and knots, each from the bit where the one before it ended: the fields of the axis (`axis-put`), for which
--- `axis-bits` counts the room.
+-- Head, numbers of the ends and knots, each from the bit where the one before it ended: the fields of the axis (`axis_put`), for which
+-- `axis_bits` counts the room.
 use native.Mathlib.Omega.{arith}
 use Rattle.sheet_write.proofs.Ends.{ends_bits}
 use Rattle.sheet_write.proofs.Lengths.{axis_bits}

@@ -1,4 +1,4 @@
--- NotAKnot puts nothing (`none-put`); a derivative puts its one number in 64 bits (`one-put`), finite since it is not refused.
+-- NotAKnot puts nothing (`none_put`); a derivative puts its one number in 64 bits (`one_put`), finite since it is not refused.
 use mathlib.Core.Path.{ap, sym, ◌∙◌}
 use borrow.Author.Tests.{not-false}
 use Rattle.rules.specs.Refusals.{end_refused}

@@ -1,4 +1,4 @@
--- The upper end's number goes behind the lower end's, and these are the fields of both ends (`both-put`); Periodic has none.
+-- The upper end's number goes behind the lower end's, and these are the fields of both ends (`both_put`); Periodic has none.
 use mathlib.Core.Path.{ap, sym, ◌∙◌}
 use Rattle.base_numbers.proofs.Scan.{neither}
 use Rattle.rules.specs.Refusals.{end_refused, ends_refused}

@@ -1,4 +1,4 @@
--- Four fields in a row, the points less 1, both kinds and the mode, are put as `with-head` says; each lies in the 12 + `width` bits.
+-- Four fields in a row, the points less 1, both kinds and the mode, are put as `with_head` says; each lies in the 12 + `width` bits.
 use native.Mathlib.Omega.{arith}
 use Rattle.sheet_write.proofs.fields.put_head.Goals as goal
 

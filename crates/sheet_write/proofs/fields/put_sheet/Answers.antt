@@ -1,4 +1,4 @@
--- Edition, number of axes, axes, samples and the filler follow each other without a gap, which makes the sheet's fields (`sheet-put`);
+-- Edition, number of axes, axes, samples and the filler follow each other without a gap, which makes the sheet's fields (`sheet_put`);
 -- `ends` says where each part ends, and so that there is room for it.
 use mathlib.Core.Path.{refl}
 use native.Mathlib.Omega.{arith}

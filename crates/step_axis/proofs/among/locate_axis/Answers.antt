@@ -1,4 +1,4 @@
--- The location in the cell that was found: exact where one of its knots equals the point (`on-knot`), else the cell and the
+-- The location in the cell that was found: exact where one of its knots equals the point (`on_knot`), else the cell and the
 -- fraction (`in_cell`).
 use Rattle.step_axis.proofs.Found.{on_knot, in_cell}
 use Rattle.step_axis.proofs.among.locate_axis.Goals as goal

@@ -1,5 +1,5 @@
--- All slopes and moments of four periodic lanes stand in their blocks: by `cycle-solved` each lane's solve without corners, less its
--- factor times z, gives the moments of the rules. `still-lies` keeps the lanes in reach from call to call.
+-- All slopes and moments of four periodic lanes stand in their blocks: by `cycle_solved` each lane's solve without corners, less its
+-- factor times z, gives the moments of the rules. `still_lies` keeps the lanes in reach from call to call.
 use native.Mathlib.Omega.{arith}
 use mathlib.Core.Path.{refl, ◌∙◌}
 use Rattle.tensor_four_lanes.proofs.CyclicMoments.{cycle_solved}

@@ -1,4 +1,4 @@
--- The knot slopes of four periodic lanes go to their places, since `group-solved` makes them of the cyclic moments; the plan stays.
+-- The knot slopes of four periodic lanes go to their places, since `group_solved` makes them of the cyclic moments; the plan stays.
 use native.Mathlib.Omega.{arith}
 use Rattle.tensor_four_lanes.proofs.Groups.{still_lies, group_solved}
 use Rattle.tensor_four_lanes.proofs.cycle.solve_periodic.Goals as goal

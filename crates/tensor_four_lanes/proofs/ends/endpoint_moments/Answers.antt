@@ -1,4 +1,4 @@
--- With the two outermost moments put at knots 0 and `n`, all moments of each lane are those under its two ends: `moments-solved`.
+-- With the two outermost moments put at knots 0 and `n`, all moments of each lane are those under its two ends: `moments_solved`.
 use Rattle.tensor_four_lanes.proofs.EndpointMoments.{moments_solved}
 use Rattle.tensor_four_lanes.proofs.ends.endpoint_moments.Goals as goal
 

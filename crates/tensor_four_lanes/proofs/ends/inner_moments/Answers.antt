@@ -1,4 +1,4 @@
--- By `rows-solved` the way forward and the way back leave, in each lane, the moments of the rules from the first knot not dropped on,
+-- By `rows_solved` the way forward and the way back leave, in each lane, the moments of the rules from the first knot not dropped on,
 -- and all slopes; the places of the plan (`low`, `last`) keep every row within its block.
 use native.Mathlib.Omega.{arith}
 use mathlib.Core.Path.{refl, ◌∙◌}

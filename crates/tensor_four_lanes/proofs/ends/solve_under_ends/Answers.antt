@@ -1,4 +1,4 @@
--- Four lanes under two ends: their moments stand, so by `group-solved` what is stored are the knot slopes of their splines.
+-- Four lanes under two ends: their moments stand, so by `group_solved` what is stored are the knot slopes of their splines.
 use native.Mathlib.Omega.{arith}
 use Rattle.tensor_four_lanes.proofs.Groups.{still_lies, group_solved}
 use Rattle.tensor_four_lanes.proofs.ends.solve_under_ends.Goals as goal

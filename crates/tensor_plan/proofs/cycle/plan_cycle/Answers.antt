@@ -1,5 +1,5 @@
 -- Steps, `DIVISORS`, `HELPERS` and z of a periodic axis stand in their rows as the rules have them, whatever the samples, and ratio
--- and rest are those of the rules: `cycle-plan-made` puts together what the four calls leave. Behind the plan the scratch is kept.
+-- and rest are those of the rules: `cycle_plan_made` puts together what the four calls leave. Behind the plan the scratch is kept.
 use native.Mathlib.Omega.{arith}
 use mathlib.Core.Path.{◌∙◌}
 use lib.ListN.{length-set}

@@ -1,4 +1,4 @@
--- The plan under two ends is that of the rules for any samples: by `plan-made` the ends' rows, asked for with knots as samples, have
+-- The plan under two ends is that of the rules for any samples: by `plan_made` the ends' rows, asked for with knots as samples, have
 -- the diagonals and neighbours of any others. From the row `SECOND` on the scratch is kept.
 use native.Mathlib.Omega.{arith}
 use lib.ListN.{length-set}

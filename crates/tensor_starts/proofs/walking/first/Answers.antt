@@ -1,4 +1,4 @@
--- The cursor stands at lane 0, which starts where the walk does: `stands-first`.
+-- The cursor stands at lane 0, which starts where the walk does: `stands_first`.
 use mathlib.Core.Path.{refl}
 use Rattle.tensor_starts.proofs.Cursors.{stands_first}
 use Rattle.tensor_starts.proofs.walking.first.Goals as goal

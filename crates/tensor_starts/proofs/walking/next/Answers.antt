@@ -1,4 +1,4 @@
--- One lane further the cursor stands at its lane again, by one law for each step: `in-run`, `next-run`, `next-slab`.
+-- One lane further the cursor stands at its lane again, by one law for each step: `in_run`, `next_run`, `next_slab`.
 use mathlib.Core.Path.{refl}
 use Rattle.tensor_starts.proofs.Cursors.{in_run, next_run, next_slab}
 use Rattle.tensor_starts.proofs.walking.next.Goals as goal
