@@ -1,12 +1,11 @@
 -- What the host's own refusals leave, and when they refuse nothing: the same axes with slices of the right lengths are accepted again.
 use mathlib.Core.Path.{◌≡◌, refl, sym, ap, fun_ext, ◌∙◌}
-use mathlib.Core.Bool.{Bool, true, false, cond, ◌||◌}
+use mathlib.Core.Bool.{Bool, true, false, cond}
 use mathlib.Core.List.{List, [], ◌∷◌, ◌++◌}
 use Prim.Native.Nat.{ℕ, zero, suc, ◌*◌, ◌^◌}
 use lib.Dec.{ltb}
 use lib.ListN.{length, drop, get_or}
 use lib.Ieee.{Float}
-use borrow.Author.Tests.{eq-eqb}
 use Rattle.rules.specs.Numbers.{any}
 use Rattle.rules.specs.Ends.{not_a_knot}
 use Rattle.rules.specs.Sizes.{Grid, points, sum_below, product_below, knots_length, samples_length, tensor_length, unused_axis}

@@ -1,18 +1,16 @@
 -- What was measured is read by the firmware's call, from its promise: its tensor is that of an accepted build, and the query asks it.
-use mathlib.Core.Path.{◌≡◌, refl, sym, ap, ◌∙◌}
-use mathlib.Core.Bool.{true}
+use mathlib.Core.Path.{◌≡◌, refl, sym}
 use mathlib.Core.List.{List, []}
-use Prim.Native.Nat.{ℕ, ◌<◌}
-use lib.Ieee.{Float, nan, binary64, of_bits, to_bits, eq}
+use Prim.Native.Nat.{ℕ}
+use lib.Ieee.{Float, nan, binary64, of_bits}
 use lib.Ieee.Bits.{of_bits-fits, of_bits-to_bits}
 use Rattle.rules.specs.Numbers.{at, zeros}
-use Rattle.rules.specs.Sizes.{Grid, points, knots, tensor_length, scratch_length, Place, flat}
-use Rattle.rules.specs.Tensor.{tensor}
+use Rattle.rules.specs.Sizes.{Grid, points, tensor_length, scratch_length, Place, flat}
 use Rattle.rules.specs.Calls.{scratch_after, build_refusal, BuildPromise, query_answer}
 use Rattle.rules.proofs.Refused.{or_else_passed}
 use Rattle.rules.proofs.Tables.{length_table, at_table}
 use Rattle.query_quick.proofs.QuickIsFull.{table_fits}
-use Rattle.sheet_patterns.specs.Patterns.{pattern, coordinates, answer_pattern}
+use Rattle.sheet_patterns.specs.Patterns.{pattern, coordinates}
 use Rattle.sheet_read.specs.Fields.{sheet_grid, sheet_samples}
 use Rattle.sheet_read.specs.Faults.{sheet_refusal}
 use Rattle.sheet_build.specs.SheetTensor.{building_refusal, own_refusal}

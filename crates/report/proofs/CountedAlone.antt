@@ -1,9 +1,8 @@
 -- A sheet that was looked at is counted as what its bytes alone decide: by its fault, by what its build refuses, or with the tensor that
 -- stands in the scratch.
 use mathlib.Core.Path.{◌≡◌, refl, sym, ap, ◌∙◌}
-use mathlib.Core.Bool.{false}
 use mathlib.Core.List.{List, []}
-use Prim.Native.Nat.{ℕ, zero, suc, ◌+◌, ◌-◌, ◌*◌, ◌/◌, ◌^◌, ◌<◌, ◌≤◌}
+use Prim.Native.Nat.{ℕ, zero, suc, ◌*◌, ◌/◌, ◌^◌, ◌<◌, ◌≤◌}
 use native.Mathlib.Nat.{mul-div_cancel}
 use native.Mathlib.Omega.{arith}
 use lib.ListN.{length, take, drop}
@@ -14,7 +13,7 @@ use Rattle.rules.specs.Tensor.{tensor}
 use Rattle.rules.proofs.Refused.{or_else_met}
 use Rattle.grid.specs.GridOfCall.{sizes_of}
 use Rattle.grid_checks.proofs.Rows.{axes_few}
-use Rattle.sheet_read.specs.Fields.{edition, axes, entries, sheet_grid, sheet_samples}
+use Rattle.sheet_read.specs.Fields.{axes, entries, sheet_grid, sheet_samples}
 use Rattle.sheet_read.specs.Faults.{sheet_refusal}
 use Rattle.sheet_read.specs.FoundSoFar.{PartsRoom}
 use Rattle.sheet_read.specs.declared.ReadAnswer.{ReadAnswer}

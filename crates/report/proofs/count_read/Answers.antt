@@ -5,7 +5,15 @@ use native.Mathlib.Omega.{arith}
 use Rattle.rules.specs.Sizes.{tensor_length}
 use Rattle.sheet_read.specs.Fields.{sheet_grid}
 use Rattle.sheet_in_scratch.proofs.OfSheet.{range}
-use Rattle.report.proofs.CountedAlone.{numbers_few, room, tensor_counted, build_few, build_counted, in_places, accepted_counted}
+use Rattle.report.proofs.CountedAlone.{
+  numbers_few,
+  room,
+  tensor_counted,
+  build_few,
+  build_counted,
+  in_places,
+  accepted_counted,
+}
 use Rattle.report.proofs.count_read.Goals as goal
 use Rattle.report.proofs.count_read.Goals.{After-tensor_length-end}
 
