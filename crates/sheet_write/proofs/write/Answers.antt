@@ -5,6 +5,7 @@ use native.Mathlib.Omega.{arith}
 use Rattle.grid.specs.GridOfCall.{grid}
 use Rattle.sheet_write.specs.Write.{edition_refusal}
 use Rattle.sheet_write.proofs.Promises.{edition_of_axes, parts_refused, given, edition_refused, few, buffer_refused, room, written}
+use borrow.Author.Rules.{rules}
 use Rattle.sheet_write.proofs.write.Goals as goal
 use Rattle.sheet_write.proofs.write.Goals.{Else-fault-ne0}
 
@@ -71,4 +72,4 @@ returns c =
     let g = grid args.axes args.all args.knots.now in
     written args.edition g args.samples.now args.buffer.now _ c.no_sheet_refusal-refusal.ensures
     c.if-refusal-ne0.false (told (goal.at.returns c).Else-fault-ne0) c.part_bits-bits.result c.part_bits-bits.ensures c.if-buffer-length.false
-    (λ i. (c.slice_known-1.given i).fits) _ c.put_sheet.ensures
+    (search rules) _ c.put_sheet.ensures
