@@ -39,7 +39,7 @@ module _ (axis : Axis) (i : ℕ) {p k p' k' : List ℕ} {v v' : List Float} wher
   pub still_for_four : AxisStored axis i p k v p' k' v' → ForFour p k v → ForFour p' k' v'
   still_for_four stored long = (
     rw (stored.point, length-set) long.0,
-    rw (stored.both-kinds, length-set, length-set) long.1,
+    rw (stored.both_kinds, length-set, length-set) long.1,
     rw (stored.both_values, length-set, length-set) long.2,
   )
 
@@ -56,7 +56,7 @@ module _
         record {
           points = rw (fourth.point, third.point, second.point, first.point) (four_stored p _ _ _ _ long.0) ∙ ap points_found read;
           kinds =
-              rw (fourth.both-kinds, third.both-kinds, second.both-kinds, first.both-kinds) (eight_stored k _ _ _ _ _ _ _ _ long.1)
+              rw (fourth.both_kinds, third.both_kinds, second.both_kinds, first.both_kinds) (eight_stored k _ _ _ _ _ _ _ _ long.1)
               ∙ ap kinds_found read;
           values =
               rw (fourth.both_values, third.both_values, second.both_values, first.both_values)

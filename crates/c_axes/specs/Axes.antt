@@ -119,16 +119,16 @@ modes_found [] = []
 modes_found (axis ∷ rest) = mode_number axis.mode ∷ modes_found rest
 
 -- slices of points, kinds and values before and after axis i was stored in them
-pub record AxisStored (axis : Axis) (i : ℕ) (points kinds : List ℕ) (values : List Float) (Points_later kinds_later : List ℕ)
+pub record AxisStored (axis : Axis) (i : ℕ) (points kinds : List ℕ) (values : List Float) (points_later kinds_later : List ℕ)
     (values_later : List Float) : Type 0 where
-  pub point : Points_later ≡ set points i axis.points
-  pub both-kinds :
+  pub point : points_later ≡ set points i axis.points
+  pub both_kinds :
       kinds_later ≡ set (set kinds (2 * i) (lower_kind_of axis.condition)) (2 * i + 1) (upper_kind_of axis.condition)
   pub both_values :
       values_later ≡ set (set values (2 * i) (lower_value_of axis.condition)) (2 * i + 1) (upper_value_of axis.condition)
 
 -- the same slices after all axes were
-pub record AxesStored (found : List Axis) (Points_later kinds_later : List ℕ) (values_later : List Float) : Type 0 where
-  pub points : Points_later ≡ points_found found
+pub record AxesStored (found : List Axis) (points_later kinds_later : List ℕ) (values_later : List Float) : Type 0 where
+  pub points : points_later ≡ points_found found
   pub kinds : kinds_later ≡ kinds_found found
   pub values : values_later ≡ values_found found

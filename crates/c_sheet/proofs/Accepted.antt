@@ -41,7 +41,7 @@ read_accepted lent long =
     (neither_of
     (neither_of
     (neither_of (length_fits (length lent.axes) 1 long.one_axes) (length_fits (length lent.points) 4 long.four_points))
-    (neither_of (length_fits (length lent.kinds) 8 long.eight-kinds) (length_fits (length lent.values) 8 long.eight_values)))
+    (neither_of (length_fits (length lent.kinds) 8 long.eight_kinds) (length_fits (length lent.values) 8 long.eight_values)))
     (neither_of (length_fits (length lent.modes) 4 long.four_modes) (length_fits (length lent.edition) 1 long.one_edition)))
 
 -- ---- the write
@@ -76,7 +76,7 @@ module _ (parts : Parts) where
 -- parts whose slices have their lengths, with kinds that are ends and numbers that are modes
 pub record Standing (parts : Parts) : Type 0 where
   pub four_points : length parts.points ≡ 4
-  pub eight-kinds : length parts.kinds ≡ 8
+  pub eight_kinds : length parts.kinds ≡ 8
   pub eight_values : length parts.values ≡ 8
   pub four_modes : length parts.modes ≡ 4
   pub kinds_stand : some_kinds_refused parts.axes parts.kinds ≡ false
@@ -102,7 +102,7 @@ write_accepted parts slot fine one none =
             (
               neither_of
                   (neither_of
-                  (neither_of (length_fits (length parts.kinds) 8 fine.eight-kinds)
+                  (neither_of (length_fits (length parts.kinds) 8 fine.eight_kinds)
                   (length_fits (length parts.values) 8 fine.eight_values))
                   (neither_of (length_fits (length parts.modes) 4 fine.four_modes) (length_fits (length slot) 1 one)))
                   (neither_of

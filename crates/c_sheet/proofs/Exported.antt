@@ -36,9 +36,9 @@ module _ (own axes : ℕ) (all : List Axis) (axes_lent points_lent kinds_lent : 
   }
 
   found_stored :
-      r ≡ 0 → {axes_later Points_later kinds_later : List ℕ} {values_later : List Float} → axes_later ≡ axes ∷ []
-      → AxesStored all Points_later kinds_later values_later
-      → FoundStored own axes all axes_lent points_lent kinds_lent values_lent axes_later Points_later kinds_later values_later
+      r ≡ 0 → {axes_later points_later kinds_later : List ℕ} {values_later : List Float} → axes_later ≡ axes ∷ []
+      → AxesStored all points_later kinds_later values_later
+      → FoundStored own axes all axes_lent points_lent kinds_lent values_lent axes_later points_later kinds_later values_later
   found_stored none slot_stored axes_stored = record {
     slot = left _ _ e none slot_stored;
     points = left _ _ e none axes_stored.points;
@@ -72,13 +72,13 @@ module _ (bytes : List ℕ) (knots_lent samples_lent : List Float) (axes_lent po
 
   pub read_called :
       r ≡ 0
-      → (a : ReadAnswer) {k s : List Float} {Points_later kinds_later : List ℕ} {values_later : List Float}
+      → (a : ReadAnswer) {k s : List Float} {points_later kinds_later : List ℕ} {values_later : List Float}
       {modes_later edition_later : List ℕ}
       → ReadPromise bytes knots_lent samples_lent a k s
-      → AxesStored a.all Points_later kinds_later values_later
+      → AxesStored a.all points_later kinds_later values_later
       → (modes_later ≡ modes_found a.all) × (edition_later ≡ a.edition ∷ [])
       → ReadExport bytes knots_lent samples_lent axes_lent points_lent kinds_lent values_lent modes_lent edition_lent a.refusal k s
-      (set axes_lent 0 a.axes) Points_later kinds_later values_later modes_later edition_later
+      (set axes_lent 0 a.axes) points_later kinds_later values_later modes_later edition_later
   read_called none a p axes_stored told = record {
     answer = call_answer _ e none (ap (λ (b : ReadAnswer). b.refusal) p.answer ∙ answer_refusal _ _ _ _);
     knots = left _ _ e none p.knots;
@@ -108,11 +108,11 @@ module _ (bytes : List ℕ) (knots_lent samples_lent : List Float) (axes_lent po
   }
 
   pub read_edition_1_called :
-      r ≡ 0 → (a : Edition1Answer) {k s : List Float} {Points_later kinds_later : List ℕ} {values_later : List Float}
+      r ≡ 0 → (a : Edition1Answer) {k s : List Float} {points_later kinds_later : List ℕ} {values_later : List Float}
       → Edition1Promise bytes knots_lent samples_lent a k s
-      → AxesStored a.all Points_later kinds_later values_later
+      → AxesStored a.all points_later kinds_later values_later
       → ReadEdition1Export bytes knots_lent samples_lent axes_lent points_lent kinds_lent values_lent a.refusal k s
-      (set axes_lent 0 a.axes) Points_later kinds_later values_later
+      (set axes_lent 0 a.axes) points_later kinds_later values_later
   read_edition_1_called none a p axes_stored =
       let axes_are = sym (ap (λ (b : Edition1Answer). b.axes) p.answer) in
       let all_are = sym (ap (λ (b : Edition1Answer). b.all) p.answer) in
@@ -150,13 +150,13 @@ module _ (bytes : List ℕ) (knots_lent samples_lent : List Float) (axes_lent po
 
   pub sheet_tensor_called :
       r ≡ 0
-      → (a : SheetAnswer) {k s t w : List Float} {Points_later kinds_later : List ℕ} {values_later : List Float}
+      → (a : SheetAnswer) {k s t w : List Float} {points_later kinds_later : List ℕ} {values_later : List Float}
       {modes_later edition_later : List ℕ}
       → SheetPromise bytes knots_lent samples_lent tensor_lent scratch_lent a k s t w
-      → AxesStored a.all Points_later kinds_later values_later
+      → AxesStored a.all points_later kinds_later values_later
       → (modes_later ≡ modes_found a.all) × (edition_later ≡ a.edition ∷ [])
       → SheetTensorExport bytes knots_lent samples_lent axes_lent points_lent kinds_lent values_lent modes_lent edition_lent tensor_lent
-      scratch_lent length_lent a.refusal k s (set axes_lent 0 a.axes) Points_later kinds_later values_later modes_later
+      scratch_lent length_lent a.refusal k s (set axes_lent 0 a.axes) points_later kinds_later values_later modes_later
       edition_later t w (set length_lent 0 a.length)
   sheet_tensor_called none a p axes_stored told =
       let lengths = sheet_tensor_lengths axes_lent points_lent kinds_lent values_lent modes_lent edition_lent length_lent (sym e ∙ none) in

@@ -153,7 +153,7 @@ module _ (bytes : List ℕ) (taken : sheet_refusal bytes ≡ 0) where
       let modes_fine = sheet_modes_fine bytes (axes_said bytes) few in
       record {
         four_points = fine.points_four;
-        eight-kinds = fine.kinds_eight;
+        eight_kinds = fine.kinds_eight;
         eight_values = fine.values_eight;
         four_modes = modes_fine.0;
         kinds_stand = fine.kinds_stand;

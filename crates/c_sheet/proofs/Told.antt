@@ -196,23 +196,23 @@ module _ (parts : Parts) where
     abbrev ends : ℕ → Condition
     ends i = (cond (ltb i axes) (axis i) unused_axis).condition
 
-    lower-kinds : (i : ℕ) → lower_kind_of (ends i) ≡ cond (ltb i axes) (lower_kind kinds i) 0
-    lower-kinds i = of_axis (λ (a : Axis). lower_kind_of a.condition) (ltb i axes) (axis i) _ (λ e. (ends_told i e).lower_kind_same)
+    lower_kinds : (i : ℕ) → lower_kind_of (ends i) ≡ cond (ltb i axes) (lower_kind kinds i) 0
+    lower_kinds i = of_axis (λ (a : Axis). lower_kind_of a.condition) (ltb i axes) (axis i) _ (λ e. (ends_told i e).lower_kind_same)
 
-    upper-kinds : (i : ℕ) → upper_kind_of (ends i) ≡ cond (ltb i axes) (upper_kind kinds i) 0
-    upper-kinds i = of_axis (λ (a : Axis). upper_kind_of a.condition) (ltb i axes) (axis i) _ (λ e. (ends_told i e).upper_kind_same)
+    upper_kinds : (i : ℕ) → upper_kind_of (ends i) ≡ cond (ltb i axes) (upper_kind kinds i) 0
+    upper_kinds i = of_axis (λ (a : Axis). upper_kind_of a.condition) (ltb i axes) (axis i) _ (λ e. (ends_told i e).upper_kind_same)
 
     pub kinds_told : kinds_found used ≡ table eight_ends (λ j. cond (ltb (j / 2) axes) (get_or kinds j 0) 0)
     kinds_told =
         cc (
-          lower-kinds 0,
-          upper-kinds 0,
-          lower-kinds 1,
-          upper-kinds 1,
-          lower-kinds 2,
-          upper-kinds 2,
-          lower-kinds 3,
-          upper-kinds 3,
+          lower_kinds 0,
+          upper_kinds 0,
+          lower_kinds 1,
+          upper_kinds 1,
+          lower_kinds 2,
+          upper_kinds 2,
+          lower_kinds 3,
+          upper_kinds 3,
         )
 
     lower_values : (i : ℕ) → lower_value_of (ends i) ≡ cond (ltb i axes) (value_told (lower_kind kinds i) (at values (2 * i))) plus_zero

@@ -42,7 +42,7 @@ pub record Lengths (lent : Slices) : Type 0 where
   pub samples_long : length lent.samples ≡ buffer_length
   pub one_axes : length lent.axes ≡ 1
   pub four_points : length lent.points ≡ most_axes
-  pub eight-kinds : length lent.kinds ≡ eight_ends
+  pub eight_kinds : length lent.kinds ≡ eight_ends
   pub eight_values : length lent.values ≡ eight_ends
   pub four_modes : length lent.modes ≡ most_axes
   pub one_edition : length lent.edition ≡ 1

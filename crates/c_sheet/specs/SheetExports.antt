@@ -20,9 +20,9 @@ use Rattle.c_refusals.specs.Slots.{in_slot}
 
 -- what stands in these after axes were found, where the host refuses nothing
 pub record FoundStored (own axes : ℕ) (all : List Axis) (axes_lent points_lent kinds_lent : List ℕ) (values_lent : List Float)
-    (axes_later Points_later kinds_later : List ℕ) (values_later : List Float) : Type 0 where
+    (axes_later points_later kinds_later : List ℕ) (values_later : List Float) : Type 0 where
   pub slot : axes_later ≡ stored own axes_lent (axes ∷ [])
-  pub points : Points_later ≡ stored own points_lent (points_found all)
+  pub points : points_later ≡ stored own points_lent (points_found all)
   pub kinds : kinds_later ≡ stored own kinds_lent (kinds_found all)
   pub values : values_later ≡ stored own values_lent (values_found all)
 
@@ -46,7 +46,7 @@ module _ (bytes : List ℕ) (knots_lent samples_lent : List Float) (axes_lent po
   read_own = read_own_refusal axes_lent points_lent kinds_lent values_lent modes_lent edition_lent
 
   -- what is promised: the refusal, both buffers, the axes in their slices, and the edition in its slot
-  pub record ReadExport (refusal : ℕ) (knots_later samples_later : List Float) (axes_later Points_later kinds_later : List ℕ)
+  pub record ReadExport (refusal : ℕ) (knots_later samples_later : List Float) (axes_later points_later kinds_later : List ℕ)
       (values_later : List Float) (modes_later edition_later : List ℕ) : Type 0 where
     pub answer : refusal ≡ or_else read_own given_read_refusal
     pub knots :
@@ -56,7 +56,7 @@ module _ (bytes : List ℕ) (knots_lent samples_lent : List Float) (axes_lent po
         samples_later ≡ stored read_own samples_lent (stored given_read_refusal samples_lent (over (sheet_samples bytes) samples_lent))
     pub found :
         FoundStored read_own given_read_answer.axes given_read_answer.all
-        axes_lent points_lent kinds_lent values_lent axes_later Points_later kinds_later values_later
+        axes_lent points_lent kinds_lent values_lent axes_later points_later kinds_later values_later
     pub told : EditionStored read_own given_read_answer.edition given_read_answer.all modes_lent edition_lent modes_later
         edition_later
 
@@ -78,7 +78,7 @@ module _ (bytes : List ℕ) (knots_lent samples_lent : List Float) (axes_lent po
   edition_1_own = read_edition_1_own_refusal axes_lent points_lent kinds_lent values_lent
 
   -- what is promised: the refusal, both buffers, and the axes in their slices
-  pub record ReadEdition1Export (refusal : ℕ) (knots_later samples_later : List Float) (axes_later Points_later kinds_later : List ℕ)
+  pub record ReadEdition1Export (refusal : ℕ) (knots_later samples_later : List Float) (axes_later points_later kinds_later : List ℕ)
       (values_later : List Float) : Type 0 where
     pub answer : refusal ≡ or_else edition_1_own given_edition_1_refusal
     pub knots :
@@ -90,7 +90,7 @@ module _ (bytes : List ℕ) (knots_lent samples_lent : List Float) (axes_lent po
         ≡ stored edition_1_own samples_lent (stored given_edition_1_refusal samples_lent (over (sheet_samples bytes) samples_lent))
     pub found :
         FoundStored edition_1_own given_edition_1_answer.axes given_edition_1_answer.all
-        axes_lent points_lent kinds_lent values_lent axes_later Points_later kinds_later values_later
+        axes_lent points_lent kinds_lent values_lent axes_later points_later kinds_later values_later
 
 -- ---- the sheet's tensor
 
@@ -112,7 +112,7 @@ module _ (bytes : List ℕ) (knots_lent samples_lent : List Float) (axes_lent po
   sheet_own = sheet_tensor_own_refusal axes_lent points_lent kinds_lent values_lent modes_lent edition_lent length_lent
 
   -- what is promised: the refusal, the three buffers, the axes in their slices, the edition, the scratch, and the length in its slot
-  pub record SheetTensorExport (refusal : ℕ) (knots_later samples_later : List Float) (axes_later Points_later kinds_later : List ℕ)
+  pub record SheetTensorExport (refusal : ℕ) (knots_later samples_later : List Float) (axes_later points_later kinds_later : List ℕ)
       (values_later : List Float) (modes_later edition_later : List ℕ) (tensor_later scratch_later : List Float)
       (length_later : List ℕ) : Type 0 where
     pub answer : refusal ≡ or_else sheet_own given_sheet_refusal
@@ -124,7 +124,7 @@ module _ (bytes : List ℕ) (knots_lent samples_lent : List Float) (axes_lent po
         ≡ stored sheet_own samples_lent (stored given_reading_refusal samples_lent (over (sheet_samples bytes) samples_lent))
     pub found :
         FoundStored sheet_own given_sheet_answer.axes given_sheet_answer.all
-        axes_lent points_lent kinds_lent values_lent axes_later Points_later kinds_later values_later
+        axes_lent points_lent kinds_lent values_lent axes_later points_later kinds_later values_later
     pub told : EditionStored sheet_own given_sheet_answer.edition given_sheet_answer.all modes_lent edition_lent modes_later
         edition_later
     pub output :

@@ -43,8 +43,8 @@ module _ (bytes : List ℕ) (at : ℕ) where
         rw (le-ltb bits (at + 8) (omega arith), enough_points, le-ltb bits (at + 8 + 2) room, lt-ltb bits (at + 10 + 2) gone)
 
     -- where one of the two kinds is not there
-    pub no-kinds : at + 8 ≤ bits → bits < at + 8 + 4 → 11 ≡ axis_fault bytes at
-    no-kinds room gone = go (ltb bits (at + 8 + 2)) refl
+    pub no_kinds : at + 8 ≤ bits → bits < at + 8 + 4 → 11 ≡ axis_fault bytes at
+    no_kinds room gone = go (ltb bits (at + 8 + 2)) refl
       where
         go : (b : Bool) → ltb bits (at + 8 + 2) ≡ b → 11 ≡ axis_fault bytes at
         go true e = no_lower_kind room (ltb-true bits (at + 8 + 2) e)

@@ -11,4 +11,4 @@ pub bounds-values-i-2 : goal.bounds-values-i-2
 bounds-values-i-2 c = simp length-set (omega arith)
 
 pub returns : goal.returns
-returns c = record { point = refl; both-kinds = cc; both_values = cc }
+returns c = record { point = refl; both_kinds = cc; both_values = cc }

@@ -7,7 +7,7 @@ use borrow.Author.Tests.{ltb-true, ltb-false}
 use lib.ListN.{length}
 use Rattle.grid_codes.specs.Kinds.{periodic_at_one_end}
 use Rattle.sheet_read.specs.Fields.{points_at, lower_kind, upper_kind}
-use Rattle.sheet_read.proofs.AxisFaults.{no_points, few_points, no-kinds, one_periodic, no_mode}
+use Rattle.sheet_read.proofs.AxisFaults.{no_points, few_points, no_kinds, one_periodic, no_mode}
 use Rattle.sheet_read.proofs.axes.fault_of_short_head.Goals as goal
 use Rattle.sheet_read.proofs.axes.fault_of_short_head.Goals.{After-is_periodic_at_one_end, Else-field_at-lt1, Else-is_short, Else-is_short-2}
 
@@ -41,7 +41,7 @@ returns-then-field_at-lt1 c =
 
 pub returns-then-is_short-2 : goal.returns-then-is_short-2
 returns-then-is_short-2 c = (
-  no-kinds _ _ (enough (goal.at.returns-then-is_short-2 c).Else-field_at-lt1) (points_room (goal.at.returns-then-is_short-2 c).Else-is_short)
+  no_kinds _ _ (enough (goal.at.returns-then-is_short-2 c).Else-field_at-lt1) (points_room (goal.at.returns-then-is_short-2 c).Else-is_short)
       (ltb-true _ _ (sym c.is_short-2.ensures ∙ c.if-is_short-2.true)),
   omega arith,
 )
