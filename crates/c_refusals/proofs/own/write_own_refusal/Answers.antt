@@ -27,9 +27,9 @@ past_lengths c answer e =
     (rw c.axes_without_ends-all.ensures at c.parts_refused.ensures))
     c.if-parts_refused.false e))
 
-past-kinds : (c : Else-some_kinds_refused) → Past ((write_own_rows c.args.axes c.args.points.now c.args.kinds.now c.args.values.now c.args.modes.now
+past_kinds : (c : Else-some_kinds_refused) → Past ((write_own_rows c.args.axes c.args.points.now c.args.kinds.now c.args.values.now c.args.modes.now
     c.args.knots.now c.args.samples.now c.args.length.now)) 6
-past-kinds c answer e = ((axes_pass _ _ c.axes_own_refusal-refusal.ensures _ c.if-refusal-ne0.false (pass _ (second
+past_kinds c answer e = ((axes_pass _ _ c.axes_own_refusal-refusal.ensures _ c.if-refusal-ne0.false (pass _ (second
     (second c.eight_ends_refused.ensures c.if-eight_ends_refused.false
     c.modes_or_slot_refused.ensures)
     c.if-modes_or_slot_refused.false
@@ -92,8 +92,8 @@ some_modes_refused-requires c = (
 
 pub returns-then-some_modes_refused : goal.returns-then-some_modes_refused
 unfolding write_own_refusal
-returns-then-some_modes_refused c = past-kinds (goal.at.returns-then-some_modes_refused c).Else-some_kinds_refused _ (stop _ c.some_modes_refused.ensures c.if-some_modes_refused.true)
+returns-then-some_modes_refused c = past_kinds (goal.at.returns-then-some_modes_refused c).Else-some_kinds_refused _ (stop _ c.some_modes_refused.ensures c.if-some_modes_refused.true)
 
 pub returns : goal.returns
 unfolding write_own_refusal
-returns c = past-kinds (goal.at.returns c).Else-some_kinds_refused _ (pass _ c.some_modes_refused.ensures c.if-some_modes_refused.false refl)
+returns c = past_kinds (goal.at.returns c).Else-some_kinds_refused _ (pass _ c.some_modes_refused.ensures c.if-some_modes_refused.false refl)
