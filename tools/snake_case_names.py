@@ -20,7 +20,7 @@ DECLARED = re.compile(
 )
 KINDS = re.compile(r"(?m)^ *(?:(?:pub|abbrev|unfoldable|opaque) )*(?:record|data|abbrev|ruleset) (?:pub )?([^\s(){}.;,@\"«»:]+)")
 IMPORT = re.compile(r"\buse ([^\s;{]+?)\.\{([^}]*)\}")
-MADE = re.compile(r"(Need|After|At|Before|In|Lts|Asked|Given)-|returns-\d+$|(invariant|decreases)-loop|type-inv$|.*-(kinds|lts)$")
+MADE = re.compile(r"(Need|After|At|Before|In|Lts|Asked|Given)-|returns-\d+$|(invariant|decreases)-loop|type-inv$")
 CLAUSE = re.compile(r"(?:requires\*?|ensures\*?|ghost [^{;\n]*)\s*(?:\w+ )?\{|ghost use [^;]*;")
 
 
