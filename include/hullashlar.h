@@ -27,7 +27,7 @@
  * signals, as long as no call writes a slice that another one uses.
  *
  * Memory. The largest grid takes 98,304 bytes: tensor 32,768, scratch 49,152, the two buffers of a sheet 16,384.
- * hullashlar_surface is lent the sheet alone, and has its memory on the stack. Every other call needs at most 3,176
+ * hullashlar_surface is lent the sheet alone, and has its memory on the stack. Every other call needs at most 3,256
  * bytes of stack on x86-64, on any input, beside what the host's memcpy and memset take. docs/BENCH.md has the stack of
  * each call, the size of the code and what the archive's proofs rest on.
  *
@@ -623,7 +623,7 @@ uint64_t hullashlar_cursor_next(const uint8_t *curve, uint64_t curve_length,
  * extend). So where each coordinate equals a knot of its axis, the value equals the sheet's sample at that place. c0 to
  * c3 are the patterns of doubles, one for each axis of the sheet; those past its axes must be 0. The call returns the
  * pattern of the value, or HULLASHLAR_REFUSED + the refusal; memcpy turns a double into its pattern and back. It takes
- * 27,992 bytes of stack on x86-64. 24,576 of them are buffers: scratch 20,480, in which the tensor stays, knots 2,048,
+ * 27,944 bytes of stack on x86-64. 24,576 of them are buffers: scratch 20,480, in which the tensor stays, knots 2,048,
  * samples 2,048. The rest are the frames of the functions that read, build and ask.
  * Lengths: bytes_length any
  * Writes:  nothing

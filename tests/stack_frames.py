@@ -18,6 +18,10 @@ MOST_AXES = 4
 IN_REGISTERS = 6
 WORD = 8
 
+# A large frame is taken in steps, each of which is touched: how deep it goes in all, and the step.
+PROBED = re.compile(r"sub\s+r11,(0x[0-9a-f]+)$")
+STEP = re.compile(r"sub\s+rsp,0x[0-9a-f]+$")
+
 # A jump to an address that was put on the stack.
 KEPT = re.compile(r"jmp\s+QWORD PTR \[rsp\+0x[0-9a-f]+\]$")
 
@@ -34,6 +38,16 @@ def disassembled(archive):
         elif instruction := re.match(r"\s+([0-9a-f]+):\s+(.*)$", line):
             current.append([int(instruction[1], 16), instruction[2].strip(), None])
     return functions
+
+
+def in_one_step(instructions):
+    """A function's instructions with each frame that is taken in steps taken at once, and no jump back from its last step."""
+    for at in range(1, len(instructions) - 3):
+        probed, back = PROBED.match(instructions[at - 1][1]), instructions[at + 3]
+        if probed and STEP.match(instructions[at][1]) and back[1].startswith(f"jne    {instructions[at][0]:x} "):
+            instructions[at][1] = f"sub    rsp,{probed[1]}"
+            back[1] = "nop"
+    return instructions
 
 
 def tables(archive):
@@ -155,7 +169,7 @@ def on_the_stack(parameters):
 def main():
     archive = Path(sys.argv[1]) if len(sys.argv) > 1 else ARCHIVE
     sections = tables(archive)
-    frames = {name: frame(name, code, sections) for name, code in disassembled(archive).items() if code}
+    frames = {name: frame(name, in_one_step(code), sections) for name, code in disassembled(archive).items() if code}
     print("| Exported call | Stack bytes at most |\n|---|--:|")
     for name, parameters in re.findall(r"^\w+ (hullashlar_\w+)\(([^)]*)\);", HEADER.read_text(), re.M):
         print(f"| `{name}` | {WORD + deepest(name, frames) + on_the_stack(parameters):,} |")

@@ -1,8 +1,8 @@
 #!/usr/bin/env python3
 """Runs the programs where standard input or standard output fails: one line on standard error says which, nothing is printed where the
-input cannot be read, and the exit status is 0. A pipe that nobody reads any more ends a program by its signal, as it does any other, and
-says nothing; where that signal is ignored it is a failure like the others. Input that ends early is no failure: a sheet cut at any byte is
-refused on standard output, and nothing is said on standard error. With strace at hand it also counts the calls by which a tensor is printed
+input cannot be read, and the exit status is 0. A pipe that nobody reads any more is a failure like the others, since the toolchain has every
+program ignore its signal. Input that ends early is no failure: a sheet cut at any byte is refused on standard output, and nothing is said on
+standard error. With strace at hand it also counts the calls by which a tensor is printed
 and by which a long stream is read."""
 
 import os
@@ -99,7 +99,7 @@ def main():
         with open(good, "rb") as given:
             expect(f"{program.name}, no output", run(program, given, None, before=lambda: os.close(1)), (b"", NOT_WRITTEN, 0))
         with open(good, "rb") as given:
-            expect(f"{program.name}, a pipe that nobody reads", run(program, given, unread_pipe()), (b"", b"", -signal.SIGPIPE))
+            expect(f"{program.name}, a pipe that nobody reads", run(program, given, unread_pipe()), (b"", NOT_WRITTEN, 0))
         with open(good, "rb") as given:
             ignoring = run(program, given, unread_pipe(), before=ignore_broken_pipes)
             expect(f"{program.name}, the same with the signal ignored", ignoring, (b"", NOT_WRITTEN, 0))
