@@ -12,9 +12,6 @@ CRATE_TABLE = ["Crate", "What it has", "Over"]
 # What the first column of a table of calls is called.
 OF_CALLS = {"Call", "Export", "Exported call"}
 
-# What the toolchain brings; crates.txt has it, and the table may leave it out.
-OF_THE_KIT = {"io", "libc"}
-
 
 def faults(repository: Repository) -> Iterator[Fault]:
     yield from table_faults(repository, set(repository.public_calls), "public calls")
@@ -97,7 +94,7 @@ def crate_faults(repository: Repository) -> Iterator[Fault]:
         yield Fault("crates.txt", 1, "no document has a table of the crates")
     for name, found in tables.items():
         for crate, over in repository.crates.items() if found else ():
-            stands_on = [other for other in over if other not in OF_THE_KIT]
+            stands_on = list(over)
             if crate not in found:
                 yield Fault(name, min(line for line, _ in found.values()), f"the table of crates lacks {crate}")
             elif found[crate][1] != stands_on:
@@ -112,5 +109,5 @@ def crate_rows(repository: Repository, name: str) -> dict[str, tuple[int, list[s
     found = {}
     for line, head, cells in repository.rows(name):
         if head == CRATE_TABLE and (match := re.fullmatch(r"\[?`(\w+)`.*", cells[0])):
-            found[match[1]] = (line, [over for over in re.findall(r"\w+", cells[2]) if over not in OF_THE_KIT])
+            found[match[1]] = (line, re.findall(r"\w+", cells[2]))
     return found
