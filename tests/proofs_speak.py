@@ -1,6 +1,7 @@
 #!/usr/bin/env python3
 """Holds the proofs and the code against what a reader needs: a file of each function's proof begins with a sentence that says what is
-shown, no two begin alike, and no line of the code, the definitions or the laws is longer than WIDTH. The toolchain lays out imports, and answers name goals and places as the toolchain does: their lines are as long as they are."""
+shown, no two begin alike, and no line of the code, the definitions or the laws is longer than WIDTH. Imports, which the toolchain lays out,
+and answers, which name goals and places as the toolchain does, have lines as long as they are."""
 
 import re
 import sys
