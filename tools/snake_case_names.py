@@ -143,6 +143,9 @@ class Names:
 
 
 def main():
+    if sys.argv[1:]:
+        print(__doc__)
+        return 2
     root = os.getcwd()
     names = Names(root)
     turns = [(".antt", names.turn_antt), (".rt", names.turn_rt), (".edit", names.turn_edit), (".md", lambda t: names.turn_span(t, set()))]
@@ -156,6 +159,7 @@ def main():
                 with open(path, "w", encoding="utf-8") as f:
                     f.write(after)
     print(f"{len(names.turned)} names")
+    return 0
 
 
 if __name__ == "__main__":
