@@ -9,9 +9,11 @@ places, Rust's own code, and prose. A new name that meets another one of its fil
 """
 import os
 import re
+import subprocess
 import sys
 
-KIT = "/opt/rattle/rattle"
+# The toolchain's libraries, beside its first guide.
+KIT = os.path.join(os.path.dirname(subprocess.run(["rt", "doc"], capture_output=True, text=True).stdout.strip()), "rattle")
 TOKEN = re.compile(r'[^\s(){}.;,@"«»]+')
 COMMENT = re.compile(r'(?<![^\s(){}.;,@"«»])--[^\n]*|//[^\n]*|\{-.*?-\}', re.S)
 SPAN = re.compile(r"`[^`\n]+`")
