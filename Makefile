@@ -35,7 +35,7 @@ SEED = 20240917
 # Holds the exported calls against the Rust, bit for bit, and what the device's program and the report print; fails where there is a
 # difference, or nothing was compared of a kind.
 differential: archive-here
-	tools/build.sh device_curve sheet_report
+	tools/build.sh device_curve sheet_report sheet_tensor
 	cd oracle && cargo run --offline --release -p differential -- --seed $(SEED) $(CASES)
 
 # The same in rounds of another seed each, for SOAK seconds, over every call and every program; prints the seeds, how often each refusal was
