@@ -16,7 +16,7 @@ use Rattle.rules.specs.Moments.{moment, moments}
 use Rattle.rules.specs.Curve.{knot_slopes, curve_in_cell, curve}
 use Rattle.rules.specs.Calls.{stored, scratch_after, moments_refusal, MomentsPromise, curve_answer, CurvePromise, SlopesPromise}
 use Rattle.rules.specs.declared.Condition.{Condition}
-use Rattle.rules.specs.declared.CurveAnswer.{CurveAnswer}
+use Rattle.rules.specs.Answers.{CurveAnswer}
 use Rattle.rules.proofs.Tables.{table_is}
 use Rattle.grid_checks.specs.Check.{moments_check, curve_check, slopes_check}
 use Rattle.grid_checks.specs.Checked.{MomentsGiven, CurveGiven, SlopesGiven}

@@ -6,7 +6,7 @@ use lib.Ieee.{Float}
 use Rattle.rules.specs.Numbers.{plus_zero}
 use Rattle.rules.specs.Calls.{MomentsPromise, CurvePromise}
 use Rattle.rules.specs.declared.Condition.{Condition}
-use Rattle.rules.specs.declared.CurveAnswer.{CurveAnswer}
+use Rattle.rules.specs.Answers.{CurveAnswer}
 use Rattle.c_axes.specs.Axes.{condition_given}
 use Rattle.c_refusals.specs.OwnRefusals.{moments_own_refusal, curve_own_refusal}
 use Rattle.c_refusals.specs.Slots.{in_slot}

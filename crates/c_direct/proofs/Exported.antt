@@ -5,7 +5,7 @@ use Prim.Native.Nat.{ℕ, ◌≤◌}
 use lib.Ieee.{Float}
 use Rattle.rules.specs.Numbers.{plus_zero, table}
 use Rattle.rules.specs.Sizes.{most_axes}
-use Rattle.rules.specs.declared.QueryAnswer.{QueryAnswer}
+use Rattle.rules.specs.Answers.{QueryAnswer}
 use Rattle.query_answer.specs.PointsAndModes.{OfAnyAxes}
 use Rattle.query_direct.specs.DirectCalls.{DirectQueryPromise}
 use Rattle.c_refusals.specs.OwnRefusals.{query_own_refusal}

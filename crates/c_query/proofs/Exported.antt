@@ -7,8 +7,7 @@ use Rattle.rules.specs.Numbers.{plus_zero, table}
 use Rattle.rules.specs.Sizes.{most_axes}
 use Rattle.rules.specs.Calls.{QueryPromise, QuickQueryPromise}
 use Rattle.rules.specs.EvenCalls.{even_query_answer, EvenQueryPromise}
-use Rattle.rules.specs.declared.QueryAnswer.{QueryAnswer}
-use Rattle.rules.specs.declared.EvenAnswer.{EvenAnswer}
+use Rattle.rules.specs.Answers.{QueryAnswer, EvenAnswer}
 use Rattle.c_axes.specs.Axes.{grid_in_modes}
 use Rattle.c_refusals.specs.OwnRefusals.{query_own_refusal, even_query_own_refusal}
 use Rattle.c_refusals.specs.Slots.{QueryStored, EvenStored}

@@ -12,8 +12,7 @@ use Rattle.rules.specs.Refusals.{some_points_refused, tensor_refused, length_ref
 use Rattle.rules.specs.Outside.{ButForModes}
 use Rattle.rules.specs.EvenCalls.{even_query_answer}
 use Rattle.rules.specs.declared.Axis.{Axis}
-use Rattle.rules.specs.declared.EvenAnswer.{EvenAnswer}
-use Rattle.rules.specs.declared.QueryAnswer.{QueryAnswer}
+use Rattle.rules.specs.Answers.{EvenAnswer, QueryAnswer}
 use Rattle.rules.proofs.WithoutModes.{points_refused_same, knots_length_same, tensor_length_same}
 use Rattle.grid_checks.specs.Tables.{lowest}
 use Rattle.grid_checks.proofs.Rows.{length_fits}

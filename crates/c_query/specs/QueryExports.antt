@@ -2,8 +2,7 @@
 use Rattle.std.specs.Prelude.{◌≡◌, List, ℕ, Float}
 use Rattle.rules.specs.Calls.{or_else, answered, counted, labelled, query_answer, quick_query_answer}
 use Rattle.rules.specs.EvenCalls.{even_query_answer}
-use Rattle.rules.specs.declared.EvenAnswer.{EvenAnswer}
-use Rattle.rules.specs.declared.QueryAnswer.{QueryAnswer}
+use Rattle.rules.specs.Answers.{EvenAnswer, QueryAnswer}
 use Rattle.c_axes.specs.Axes.{grid_in_modes}
 use Rattle.c_refusals.specs.OwnRefusals.{query_own_refusal, even_query_own_refusal}
 use Rattle.c_refusals.specs.Slots.{QueryStored, EvenStored}

@@ -1,4 +1,5 @@
 -- Each export of steps refuses as the host's own refusal says, or answers as `rules` promises for what was given.
+use Rattle.std.specs.Prelude.{Option, None}
 use mathlib.Core.Path.{◌≡◌, refl, sym, ap, subst, ◌∙◌}
 use mathlib.Core.List.{List}
 use Prim.Native.Nat.{ℕ, zero, suc}
@@ -8,14 +9,9 @@ use Rattle.rules.specs.Sizes.{most_axes}
 use Rattle.rules.specs.StepCalls.{found, located, ExactPromise, AxisPromise, StepPromise, stepped_answer, SteppedPromise}
 use Rattle.rules.specs.declared.StepDirection.{StepDirection}
 use Rattle.rules.specs.declared.StepDirection.TheVariants.{Upper}
-use Rattle.rules.specs.declared.ExactIndex.{ExactIndex}
-use Rattle.rules.specs.declared.ExactIndex.TheVariants.{NotFound}
 use Rattle.rules.specs.declared.AxisLocation.{AxisLocation}
 use Rattle.rules.specs.declared.AxisLocation.TheVariants.{Exact}
-use Rattle.rules.specs.declared.ExactAnswer.{ExactAnswer}
-use Rattle.rules.specs.declared.AxisAnswer.{AxisAnswer}
-use Rattle.rules.specs.declared.StepAnswer.{StepAnswer}
-use Rattle.rules.specs.declared.SteppedAnswer.{SteppedAnswer}
+use Rattle.rules.specs.Answers.{ExactAnswer, AxisAnswer, StepAnswer, SteppedAnswer}
 use Rattle.step_surface.specs.OnPoints.{OfAnyPoints}
 use Rattle.c_axes.specs.Axes.{axes_without_ends}
 use Rattle.c_refusals.specs.Slots.{in_slot, QueryStored}
@@ -44,7 +40,7 @@ upper_of (suc number) other = refl
 
 -- ---- where the host refuses, slots say that nothing was found
 
-none_found : (own : ℕ) (index : ExactIndex) {r : ℕ} → r ≡ own → (r ≡ 0 → ⊥) → NotFound ≡ found own index
+none_found : (own : ℕ) (index : Option ℕ) {r : ℕ} → r ≡ own → (r ≡ 0 → ⊥) → None ≡ found own index
 none_found zero index e some = absurd (some e)
 none_found (suc own) index e some = refl
 
@@ -56,11 +52,11 @@ none_located (suc own) location e some = refl
 
 module _ (n : ℕ) (knots : List Float) (lower : ℕ) (point : Float) (found_lent : List ℕ) {r : ℕ}
     (e : r ≡ exact_own_refusal n found_lent) where
-  pub exact_refused : (r ≡ 0 → ⊥) → {f : List ℕ} → f ≡ in_pair found_lent (exact_numbers NotFound)
+  pub exact_refused : (r ≡ 0 → ⊥) → {f : List ℕ} → f ≡ in_pair found_lent (exact_numbers None)
       → ExactExport n knots lower point found_lent r f
   exact_refused some in_place = record {
     answer = own_answer _ _ e some;
-    slot = in_place ∙ ap (λ (i : ExactIndex). in_pair found_lent (exact_numbers i)) (none_found _ _ e some);
+    slot = in_place ∙ ap (λ (i : Option ℕ). in_pair found_lent (exact_numbers i)) (none_found _ _ e some);
   }
 
   pub exact_called :

@@ -13,7 +13,7 @@ use Rattle.rules.specs.Sizes.{most_axes, Grid, points, knots, knots_length, samp
 use Rattle.rules.specs.Refusals.{length_refused}
 use Rattle.rules.specs.StepCalls.{direction, stepped_answer}
 use Rattle.rules.specs.declared.StepDirection.TheVariants.{Lower}
-use Rattle.rules.specs.declared.SteppedAnswer.{SteppedAnswer}
+use Rattle.rules.specs.Answers.{SteppedAnswer}
 use Rattle.rules.proofs.Tables.{at_table}
 use Rattle.rules.proofs.Refused.{or_else_passed}
 use Rattle.base_numbers.proofs.Scan.{neither, any_at}

@@ -1,16 +1,14 @@
 -- The chapter StepExports of docs/RULES.md: the exported calls of steps, whose own refusals stand in the order of OwnRefusals, with 22 for
 -- a direction.
-use Rattle.std.specs.Prelude.{◌≡◌, Bool, cond, ◌||◌, List, [], ◌∷◌, ◌++◌, ℕ, length, Float}
+use Rattle.std.specs.Prelude.{◌≡◌, Bool, cond, ◌||◌, List, [], ◌∷◌, ◌++◌, ℕ, length, Float, Option, Some, None}
 use Rattle.rules.specs.Numbers.{plus_zero}
 use Rattle.rules.specs.Sizes.{most_axes, knots_length, samples_length}
 use Rattle.rules.specs.Refusals.{points_refused, length_refused}
 use Rattle.rules.specs.Calls.{or_else, answered, counted, labelled}
 use Rattle.rules.specs.StepCalls.{found, located, exact_answer, axis_answer, step_answer, stepped_answer}
-use Rattle.rules.specs.declared.ExactIndex.{ExactIndex}
-use Rattle.rules.specs.declared.ExactIndex.TheVariants.{Found, NotFound}
 use Rattle.rules.specs.declared.AxisLocation.{AxisLocation}
 use Rattle.rules.specs.declared.AxisLocation.TheVariants.{Exact, Between}
-use Rattle.rules.specs.declared.SteppedAnswer.{SteppedAnswer}
+use Rattle.rules.specs.Answers.{SteppedAnswer}
 use Rattle.grid_checks.specs.Tables.{Refusal, row, lowest}
 use Rattle.c_axes.specs.Axes.{grid_without_ends}
 use Rattle.c_refusals.specs.OwnRefusals.{sizes_given, axes_rows, query_slots_refused}
@@ -24,9 +22,9 @@ in_pair lent numbers = cond (length_refused (length lent) 2) lent numbers
 -- ---- the exact index
 
 -- an exact index as two numbers: 1 and the index, and 0 0 where none is found
-abbrev pub exact_numbers : ExactIndex → List ℕ
-exact_numbers (Found index) = 1 ∷ index ∷ []
-exact_numbers NotFound = 0 ∷ 0 ∷ []
+abbrev pub exact_numbers : Option ℕ → List ℕ
+exact_numbers (Some index) = 1 ∷ index ∷ []
+exact_numbers None = 0 ∷ 0 ∷ []
 
 -- 4 for the slot of these
 abbrev pub exact_own_rows : ℕ → List ℕ → List Refusal

@@ -9,7 +9,7 @@ use lib.Ieee.{Float}
 use Rattle.rules.specs.Sizes.{most_axes, knots_length, samples_length, place_of}
 use Rattle.rules.specs.Refusals.{length_refused}
 use Rattle.rules.specs.StepCalls.{stepped_answer}
-use Rattle.rules.specs.declared.QueryAnswer.{QueryAnswer}
+use Rattle.rules.specs.Answers.{QueryAnswer}
 use Rattle.rules.specs.declared.StepDirection.{StepDirection}
 use Rattle.grid_checks.proofs.Rows.{NoneApplies, none_applies, axes_few, length_fits, exact}
 use Rattle.many_points.specs.ManyPoints.{point_of}

@@ -5,7 +5,7 @@ use Prim.Native.Nat.{ℕ}
 use lib.Ieee.{Float}
 use Rattle.rules.specs.Sizes.{place_of}
 use Rattle.rules.specs.Calls.{BuildPromise, change_answer, ChangePromise}
-use Rattle.rules.specs.declared.ChangeAnswer.{ChangeAnswer}
+use Rattle.rules.specs.Answers.{ChangeAnswer}
 use Rattle.rules.specs.declared.Axis.{Axis}
 use Rattle.c_axes.specs.Axes.{axes_given}
 use Rattle.c_refusals.specs.OwnRefusals.{build_own_refusal, change_own_refusal}

@@ -30,8 +30,7 @@ use Rattle.rules.specs.Refusals.{
   knots_refused,
 }
 use Rattle.rules.specs.declared.Condition.{Condition}
-use Rattle.rules.specs.declared.CurveAnswer.{CurveAnswer}
-use Rattle.rules.specs.declared.QueryAnswer.{QueryAnswer}
+use Rattle.rules.specs.Answers.{CurveAnswer, QueryAnswer}
 use Rattle.rules.proofs.Cases.{passed}
 use Rattle.rules.proofs.Tables.{at_table}
 use Rattle.base_numbers.proofs.Scan.{neither}

@@ -7,7 +7,7 @@ use Prim.Native.Nat.{ℕ, ◌+◌, ◌*◌, ◌/◌, ◌%◌, ◌<◌}
 use lib.ListN.{length}
 use lib.Ieee.{Float, nan}
 use Rattle.rules.specs.Sizes.{place_of}
-use Rattle.rules.specs.declared.QueryAnswer.{QueryAnswer}
+use Rattle.rules.specs.Answers.{QueryAnswer}
 use Rattle.rules.proofs.Refused.{unchanged}
 use Rattle.rules.proofs.Tables.{table_is}
 use Rattle.many_points.specs.ManyPoints.{point_of, values_of, labels_among, refusals_of, EachAnswered}

@@ -10,7 +10,7 @@ use lib.ListN.{length, take, drop, length-set}
 use lib.Seq.{get_or-set_same, get_or-set_other}
 use lib.Ieee.{Float, nan}
 use borrow.Author.Count.{below_more}
-use Rattle.rules.specs.declared.QueryAnswer.{QueryAnswer}
+use Rattle.rules.specs.Answers.{QueryAnswer}
 use Rattle.many_points.specs.ManyPoints.{point_of}
 use Rattle.many_points.specs.PointByPoint.{PointsFit, AnswerPut, StandsAt, FirstStand}
 use Rattle.many_points.proofs.Labels.{labels_below, as_many_labels, labels_there}

@@ -6,7 +6,7 @@ use lib.ListN.{length}
 use lib.Ieee.{Float, nan}
 use Rattle.rules.specs.Numbers.{at}
 use Rattle.rules.specs.Sizes.{place_of}
-use Rattle.rules.specs.declared.QueryAnswer.{QueryAnswer}
+use Rattle.rules.specs.Answers.{QueryAnswer}
 use Rattle.rules.proofs.Tables.{at_table}
 use Rattle.rules.proofs.Unique.{same}
 use Rattle.many_points.specs.ManyPoints.{EachAnswered}

@@ -5,7 +5,7 @@ use Rattle.rules.specs.Numbers.{table}
 use Rattle.rules.specs.Sizes.{most_axes, place_of}
 use Rattle.rules.specs.Refusals.{length_refused}
 use Rattle.rules.specs.Calls.{stored}
-use Rattle.rules.specs.declared.QueryAnswer.{QueryAnswer}
+use Rattle.rules.specs.Answers.{QueryAnswer}
 
 -- the coordinates of point j, which begin after those of the points before it
 abbrev pub point_of : ℕ → List Float → ℕ → List Float

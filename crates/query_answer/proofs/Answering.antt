@@ -20,7 +20,7 @@ use Rattle.rules.specs.Outside.{placed_on}
 use Rattle.rules.specs.Query.{cell, fraction, value_in}
 use Rattle.rules.specs.Calls.{labels_of, answer_of}
 use Rattle.rules.specs.declared.Axis.{Axis}
-use Rattle.rules.specs.declared.QueryAnswer.{QueryAnswer}
+use Rattle.rules.specs.Answers.{QueryAnswer}
 use Rattle.rules.proofs.Tables.{table_is}
 use Rattle.rules.proofs.Cells.{blend_ext, value_in_ext}
 use Rattle.grid.specs.GridOfCall.{grid}

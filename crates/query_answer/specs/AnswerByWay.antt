@@ -7,7 +7,7 @@ use Rattle.rules.specs.Refusals.{some_number_refused, answer_refused}
 use Rattle.rules.specs.Outside.{placed_on, some_outside_refused}
 use Rattle.rules.specs.Query.{value_in, cell_of}
 use Rattle.rules.specs.Calls.{labels_of, answer_of}
-use Rattle.rules.specs.declared.QueryAnswer.{QueryAnswer}
+use Rattle.rules.specs.Answers.{QueryAnswer}
 use Rattle.axis_locate.specs.CellFound.{Rising}
 use Rattle.query_answer.specs.PointsAndModes.{OfAnyAxes}
 use Rattle.query_answer.specs.Ways.{by_search}

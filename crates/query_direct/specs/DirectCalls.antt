@@ -7,7 +7,7 @@ use Rattle.rules.specs.Query.{even_cell_of, even_query}
 use Rattle.rules.specs.Calls.{labels_of, answer_of, refusal_in_order}
 use Rattle.rules.specs.declared.Mode.{Mode}
 use Rattle.rules.specs.declared.Mode.TheVariants.{Extend, Hold, Refuse}
-use Rattle.rules.specs.declared.QueryAnswer.{QueryAnswer}
+use Rattle.rules.specs.Answers.{QueryAnswer}
 
 -- the labels: the direct cells of the coordinates where the modes place them, on any knots
 unfoldable pub direct_labels : Grid → List Float → List ℕ

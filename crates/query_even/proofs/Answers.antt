@@ -17,8 +17,7 @@ use Rattle.rules.specs.Query.{even_query}
 use Rattle.rules.specs.Calls.{or_else, answer_of}
 use Rattle.rules.specs.EvenCalls.{nothing_told, even_labels, even_query_refusal, even_query_answer, EvenQueryPromise}
 use Rattle.rules.specs.declared.Axis.{Axis}
-use Rattle.rules.specs.declared.EvenAnswer.{EvenAnswer}
-use Rattle.rules.specs.declared.QueryAnswer.{QueryAnswer}
+use Rattle.rules.specs.Answers.{EvenAnswer, QueryAnswer}
 use Rattle.rules.proofs.Refused.{or_else_met, any_ext}
 use Rattle.rules.proofs.Sums.{sum_ext}
 use Rattle.rules.proofs.EvenIsQuery.{answers_as_query}

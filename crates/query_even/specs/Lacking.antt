@@ -5,7 +5,7 @@ use Rattle.rules.specs.Sizes.{most_axes, Grid, points, knots}
 use Rattle.rules.specs.Refusals.{some_number_refused, some_knots_refused}
 use Rattle.rules.specs.Even.{some_uneven_refused}
 use Rattle.rules.specs.declared.Axis.{Axis}
-use Rattle.rules.specs.declared.EvenAnswer.{EvenAnswer}
+use Rattle.rules.specs.Answers.{EvenAnswer}
 use Rattle.grid.specs.GridOfCall.{grid}
 use Rattle.query_answer.specs.PointsAndModes.{PointsOf}
 use Rattle.query_even.specs.Qualities.{lacks, lacking_axis, lacking_place}

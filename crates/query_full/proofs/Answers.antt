@@ -16,7 +16,7 @@ use Rattle.rules.specs.Outside.{placed_on, some_outside_refused}
 use Rattle.rules.specs.Query.{cell_of, quick_cell_of, query_in_modes}
 use Rattle.rules.specs.Calls.{labels_of, answer_of, labels, query_refusal, query_answer, QueryPromise}
 use Rattle.rules.specs.declared.Axis.{Axis}
-use Rattle.rules.specs.declared.QueryAnswer.{QueryAnswer}
+use Rattle.rules.specs.Answers.{QueryAnswer}
 use Rattle.rules.proofs.Places.{One}
 use Rattle.rules.proofs.Refused.{any_ext}
 use Rattle.rules.proofs.Cells.{value_in_ext, labels_ext}

@@ -6,7 +6,7 @@ use lib.Ieee.{Float}
 use Rattle.rules.specs.Sizes.{Grid}
 use Rattle.rules.specs.Calls.{quick_query_answer}
 use Rattle.rules.specs.declared.Axis.{Axis}
-use Rattle.rules.specs.declared.QueryAnswer.{QueryAnswer}
+use Rattle.rules.specs.Answers.{QueryAnswer}
 use Rattle.grid.specs.GridOfCall.{grid}
 use Rattle.many_points.specs.ManyPoints.{point_of}
 use Rattle.query_answer.specs.PointsAndModes.{AxesOf, QueryFits}

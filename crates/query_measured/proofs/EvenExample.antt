@@ -15,7 +15,7 @@ use Rattle.rules.specs.Steps.{h}
 use Rattle.rules.specs.Refusals.{step_refused}
 use Rattle.rules.specs.Even.{absolute, doubled, tolerance, first_that, first_failing}
 use Rattle.rules.specs.EvenCalls.{EvenQueryPromise}
-use Rattle.rules.specs.declared.EvenAnswer.{EvenAnswer}
+use Rattle.rules.specs.Answers.{EvenAnswer}
 use Rattle.rules.specs.declared.Mode.TheVariants.{Hold, Refuse}
 use Rattle.query_measured.specs.Measured.{Surface, AtPlace}
 use Rattle.query_measured.specs.EvenMeasured.{EvenGrid, EvenReads}

@@ -15,7 +15,7 @@ use Rattle.rules.specs.Outside.{placed_on}
 use Rattle.rules.specs.Even.{direct_cell_of, uneven_refused}
 use Rattle.rules.specs.Query.{value_in, even_cell_of, even_query}
 use Rattle.rules.specs.EvenCalls.{even_query_refusal, even_labels, even_query_answer}
-use Rattle.rules.specs.declared.EvenAnswer.{EvenAnswer}
+use Rattle.rules.specs.Answers.{EvenAnswer}
 use Rattle.rules.proofs.Cells.{value_at_ext}
 use Rattle.rules.proofs.EvenAxes.{direct_cell_inside}
 use Rattle.rules.proofs.Modes.{AtEase, none_outside, within}

@@ -17,7 +17,7 @@ use Rattle.rules.specs.Calls.{QueryPromise}
 use Rattle.rules.specs.declared.Axis.{Axis}
 use Rattle.rules.specs.declared.Mode.{Mode}
 use Rattle.rules.specs.declared.Mode.TheVariants.{Hold, Refuse}
-use Rattle.rules.specs.declared.QueryAnswer.{QueryAnswer}
+use Rattle.rules.specs.Answers.{QueryAnswer}
 use Rattle.base_floats.specs.Place.{AllFit}
 use Rattle.query_measured.specs.Measured.{Surface, AtPlace, Reads}
 use Rattle.query_measured.proofs.Measured.{measured_is_read}

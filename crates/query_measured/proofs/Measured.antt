@@ -16,7 +16,7 @@ use Rattle.rules.specs.Outside.{side}
 use Rattle.rules.specs.Query.{cell_of, query}
 use Rattle.rules.specs.Calls.{labels, query_answer, QueryPromise, QuickQueryPromise}
 use Rattle.rules.specs.Extended.{extended_query_refusal, extended_query_answer}
-use Rattle.rules.specs.declared.QueryAnswer.{QueryAnswer}
+use Rattle.rules.specs.Answers.{QueryAnswer}
 use Rattle.rules.specs.declared.Side.TheVariants.{Inside}
 use Rattle.rules.proofs.Modes.{as_extended, within}
 use Rattle.rules.proofs.Tables.{at_table}

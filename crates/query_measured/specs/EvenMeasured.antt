@@ -6,7 +6,7 @@ use Rattle.rules.specs.Numbers.{◌⊖◌, at}
 use Rattle.rules.specs.Sizes.{Grid, points, knots, Place, spot}
 use Rattle.rules.specs.Even.{some_uneven_refused}
 use Rattle.rules.specs.EvenCalls.{EvenQueryPromise}
-use Rattle.rules.specs.declared.EvenAnswer.{EvenAnswer}
+use Rattle.rules.specs.Answers.{EvenAnswer}
 use Rattle.query_measured.specs.Measured.{Surface, AtPlace}
 
 -- every axis is even, and its last knot less its first is finite

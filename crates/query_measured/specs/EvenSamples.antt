@@ -4,7 +4,7 @@ use Rattle.rules.specs.Numbers.{at}
 use Rattle.rules.specs.Sizes.{Grid, points, Place, flat}
 use Rattle.rules.specs.Calls.{BuildPromise}
 use Rattle.rules.specs.EvenCalls.{EvenQueryPromise}
-use Rattle.rules.specs.declared.EvenAnswer.{EvenAnswer}
+use Rattle.rules.specs.Answers.{EvenAnswer}
 use Rattle.base_floats.specs.Place.{AllFit}
 use Rattle.tensor.specs.Changes.{OneChange, Kept, tensor_after, samples_after}
 use Rattle.query_measured.specs.Measured.{AtPlace}

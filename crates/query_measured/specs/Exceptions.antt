@@ -9,10 +9,8 @@ use Rattle.rules.specs.Sizes.{Grid, unused_axis}
 use Rattle.rules.specs.Moments.{moments}
 use Rattle.rules.specs.Calls.{CurvePromise, QueryPromise}
 use Rattle.rules.specs.EvenCalls.{EvenQueryPromise}
-use Rattle.rules.specs.declared.CurveAnswer.{CurveAnswer}
-use Rattle.rules.specs.declared.EvenAnswer.{EvenAnswer}
+use Rattle.rules.specs.Answers.{CurveAnswer, EvenAnswer, QueryAnswer}
 use Rattle.rules.specs.declared.Mode.TheVariants.{Extend}
-use Rattle.rules.specs.declared.QueryAnswer.{QueryAnswer}
 use Rattle.grid.specs.GridOfCall.{grid}
 
 -- knots 0 1

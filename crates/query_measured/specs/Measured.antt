@@ -4,7 +4,7 @@ use Rattle.std.specs.Float.Ieee.{eq}
 use Rattle.rules.specs.Numbers.{at}
 use Rattle.rules.specs.Sizes.{Grid, knots_length, knots, tensor_length, Place, spot}
 use Rattle.rules.specs.Refusals.{axes_refused, some_points_refused, tensor_refused, some_number_refused, some_knots_refused}
-use Rattle.rules.specs.declared.QueryAnswer.{QueryAnswer}
+use Rattle.rules.specs.Answers.{QueryAnswer}
 use Rattle.grid.specs.GridOfCall.{On}
 use Rattle.base_floats.specs.Place.{AllFit}
 

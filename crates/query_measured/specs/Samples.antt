@@ -4,7 +4,7 @@ use Rattle.std.specs.Prelude.{List, Float}
 use Rattle.rules.specs.Numbers.{at}
 use Rattle.rules.specs.Sizes.{Grid, points, Place, flat}
 use Rattle.rules.specs.Calls.{BuildPromise}
-use Rattle.rules.specs.declared.QueryAnswer.{QueryAnswer}
+use Rattle.rules.specs.Answers.{QueryAnswer}
 use Rattle.base_floats.specs.Place.{AllFit}
 use Rattle.tensor.specs.Changes.{OneChange, Kept, tensor_after, samples_after}
 use Rattle.query_measured.specs.Measured.{Promise, AtPlace, Reads}

@@ -11,7 +11,7 @@ use Rattle.rules.specs.Refusals.{some_number_refused, some_found_cell_refused, a
 use Rattle.rules.specs.Query.{quick_cell_of, quick_query_in_modes}
 use Rattle.rules.specs.Calls.{answer_of, quick_labels, quick_query_refusal, quick_query_answer, QuickQueryPromise}
 use Rattle.rules.specs.declared.Axis.{Axis}
-use Rattle.rules.specs.declared.QueryAnswer.{QueryAnswer}
+use Rattle.rules.specs.Answers.{QueryAnswer}
 use Rattle.grid.specs.GridOfCall.{grid, points_of}
 use Rattle.grid_checks.specs.Check.{query_sizes_check}
 use Rattle.query_answer.specs.PointsAndModes.{AxesOf, QueryFits}

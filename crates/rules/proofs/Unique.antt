@@ -17,15 +17,8 @@ use Rattle.rules.specs.Calls.{
 use Rattle.rules.specs.EvenCalls.{EvenQueryPromise}
 use Rattle.rules.specs.StepCalls.{ExactPromise, AxisPromise, StepPromise, SteppedPromise}
 use Rattle.rules.specs.declared.Condition.{Condition}
-use Rattle.rules.specs.declared.CurveAnswer.{CurveAnswer}
-use Rattle.rules.specs.declared.ChangeAnswer.{ChangeAnswer}
-use Rattle.rules.specs.declared.QueryAnswer.{QueryAnswer}
-use Rattle.rules.specs.declared.EvenAnswer.{EvenAnswer}
+use Rattle.rules.specs.Answers.{CurveAnswer, ChangeAnswer, QueryAnswer, EvenAnswer, ExactAnswer, AxisAnswer, StepAnswer, SteppedAnswer}
 use Rattle.rules.specs.declared.StepDirection.{StepDirection}
-use Rattle.rules.specs.declared.ExactAnswer.{ExactAnswer}
-use Rattle.rules.specs.declared.AxisAnswer.{AxisAnswer}
-use Rattle.rules.specs.declared.StepAnswer.{StepAnswer}
-use Rattle.rules.specs.declared.SteppedAnswer.{SteppedAnswer}
 
 -- two things that equal a third
 pub same : {A : Type 0} {a b c : A} → a ≡ c → b ≡ c → a ≡ b

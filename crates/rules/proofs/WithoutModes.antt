@@ -74,7 +74,7 @@ use Rattle.rules.specs.Extended.{
   extended_even_answer,
 }
 use Rattle.rules.specs.declared.Axis.{Axis}
-use Rattle.rules.specs.declared.ChangeAnswer.{ChangeAnswer}
+use Rattle.rules.specs.Answers.{ChangeAnswer}
 use Rattle.rules.specs.declared.Condition.{Condition}
 use Rattle.rules.proofs.Cells.{blend_ext}
 

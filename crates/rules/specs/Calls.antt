@@ -30,9 +30,7 @@ use Rattle.rules.specs.Change.{changed_tensor, change_lanes}
 use Rattle.rules.specs.Outside.{some_outside_refused}
 use Rattle.rules.specs.Query.{cell_of, quick_cell_of, query_in_modes, quick_query_in_modes}
 use Rattle.rules.specs.declared.Condition.{Condition}
-use Rattle.rules.specs.declared.CurveAnswer.{CurveAnswer}
-use Rattle.rules.specs.declared.ChangeAnswer.{ChangeAnswer}
-use Rattle.rules.specs.declared.QueryAnswer.{QueryAnswer}
+use Rattle.rules.specs.Answers.{CurveAnswer, ChangeAnswer, QueryAnswer}
 
 -- a refusal, or what comes later where it is 0
 abbrev pub or_else : ℕ → ℕ → ℕ

@@ -15,8 +15,7 @@ use Rattle.rules.specs.Outside.{some_outside_refused}
 use Rattle.rules.specs.Even.{some_uneven_refused, uneven_axis, uneven_interval}
 use Rattle.rules.specs.Query.{even_cell_of, even_query}
 use Rattle.rules.specs.Calls.{answered, labelled, labels_of, query_lengths_refused}
-use Rattle.rules.specs.declared.QueryAnswer.{QueryAnswer}
-use Rattle.rules.specs.declared.EvenAnswer.{EvenAnswer}
+use Rattle.rules.specs.Answers.{QueryAnswer, EvenAnswer}
 
 -- what is told of an axis that is not even: 0 where the refusal is not 21
 abbrev pub told_of_uneven : ℕ → ℕ → ℕ

@@ -16,8 +16,7 @@ use Rattle.rules.specs.Even.{some_uneven_refused, uneven_axis, uneven_interval, 
 use Rattle.rules.specs.Query.{value_in, query, quick_cell_of, quick_query}
 use Rattle.rules.specs.Calls.{answer_of, labels_of, query_lengths_refused, labels, quick_labels}
 use Rattle.rules.specs.EvenCalls.{even_answer_of}
-use Rattle.rules.specs.declared.QueryAnswer.{QueryAnswer}
-use Rattle.rules.specs.declared.EvenAnswer.{EvenAnswer}
+use Rattle.rules.specs.Answers.{QueryAnswer, EvenAnswer}
 
 module _ (g : Grid) (tensor_lent coordinates : List Float) where
   -- the query's refusal, the first of 1 2 3 4 7 8 10 that applies

@@ -1,6 +1,7 @@
 pub mod Numbers
 pub mod Ends
 pub mod Sizes
+pub mod Answers
 pub mod Steps
 pub mod Refusals
 pub mod Locate

@@ -1,6 +1,6 @@
 -- The chapter Step of docs/RULES.md: whether a point is a knot, the knot that it steps to on one axis, and the sample at the indices of all
 -- axes.
-use Rattle.std.specs.Prelude.{cond, List, ℕ, ◌+◌, ◌-◌, Float}
+use Rattle.std.specs.Prelude.{cond, List, ℕ, ◌+◌, ◌-◌, Float, Option, Some, None}
 use Rattle.std.specs.Float.Ieee.{eq}
 use Rattle.rules.specs.Numbers.{at}
 use Rattle.rules.specs.Sizes.{Grid, points, knots, Place, flat}
@@ -8,22 +8,20 @@ use Rattle.rules.specs.Locate.{locate}
 use Rattle.rules.specs.Query.{fraction}
 use Rattle.rules.specs.declared.StepDirection.{StepDirection}
 use Rattle.rules.specs.declared.StepDirection.TheVariants.{Lower, Upper}
-use Rattle.rules.specs.declared.ExactIndex.{ExactIndex}
-use Rattle.rules.specs.declared.ExactIndex.TheVariants.{Found, NotFound}
 use Rattle.rules.specs.declared.AxisLocation.{AxisLocation}
 use Rattle.rules.specs.declared.AxisLocation.TheVariants.{Exact, Between}
 
 -- which of a knot and the next equals the point, the lower one first
-unfoldable pub exact_index : List Float → ℕ → Float → ExactIndex
+unfoldable pub exact_index : List Float → ℕ → Float → Option ℕ
 exact_index x lower p =
-    cond (eq (at x lower) p) (Found lower)
-    (cond (eq (at x (lower + 1)) p) (Found (lower + 1)) NotFound)
+    cond (eq (at x lower) p) (Some lower)
+    (cond (eq (at x (lower + 1)) p) (Some (lower + 1)) None)
 
 -- the location of a point in cell `lower`: the index that was found, and where none was the cell and the fraction
-unfoldable pub location : List Float → ℕ → Float → ExactIndex → AxisLocation
+unfoldable pub location : List Float → ℕ → Float → Option ℕ → AxisLocation
 unfolding fraction
-location x lower p (Found index) = Exact index
-location x lower p NotFound = Between lower (fraction x lower p)
+location x lower p (Some index) = Exact index
+location x lower p None = Between lower (fraction x lower p)
 
 -- where a point lies among n + 1 knots
 unfoldable pub locate_axis : List Float → ℕ → Float → AxisLocation

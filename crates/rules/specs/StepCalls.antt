@@ -1,5 +1,5 @@
 -- The chapter StepCalls of docs/RULES.md: for each public call of steps its refusal and its answer.
-use Rattle.std.specs.Prelude.{◌≡◌, ◌||◌, List, ℕ, zero, suc, ◌-◌, ltb, get_or, length, Float}
+use Rattle.std.specs.Prelude.{◌≡◌, ◌||◌, List, ℕ, zero, suc, ◌-◌, ltb, get_or, length, Float, Option, None}
 use Rattle.std.proofs.Math.Bool.{cond}
 use Rattle.rules.specs.Numbers.{at, table}
 use Rattle.rules.specs.Sizes.{most_axes, Grid, knots_length, samples_length}
@@ -20,19 +20,14 @@ use Rattle.rules.specs.Step.{exact_index, locate_axis, step_index, stepped_place
 use Rattle.rules.specs.Calls.{answered, counted, labelled}
 use Rattle.rules.specs.declared.StepDirection.{StepDirection}
 use Rattle.rules.specs.declared.StepDirection.TheVariants.{Lower}
-use Rattle.rules.specs.declared.ExactIndex.{ExactIndex}
-use Rattle.rules.specs.declared.ExactIndex.TheVariants.{NotFound}
 use Rattle.rules.specs.declared.AxisLocation.{AxisLocation}
 use Rattle.rules.specs.declared.AxisLocation.TheVariants.{Exact}
-use Rattle.rules.specs.declared.ExactAnswer.{ExactAnswer}
-use Rattle.rules.specs.declared.AxisAnswer.{AxisAnswer}
-use Rattle.rules.specs.declared.StepAnswer.{StepAnswer}
-use Rattle.rules.specs.declared.SteppedAnswer.{SteppedAnswer}
+use Rattle.rules.specs.Answers.{ExactAnswer, AxisAnswer, StepAnswer, SteppedAnswer}
 
 -- an exact index in an answer: none after a refusal
-abbrev pub found : ℕ → ExactIndex → ExactIndex
+abbrev pub found : ℕ → Option ℕ → Option ℕ
 found zero index = index
-found (suc refusal) index = NotFound
+found (suc refusal) index = None
 
 -- a location in an answer: on knot 0 after a refusal
 abbrev pub located : ℕ → AxisLocation → AxisLocation

@@ -5,6 +5,7 @@
 ghost use Rattle.std.specs.Prelude.{◌≡◌};
 ghost use Rattle.rules.specs.Ends.{zero_valued, crossed, not_a_knot, natural, clamped, periodic, first_derivative, second_derivative};
 ghost use Rattle.rules.specs.Sizes.{unused_axis};
+ghost use Rattle.rules.specs.Answers.{number_of};
 
 // An end of an axis.
 #[derive(Clone, Copy)]
@@ -53,37 +54,11 @@ pub struct Row {
     pub right: f64,
 }
 
-// A refusal's number, 0 for none, and the curve's value.
+// The surface's value, and of each axis the label: the cell that was evaluated.
 #[derive(Clone, Copy)]
-pub struct CurveAnswer {
-    pub refusal: usize,
-    pub value: f64,
-}
-
-// A refusal's number, 0 for none, and how many lanes were solved.
-#[derive(Clone, Copy)]
-pub struct ChangeAnswer {
-    pub refusal: usize,
-    pub lanes: usize,
-}
-
-// A refusal's number, 0 for none, the surface's value, and of each axis the label: the cell that was evaluated.
-#[derive(Clone, Copy)]
-pub struct QueryAnswer {
-    pub refusal: usize,
+pub struct ValueInCell {
     pub value: f64,
     pub labels: [usize; 4],
-}
-
-// What a query of even axes answers: the same, and after 21 the lowest axis that is not even and its first interval that fails, both 0
-// else.
-#[derive(Clone, Copy)]
-pub struct EvenAnswer {
-    pub refusal: usize,
-    pub value: f64,
-    pub labels: [usize; 4],
-    pub axis: usize,
-    pub interval: usize,
 }
 
 // Which way a step goes: down to the knot at or below a point, or up to the one at or above it.
@@ -93,13 +68,6 @@ pub enum StepDirection {
     Upper,
 }
 
-// The index of a knot that equals a point, or none: the Rust's Option.
-#[derive(Clone, Copy)]
-pub enum ExactIndex {
-    Found(usize),
-    NotFound,
-}
-
 // Where a point lies among knots: on one of them, or beside the lower one of its cell at a fraction of the cell's width.
 #[derive(Clone, Copy)]
 pub enum AxisLocation {
@@ -107,33 +75,55 @@ pub enum AxisLocation {
     Between { lower: usize, frac: f64 },
 }
 
-// A refusal's number, 0 for none, and the index of the knot that equals the point.
+// The sample at the indices of the steps, and these, of each axis.
 #[derive(Clone, Copy)]
-pub struct ExactAnswer {
-    pub refusal: usize,
-    pub index: ExactIndex,
-}
-
-// A refusal's number, 0 for none, and where the point lies.
-#[derive(Clone, Copy)]
-pub struct AxisAnswer {
-    pub refusal: usize,
-    pub location: AxisLocation,
-}
-
-// A refusal's number, 0 for none, and the index of the step.
-#[derive(Clone, Copy)]
-pub struct StepAnswer {
-    pub refusal: usize,
-    pub index: usize,
-}
-
-// A refusal's number, 0 for none, the sample at the indices of the steps, and these, of each axis.
-#[derive(Clone, Copy)]
-pub struct SteppedAnswer {
-    pub refusal: usize,
+pub struct SteppedSample {
     pub value: f64,
     pub indices: [usize; 4],
+}
+
+// Why a call refuses. Each refusal has a number, by which C is told of it; the numbers stand in document 01.
+#[derive(Clone, Copy)]
+pub enum Refusal {
+    Axes = 1,
+    Points = 2,
+    Tensor = 3,
+    Length = 4,
+    Scratch = 5,
+    Place = 6,
+    Number = 7,
+    Knots = 8,
+    Fewness = 9,
+    Outcome = 10,
+    Short = 11,
+    Edition = 12,
+    Kinds = 13,
+    Tail = 14,
+    Buffer = 15,
+    Stack = 16,
+    Unused = 17,
+    Outside = 18,
+    Range = 19,
+    Position = 20,
+    Uneven = 21,
+    Mode = 22,
+    Lost = 23,
+}
+
+// Why the query of even axes refuses: as any query, or for the lowest axis that is not even, with its first interval that fails.
+#[derive(Clone, Copy)]
+pub enum EvenRefusal {
+    Refused(Refusal),
+    Uneven { axis: usize, interval: usize },
+}
+
+impl Refusal {
+    // Its number.
+    pub fn number(self) -> usize
+        ensures { result ≡ number_of self }
+    {
+        self as usize
+    }
 }
 
 impl End {

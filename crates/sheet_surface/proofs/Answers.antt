@@ -16,7 +16,7 @@ use Rattle.rules.specs.Outside.{some_outside_refused}
 use Rattle.rules.specs.Query.{query_in_modes}
 use Rattle.rules.specs.Calls.{or_else, query_lengths_refused, query_refusal, query_answer, QueryPromise}
 use Rattle.rules.specs.declared.Axis.{Axis}
-use Rattle.rules.specs.declared.QueryAnswer.{QueryAnswer}
+use Rattle.rules.specs.Answers.{QueryAnswer}
 use Rattle.rules.proofs.Refused.{or_else_met}
 use Rattle.grid.specs.GridOfCall.{grid, sizes_of}
 use Rattle.sheet_patterns.specs.Patterns.{coordinates, unused_refused, refusal_pattern, answer_pattern}

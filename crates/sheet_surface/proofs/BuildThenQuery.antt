@@ -7,7 +7,7 @@ use lib.ListN.{length}
 use lib.Ieee.{Float}
 use Rattle.rules.specs.Sizes.{Grid}
 use Rattle.rules.specs.Calls.{or_else, QueryPromise}
-use Rattle.rules.specs.declared.QueryAnswer.{QueryAnswer}
+use Rattle.rules.specs.Answers.{QueryAnswer}
 use Rattle.sheet_patterns.specs.Patterns.{coordinates, unused_refused, answer_pattern}
 use Rattle.sheet_read.specs.Fields.{sheet_grid}
 use Rattle.sheet_read.specs.Faults.{sheet_refusal}

@@ -4,7 +4,7 @@ use Rattle.std.specs.Prelude.{◌≡◌, Bool, cond, List, ℕ, ltb, Float}
 use Rattle.rules.specs.Sizes.{Grid, tensor_length}
 use Rattle.rules.specs.Tensor.{tensor}
 use Rattle.rules.specs.Calls.{or_else, query_answer}
-use Rattle.rules.specs.declared.QueryAnswer.{QueryAnswer}
+use Rattle.rules.specs.Answers.{QueryAnswer}
 use Rattle.sheet_patterns.specs.Patterns.{coordinates, unused_refused, answer_pattern}
 use Rattle.sheet_read.specs.Fields.{sheet_grid, sheet_samples}
 use Rattle.sheet_read.specs.Faults.{sheet_refusal}

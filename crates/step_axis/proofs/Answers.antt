@@ -1,4 +1,5 @@
 -- What each public call answers: its check's refusal, or what was found.
+use Rattle.std.specs.Prelude.{Option, None}
 use mathlib.Core.Path.{◌≡◌, refl, sym, ap, ◌∙◌}
 use mathlib.Core.Bool.{true, false, cond}
 use mathlib.Core.List.{List}
@@ -23,13 +24,9 @@ use Rattle.rules.specs.StepCalls.{
   StepPromise,
 }
 use Rattle.rules.specs.declared.StepDirection.{StepDirection}
-use Rattle.rules.specs.declared.ExactIndex.{ExactIndex}
-use Rattle.rules.specs.declared.ExactIndex.TheVariants.{NotFound}
 use Rattle.rules.specs.declared.AxisLocation.{AxisLocation}
 use Rattle.rules.specs.declared.AxisLocation.TheVariants.{Exact}
-use Rattle.rules.specs.declared.ExactAnswer.{ExactAnswer}
-use Rattle.rules.specs.declared.AxisAnswer.{AxisAnswer}
-use Rattle.rules.specs.declared.StepAnswer.{StepAnswer}
+use Rattle.rules.specs.Answers.{ExactAnswer, AxisAnswer, StepAnswer}
 use Rattle.rules.proofs.Refused.{or_else_passed}
 use Rattle.grid_checks.proofs.ThenOutcome.{ThenOutcome, then_outcome, refused, outcome_bad, outcome_good}
 use Rattle.step_checks.specs.StepChecks.{exact_check, point_rows, point_check}
@@ -38,7 +35,7 @@ use Rattle.step_checks.proofs.Accepted.{exact_given, point_given}
 use Rattle.step_axis.specs.AmongKnots.{AxisLocated, Stepped}
 
 -- an answer of its two parts
-abbrev exact_of : ℕ → ExactIndex → ExactAnswer
+abbrev exact_of : ℕ → Option ℕ → ExactAnswer
 exact_of refusal index = record { refusal = refusal; index = index }
 
 abbrev step_of : ℕ → ℕ → StepAnswer
@@ -70,16 +67,16 @@ module _ (n : ℕ) (x : List Float) (lower : ℕ) (point : Float) {check : ℕ} 
   unfolding exact_refusal exact_check
   exact_is = sym checked
 
-  not_found : (refusal number : ℕ) (index : ExactIndex) → refusal ≡ number → (number ≡ 0 → ⊥)
-      → exact_of number NotFound ≡ exact_of refusal (found refusal index)
+  not_found : (refusal number : ℕ) (index : Option ℕ) → refusal ≡ number → (number ≡ 0 → ⊥)
+      → exact_of number None ≡ exact_of refusal (found refusal index)
   not_found refusal zero index e some = absurd (some refl)
   not_found refusal (suc number) index e some = rw e refl
 
-  pub exact_refused : (check ≡ 0 → ⊥) → ExactPromise n x lower point (exact_of check NotFound)
+  pub exact_refused : (check ≡ 0 → ⊥) → ExactPromise n x lower point (exact_of check None)
   unfolding exact_answer
   exact_refused some = record { answer = not_found (exact_refusal n x lower point) check (exact_index x lower point) exact_is some }
 
-  pub exact_answered : check ≡ 0 → (index : ExactIndex) → index ≡ exact_index x lower point
+  pub exact_answered : check ≡ 0 → (index : Option ℕ) → index ≡ exact_index x lower point
       → ExactPromise n x lower point (exact_of 0 index)
   unfolding exact_answer
   exact_answered none index is = record { answer = rw (exact_is ∙ none, is) refl }

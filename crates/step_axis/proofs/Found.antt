@@ -1,4 +1,5 @@
 -- What each branch finds among accepted knots is what the rules say.
+use Rattle.std.specs.Prelude.{Option, Some, None}
 use mathlib.Core.Path.{◌≡◌, refl, sym, ap, ◌∙◌}
 use mathlib.Core.Bool.{true, false, cond}
 use mathlib.Core.List.{List}
@@ -12,8 +13,6 @@ use Rattle.rules.specs.Locate.{locate}
 use Rattle.rules.specs.Query.{fraction}
 use Rattle.rules.specs.Step.{exact_index, location, locate_axis, lower_step, upper_step}
 use Rattle.rules.specs.declared.StepDirection.TheVariants.{Lower, Upper}
-use Rattle.rules.specs.declared.ExactIndex.{ExactIndex}
-use Rattle.rules.specs.declared.ExactIndex.TheVariants.{Found, NotFound}
 use Rattle.rules.specs.declared.AxisLocation.TheVariants.{Exact, Between}
 use Rattle.axis_locate.specs.CellFound.{Located}
 use Rattle.step_checks.specs.StepsChecked.{PointGiven}
@@ -22,15 +21,15 @@ use Rattle.step_axis.specs.AmongKnots.{AxisLocated, Stepped}
 -- ---- which of two knots equals the point
 
 module _ (x : List Float) (lower : ℕ) (p : Float) where
-  pub exact_lower : eq (at x lower) p ≡ true → Found lower ≡ exact_index x lower p
+  pub exact_lower : eq (at x lower) p ≡ true → Some lower ≡ exact_index x lower p
   unfolding exact_index
   exact_lower e = rw e
 
-  pub exact_upper : eq (at x lower) p ≡ false → eq (at x (lower + 1)) p ≡ true → Found (lower + 1) ≡ exact_index x lower p
+  pub exact_upper : eq (at x lower) p ≡ false → eq (at x (lower + 1)) p ≡ true → Some (lower + 1) ≡ exact_index x lower p
   unfolding exact_index
   exact_upper f e = rw (f, e)
 
-  pub exact_none : eq (at x lower) p ≡ false → eq (at x (lower + 1)) p ≡ false → NotFound ≡ exact_index x lower p
+  pub exact_none : eq (at x lower) p ≡ false → eq (at x (lower + 1)) p ≡ false → None ≡ exact_index x lower p
   unfolding exact_index
   exact_none f g = rw (f, g)
 
@@ -44,11 +43,11 @@ module _ (x : List Float) (p : Float) (lower : ℕ) (given : PointGiven (length 
   unfolding locate_axis
   located_by = ap (λ (l : ℕ). location x l p (exact_index x l p)) cell
 
-  pub on_knot : {found : ExactIndex} → found ≡ exact_index x lower p → (index : ℕ) → found ≡ Found index → AxisLocated x p (Exact index)
+  pub on_knot : {found : Option ℕ} → found ≡ exact_index x lower p → (index : ℕ) → found ≡ Some index → AxisLocated x p (Exact index)
   unfolding location
   on_knot e index is = sym (located_by ∙ ap (location x lower p) (sym e ∙ is))
 
-  pub in_cell : {found : ExactIndex} → found ≡ exact_index x lower p → found ≡ NotFound
+  pub in_cell : {found : Option ℕ} → found ≡ exact_index x lower p → found ≡ None
       → AxisLocated x p (Between lower ((p ⊖ at x lower) ⊘ (at x (lower + 1) ⊖ at x lower)))
   unfolding location fraction h
   in_cell e is = sym (located_by ∙ ap (location x lower p) (sym e ∙ is))

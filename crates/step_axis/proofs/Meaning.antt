@@ -1,4 +1,5 @@
 -- What an accepted call's index or location says of the point and the knots.
+use Rattle.std.specs.Prelude.{Some, None}
 use mathlib.Core.Path.{◌≡◌, refl, sym, ap, ◌∙◌}
 use mathlib.Core.Bool.{Bool, true, false, not, cond, ◌&&◌}
 use mathlib.Core.List.{List}
@@ -13,7 +14,6 @@ use Rattle.rules.specs.Query.{fraction}
 use Rattle.rules.specs.Step.{exact_index, location, locate_axis, lower_step, upper_step}
 use Rattle.rules.specs.StepCalls.{step_refusal, step_answer, axis_refusal, axis_answer}
 use Rattle.rules.specs.declared.StepDirection.TheVariants.{Lower, Upper}
-use Rattle.rules.specs.declared.ExactIndex.TheVariants.{Found, NotFound}
 use Rattle.rules.proofs.Cases.{not_both}
 use Rattle.base_floats.specs.Place.{Real, AllFit}
 use Rattle.axis_locate.specs.CellFound.{Rising}
@@ -161,7 +161,7 @@ module _ (x : List Float) (n : ℕ) (point : Float) (R : Rising x n) (F : AllFit
   location_says = rw (cell_is x n point R F P some) (go (eq (at x m) point) refl (eq (at x (m + 1)) point) refl)
     where
       go : (t : Bool) → eq (at x m) point ≡ t → (u : Bool) → eq (at x (m + 1)) point ≡ u
-          → Says x n point (location x m point (cond t (Found m) (cond u (Found (m + 1)) NotFound)))
+          → Says x n point (location x m point (cond t (Some m) (cond u (Some (m + 1)) None)))
       go true p u q = record { among = omega arith; equal = p }
       go false p true q = record { among = omega arith; equal = q }
       go false p false q = between p q

@@ -7,7 +7,7 @@ use lib.Ieee.{Float}
 use Rattle.rules.specs.Sizes.{place_of, sum_below}
 use Rattle.rules.specs.StepCalls.{SteppedPromise}
 use Rattle.rules.specs.declared.StepDirection.{StepDirection}
-use Rattle.rules.specs.declared.SteppedAnswer.{SteppedAnswer}
+use Rattle.rules.specs.Answers.{SteppedAnswer}
 use Rattle.grid.specs.GridOfCall.{InRange}
 use Rattle.step_checks.specs.StepChecks.{stepped_sizes_check}
 use Rattle.step_checks.proofs.Accepted.{sizes_accepted}

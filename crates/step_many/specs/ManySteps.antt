@@ -4,9 +4,8 @@ use Rattle.std.specs.Prelude.{cond, ◌||◌, List, ℕ, length, Float}
 use Rattle.rules.specs.Sizes.{Grid, knots_length, samples_length}
 use Rattle.rules.specs.Refusals.{axes_refused, some_points_refused, tensor_refused, length_refused}
 use Rattle.rules.specs.StepCalls.{stepped_answer}
-use Rattle.rules.specs.declared.QueryAnswer.{QueryAnswer}
+use Rattle.rules.specs.Answers.{QueryAnswer, SteppedAnswer}
 use Rattle.rules.specs.declared.StepDirection.{StepDirection}
-use Rattle.rules.specs.declared.SteppedAnswer.{SteppedAnswer}
 use Rattle.many_points.specs.ManyPoints.{point_of, points_lengths_refused, EachAnswered}
 
 -- an answer of the stepped surface with its indices as labels

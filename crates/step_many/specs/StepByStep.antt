@@ -1,7 +1,7 @@
 -- What is known of each point where points are stepped at one after the other.
 use Rattle.std.specs.Prelude.{◌≡◌, List, ℕ, Float}
 use Rattle.rules.specs.StepCalls.{stepped_answer}
-use Rattle.rules.specs.declared.QueryAnswer.{QueryAnswer}
+use Rattle.rules.specs.Answers.{QueryAnswer}
 use Rattle.rules.specs.declared.StepDirection.{StepDirection}
 use Rattle.step_surface.specs.OnPoints.{OfAnyPoints}
 use Rattle.step_many.specs.ManySteps.{indices_as_labels}

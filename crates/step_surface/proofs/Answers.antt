@@ -18,7 +18,7 @@ use Rattle.rules.specs.Calls.{or_else, answered, labelled}
 use Rattle.rules.specs.StepCalls.{direction, stepped_refusal, step_indices, stepped_answer, SteppedPromise}
 use Rattle.rules.specs.declared.Axis.{Axis}
 use Rattle.rules.specs.declared.StepDirection.{StepDirection}
-use Rattle.rules.specs.declared.SteppedAnswer.{SteppedAnswer}
+use Rattle.rules.specs.Answers.{SteppedAnswer}
 use Rattle.rules.proofs.Places.{One, flat_below, flat_ext}
 use Rattle.rules.proofs.Refused.{or_else_met, any_ext}
 use Rattle.rules.proofs.Sums.{sum_ext, product_ext}

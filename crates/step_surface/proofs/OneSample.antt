@@ -13,7 +13,7 @@ use Rattle.rules.specs.Calls.{answered, labelled}
 use Rattle.rules.specs.StepCalls.{direction, stepped_refusal, step_indices, stepped_answer}
 use Rattle.rules.specs.declared.StepDirection.{StepDirection}
 use Rattle.rules.specs.declared.StepDirection.TheVariants.{Lower, Upper}
-use Rattle.rules.specs.declared.SteppedAnswer.{SteppedAnswer}
+use Rattle.rules.specs.Answers.{SteppedAnswer}
 use Rattle.rules.proofs.Places.{flat_below, flat_one}
 use Rattle.grid.specs.GridOfCall.{InRange, On}
 use Rattle.step_checks.proofs.Accepted.{stepped_given}

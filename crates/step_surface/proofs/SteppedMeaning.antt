@@ -14,7 +14,7 @@ use Rattle.rules.specs.Step.{step_index, stepped_place, stepped}
 use Rattle.rules.specs.StepCalls.{direction, stepped_refusal, step_indices, stepped_answer, SteppedPromise}
 use Rattle.rules.specs.declared.StepDirection.{StepDirection}
 use Rattle.rules.specs.declared.StepDirection.TheVariants.{Lower, Upper}
-use Rattle.rules.specs.declared.SteppedAnswer.{SteppedAnswer}
+use Rattle.rules.specs.Answers.{SteppedAnswer}
 use Rattle.rules.proofs.Tables.{length_table, at_table}
 use Rattle.rules.proofs.Places.{flat_ext}
 use Rattle.base_floats.specs.Place.{AllFit}

@@ -4,7 +4,7 @@ use Rattle.std.specs.Prelude.{◌≡◌, List, ℕ, length, Float}
 use Rattle.rules.specs.Numbers.{plus_zero, table}
 use Rattle.rules.specs.Sizes.{most_axes, place_of, Grid}
 use Rattle.rules.specs.declared.Axis.{Axis}
-use Rattle.rules.specs.declared.SteppedAnswer.{SteppedAnswer}
+use Rattle.rules.specs.Answers.{SteppedAnswer}
 use Rattle.rules.proofs.Places.{One}
 use Rattle.grid.specs.GridOfCall.{grid, points_of}
 use Rattle.step_checks.specs.StepChecks.{stepped_sizes_check}

@@ -14,7 +14,7 @@ use Rattle.rules.specs.Numbers.{at}
 use Rattle.rules.specs.Sizes.{Grid, points, tensor_length, Place, spot, masks, flat}
 use Rattle.rules.specs.Change.{changed_tensor, change_lanes}
 use Rattle.rules.specs.Calls.{counted, change_answer, ChangePromise}
-use Rattle.rules.specs.declared.ChangeAnswer.{ChangeAnswer}
+use Rattle.rules.specs.Answers.{ChangeAnswer}
 use Rattle.rules.proofs.Places.{flat_below}
 use Rattle.rules.proofs.LaneCount.{lane_count}
 use Rattle.grid_checks.specs.Check.{change_check}

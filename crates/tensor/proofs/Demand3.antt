@@ -30,7 +30,7 @@ use Rattle.rules.specs.Refusals.{
 use Rattle.rules.specs.Tensor.{sample, tensor}
 use Rattle.rules.specs.Change.{agree, changed_tensor, change_lanes, lane_sum}
 use Rattle.rules.specs.Calls.{stored, counted, build_refusal, BuildPromise, change_refusal, change_answer}
-use Rattle.rules.specs.declared.ChangeAnswer.{ChangeAnswer}
+use Rattle.rules.specs.Answers.{ChangeAnswer}
 use Rattle.rules.proofs.Cases.{not_both, passed, neither_of}
 use Rattle.rules.proofs.Places.{OnGrid, flat_below}
 use Rattle.rules.proofs.Tables.{length_table}

@@ -10,7 +10,7 @@ use lib.Ieee.{Float}
 use Rattle.rules.specs.Sizes.{Grid, points, flat}
 use Rattle.rules.specs.Tensor.{tensor}
 use Rattle.rules.specs.Change.{lane_sum}
-use Rattle.rules.specs.declared.ChangeAnswer.{ChangeAnswer}
+use Rattle.rules.specs.Answers.{ChangeAnswer}
 use Rattle.rules.proofs.Places.{OnGrid, flat_ext, flat_one}
 use Rattle.tensor.specs.Changes.{OneChange, Kept, standing, samples_after}
 use Rattle.tensor.specs.EitherOrder.{

@@ -2,7 +2,7 @@
 use Rattle.std.specs.Prelude.{List, [], ◌∷◌, ℕ, zero, suc, set, Float}
 use Rattle.rules.specs.Sizes.{Grid, points, Place, flat}
 use Rattle.rules.specs.Calls.{ChangePromise}
-use Rattle.rules.specs.declared.ChangeAnswer.{ChangeAnswer}
+use Rattle.rules.specs.Answers.{ChangeAnswer}
 
 -- one change of a list: what was asked, the scratch that was lent, the answer, and what stood afterwards in the tensor and the scratch
 pub record OneChange : Type 0 where

@@ -11,7 +11,7 @@
 use Rattle.std.specs.Prelude.{◌≡◌, ◌≢◌, List, [], ◌∷◌, ◌++◌, map, ℕ, ◌<◌, Float}
 use Rattle.rules.specs.Sizes.{Grid, Place}
 use Rattle.rules.specs.Calls.{BuildPromise}
-use Rattle.rules.specs.declared.ChangeAnswer.{ChangeAnswer}
+use Rattle.rules.specs.Answers.{ChangeAnswer}
 use Rattle.tensor.specs.Changes.{OneChange, Kept, tensor_after, samples_after}
 
 -- ---- what the statements speak of
