@@ -11,6 +11,8 @@ use Rattle.rules.specs.Sizes.{sum_below, product_below}
 use Rattle.rules.specs.Refusals.{points_refused}
 use Rattle.base_numbers.proofs.Scan.{neither, any_none, any_more, any_found}
 use Rattle.grid.proofs.Products.{sum_none, sum_more, product_none, product_more, product_bound, of_four, with_masks}
+use Rattle.std.specs.Prelude.{Ok, Err}
+use Rattle.rules.specs.declared.Refusal.TheVariants.{Points, Tensor}
 use Rattle.grid_checks.specs.Check.{points_check}
 use Rattle.grid_checks.specs.SizesFound.{SizesFound}
 use Rattle.grid_checks.proofs.Rows.{stop, pass}
@@ -61,27 +63,21 @@ module _ (axes : ℕ) (n : ℕ → ℕ) where
 
   -- ---- what is found
 
-  pub found_points : {i : ℕ} → i < axes → points_refused (n i) ≡ true → SizesFound axes n (record { refusal = 2; knots = 0; numbers = 0 })
+  pub found_points : {i : ℕ} → i < axes → points_refused (n i) ≡ true → SizesFound axes n (Err Points)
   unfolding points_check
-  found_points {i} l bad = record {
-    refusal = stop _ refl (any_found _ i axes l bad);
-    knots = λ z. absurd (omega arith);
-    numbers = λ z. absurd (omega arith);
-  }
+  found_points {i} l bad = record { refusal = stop _ refl (any_found _ i axes l bad); sizes = tt }
 
   module _ {knots numbers : ℕ} (counted : Counted axes n axes knots numbers) where
-    pub found_large : 4096 < numbers → SizesFound axes n (record { refusal = 3; knots = 0; numbers = 0 })
+    pub found_large : 4096 < numbers → SizesFound axes n (Err Tensor)
     unfolding points_check
     found_large large = record {
       refusal = pass _ refl counted.none_refused (stop _ refl (lt-ltb _ _ (rw counted.numbers_counted at large)));
-      knots = λ z. absurd (omega arith);
-      numbers = λ z. absurd (omega arith);
+      sizes = tt;
     }
 
-    pub found_sizes : numbers ≤ 4096 → SizesFound axes n (record { refusal = 0; knots = knots; numbers = numbers })
+    pub found_sizes : numbers ≤ 4096 → SizesFound axes n (Ok (record { knots = knots; numbers = numbers }))
     unfolding points_check
     found_sizes small = record {
       refusal = pass _ refl counted.none_refused (pass _ refl (le-ltb _ _ (rw counted.numbers_counted at small)) refl);
-      knots = λ z. counted.knots_counted;
-      numbers = λ z. counted.numbers_counted;
+      sizes = record { knots = counted.knots_counted; numbers = counted.numbers_counted };
     }

@@ -13,7 +13,12 @@ use Rattle.rules.specs.Numbers.{any}
 use Rattle.rules.specs.Sizes.{most_axes}
 use Rattle.rules.specs.Refusals.{points_refused, length_refused, knots_refused}
 use Rattle.rules.specs.Calls.{or_else}
+use Rattle.std.specs.Prelude.{Result}
+use Rattle.std.specs.Result.{IsErrAnd}
+use Rattle.rules.specs.Answers.{number_of, refusal_of}
+use Rattle.rules.specs.declared.Refusal as rules
 use Rattle.rules.proofs.Refused.{or_else_met}
+use Rattle.rules.proofs.Given.{given_on, number_some}
 use Rattle.rules.specs.declared.Axis.{Axis}
 use Rattle.base_numbers.proofs.Scan.{neither, any_at}
 use Rattle.grid.specs.GridOfCall.{sizes_of, points_of, InRange}
@@ -86,6 +91,11 @@ module _ (rows : List Refusal) (n : T (numbered rows)) {number : ℕ} (e : numbe
   pub rows_pass : {answer : ℕ} (later : ℕ) → number ≡ 0 → answer ≡ later → answer ≡ lowest rows later
   rows_pass later z below = below ∙ sym (rows_then rows later n ∙ rw (sym e ∙ z))
 
+-- the exit of a `?` over a function that asks rows: the refusal that it has met is the answer
+pub rows_given : (rows : List Refusal) → T (numbered rows) → {Given : Type 0} (given : Result Given rules.Refusal) (met : rules.Refusal)
+    → number_of met ≡ lowest rows 0 → IsErrAnd given (λ refusal. refusal ≡ met) → (later : ℕ) → refusal_of given ≡ lowest rows later
+rows_given rows n given met e h later = given_on given met h ∙ rows_stop rows n e later (number_some met)
+
 -- no row has the number of an outcome
 pub rows_below_10 : (rows : List Refusal) → T (below_outcome rows) → lowest rows 0 < 10
 rows_below_10 [] b = omega arith
@@ -136,6 +146,11 @@ module _ (axes : ℕ) (entries : List Axis) {number : ℕ} (e : number ≡ sizes
   pub sizes_stop : (later : ℕ) → (number ≡ 0 → ⊥) → number ≡ lowest (sizes_rows (sizes_of axes entries)) later
   unfolding sizes_check
   sizes_stop = rows_stop (sizes_rows (sizes_of axes entries)) tt e
+
+  pub sizes_given : {Given : Type 0} (given : Result Given rules.Refusal) (met : rules.Refusal) → number ≡ number_of met
+      → IsErrAnd given (λ refusal. refusal ≡ met) → (later : ℕ) → refusal_of given ≡ lowest (sizes_rows (sizes_of axes entries)) later
+  unfolding sizes_check
+  sizes_given given met is_number = rows_given (sizes_rows (sizes_of axes entries)) tt given met (sym is_number ∙ e)
 
   pub sizes_pass : {answer : ℕ} (later : ℕ) → number ≡ 0 → answer ≡ later → answer ≡ lowest (sizes_rows (sizes_of axes entries)) later
   unfolding sizes_check

@@ -38,14 +38,10 @@ pub fn some_ends_refused(axes: usize, all: [Axis; 4]) -> bool
     requires { axes ≤ 4 }
     ensures { result ≡ some_ends_refused (sizes_of axes all) }
 {
-    let mut i = 0;
-    while i < axes {
-        let axis = all[i];
-        let condition = axis.condition;
-        if ends_refused(condition) {
+    for i in 0..axes {
+        if ends_refused(all[i].condition) {
             return true;
         }
-        i += 1;
     }
     false
 }
@@ -83,14 +79,10 @@ pub fn some_fewness_refused(axes: usize, all: [Axis; 4]) -> bool
     requires { axes ≤ 4 }
     ensures { result ≡ some_fewness_refused (sizes_of axes all) }
 {
-    let mut i = 0;
-    while i < axes {
-        let axis = all[i];
-        let condition = axis.condition;
-        if fewness_refused(condition, axis.points) {
+    for i in 0..axes {
+        if fewness_refused(all[i].condition, all[i].points) {
             return true;
         }
-        i += 1;
     }
     false
 }

@@ -1,4 +1,4 @@
-// Refusals 1 to 9 as code: for each public call the lowest number that it meets before it works, and 0 where there is none. Of a slice that
+// Refusals 1 to 9 as code: for each public call the lowest number that it meets before it works, if there is one. Of a slice that
 // the call will write, only the length is looked at. The pass over the knots for refusal 8 is made before the numbers are looked at for
 // refusal 7: where it finds nothing, every knot is finite.
 
@@ -6,6 +6,7 @@
 
 ghost use Rattle.std.specs.Prelude.{◌≡◌, length};
 ghost use Rattle.rules.specs.Sizes.{place_of, sum_below};
+ghost use Rattle.rules.specs.Answers.{refusal_of};
 ghost use Rattle.grid.specs.GridOfCall.{grid, InRange};
 ghost use Rattle.grid_checks.specs.Check.{
   moments_check,
@@ -17,7 +18,7 @@ ghost use Rattle.grid_checks.specs.Check.{
   knots_and_coordinates_check,
 };
 
-use rules::{Axis, Condition};
+use rules::{Axis, Condition, Refusal};
 
 pub mod ends;
 pub mod lengths;
@@ -25,77 +26,77 @@ pub mod numbers;
 pub mod rising;
 pub mod sizes;
 
-// What the curve's moments meet: 2, 4, 5, 7, 8, 9, or 0.
-pub fn moments_refusal(
+// What the curve's moments meet: 2, 4, 5, 7, 8, 9, or none.
+pub fn check_moments(
     points: usize,
     knots: &[f64],
     samples: &[f64],
     condition: Condition,
     moments_length: usize,
     scratch_length: usize,
-) -> usize
-    ensures { result ≡ moments_check points knots.now samples.now condition moments_length scratch_length }
+) -> Result<(), Refusal>
+    ensures { refusal_of result ≡ moments_check points knots.now samples.now condition moments_length scratch_length }
 {
     if sizes::points_refused(points) {
-        return 2;
+        return Err(Refusal::Points);
     }
     if lengths::axis_refused(points, knots.len(), samples.len(), moments_length) {
-        return 4;
+        return Err(Refusal::Length);
     }
     if scratch_length < grid_scratch::ROWS {
-        return 5;
+        return Err(Refusal::Scratch);
     }
     let knots_refused = rising::knots_refused(knots);
     if numbers::moments_refused(knots_refused, knots, condition, samples) {
-        return 7;
+        return Err(Refusal::Number);
     }
     if knots_refused {
-        return 8;
+        return Err(Refusal::Knots);
     }
     if ends::fewness_refused(condition, points) {
-        return 9;
+        return Err(Refusal::Fewness);
     }
-    0
+    Ok(())
 }
 
-// What the curve's value meets: 2, 4, 7, 8, or 0.
-pub fn curve_refusal(
+// What the curve's value meets: 2, 4, 7, 8, or none.
+pub fn check_curve(
     points: usize,
     knots: &[f64],
     samples: &[f64],
     moments_length: usize,
     point: f64,
-) -> usize
-    ensures { result ≡ curve_check points knots.now samples.now moments_length point }
+) -> Result<(), Refusal>
+    ensures { refusal_of result ≡ curve_check points knots.now samples.now moments_length point }
 {
     if sizes::points_refused(points) {
-        return 2;
+        return Err(Refusal::Points);
     }
     if lengths::axis_refused(points, knots.len(), samples.len(), moments_length) {
-        return 4;
+        return Err(Refusal::Length);
     }
     let knots_refused = rising::knots_refused(knots);
     if numbers::curve_refused(knots_refused, knots, samples, point) {
-        return 7;
+        return Err(Refusal::Number);
     }
     if knots_refused {
-        return 8;
+        return Err(Refusal::Knots);
     }
-    0
+    Ok(())
 }
 
-// What the knot slopes meet: 2, 4, 7, 8, or 0.
-pub fn slopes_refusal(
+// What the knot slopes meet: 2, 4, 7, 8, or none.
+pub fn check_slopes(
     points: usize,
     knots: &[f64],
     samples: &[f64],
     moments_length: usize,
     slopes_length: usize,
-) -> usize
-    ensures { result ≡ slopes_check points knots.now samples.now moments_length slopes_length }
+) -> Result<(), Refusal>
+    ensures { refusal_of result ≡ slopes_check points knots.now samples.now moments_length slopes_length }
 {
     if sizes::points_refused(points) {
-        return 2;
+        return Err(Refusal::Points);
     }
     if lengths::slopes_refused(
         points,
@@ -104,54 +105,51 @@ pub fn slopes_refusal(
         moments_length,
         slopes_length,
     ) {
-        return 4;
+        return Err(Refusal::Length);
     }
     let knots_refused = rising::knots_refused(knots);
     if numbers::slices_refused(knots_refused, knots, samples) {
-        return 7;
+        return Err(Refusal::Number);
     }
     if knots_refused {
-        return 8;
+        return Err(Refusal::Knots);
     }
-    0
+    Ok(())
 }
 
-// What a build meets: 1, 2, 3, 4, 5, 7, 8, 9, or 0.
-pub fn build_refusal(
+// What a build meets: 1, 2, 3, 4, 5, 7, 8, 9, or none.
+pub fn check_build(
     axes: usize,
     all: [Axis; 4],
     knots: &[f64],
     samples: &[f64],
     tensor_length: usize,
     scratch_length: usize,
-) -> usize
-    ensures { result ≡ build_check (grid axes all knots.now) samples.now tensor_length scratch_length }
+) -> Result<(), Refusal>
+    ensures { refusal_of result ≡ build_check (grid axes all knots.now) samples.now tensor_length scratch_length }
 {
-    let refusal = sizes::sizes_refusal(axes, all);
-    if refusal != 0 {
-        return refusal;
-    }
+    sizes::check_sizes(axes, all)?;
     if lengths::build_refused(axes, all, knots.len(), samples.len(), tensor_length) {
-        return 4;
+        return Err(Refusal::Length);
     }
     if lengths::scratch_refused(axes, all, scratch_length) {
-        return 5;
+        return Err(Refusal::Scratch);
     }
     let knots_refused = rising::some_knots_refused(axes, all, knots);
     if numbers::build_refused(axes, all, knots_refused, knots, samples) {
-        return 7;
+        return Err(Refusal::Number);
     }
     if knots_refused {
-        return 8;
+        return Err(Refusal::Knots);
     }
     if ends::some_fewness_refused(axes, all) {
-        return 9;
+        return Err(Refusal::Fewness);
     }
-    0
+    Ok(())
 }
 
-// What a change meets: 1, 2, 3, 4, 5, 6, 7, 8, 9, or 0.
-pub fn change_refusal(
+// What a change meets: 1, 2, 3, 4, 5, 6, 7, 8, 9, or none.
+pub fn check_change(
     axes: usize,
     all: [Axis; 4],
     knots: &[f64],
@@ -159,76 +157,70 @@ pub fn change_refusal(
     scratch_length: usize,
     place: [usize; 4],
     sample: f64,
-) -> usize
-    ensures { result ≡ change_check (grid axes all knots.now) tensor.now scratch_length (place_of place) sample }
+) -> Result<(), Refusal>
+    ensures { refusal_of result ≡ change_check (grid axes all knots.now) tensor.now scratch_length (place_of place) sample }
 {
-    let refusal = sizes::sizes_refusal(axes, all);
-    if refusal != 0 {
-        return refusal;
-    }
+    sizes::check_sizes(axes, all)?;
     if lengths::change_refused(axes, all, knots.len(), tensor.len()) {
-        return 4;
+        return Err(Refusal::Length);
     }
     if lengths::scratch_refused(axes, all, scratch_length) {
-        return 5;
+        return Err(Refusal::Scratch);
     }
     if sizes::place_refused(axes, all, place) {
-        return 6;
+        return Err(Refusal::Place);
     }
     let knots_refused = rising::some_knots_refused(axes, all, knots);
     if numbers::change_refused(axes, all, knots_refused, knots, sample, tensor) {
-        return 7;
+        return Err(Refusal::Number);
     }
     if knots_refused {
-        return 8;
+        return Err(Refusal::Knots);
     }
     if ends::some_fewness_refused(axes, all) {
-        return 9;
+        return Err(Refusal::Fewness);
     }
-    0
+    Ok(())
 }
 
-// What a query meets of its sizes and lengths, on axes of so many points: 1, 2, 3, 4, or 0. Not a public call: it requires four points.
-pub fn query_sizes_refusal(
+// What a query meets of its sizes and lengths, on axes of so many points: 1, 2, 3, 4, or none. Not a public call: it requires four points.
+pub fn check_query_sizes(
     axes: usize,
     points: &[usize],
     knots: usize,
     tensor: usize,
     coordinates: usize,
-) -> usize
+) -> Result<(), Refusal>
     requires { length points.now ≡ 4 }
-    ensures { result ≡ query_sizes_check axes (place_of points.now) knots tensor coordinates }
+    ensures { refusal_of result ≡ query_sizes_check axes (place_of points.now) knots tensor coordinates }
 {
     if sizes::axes_refused(axes) {
-        return 1;
+        return Err(Refusal::Axes);
     }
-    let found = sizes::sizes_of_points(axes, points);
-    if found.refusal != 0 {
-        return found.refusal;
-    }
+    let found = sizes::sizes_of_points(axes, points)?;
     if lengths::query_lengths_refused(axes, found, knots, tensor, coordinates) {
-        return 4;
+        return Err(Refusal::Length);
     }
-    0
+    Ok(())
 }
 
-// What a query meets of knots and coordinates: 7, 8, or 0. Not a public call: it requires four points, and what refusals 1, 2 and 4 leave.
-pub fn knots_and_coordinates_refusal(
+// What a query meets of knots and coordinates: 7, 8, or none. Not a public call: it requires four points, and what refusals 1, 2 and 4 leave.
+pub fn check_knots_and_coordinates(
     axes: usize,
     points: &[usize],
     knots: &[f64],
     coordinates: &[f64],
-) -> usize
+) -> Result<(), Refusal>
     requires { InRange axes (place_of points.now) × (length points.now ≡ 4)
         × (length knots.now ≡ sum_below (place_of points.now) axes) }
-    ensures { result ≡ knots_and_coordinates_check axes (place_of points.now) knots.now coordinates.now }
+    ensures { refusal_of result ≡ knots_and_coordinates_check axes (place_of points.now) knots.now coordinates.now }
 {
     let knots_refused = rising::knots_of_points_refused(axes, points, knots);
     if numbers::slices_refused(knots_refused, knots, coordinates) {
-        return 7;
+        return Err(Refusal::Number);
     }
     if knots_refused {
-        return 8;
+        return Err(Refusal::Knots);
     }
-    0
+    Ok(())
 }

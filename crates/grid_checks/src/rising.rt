@@ -32,10 +32,8 @@ fn some_knot_not_rising(knots: &[f64]) -> bool
 {
     let last = knots.len() - 1;
     let mut found = false;
-    let mut i = 0;
-    while i < last {
-        found = found | !(knots[i] < knots[i + 1]);
-        i += 1;
+    for i in 0..last {
+        found |= !(knots[i] < knots[i + 1]);
     }
     found
 }
@@ -45,10 +43,8 @@ fn some_step_refused(knots: &[f64]) -> bool
     ensures { result ≡ knots_refused knots.now (length knots.now) }
 {
     let mut refused = false;
-    let mut i = 0;
-    while i + 1 < knots.len() {
-        refused = refused | step_refused(knots[i], knots[i + 1]);
-        i += 1;
+    for i in 0..knots.len().saturating_sub(1) {
+        refused |= step_refused(knots[i], knots[i + 1]);
     }
     refused
 }
@@ -77,14 +73,12 @@ pub fn knots_of_points_refused(axes: usize, points: &[usize], knots: &[f64]) -> 
     ensures { result ≡ knots_of_points_refused axes (place_of points.now) knots.now }
 {
     let mut start = 0;
-    let mut i = 0;
-    while i < axes {
+    for i in 0..axes {
         let end = start + points[i];
         if knots_refused(&knots[start..end]) {
             return true;
         }
         start = end;
-        i += 1;
     }
     false
 }

@@ -10,6 +10,7 @@ pub mod Locality
 pub mod ChangeIsBuild
 pub mod LaneCount
 pub mod Refused
+pub mod Given
 pub mod WithoutModes
 pub mod QuickReads
 pub mod Modes

@@ -9,6 +9,3 @@ use Rattle.grid_checks.proofs.ends.some_fewness_refused.Given as goal
 
 abbrev pub invariant-loop-i : goal.invariant-loop-i
 invariant-loop-i l = (l.i ≤ l.axes) × (any (λ j. fewness_refused (condition_of l.all j) (points_of l.all j)) l.i ≡ false)
-
-abbrev pub decreases-loop-i : goal.decreases-loop-i
-decreases-loop-i l = l.axes - l.i

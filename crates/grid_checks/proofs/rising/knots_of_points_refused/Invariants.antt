@@ -13,6 +13,3 @@ abbrev pub invariant-loop-i : goal.invariant-loop-i
 invariant-loop-i l = (l.i ≤ l.axes)
     × (l.start ≡ sum_below (place_of l.points) l.i)
     × (any (λ j. knots_refused (take (place_of l.points j) (drop (sum_below (place_of l.points) j) l.knots)) (place_of l.points j)) l.i ≡ false)
-
-abbrev pub decreases-loop-i : goal.decreases-loop-i
-decreases-loop-i l = l.axes - l.i

@@ -9,6 +9,3 @@ use Rattle.grid_checks.proofs.rising.some_step_refused.Given as goal
 
 abbrev pub invariant-loop-i : goal.invariant-loop-i
 invariant-loop-i l = (l.i ≤ length l.knots - 1) × (l.refused ≡ any (step_refused l.knots) l.i)
-
-abbrev pub decreases-loop-i : goal.decreases-loop-i
-decreases-loop-i l = length l.knots - l.i

@@ -11,6 +11,3 @@ use Rattle.grid_checks.proofs.sizes.place_refused.Given as goal
 
 abbrev pub invariant-loop-i : goal.invariant-loop-i
 invariant-loop-i l = (l.i ≤ l.axes) × (any (λ j. leb (points_of l.all j) (place_of l.place j)) l.i ≡ false)
-
-abbrev pub decreases-loop-i : goal.decreases-loop-i
-decreases-loop-i l = l.axes - l.i

@@ -7,6 +7,3 @@ use Rattle.grid_checks.proofs.sizes.sizes_of_points.Given as goal
 
 abbrev pub invariant-loop-i : goal.invariant-loop-i
 invariant-loop-i l = Counted l.axes (place_of l.points) l.i l.knots l.numbers
-
-abbrev pub decreases-loop-i : goal.decreases-loop-i
-decreases-loop-i l = l.axes - l.i

@@ -5,7 +5,7 @@ use Rattle.rules.specs.Sizes.{place_of}
 use Rattle.grid_checks.specs.Check.{knots_and_coordinates_check}
 use Rattle.grid_checks.proofs.Rows.{stop, pass}
 use Rattle.grid_checks.proofs.FiniteKnots.{points_finite}
-use Rattle.grid_checks.proofs.knots_and_coordinates_refusal.Goals as goal
+use Rattle.grid_checks.proofs.check_knots_and_coordinates.Goals as goal
 
 pub slices_refused-requires : goal.slices_refused-requires
 slices_refused-requires c =

@@ -8,8 +8,8 @@ use Rattle.grid_checks.specs.Checked.{FiniteUnless}
 use Rattle.grid_checks.specs.Check.{curve_rows, curve_check}
 use Rattle.grid_checks.proofs.Rows.{stop, pass, Past, exact_3, knots_row}
 use Rattle.grid_checks.proofs.FiniteKnots.{axis_finite}
-use Rattle.grid_checks.proofs.curve_refusal.Goals as goal
-use Rattle.grid_checks.proofs.curve_refusal.Goals.{After-knots_refused-knots_refused, Else-axis_refused, Else-curve_refused, Else-knots_refused, Else-points_refused}
+use Rattle.grid_checks.proofs.check_curve.Goals as goal
+use Rattle.grid_checks.proofs.check_curve.Goals.{After-knots_refused-knots_refused, Else-axis_refused, Else-curve_refused, Else-knots_refused, Else-points_refused}
 
 knots_exact : (c : Else-axis_refused) → length c.args.knots.now ≡ c.args.points
 knots_exact c =

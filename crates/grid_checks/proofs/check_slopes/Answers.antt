@@ -8,8 +8,8 @@ use Rattle.grid_checks.specs.Checked.{FiniteUnless}
 use Rattle.grid_checks.specs.Check.{slopes_rows, slopes_check}
 use Rattle.grid_checks.proofs.Rows.{stop, pass, Past, exact_4, knots_row}
 use Rattle.grid_checks.proofs.FiniteKnots.{axis_finite}
-use Rattle.grid_checks.proofs.slopes_refusal.Goals as goal
-use Rattle.grid_checks.proofs.slopes_refusal.Goals.{After-knots_refused-knots_refused, Else-knots_refused, Else-points_refused, Else-slices_refused, Else-slopes_refused}
+use Rattle.grid_checks.proofs.check_slopes.Goals as goal
+use Rattle.grid_checks.proofs.check_slopes.Goals.{After-knots_refused-knots_refused, Else-knots_refused, Else-points_refused, Else-slices_refused, Else-slopes_refused}
 
 knots_exact : (c : Else-slopes_refused) → length c.args.knots.now ≡ c.args.points
 knots_exact c =

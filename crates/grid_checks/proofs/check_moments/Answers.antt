@@ -9,8 +9,8 @@ use Rattle.grid_checks.specs.Checked.{FiniteUnless}
 use Rattle.grid_checks.specs.Check.{moments_rows, moments_check}
 use Rattle.grid_checks.proofs.Rows.{stop, pass, Past, exact_3, knots_row}
 use Rattle.grid_checks.proofs.FiniteKnots.{axis_finite}
-use Rattle.grid_checks.proofs.moments_refusal.Goals as goal
-use Rattle.grid_checks.proofs.moments_refusal.Goals.{After-knots_refused-knots_refused, Else-axis_refused, Else-fewness_refused, Else-knots_refused, Else-moments_refused, Else-points_refused, Else-scratch_length-lt-ROWS}
+use Rattle.grid_checks.proofs.check_moments.Goals as goal
+use Rattle.grid_checks.proofs.check_moments.Goals.{After-knots_refused-knots_refused, Else-axis_refused, Else-fewness_refused, Else-knots_refused, Else-moments_refused, Else-points_refused, Else-scratch_length-lt-ROWS}
 
 knots_exact : (c : Else-axis_refused) → length c.args.knots.now ≡ c.args.points
 knots_exact c =

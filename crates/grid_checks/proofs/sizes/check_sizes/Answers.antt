@@ -4,14 +4,14 @@ use Rattle.grid_checks.specs.Check.{sizes_check}
 use Rattle.grid_checks.proofs.Rows.{stop, pass, axes_few}
 use Rattle.grid_checks.proofs.Points.{sizes_of_points}
 use borrow.Author.Rules.{rules}
-use Rattle.grid_checks.proofs.sizes.sizes_refusal.Goals as goal
+use Rattle.grid_checks.proofs.sizes.check_sizes.Goals as goal
 
 pub returns-then-axes_refused : goal.returns-then-axes_refused
 unfolding sizes_check
 returns-then-axes_refused c = stop _ c.axes_refused.ensures c.if-axes_refused.true
 
-pub points_refusal-requires : goal.points_refusal-requires
-points_refusal-requires c =
+pub sizes_of_points-requires : goal.sizes_of_points-requires
+sizes_of_points-requires c =
     let few = axes_few (sym c.axes_refused.ensures ∙ c.if-axes_refused.false) in
     (few.0, few.1, search rules)
 
@@ -20,4 +20,4 @@ unfolding sizes_check
 returns c =
     pass _ c.axes_refused.ensures c.if-axes_refused.false
     (sizes_of_points c.args.axes c.args.all c.points_of-points.result
-    c.points_of-points.ensures c.points_refusal.ensures)
+    c.points_of-points.ensures c.sizes_of_points.ensures.refusal)

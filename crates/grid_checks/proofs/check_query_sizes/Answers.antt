@@ -3,45 +3,46 @@
 use mathlib.Core.Path.{◌≡◌, refl, sym, ◌∙◌}
 use Rattle.rules.specs.Sizes.{place_of}
 use Rattle.grid_checks.specs.Check.{points_check, points_rows, lengths_of_points_refused, query_sizes_rows, query_sizes_check}
-use Rattle.grid_checks.proofs.Rows.{stop, pass, Past, rows_stop, rows_pass, axes_few}
+use Rattle.grid_checks.proofs.Rows.{stop, pass, Past, rows_given, rows_pass, axes_few}
 use borrow.Author.Rules.{rules}
-use Rattle.grid_checks.proofs.query_sizes_refusal.Goals as goal
-use Rattle.grid_checks.proofs.query_sizes_refusal.Goals.{After-query_lengths_refused, Else-found-ne0}
+use Rattle.grid_checks.proofs.check_query_sizes.Goals as goal
+use Rattle.grid_checks.proofs.check_query_sizes.Goals.{After-query_lengths_refused, In_ok-found}
 
-past : (c : Else-found-ne0) → let s =
+past : (c : In_ok-found) → let s =
     c.args in Past (query_sizes_rows s.axes (place_of s.points.now) s.knots s.tensor s.coordinates) 3
 unfolding points_check
 past c answer e =
     pass _ c.axes_refused.ensures c.if-axes_refused.false
-    (rows_pass (points_rows c.args.axes ((place_of c.args.points.now))) tt c.sizes_of_points-found.ensures.refusal _ c.if-found-ne0.false e)
+    (rows_pass (points_rows c.args.axes (place_of c.args.points.now)) tt c.in_ok-found.ensures.refusal _ refl e)
 
 checked : (c : After-query_lengths_refused) → let s =
     c.args in
     c.query_lengths_refused.result
     ≡ lengths_of_points_refused s.axes (place_of s.points.now) s.knots s.tensor s.coordinates
 checked c =
-    let found = c.sizes_of_points-found.ensures in
-    rw (← found.knots c.if-found-ne0.false, ← found.numbers c.if-found-ne0.false) c.query_lengths_refused.ensures
+    let found = c.in_ok-found.ensures.sizes in
+    rw (← found.knots, ← found.numbers) c.query_lengths_refused.ensures
 
 pub returns-then-axes_refused : goal.returns-then-axes_refused
 unfolding query_sizes_check
 returns-then-axes_refused c = stop _ c.axes_refused.ensures c.if-axes_refused.true
 
-pub sizes_of_points-found-requires : goal.sizes_of_points-found-requires
-sizes_of_points-found-requires c =
+pub sizes_of_points-requires : goal.sizes_of_points-requires
+sizes_of_points-requires c =
     let few = axes_few (sym c.axes_refused.ensures ∙ c.if-axes_refused.false) in
     (few.0, few.1, search rules)
 
-pub returns-then-found-ne0 : goal.returns-then-found-ne0
+pub returns-in_err-found : goal.returns-in_err-found
 unfolding query_sizes_check points_check
-returns-then-found-ne0 c =
+returns-in_err-found c =
     pass _ c.axes_refused.ensures c.if-axes_refused.false
-    (rows_stop (points_rows c.args.axes ((place_of c.args.points.now))) tt c.sizes_of_points-found.ensures.refusal _ c.if-found-ne0.true)
+    (rows_given (points_rows c.args.axes (place_of c.args.points.now)) tt c.from_residual.result _ c.in_err-found.ensures.refusal
+    c.from_residual.ensures.1 _)
 
 pub returns-then-query_lengths_refused : goal.returns-then-query_lengths_refused
 unfolding query_sizes_check
-returns-then-query_lengths_refused c = past (goal.at.returns-then-query_lengths_refused c).Else-found-ne0 _ (stop _ (checked (goal.at.returns-then-query_lengths_refused c).After-query_lengths_refused) c.if-query_lengths_refused.true)
+returns-then-query_lengths_refused c = past (goal.at.returns-then-query_lengths_refused c).In_ok-found _ (stop _ (checked (goal.at.returns-then-query_lengths_refused c).After-query_lengths_refused) c.if-query_lengths_refused.true)
 
 pub returns : goal.returns
 unfolding query_sizes_check
-returns c = past (goal.at.returns c).Else-found-ne0 _ (pass _ (checked (goal.at.returns c).After-query_lengths_refused) c.if-query_lengths_refused.false refl)
+returns c = past (goal.at.returns c).In_ok-found _ (pass _ (checked (goal.at.returns c).After-query_lengths_refused) c.if-query_lengths_refused.false refl)
