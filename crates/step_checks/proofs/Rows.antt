@@ -5,15 +5,20 @@ use mathlib.Core.List.{List}
 use Prim.Native.Nat.{ℕ}
 use lib.ListN.{length}
 use lib.Ieee.{Float}
+use Rattle.std.specs.Prelude.{Result}
+use Rattle.std.specs.Result.{IsErrAnd}
+use Rattle.rules.specs.Answers.{number_of, refusal_of}
 use Rattle.rules.specs.Refusals.{points_refused}
+use Rattle.rules.specs.declared.Refusal.{Refusal}
 use Rattle.grid_checks.specs.Tables.{lowest}
-use Rattle.grid_checks.proofs.Rows.{none_applies, rows_stop, rows_pass, exact}
+use Rattle.grid_checks.proofs.Rows.{none_applies, rows_given, rows_pass, exact}
 use Rattle.step_checks.specs.StepChecks.{axis_rows, axis_check, numbers_rows, numbers_check}
 
 module _ (n : ℕ) (x : List Float) {number : ℕ} (e : number ≡ axis_check n (length x)) where
-  pub axis_stop : (later : ℕ) → (number ≡ 0 → ⊥) → number ≡ lowest (axis_rows n (length x)) later
+  pub axis_given : {Given : Type 0} (given : Result Given Refusal) (met : Refusal) → number ≡ number_of met
+      → IsErrAnd given (λ refusal. refusal ≡ met) → (later : ℕ) → refusal_of given ≡ lowest (axis_rows n (length x)) later
   unfolding axis_check
-  axis_stop = rows_stop (axis_rows n (length x)) tt e
+  axis_given given met is_number = rows_given (axis_rows n (length x)) tt given met (sym is_number ∙ e)
 
   pub axis_pass : {answer : ℕ} (later : ℕ) → number ≡ 0 → answer ≡ later → answer ≡ lowest (axis_rows n (length x)) later
   unfolding axis_check

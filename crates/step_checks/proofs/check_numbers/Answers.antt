@@ -3,7 +3,7 @@ use mathlib.Core.Path.{refl}
 use Rattle.grid_checks.proofs.Rows.{first, second, stop, pass}
 use Rattle.grid_checks.proofs.FiniteKnots.{axis_finite}
 use Rattle.step_checks.specs.StepChecks.{numbers_check}
-use Rattle.step_checks.proofs.numbers_refusal.Goals as goal
+use Rattle.step_checks.proofs.check_numbers.Goals as goal
 
 pub some_knot_refused-requires : goal.some_knot_refused-requires
 some_knot_refused-requires c = axis_finite _ _ c.requires refl c.knots_refused-knots_refused.ensures

@@ -2,7 +2,7 @@
 use mathlib.Core.Path.{refl}
 use Rattle.grid_checks.proofs.Rows.{stop, pass}
 use Rattle.step_checks.specs.StepChecks.{axis_check}
-use Rattle.step_checks.proofs.axis_refusal.Goals as goal
+use Rattle.step_checks.proofs.check_axis.Goals as goal
 
 pub returns-then-points_refused : goal.returns-then-points_refused
 unfolding axis_check
