@@ -4,6 +4,7 @@
 
 ghost use Rattle.std.specs.Prelude.{◌≡◌, ◌≤◌, length};
 ghost use Rattle.rules.specs.Ends.{fewest_points};
+ghost use Rattle.rules.specs.Answers.{refusal_of, curve_told};
 ghost use Rattle.rules.specs.Calls.{MomentsPromise, CurvePromise, SlopesPromise};
 ghost use Rattle.axis_rows.specs.Rows.{RowsFit};
 ghost use Rattle.axis_curve.specs.Work.{SlopesWorked, MomentsWorked};
@@ -11,7 +12,7 @@ ghost use Rattle.axis_moments.specs.SlopeAndValue.{AxisLengths};
 
 use axis_moments::curve::{curve_in_cell, knot_slope};
 use grid_scratch::MOMENTS;
-use rules::{Condition, CurveAnswer};
+use rules::{Condition, Refusal};
 
 // All the knot slopes go to a row, and whether one of them is an infinity or NaN is told. The flag is kept to the last knot, whose slope is
 // taken after the others, so the compiler works out several at a time. Not a public call: it requires what `knot_slope` does, and a place
@@ -42,51 +43,36 @@ pub fn knot_slopes(
     samples: &[f64],
     moments: &[f64],
     slopes: &mut [f64],
-) -> usize
-    ensures { SlopesPromise points knots.now samples.now moments.now slopes.old result
+) -> Result<(), Refusal>
+    ensures { SlopesPromise points knots.now samples.now moments.now slopes.old (refusal_of result)
         slopes.new }
 {
-    let refusal = grid_checks::slopes_refusal(points, knots, samples, moments.len(), slopes.len());
-    if refusal != 0 {
-        return refusal;
-    }
+    grid_checks::check_slopes(points, knots, samples, moments.len(), slopes.len())?;
     let mut row = [0.0; 256];
     if some_slope_refused(knots, samples, moments, &mut row[0..points]) {
-        return 10;
+        return Err(Refusal::Outcome);
     }
     base_numbers::copy(slopes, &row[0..points]);
-    0
+    Ok(())
 }
 
-// PUBLIC. The curve's value at a point, beyond the knots too. Refuses 2 4 7 8 10; then the value is +0.0.
+// PUBLIC. The curve's value at a point, beyond the knots too. Refuses 2 4 7 8 10.
 pub fn curve(
     points: usize,
     knots: &[f64],
     samples: &[f64],
     moments: &[f64],
     point: f64,
-) -> CurveAnswer
-    ensures { CurvePromise points knots.now samples.now moments.now point result }
+) -> Result<f64, Refusal>
+    ensures { CurvePromise points knots.now samples.now moments.now point (curve_told result) }
 {
-    let refusal = grid_checks::curve_refusal(points, knots, samples, moments.len(), point);
-    if refusal != 0 {
-        return CurveAnswer {
-            refusal: refusal,
-            value: 0.0,
-        };
-    }
+    grid_checks::check_curve(points, knots, samples, moments.len(), point)?;
     let cell = axis_locate::locate_lower_index(knots, point);
     let value = curve_in_cell(knots, samples, moments, cell, point);
     if base_numbers::is_finite(value) {
-        CurveAnswer {
-            refusal: 0,
-            value: value,
-        }
+        Ok(value)
     } else {
-        CurveAnswer {
-            refusal: 10,
-            value: 0.0,
-        }
+        Err(Refusal::Outcome)
     }
 }
 
@@ -98,10 +84,10 @@ fn work_moments(
     condition: Condition,
     moments: &mut [f64],
     scratch: &mut [f64],
-) -> usize
+) -> Result<(), Refusal>
     requires rows_fit { RowsFit scratch.old knots.now × (fewest_points condition ≤ length knots.now) }
     requires samples_len { (length samples.now ≡ length knots.now) × (length moments.old ≡ length knots.now) }
-    ensures { MomentsWorked knots.now samples.now condition moments.old scratch.old result
+    ensures { MomentsWorked knots.now samples.now condition moments.old scratch.old (refusal_of result)
         moments.new scratch.new }
 {
     let n = knots.len();
@@ -109,11 +95,11 @@ fn work_moments(
     axis_moments::compute_m(scratch, knots, condition);
     if base_numbers::any_not_finite(&scratch[MOMENTS..MOMENTS + n]) {
         base_numbers::clear(scratch);
-        return 10;
+        return Err(Refusal::Outcome);
     }
     base_numbers::copy(moments, &scratch[MOMENTS..MOMENTS + n]);
     base_numbers::clear(scratch);
-    0
+    Ok(())
 }
 
 // PUBLIC. The moments of the curve through the samples under a condition, stored when all are finite. Refuses 2 4 5 7 8 9 10; then the
@@ -125,20 +111,17 @@ pub fn moments(
     condition: Condition,
     moments: &mut [f64],
     scratch: &mut [f64],
-) -> usize
-    ensures { MomentsPromise points knots.now samples.now condition moments.old scratch.old result
+) -> Result<(), Refusal>
+    ensures { MomentsPromise points knots.now samples.now condition moments.old scratch.old (refusal_of result)
         moments.new scratch.new }
 {
-    let refusal = grid_checks::moments_refusal(
+    grid_checks::check_moments(
         points,
         knots,
         samples,
         condition,
         moments.len(),
         scratch.len(),
-    );
-    if refusal != 0 {
-        return refusal;
-    }
+    )?;
     work_moments(knots, samples, condition, moments, scratch)
 }

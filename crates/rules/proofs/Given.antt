@@ -1,8 +1,8 @@
 -- The exit of a `?`: what a function gives there is the refusal that it has met, and that has a number.
-use mathlib.Core.Path.{◌≡◌, refl}
+use mathlib.Core.Path.{◌≡◌, refl, ap}
 use Prim.Native.Nat.{◌<◌}
 use native.Mathlib.Omega.{arith}
-use Rattle.std.specs.Prelude.{Result}
+use Rattle.std.specs.Prelude.{Result, Err}
 use Rattle.std.specs.Result.{IsErrAnd}
 use Rattle.std.proofs.lemmas.Result.{err_from_is_err_and}
 use Rattle.rules.specs.Answers.{number_of, refusal_of}
@@ -33,9 +33,12 @@ use Rattle.rules.specs.declared.Refusal.TheVariants.{
   Lost,
 }
 
+pub err_given : {T : Type 0} (given : Result T Refusal) (met : Refusal) → IsErrAnd given (λ refusal. refusal ≡ met) → given ≡ Err met
+err_given given met h = let p = err_from_is_err_and given h in rw (p.1, p.2) refl
+
 pub given_on : {T : Type 0} (given : Result T Refusal) (met : Refusal) → IsErrAnd given (λ refusal. refusal ≡ met)
     → refusal_of given ≡ number_of met
-given_on given met h = let p = err_from_is_err_and given h in rw (p.1, p.2) refl
+given_on given met h = ap refusal_of (err_given given met h)
 
 -- no refusal has the number 0
 pub number_some : (refusal : Refusal) → number_of refusal ≡ 0 → ⊥
