@@ -1,6 +1,6 @@
 // Fields of a list of bytes, most significant bit first, from any bit on: a few bits out of one byte or two, the patterns of floats by
 // whole words. None of these is a public call: what is read has to be there, at places that are small numbers. `chunk`, `first_bits` and
-// `raised` require that their bits fit, `least` that neither number is 0.
+// `raised` require that their bits fit.
 
 #![tactic(auto)]
 
@@ -37,14 +37,6 @@ fn raised(n: u64, width: usize, count: usize) -> u64
     n << count
 }
 
-// The smaller of two numbers that are not zero.
-fn least(a: usize, b: usize) -> usize
-    requires { (1 ≤ a) × (1 ≤ b) }
-    ensures { (1 ≤ result) × (result ≤ a) × (result ≤ b) }
-{
-    if a < b { a } else { b }
-}
-
 // A field of one bit up to eight, which lies in one byte or in two. Without a loop: so a call with a width that is known is compiled to a
 // few shifts where it stands.
 fn narrow_field_at(bytes: &[u8], at: usize, width: usize) -> u64
@@ -67,8 +59,9 @@ fn field_by_eights(bytes: &[u8], at: usize, width: usize) -> u64
 {
     let mut n = 0;
     let mut read = 0;
+    // A while: the last turn may read fewer bits than eight.
     while read < width {
-        let count = least(width - read, 8);
+        let count = (width - read).min(8);
         n = raised(n, read, count) + narrow_field_at(bytes, at + read, count);
         read += count;
     }
@@ -137,10 +130,8 @@ fn fill_from_words(bytes: &[u8], place: usize, to: &mut [f64])
     requires { Within bytes.now (8 * place) (64 * length to.old) }
     ensures { to.new ≡ numbers bytes.now (8 * place) (length to.old) }
 {
-    let mut k = 0;
-    while k < to.len() {
+    for k in 0..to.len() {
         to[k] = base_numbers::float_of(word_at(bytes, place + 8 * k));
-        k += 1;
     }
 }
 
@@ -151,14 +142,13 @@ fn fill_across_words(bytes: &[u8], place: usize, shift: usize, to: &mut [f64])
     ensures { to.new ≡ numbers bytes.now (8 * place + shift) (length to.old) }
 {
     let mut word = word_at(bytes, place);
-    let mut k = 0;
-    while k + 1 < to.len() {
+    let last = to.len() - 1;
+    for k in 0..last {
         let next = word_at(bytes, place + 8 * k + 8);
         to[k] = base_numbers::float_of(across_words(word, next, shift));
         word = next;
-        k += 1;
     }
-    to[k] = base_numbers::float_of(across_to_byte(word, bytes[place + 8 * k + 8], shift));
+    to[last] = base_numbers::float_of(across_to_byte(word, bytes[place + 8 * last + 8], shift));
 }
 
 // Fills `to` with the numbers of the patterns from bit `at` on. Not a public call: the patterns' bits are required to be there, at places

@@ -10,7 +10,7 @@ ghost use Rattle.base_bits.specs.Written.{patch, with_field, number_fields, with
 ghost use Rattle.base_bits.specs.BitsThere.{Within};
 
 use crate::words::across_words;
-use crate::{first_bits, least};
+use crate::first_bits;
 
 // The `count` lowest bits of a number.
 fn lowest(n: u64, count: usize) -> u8
@@ -59,8 +59,9 @@ fn put_field_by_eights(bytes: &mut [u8], at: usize, width: usize, n: u64)
     ensures { bytes.new ≡ with_field bytes.old at width n }
 {
     let mut written = 0;
+    // A while: the last turn may write fewer bits than eight.
     while written < width {
-        let count = least(width - written, 8);
+        let count = (width - written).min(8);
         put_narrow_field(bytes, at + written, count, n >> (width - written - count));
         written += count;
     }
@@ -138,10 +139,8 @@ fn put_words(bytes: &mut [u8], place: usize, from: &[f64])
     requires { Within bytes.old (8 * place) (64 * length from.now) × (some_number_refused from.now ≡ false) }
     ensures { bytes.new ≡ with_fields bytes.old (8 * place) (number_fields from.now) }
 {
-    let mut k = 0;
-    while k < from.len() {
+    for k in 0..from.len() {
         put_word(bytes, place + 8 * k, base_numbers::pattern_of(from[k]));
-        k += 1;
     }
 }
 
@@ -153,15 +152,13 @@ fn put_words_across(bytes: &mut [u8], place: usize, shift: usize, from: &[f64])
     ensures { bytes.new ≡ with_fields bytes.old (8 * place + shift) (number_fields from.now) }
 {
     let mut before = first_bits(bytes[place], shift);
-    let mut k = 0;
-    while k < from.len() {
+    for k in 0..from.len() {
         let pattern = base_numbers::pattern_of(from[k]);
         let word = across_words(before, pattern, 64 - shift);
         put_word(bytes, place + 8 * k, word);
         before = pattern;
-        k += 1;
     }
-    put_in_byte(bytes, place + 8 * k, 0, shift, before)
+    put_in_byte(bytes, place + 8 * from.len(), 0, shift, before)
 }
 
 // Writes the patterns of numbers from bit `at` on. Not a public call: finite numbers are required, and their bits there, at places that are

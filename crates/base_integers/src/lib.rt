@@ -8,9 +8,5 @@ ghost use Rattle.std.specs.Prelude.{◌≡◌, nat_abs};
 pub fn magnitude(number: i32) -> u64
     ensures { result ≡ nat_abs number }
 {
-    if number < 0 {
-        1 + ((-1 - number) as u64)
-    } else {
-        number as u64
-    }
+    number.unsigned_abs() as u64
 }

@@ -25,12 +25,10 @@ fn any_difference_not_finite(s: &[f64], quarter: usize) -> bool
     ensures { result ≡ any (λ k. number_refused (difference_of_four s.now quarter k)) quarter }
 {
     let mut found = false;
-    let mut i = 0;
-    while i < quarter {
+    for i in 0..quarter {
         let lower = s[i] - s[quarter + i];
         let upper = s[2 * quarter + i] - s[3 * quarter + i];
         found = found | !is_finite(lower - upper);
-        i += 1;
     }
     found
 }
@@ -51,12 +49,10 @@ fn any_not_finite_from(s: &[f64], first: usize) -> bool
     requires { (first ≤ length s.now) × (any (λ k. number_refused (at s.now k)) first ≡ false) }
     ensures { result ≡ some_number_refused s.now }
 {
-    let mut i = first;
-    while i < s.len() {
+    for i in first..s.len() {
         if !is_finite(s[i]) {
             return true;
         }
-        i += 1;
     }
     false
 }
@@ -66,10 +62,8 @@ pub fn any_not_finite(s: &[f64]) -> bool
     ensures { result ≡ some_number_refused s.now }
 {
     let mut found = false;
-    let mut i = 0;
-    while i < s.len() {
-        found = found | !is_finite(s[i]);
-        i += 1;
+    for x in s {
+        found = found | !is_finite(*x);
     }
     found
 }
@@ -86,11 +80,7 @@ pub fn any_of_many_not_finite(s: &[f64]) -> bool
 pub fn clear(s: &mut [f64])
     ensures { s.new ≡ zeros (length s.old) }
 {
-    let mut i = 0;
-    while i < s.len() {
-        s[i] = 0.0;
-        i += 1;
-    }
+    s.fill(0.0);
 }
 
 // The numbers of one slice go to another of the same length. Not a public call: the lengths are required.
@@ -98,11 +88,7 @@ pub fn copy(to: &mut [f64], from: &[f64])
     requires { length from.now ≡ length to.old }
     ensures { to.new ≡ from.now }
 {
-    let mut i = 0;
-    while i < from.len() {
-        to[i] = from[i];
-        i += 1;
-    }
+    to.copy_from_slice(from);
 }
 
 // The float of any pattern: each pattern of a NaN gives the one NaN.

@@ -24,10 +24,8 @@ pub fn put_word(word: &[u8], text: &mut [u8], at: usize) -> usize
     ensures { Put word.now text.old at text.new result }
 {
     let mut end = at;
-    let mut i = 0;
-    while i < word.len() {
-        end = put_byte(word[i], text, end);
-        i += 1;
+    for byte in word {
+        end = put_byte(*byte, text, end);
     }
     end
 }

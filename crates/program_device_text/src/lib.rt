@@ -33,11 +33,9 @@ fn put_numbers(curve: &[u8], text: &mut [u8]) -> usize
 {
     let count = 256 * (curve.len() / 16) + 1;
     let mut end = 0;
-    let mut n = 0;
-    while n < count {
+    for n in 0..count {
         let number = device_cursor::cursor_number(curve, n);
         end = put_signed_line(number, text, end);
-        n += 1;
     }
     end
 }

@@ -32,11 +32,7 @@ fn keep(buffer: &mut [u8], from: usize)
     requires { from ≤ length buffer.old }
     ensures { take (length buffer.old - from) buffer.new ≡ drop from buffer.old }
 {
-    let mut i = 0;
-    while i < buffer.len() - from {
-        buffer[i] = buffer[from + i];
-        i += 1;
-    }
+    buffer.copy_within(from.., 0);
 }
 
 // A read failed: there is no report, and the totals are those of nothing.

@@ -38,6 +38,7 @@ pub fn read_input(streams: Streams, buffer: &mut [u8]) -> Input
 {
     let mut input = streams.input;
     let mut done = 0;
+    // A while: a turn goes on by as many bytes as were read.
     while done < buffer.len() {
         match input.read(&mut buffer[done..]) {
             Ok(0) => {
@@ -70,16 +71,7 @@ pub fn write_output(streams: Streams, text: &[u8]) {
     write_whole(streams.errors, b"standard output could not be written\n");
 }
 
-// Writes all bytes and answers true, or stops at the first write that takes nothing or fails and answers false.
-fn write_whole<W: Write + Drop>(to: W, bytes: &[u8]) -> bool {
-    let mut to = to;
-    let mut done = 0;
-    while done < bytes.len() {
-        match to.write(&bytes[done..]) {
-            Ok(0) => return false,
-            Ok(more) => done += more,
-            Err(_) => return false,
-        }
-    }
-    true
+// Writes all bytes, and answers whether the system took them: it stops at a write that takes nothing or fails.
+fn write_whole<W: Write + Drop>(mut to: W, bytes: &[u8]) -> bool {
+    to.write_all(bytes).is_ok()
 }

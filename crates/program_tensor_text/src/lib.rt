@@ -22,10 +22,8 @@ fn put_numbers(numbers: &[f64], text: &mut [u8], at: usize) -> usize
     ensures { Put (number_lines numbers.now) text.old at text.new result }
 {
     let mut end = at;
-    let mut i = 0;
-    while i < numbers.len() {
-        end = put_number_line(numbers[i], text, end);
-        i += 1;
+    for number in numbers {
+        end = put_number_line(*number, text, end);
     }
     end
 }

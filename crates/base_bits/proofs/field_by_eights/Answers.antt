@@ -13,7 +13,7 @@ raised-requires c = (rw c.loop-read.invariant.1 (field_below _ _ _), omega arith
 
 pub overflow_add-n : goal.overflow_add-n
 overflow_add-n c =
-    let few : c.narrow_field_at.result < 2 ^ c.least-count.result = rw c.narrow_field_at.ensures (field_below _ _ _) in
+    let few : c.narrow_field_at.result < 2 ^ c.min-count.result = rw c.narrow_field_at.ensures (field_below _ _ _) in
     omega arith
 
 pub loop-read-preserved : goal.loop-read-preserved

@@ -1,17 +1,9 @@
-use mathlib.Core.Path.{◌≡◌, sym, ap, ◌∙◌}
-use native.Mathlib.Omega.{arith}
-use Rattle.rules.specs.Numbers.{any}
+use mathlib.Core.Path.{sym}
 use Rattle.base_numbers.proofs.Scan.{any_none, any_next}
-use borrow.Author.Rules.{rules}
 use Rattle.base_numbers.proofs.any_difference_not_finite.Goals as goal
 
 pub loop-i-init : goal.loop-i-init
-loop-i-init c = (search rules, sym (any_none _), search rules)
+loop-i-init c = sym (any_none _)
 
 pub loop-i-preserved : goal.loop-i-preserved
-loop-i-preserved c = (search rules, rw (any_next, ← c.loop-i.invariant.1, ← c.is_finite.ensures), c.loop-i.invariant.2)
-
-pub returns : goal.returns
-returns c =
-    let e : c.loop-i.i ≡ c.args.quarter = omega arith in
-    c.loop-i.invariant.1 ∙ ap (any _) e
+loop-i-preserved c = rw (any_next, ← c.loop-i.invariant, ← c.is_finite.ensures)

@@ -2,5 +2,5 @@ use native.Mathlib.Omega.{arith}
 use Rattle.base_text.proofs.Puts.{turn_next}
 use Rattle.base_text.proofs.put_word.Goals as goal
 
-pub loop-i-preserved : goal.loop-i-preserved
-loop-i-preserved c = turn_next c.loop-i.invariant (omega arith) c.put_byte-end.ensures
+pub loop-byte-preserved : goal.loop-byte-preserved
+loop-byte-preserved c = turn_next c.loop-byte.invariant (omega arith) c.put_byte-end.ensures

@@ -37,12 +37,6 @@ put_signed_line-end-requires c =
     let w = known (goal.at.put_signed_line-end-requires c).Start in
     rw (read (goal.at.put_signed_line-end-requires c).After-cursor_number-number) (omega (arith, next_fits c.requires.0 c.loop-n.invariant t, turn_length c.loop-n.invariant, c.requires.1))
 
-pub overflow_add-n : goal.overflow_add-n
-overflow_add-n c =
-    let w = known (goal.at.overflow_add-n c).Start in
-    let l = c.loop-n-test.true in
-    omega arith
-
 pub loop-n-preserved : goal.loop-n-preserved
 loop-n-preserved c =
     turn_next c.requires.0 c.loop-n.invariant c.loop-n-test.true

@@ -16,7 +16,7 @@ loop-written-preserved c =
       omega arith,
       ap length put ∙ field_length _ _ _ _ ∙ turn.invariant.1,
       put
-          ∙ written_more args.bytes.now turn.bytes args.at turn.written args.width c.least-count.result args.n _
+          ∙ written_more args.bytes.now turn.bytes args.at turn.written args.width c.min-count.result args.n _
           turn.invariant.2 (omega arith) refl,
     )
 

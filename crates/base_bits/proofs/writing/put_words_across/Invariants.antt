@@ -1,13 +1,7 @@
 -- With the last bits of `before`, which the next turn or the end writes, the first `k` patterns stand (`Late`); none is refused, so each is
--- finite. The measure is the numbers left.
-use mathlib.Core.Path.{◌≡◌}
-use Prim.Native.Nat.{◌≤◌, ◌-◌}
-use lib.ListN.{length}
+-- finite.
 use Rattle.base_bits.proofs.WordsWritten.{Late}
 use Rattle.base_bits.proofs.writing.put_words_across.Given as goal
 
 abbrev pub invariant-loop-k : goal.invariant-loop-k
-invariant-loop-k l = (l.k ≤ length l.from) × (length l.bytes ≡ length l.initial.bytes) × Late l.initial.bytes l.place l.shift l.from l.bytes l.before l.k
-
-abbrev pub decreases-loop-k : goal.decreases-loop-k
-decreases-loop-k l = length l.from - l.k
+invariant-loop-k l = Late l.initial.bytes l.place l.shift l.from l.bytes l.before l.k
