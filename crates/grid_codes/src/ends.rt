@@ -28,7 +28,7 @@ pub fn wide(kind: u8) -> u64
 fn is_unknown(kind: u64) -> bool
     ensures { result ≡ unknown_kind kind }
 {
-    kind > 3
+    !matches!(kind, 0..=3)
 }
 
 // How many patterns an end of a kind has: it refuses nothing.

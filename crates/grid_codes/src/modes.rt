@@ -10,7 +10,7 @@ use rules::Mode;
 pub fn is_unknown_mode(number: u64) -> bool
     ensures { result ≡ unknown_mode number }
 {
-    number > 2
+    !matches!(number, 0..=2)
 }
 
 // The mode of a number: it refuses nothing, and takes any other number for Extend.
