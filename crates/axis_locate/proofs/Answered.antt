@@ -6,7 +6,7 @@ use Prim.Native.Nat.{ℕ, ◌-◌, ◌<◌, ◌≤◌}
 use native.Mathlib.Omega.{arith}
 use lib.Dec.{T}
 use lib.ListN.{length}
-use borrow.Author.Tests.{lt-ltb, le-ltb}
+use borrow.Author.Tests.{lt-ltb}
 use lib.Ieee.{Float, binary64, fits, lt, le}
 use Rattle.rules.specs.Numbers.{at}
 use Rattle.base_floats.specs.Place.{AllFit}
@@ -15,19 +15,10 @@ use Rattle.axis_locate.specs.CellFound.{Located}
 use Rattle.axis_locate.proofs.Among.{lower_index_is_locate}
 
 module _ (knots : List Float) (point : Float) where
-  -- one step back, or none
-  module _ (low : ℕ) where
-    pub back_from_above : 0 < low → le point (at knots low) ≡ true → low - 1 ≡ one_back knots point low
-    unfolding one_back
-    back_from_above h e = simp (lt-ltb 0 low h, e)
-
-    pub stay_below : 0 < low → le point (at knots low) ≡ false → low ≡ one_back knots point low
-    unfolding one_back
-    stay_below h e = simp (lt-ltb 0 low h, e)
-
-    pub stay_first : low ≤ 0 → low ≡ one_back knots point low
-    unfolding one_back
-    stay_first h = simp (le-ltb 0 low h)
+  -- one step back
+  pub back_from_above : (low : ℕ) → 0 < low → le point (at knots low) ≡ true → low - 1 ≡ one_back knots point low
+  unfolding one_back
+  back_from_above low h e = simp (lt-ltb 0 low h, e)
 
   -- the cell
   pub below_all : lt point (at knots 0) ≡ true → 0 ≡ lower_index knots point

@@ -1,18 +1,17 @@
 -- What two tests say of the side of a point, and what a mode makes of it.
-use mathlib.Core.Path.{◌≡◌, refl, sym, ap, ◌∙◌}
+use mathlib.Core.Path.{◌≡◌, refl, ap, ◌∙◌}
 use mathlib.Core.Bool.{Bool, true, false}
 use mathlib.Core.List.{List}
 use Prim.Native.Nat.{◌-◌}
 use lib.ListN.{length}
 use lib.Ieee.{Float, lt}
 use Rattle.rules.specs.Numbers.{at}
-use Rattle.rules.specs.Outside.{side, nearest, placed, outside, outside_refused}
+use Rattle.rules.specs.Outside.{side, nearest, outside}
 use Rattle.rules.specs.declared.Mode.{Mode}
 use Rattle.rules.specs.declared.Mode.TheVariants.{Extend, Hold, Refuse}
 use Rattle.rules.specs.declared.Side.{Side}
 use Rattle.rules.specs.declared.Side.TheVariants.{Below, Inside, Above}
 use Rattle.axis_locate.specs.CellFound.{Placed}
-use Rattle.axis_locate.specs.declared.outside.PlacedPoint.{PlacedPoint}
 
 module _ (x : List Float) (p : Float) where
   pub side_below : lt p (at x 0) ≡ true → Below ≡ side x p

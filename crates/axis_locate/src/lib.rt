@@ -14,11 +14,7 @@ fn held(index: usize, points: usize) -> usize
     requires { 2 ≤ points }
     ensures { result ≡ held index points }
 {
-    if index < points - 2 {
-        index
-    } else {
-        points - 2
-    }
+    index.min(points - 2)
 }
 
 // One back from where the search ended, where that knot is at or above the point.
@@ -26,13 +22,11 @@ fn one_back(knots: &[f64], point: f64, low: usize) -> usize
     requires { low < length knots.now }
     ensures { result ≡ one_back knots.now point low }
 {
-    if low > 0 {
-        if knots[low] >= point {
-            return low - 1;
-        }
-        return low;
+    if low > 0 && knots[low] >= point {
+        low - 1
+    } else {
+        low
     }
-    low
 }
 
 // The cell of a point among 2 to 256 knots, whatever they are, by at most 8 halvings. On an interior knot it is the cell below. How many
@@ -53,14 +47,11 @@ pub fn locate_lower_index(knots: &[f64], point: f64) -> usize
     let mut width = knots.len() - 1;
     let mut halvings: usize = 0;
     loop {
-        if halvings == 8 {
-            break held(one_back(knots, point, high), knots.len());
-        }
-        if width == 0 {
+        if halvings == 8 || width == 0 {
             break held(one_back(knots, point, high), knots.len());
         }
         halvings += 1;
-        width = width / 2;
+        width /= 2;
         let mid = (low + high) / 2;
         if knots[mid] >= point {
             high = mid;

@@ -45,11 +45,7 @@ fn nearest(side: Side, knots: &[f64], point: f64) -> f64
 fn is_outside(side: Side) -> bool
     ensures { result ≡ outside side }
 {
-    match side {
-        Side::Below => true,
-        Side::Inside => false,
-        Side::Above => true,
-    }
+    !matches!(side, Side::Inside)
 }
 
 // What the mode of a number makes of a point: extend looks at no knot.

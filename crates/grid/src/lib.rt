@@ -44,10 +44,8 @@ pub fn product_of_points(axes: usize, points: &[usize]) -> usize
     ensures { (result ≡ product_below (place_of points.now) axes) × (result ≤ 4294967296) }
 {
     let mut product = 1;
-    let mut i = 0;
-    while i < axes {
-        product = product * points[i];
-        i += 1;
+    for i in 0..axes {
+        product *= points[i];
     }
     product
 }
@@ -60,11 +58,8 @@ pub fn knots_before(all: [Axis; 4], axis: usize) -> usize
     ensures { (result ≡ sum_below (points_of all) axis) × (result ≤ 1024) }
 {
     let mut sum = 0;
-    let mut j = 0;
-    while j < axis {
-        let entry = all[j];
-        sum += entry.points;
-        j += 1;
+    for j in 0..axis {
+        sum += all[j].points;
     }
     sum
 }
@@ -102,11 +97,8 @@ pub fn place_number(axes: usize, all: [Axis; 4], place: [usize; 4]) -> usize
     ensures { result ≡ flat (points_of all) axes (place_of place) }
 {
     let mut number = 0;
-    let mut j = 0;
-    while j < axes {
-        let entry = all[j];
-        number = number * entry.points + place[j];
-        j += 1;
+    for j in 0..axes {
+        number = number * all[j].points + place[j];
     }
     number
 }
@@ -117,11 +109,8 @@ pub fn stride(axes: usize, all: [Axis; 4], axis: usize) -> usize
     ensures { result ≡ stride (points_of all) axes axis }
 {
     let mut step = 1;
-    let mut j = axis + 1;
-    while j < axes {
-        let entry = all[j];
-        step = step * entry.points;
-        j += 1;
+    for j in axis + 1..axes {
+        step *= all[j].points;
     }
     step
 }

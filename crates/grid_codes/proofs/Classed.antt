@@ -1,6 +1,5 @@
 -- What the class of a number tells: whether it is a refusal, of any number and of one that is of the class Reading if it is a refusal.
 use mathlib.Core.Path.{◌≡◌, refl, sym, ◌∙◌}
-use mathlib.Core.Logic.{◌⊎◌, inl, inr}
 use mathlib.Core.Bool.{Bool, true, false, cond, true≢false, false≢true}
 use Prim.Native.Nat.{ℕ, zero, suc}
 use native.Mathlib.Omega.{arith}
@@ -8,7 +7,7 @@ use lib.Dec.{eqb}
 use borrow.Author.Tests.{eqb-true, eqb-false, ne_eqb}
 use Rattle.grid_codes.specs.Classes.{of_reading, of_building, of_writing, class, built, unread}
 use Rattle.grid_codes.specs.declared.classes.Class.{Class}
-use Rattle.grid_codes.specs.declared.classes.Class.TheVariants.{None, Reading, Building, Writing, Unknown}
+use Rattle.grid_codes.specs.declared.classes.Class.TheVariants.{Reading, Building, Writing, Unknown}
 
 -- a number, where it is a refusal, is of a class
 abbrev pub Of : Class → ℕ → Type 0
@@ -16,29 +15,6 @@ Of c number = (number ≡ 0 → ⊥) → class number ≡ c
 
 pub no_fault : {c : Class} → Of c 0
 no_fault met = absurd (met refl)
-
--- ---- a class that a match leaves
-
--- the tags that the other four have
-pub one_of_four : {A B C D X : Type 0} → A ⊎ (B ⊎ (C ⊎ D)) → (A → X) → (B → X) → (C → X) → (D → X) → X
-one_of_four (inl x) a b c d = a x
-one_of_four (inr (inl x)) a b c d = b x
-one_of_four (inr (inr (inl x))) a b c d = c x
-one_of_four (inr (inr (inr x))) a b c d = d x
-
-pub other_than_none : (given : Class) → (given ≡ None → ⊥) → false ≡ built given
-other_than_none None other = absurd (other refl)
-other_than_none Reading other = refl
-other_than_none Building other = refl
-other_than_none Writing other = refl
-other_than_none Unknown other = refl
-
-pub other_than_reading : (given : Class) → (given ≡ Reading → ⊥) → false ≡ unread given
-other_than_reading None other = refl
-other_than_reading Reading other = absurd (other refl)
-other_than_reading Building other = refl
-other_than_reading Writing other = refl
-other_than_reading Unknown other = refl
 
 -- ---- none
 

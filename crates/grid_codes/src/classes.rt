@@ -34,28 +34,19 @@ pub fn class_of(refusal: usize) -> Class
 pub fn is_built(refusal: usize) -> bool
     ensures { result ≡ built (class refusal) }
 {
-    match class_of(refusal) {
-        Class::None => true,
-        _ => false,
-    }
+    matches!(class_of(refusal), Class::None)
 }
 
 // Whether a sheet of this refusal was not read: it refuses nothing.
 pub fn is_unread(refusal: usize) -> bool
     ensures { result ≡ unread (class refusal) }
 {
-    match class_of(refusal) {
-        Class::Reading => true,
-        _ => false,
-    }
+    matches!(class_of(refusal), Class::Reading)
 }
 
 // Whether the length of a sheet that the reader refuses by this number, or does not refuse, is known: it refuses nothing.
 pub fn is_length_known(refusal: usize) -> bool
     ensures { result ≡ length_known refusal }
 {
-    match refusal {
-        0 | 14 => true,
-        _ => false,
-    }
+    matches!(refusal, 0 | 14)
 }

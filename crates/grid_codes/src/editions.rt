@@ -9,10 +9,7 @@ use rules::Mode;
 pub fn is_unknown_edition(edition: usize) -> bool
     ensures { result ≡ unknown_edition edition }
 {
-    match edition {
-        1..=2 => false,
-        _ => true,
-    }
+    !matches!(edition, 1..=2)
 }
 
 // How many bits the mode of an axis has in an edition: it refuses nothing.
@@ -29,8 +26,5 @@ pub fn mode_width(edition: usize) -> usize
 pub fn mode_refused(edition: usize, mode: Mode) -> bool
     ensures { result ≡ mode_refused edition mode }
 {
-    match edition {
-        1 => mode_number(mode) != 0,
-        _ => false,
-    }
+    edition == 1 && mode_number(mode) != 0
 }

@@ -28,10 +28,7 @@ pub fn wide(kind: u8) -> u64
 fn is_unknown(kind: u64) -> bool
     ensures { result ≡ unknown_kind kind }
 {
-    match kind {
-        0..=3 => false,
-        _ => true,
-    }
+    !matches!(kind, 0..=3)
 }
 
 // How many patterns an end of a kind has: it refuses nothing.
@@ -69,23 +66,14 @@ pub fn condition_of_kind(kind: u64, lower: End, upper: End) -> Condition
 pub fn is_periodic_at_one_end(lower: u64, upper: u64) -> bool
     ensures { result ≡ periodic_at_one_end lower upper }
 {
-    match lower {
-        3 => upper != 3,
-        _ => upper == 3,
-    }
+    (lower == 3) != (upper == 3)
 }
 
 // Whether the kinds of an axis are refused by 13.
 pub fn kinds_refused(lower: u64, upper: u64) -> bool
     ensures { result ≡ kinds_refused lower upper }
 {
-    if is_unknown(lower) {
-        return true;
-    }
-    if is_unknown(upper) {
-        return true;
-    }
-    is_periodic_at_one_end(lower, upper)
+    is_unknown(lower) || is_unknown(upper) || is_periodic_at_one_end(lower, upper)
 }
 
 // The number of an end's kind.

@@ -10,10 +10,7 @@ use rules::Mode;
 pub fn is_unknown_mode(number: u64) -> bool
     ensures { result ≡ unknown_mode number }
 {
-    match number {
-        0..=2 => false,
-        _ => true,
-    }
+    !matches!(number, 0..=2)
 }
 
 // The mode of a number: it refuses nothing, and takes any other number for Extend.
@@ -31,20 +28,14 @@ pub fn mode_of_number(number: u64) -> Mode
 pub fn is_hold(number: u8) -> bool
     ensures { result ≡ eqb number (mode_number Hold) }
 {
-    match number {
-        1 => true,
-        _ => false,
-    }
+    number == 1
 }
 
 // Whether a number is that of Refuse: it refuses nothing.
 pub fn is_refuse(number: u8) -> bool
     ensures { result ≡ eqb number (mode_number Refuse) }
 {
-    match number {
-        2 => true,
-        _ => false,
-    }
+    number == 2
 }
 
 // The number of a mode: it refuses nothing.

@@ -1,12 +1,9 @@
--- `sum` is the points of the axes below `j`, at most 256 for each and so 1024 in the end. The measure is the axes left.
+-- `sum` is the points of the axes below `j`, at most 256 for each and so 1024 in the end.
 use mathlib.Core.Path.{◌≡◌}
-use Prim.Native.Nat.{◌*◌, ◌-◌, ◌≤◌}
+use Prim.Native.Nat.{◌*◌, ◌≤◌}
 use Rattle.rules.specs.Sizes.{sum_below}
 use Rattle.grid.specs.GridOfCall.{points_of}
 use Rattle.grid.proofs.knots_before.Given as goal
 
 abbrev pub invariant-loop-j : goal.invariant-loop-j
-invariant-loop-j l = (l.j ≤ l.axis) × (l.sum ≡ sum_below (points_of l.all) l.j) × (l.sum ≤ l.j * 256)
-
-abbrev pub decreases-loop-j : goal.decreases-loop-j
-decreases-loop-j l = l.axis - l.j
+invariant-loop-j l = (l.sum ≡ sum_below (points_of l.all) l.j) × (l.sum ≤ l.j * 256)

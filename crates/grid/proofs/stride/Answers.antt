@@ -1,22 +1,17 @@
-use borrow.Author.Rules.{rules}
 use native.Mathlib.Omega.{arith}
-use mathlib.Core.Path.{◌≡◌}
 use Prim.Native.Nat.{◌+◌}
 use Rattle.grid.proofs.Products.{fits_small}
 use Rattle.grid.proofs.Strides.{stride_first, stride_more, stride_fits}
 use Rattle.grid.proofs.stride.Goals as goal
 
 pub loop-j-init : goal.loop-j-init
-loop-j-init c = (search rules, search rules, stride_first _ _)
+loop-j-init c = stride_first _ _
 
 pub overflow_mul-step : goal.overflow_mul-step
 overflow_mul-step c =
     fits_small
-    (rw (stride_more _ _ _ c.loop-j.j c.loop-j.invariant.2 c.loop-j.invariant.0)
+    (rw (stride_more _ _ _ c.loop-j.j c.loop-j.invariant (omega arith))
     (stride_fits _ _ _ (c.loop-j.j + 1) c.requires.0 (omega arith)))
 
 pub loop-j-preserved : goal.loop-j-preserved
-loop-j-preserved c = (omega arith, omega arith, stride_more _ _ _ c.loop-j.j c.loop-j.invariant.2 c.loop-j.invariant.0)
-
-pub returns : goal.returns
-returns c = let e : c.loop-j.j ≡ c.args.axes = omega arith in rw e at c.loop-j.invariant.2
+loop-j-preserved c = stride_more _ _ _ c.loop-j.j c.loop-j.invariant (omega arith)

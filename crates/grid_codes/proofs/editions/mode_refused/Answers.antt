@@ -1,12 +1,12 @@
 -- Refusal 23: in edition 1 the mode's number is compared with 0, which is Extend; any other edition refuses no mode.
-use borrow.Author.Tests.{ne_eqb}
 use Rattle.grid_codes.specs.Editions.{mode_refused}
+use borrow.Author.Rules.{rules}
 use Rattle.grid_codes.proofs.editions.mode_refused.Goals as goal
 
-pub returns-in-1 : goal.returns-in-1
+pub returns-then-edition-eq1 : goal.returns-then-edition-eq1
 unfolding mode_refused
-returns-in-1 c = rw (c.in-1.is, c.mode_number.ensures)
+returns-then-edition-eq1 c = search rules
 
-pub returns-in_default : goal.returns-in_default
+pub returns-else-edition-eq1 : goal.returns-else-edition-eq1
 unfolding mode_refused
-returns-in_default c = simp (ne_eqb _ _ c.in_default.in_default-own.rest.1)
+returns-else-edition-eq1 c = search rules

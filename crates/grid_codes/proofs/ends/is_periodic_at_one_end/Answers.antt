@@ -1,12 +1,8 @@
--- Where the lower kind is 3 the upper is another, and where it is another the upper is 3: one arm for each test of the rules.
-use borrow.Author.Tests.{ne_eqb}
+-- Kind 3 stands at the lower end and not at the upper, or the other way round.
 use Rattle.grid_codes.specs.Kinds.{periodic_at_one_end}
+use borrow.Author.Rules.{rules}
 use Rattle.grid_codes.proofs.ends.is_periodic_at_one_end.Goals as goal
 
-pub returns-in-3 : goal.returns-in-3
+pub returns : goal.returns
 unfolding periodic_at_one_end
-returns-in-3 c = rw c.in-3.is
-
-pub returns-in_default : goal.returns-in_default
-unfolding periodic_at_one_end
-returns-in_default c = simp (ne_eqb _ _ c.in_default.in_default-own.rest.1)
+returns c = search rules
