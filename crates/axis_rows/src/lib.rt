@@ -35,8 +35,7 @@ pub fn interior_rows(w: &mut [f64], x: &[f64], start: usize, stop: usize)
 {
     let mut h = x[start + 1] - x[start];
     let mut s = (w[start + 1] - w[start]) / h;
-    let mut j = 1;
-    while j < stop {
+    for j in 1..stop {
         let i = start + j;
         let next_h = x[i + 1] - x[i];
         let next_s = (w[i + 1] - w[i]) / next_h;
@@ -46,7 +45,6 @@ pub fn interior_rows(w: &mut [f64], x: &[f64], start: usize, stop: usize)
         w[RHS + j] = 6.0 * (next_s - s);
         h = next_h;
         s = next_s;
-        j += 1;
     }
 }
 

@@ -18,15 +18,14 @@ fn eliminate(w: &mut [f64], l: usize, to: usize) -> f64
 {
     let mut divisor = w[DIAG];
     let mut d = w[RHS] / divisor;
-    let mut k = 0;
-    while k < l {
+    for k in 0..l {
         let s = w[SUB + k];
         let c = w[SUP + k] / divisor;
         w[CP + k] = c;
         w[to + k] = d;
-        k += 1;
-        divisor = w[DIAG + k] - s * c;
-        d = (w[RHS + k] - s * d) / divisor;
+        let next = k + 1;
+        divisor = w[DIAG + next] - s * c;
+        d = (w[RHS + next] - s * d) / divisor;
     }
     d
 }
@@ -37,10 +36,9 @@ fn substitute(w: &mut [f64], l: usize, to: usize, last: f64)
     ensures { Substituted w.old w.new l to last 0 }
 {
     let mut x = last;
-    let mut k = l;
-    while 0 < k {
-        w[to + k] = x;
-        k -= 1;
+    for k in (0..l).rev() {
+        let next = k + 1;
+        w[to + next] = x;
         x = w[to + k] - w[CP + k] * x;
     }
     w[to] = x;
@@ -70,10 +68,8 @@ fn u_vec(w: &mut [f64], l: usize, gamma: f64, corner: f64)
     requires { RowsGiven w.old l × (0 < l) }
     ensures { UVec w.old w.new l gamma corner }
 {
-    let mut k = 1;
-    while k < l {
+    for k in 1..l {
         w[RHS + k] = 0.0;
-        k += 1;
     }
     w[RHS] = gamma;
     w[RHS + l] = corner;
@@ -95,10 +91,8 @@ fn subtract(w: &mut [f64], l: usize, factor: f64)
     requires { RowsGiven w.old l }
     ensures { Subtracted w.old w.new (l + 1) factor }
 {
-    let mut k = 0;
-    while k <= l {
+    for k in 0..l + 1 {
         w[MOMENTS + k] = w[MOMENTS + k] - factor * w[Z + k];
-        k += 1;
     }
 }
 

@@ -14,12 +14,10 @@ fn subtract(w: &mut [f64], n: usize, factor: [f64; 4])
     requires { Room w.old n }
     ensures { Subtracted w.old w.new n factor }
 {
-    let mut k = 0;
-    while k < n {
+    for k in 0..n {
         let y = get_row(w, FOUR_MOMENTS, k);
         let m = minus(y, scaled(factor, w[SECOND + k]));
         set_row(w, FOUR_MOMENTS, k, m);
-        k += 1;
     }
 }
 

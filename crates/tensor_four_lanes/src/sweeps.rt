@@ -14,13 +14,11 @@ pub fn slopes(w: &mut [f64], from: usize, stop: usize, places: [usize; 4], step:
     ensures { Sloped w.old w.new from stop places step }
 {
     let mut y = load(w, places, from * step);
-    let mut k = from;
-    while k < stop {
+    for k in from..stop {
         let next = load(w, places, (k + 1) * step);
         let s = over(minus(next, y), w[k]);
         set_row(w, FOUR_SLOPES, k, s);
         y = next;
-        k += 1;
     }
 }
 
@@ -39,8 +37,7 @@ pub fn forward(w: &mut [f64], first: usize, stop: usize, places: [usize; 4], ste
     let mut y = load(w, places, (first + 1) * step);
     let mut s = get_row(w, FOUR_SLOPES, first);
     let mut d = get_row(w, FOUR_MOMENTS, first);
-    let mut k = first;
-    while k + 1 < stop {
+    for k in first..stop - 1 {
         let i = k + 1;
         let ahead = load(w, places, (i + 1) * step);
         let next_s = over(minus(ahead, y), w[i]);
@@ -50,7 +47,6 @@ pub fn forward(w: &mut [f64], first: usize, stop: usize, places: [usize; 4], ste
         y = ahead;
         s = next_s;
         d = next_d;
-        k += 1;
     }
 }
 
@@ -60,9 +56,7 @@ pub fn back(w: &mut [f64], low: usize, from: usize)
     ensures { Back w.old w.new low from }
 {
     let mut m = get_row(w, FOUR_MOMENTS, from);
-    let mut k = from;
-    while low < k {
-        k -= 1;
+    for k in (low..from).rev() {
         m = minus(get_row(w, FOUR_MOMENTS, k), times(w[HELPERS + k], m));
         set_row(w, FOUR_MOMENTS, k, m);
     }
@@ -89,15 +83,13 @@ fn store_inner_slopes(w: &mut [f64], n: usize, places: [usize; 4], to: usize, st
     ensures { Laid w.old w.new places to step n (inner_slope w.old) }
 {
     let mut m = get_row(w, FOUR_MOMENTS, 0);
-    let mut k = 0;
-    while k < n {
+    for k in 0..n {
         let next = get_row(w, FOUR_MOMENTS, k + 1);
         let s = get_row(w, FOUR_SLOPES, k);
         let r = inner_slope(s, w[k], m, next);
         set_row(w, FOUR_SLOPES, k, r);
         store(w, places, to + k * step, r);
         m = next;
-        k += 1;
     }
 }
 

@@ -16,10 +16,8 @@ fn gather(w: &mut [f64], n: usize, from: usize, step: usize)
     requires { Lies w.old n from step × (n ≤ row_length) }
     ensures { Gathered w.old w.new n from step }
 {
-    let mut k = 0;
-    while k < n {
+    for k in 0..n {
         w[k] = w[from + k * step];
-        k += 1;
     }
 }
 
@@ -37,10 +35,8 @@ fn store_slopes(w: &mut [f64], x: &[f64], to: usize, step: usize)
     requires { Lies w.old (length x.now) to step × (1 ≤ step) × (2 ≤ length x.now) × (length x.now ≤ row_length) }
     ensures { Stored w.old w.new (slope_of_rows w.old x.now) (length x.now) to step }
 {
-    let mut k = 0;
-    while k < x.len() {
+    for k in 0..x.len() {
         w[to + k * step] = slope(w, x, k);
-        k += 1;
     }
 }
 

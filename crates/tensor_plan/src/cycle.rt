@@ -15,13 +15,12 @@ fn second_forth(w: &mut [f64], l: usize, first: f64)
     ensures { SecondForth w.old w.new l first }
 {
     let mut z = first;
-    let mut k = 0;
-    while k + 1 < l {
+    let before = l - 1;
+    for k in 0..before {
         w[SECOND + k] = z;
         z = (0.0 - w[k] * z) / w[DIVISORS + (k + 1)];
-        k += 1;
     }
-    w[SECOND + k] = z;
+    w[SECOND + before] = z;
 }
 
 // z itself over that helper row, from row l down.
@@ -30,9 +29,7 @@ fn second_back(w: &mut [f64], l: usize)
     ensures { SecondBack w.old w.new 0 l }
 {
     let mut z = w[SECOND + l];
-    let mut k = l;
-    while 0 < k {
-        k -= 1;
+    for k in (0..l).rev() {
         z = w[SECOND + k] - w[HELPERS + k] * z;
         w[SECOND + k] = z;
     }

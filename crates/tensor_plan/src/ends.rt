@@ -14,10 +14,8 @@ pub fn steps(w: &mut [f64], x: &[f64])
     requires { (scratch_of_rows ≤ length w.old) × (length x.now ≤ plan_row_length) × (0 < length x.now) }
     ensures { Stepped w.old w.new x.now }
 {
-    let mut k = 0;
-    while k + 1 < x.len() {
+    for k in 0..x.len() - 1 {
         w[k] = x[k + 1] - x[k];
-        k += 1;
     }
 }
 
@@ -29,18 +27,17 @@ pub fn divisors(w: &mut [f64], low: usize, last: usize, first: Row)
 {
     let mut d = first.diagonal;
     let mut c = first.neighbour / d;
-    let mut k = low;
-    while k + 1 < last {
+    let before = last - 1;
+    for k in low..before {
         w[DIVISORS + k] = d;
         w[HELPERS + k] = c;
         let h = w[k];
         let next = w[k + 1];
         d = 2.0 * (h + next) - h * c;
         c = next / d;
-        k += 1;
     }
-    w[DIVISORS + k] = d;
-    w[HELPERS + k] = c;
+    w[DIVISORS + before] = d;
+    w[HELPERS + before] = c;
 }
 
 // The whole plan. An end's diagonal and neighbour are made of knots alone, so its row is asked for with the knots in place of samples.

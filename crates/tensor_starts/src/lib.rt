@@ -44,13 +44,7 @@ fn varies(whole: bool, target: usize, axis: usize, j: usize) -> bool
     requires { j < 4 }
     ensures { result ≡ varies whole target axis j }
 {
-    if j == axis {
-        return false;
-    }
-    if whole {
-        return true;
-    }
-    grid::in_mask(target, j)
+    j != axis && (whole || grid::in_mask(target, j))
 }
 
 // The index on axis j that lanes along `axis` start at where they go through no others: the place's, and 0 on their own axis.
@@ -114,14 +108,11 @@ pub fn walk_over(
         far: 0,
         farthest: 0,
     };
-    let mut j = 0;
-    while j < axes {
+    for j in 0..axes {
         let entry = all[j];
         let through = varies(whole, target, axis, j);
         let index = start_index(place, axis, j);
-        let more = on_one_more(walk, entry.points, through, index);
-        walk = more;
-        j += 1;
+        walk = on_one_more(walk, entry.points, through, index);
     }
     on_one_more(walk, grid::masks(axes), false, mask)
 }

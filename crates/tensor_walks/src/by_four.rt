@@ -71,9 +71,9 @@ pub fn solve_by_four(
         × PlanKept w.old w.new }
 {
     let mut cursor = first(walk);
+    // A while: a turn goes on by four lanes or, at the end, by as many as are left.
     while cursor.lane < walk.lanes {
-        let after = solve_next_four(w, x, condition, plan, walk, to, step, cursor);
-        cursor = after;
+        cursor = solve_next_four(w, x, condition, plan, walk, to, step, cursor);
     }
     cursor.lane
 }

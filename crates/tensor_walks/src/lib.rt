@@ -32,11 +32,11 @@ fn solve_singly(
     ensures { WalkSolved w.old w.new x.now condition walk to step result }
 {
     let mut cursor = first(walk);
+    // A while: the walk's own cursor counts the lanes.
     while cursor.lane < walk.lanes {
         let from = TENSOR + cursor.at;
         solve_lane(w, x, condition, from, from + to, step);
-        let after = next(cursor, walk);
-        cursor = after;
+        cursor = next(cursor, walk);
     }
     cursor.lane
 }

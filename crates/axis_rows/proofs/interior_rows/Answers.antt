@@ -108,12 +108,6 @@ offset_bounds-w-j-in-loop-j-3 c = search rules
 pub bounds-w-j-in-loop-j-3 : goal.bounds-w-j-in-loop-j-3
 bounds-w-j-in-loop-j-3 c = simp length-set (omega arith)
 
-pub overflow_add-j : goal.overflow_add-j
-overflow_add-j c = search rules
-
-pub loop-j-smaller : goal.loop-j-smaller
-loop-j-smaller c = search rules
-
 pub loop-j-preserved : goal.loop-j-preserved
 loop-j-preserved c = turn_next _ _ _ _ _ _ _ _ _ c.loop-j.invariant c.loop-j-test.true
 

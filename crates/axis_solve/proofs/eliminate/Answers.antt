@@ -9,11 +9,11 @@ loop-k-init c = turn_first _ _ _ c.requires.0 c.requires.1
 pub bounds-w-to : goal.bounds-w-to
 bounds-w-to c = simp length-set (omega arith)
 
-pub bounds-w-k-in-loop-k-3 : goal.bounds-w-k-in-loop-k-3
-bounds-w-k-in-loop-k-3 c = simp length-set (omega arith)
+pub bounds-w-next : goal.bounds-w-next
+bounds-w-next c = simp length-set (omega arith)
 
-pub bounds-w-k-in-loop-k-4 : goal.bounds-w-k-in-loop-k-4
-bounds-w-k-in-loop-k-4 c = simp length-set (omega arith)
+pub bounds-w-next-in-loop-k : goal.bounds-w-next-in-loop-k
+bounds-w-next-in-loop-k c = simp length-set (omega arith)
 
 pub loop-k-preserved : goal.loop-k-preserved
 loop-k-preserved c = turn_next _ _ _ _ _ _ _ c.loop-k.invariant c.loop-k-test.true

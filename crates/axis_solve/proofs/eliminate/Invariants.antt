@@ -1,11 +1,7 @@
--- The way forth: below `k` its two rows are the rules', and the divisor and second number of row `k` are known. The measure is
--- the rows left; the answer is the last number of the second.
-use Prim.Native.Nat.{◌-◌}
+-- The way forth: below `k` its two rows are the rules', and the divisor and second number of row `k` are known.
+-- The answer is the last number of the second.
 use Rattle.axis_solve.proofs.Elimination.{Turn}
 use Rattle.axis_solve.proofs.eliminate.Given as goal
 
 abbrev pub invariant-loop-k : goal.invariant-loop-k
 invariant-loop-k l = Turn l.initial.w l.w l.l l.to l.divisor l.d l.k
-
-abbrev pub decreases-loop-k : goal.decreases-loop-k
-decreases-loop-k l = l.l - l.k

@@ -1,11 +1,6 @@
--- The right side is zero behind its first place and below `k`; the measure is the places left. Gamma and corner at its two
--- ends come after the loop.
-use Prim.Native.Nat.{◌-◌}
+-- The right side is zero behind its first place and below `k`. Gamma and corner at its two ends come after the loop.
 use Rattle.axis_solve.proofs.Corners.{Turn}
 use Rattle.axis_solve.proofs.u_vec.Given as goal
 
 abbrev pub invariant-loop-k : goal.invariant-loop-k
 invariant-loop-k l = Turn l.initial.w l.w l.l l.k
-
-abbrev pub decreases-loop-k : goal.decreases-loop-k
-decreases-loop-k l = l.l - l.k

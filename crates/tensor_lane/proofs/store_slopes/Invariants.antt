@@ -1,6 +1,4 @@
 -- The first `k` slopes are stored `step` apart, and by `slope_kept` they leave the rows that the next is read from as they were.
--- The measure is the knots left.
-use Prim.Native.Nat.{◌-◌}
 use lib.ListN.{length}
 use Rattle.tensor_lane.specs.LaneInScratch.{slope_of_rows}
 use Rattle.tensor_lane.proofs.Storing.{Turn}
@@ -8,6 +6,3 @@ use Rattle.tensor_lane.proofs.store_slopes.Given as goal
 
 abbrev pub invariant-loop-k : goal.invariant-loop-k
 invariant-loop-k l = Turn l.initial.w l.w (slope_of_rows l.initial.w l.x) (length l.x) l.to l.step l.k
-
-abbrev pub decreases-loop-k : goal.decreases-loop-k
-decreases-loop-k l = length l.x - l.k

@@ -1,6 +1,5 @@
 -- After `j` axes the walk has their lanes, each at its start, and goes through three of them at most, since the lanes' own never
--- varies. The measure is the axes left; then the masks come in as one axis more, so that each lane starts at the mask of its place.
-use Prim.Native.Nat.{◌-◌, ◌≤◌}
+-- varies. Then the masks come in as one axis more, so that each lane starts at the mask of its place.
 use Rattle.rules.specs.Sizes.{place_of, moved}
 use Rattle.grid.specs.GridOfCall.{points_of}
 use Rattle.tensor_starts.specs.Starts.{varies}
@@ -8,7 +7,4 @@ use Rattle.tensor_starts.proofs.Axes.{Walked}
 use Rattle.tensor_starts.proofs.walk_over.Given as goal
 
 abbrev pub invariant-loop-j : goal.invariant-loop-j
-invariant-loop-j l = (l.j ≤ l.axes) × Walked (points_of l.all) (varies l.whole l.target l.axis) (moved (place_of l.place) l.axis 0) l.axis l.j l.walk
-
-abbrev pub decreases-loop-j : goal.decreases-loop-j
-decreases-loop-j l = l.axes - l.j
+invariant-loop-j l = Walked (points_of l.all) (varies l.whole l.target l.axis) (moved (place_of l.place) l.axis 0) l.axis l.j l.walk

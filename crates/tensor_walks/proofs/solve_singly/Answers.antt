@@ -19,14 +19,14 @@ overflow_add-from-in-loop-cursor c =
 pub solve_lane-requires : goal.solve_lane-requires
 solve_lane-requires c = lane_given _ _ _ _ _ _ _ _ c.loop-cursor.invariant c.loop-cursor-test.true
 
-pub next-after-requires : goal.next-after-requires
-next-after-requires c = next_given _ _ _ _ _ _ _ _ c.loop-cursor.invariant c.loop-cursor-test.true
+pub next-cursor-requires : goal.next-cursor-requires
+next-cursor-requires c = next_given _ _ _ _ _ _ _ _ c.loop-cursor.invariant c.loop-cursor-test.true
 
 pub loop-cursor-smaller : goal.loop-cursor-smaller
-loop-cursor-smaller c = omega (arith, c.next-after.ensures.0, c.loop-cursor-test.true)
+loop-cursor-smaller c = omega (arith, c.next-cursor.ensures.0, c.loop-cursor-test.true)
 
 pub loop-cursor-preserved : goal.loop-cursor-preserved
-loop-cursor-preserved c = turn_next _ _ _ _ _ _ _ _ c.loop-cursor.invariant _ c.loop-cursor-test.true c.solve_lane.ensures _ c.next-after.ensures
+loop-cursor-preserved c = turn_next _ _ _ _ _ _ _ _ c.loop-cursor.invariant _ c.loop-cursor-test.true c.solve_lane.ensures _ c.next-cursor.ensures
 
 pub returns : goal.returns
 returns c = turn_last _ _ _ _ _ _ _ _ c.loop-cursor.invariant c.loop-cursor-test.false

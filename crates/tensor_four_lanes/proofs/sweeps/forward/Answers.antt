@@ -35,9 +35,9 @@ load-ahead-requires c =
 
 pub loop-k-preserved : goal.loop-k-preserved
 loop-k-preserved c =
-    turn_next _ _ _ _ _ _ _ _ _ _ _ _ c.loop-k.invariant c.loop-k-test.true _ _ _ _ c.load-ahead.ensures
+    turn_next _ _ _ _ _ _ _ _ _ _ _ _ c.loop-k.invariant (omega arith) _ _ _ _ c.load-ahead.ensures
     c.minus.ensures c.over-next_s.ensures c.next_helper-next_d.ensures c.set_row.ensures
     c.set_row-in-loop-k.ensures
 
 pub returns : goal.returns
-returns c = turn_last _ _ _ _ _ _ _ _ _ _ c.loop-k.invariant c.loop-k-test.false
+returns c = turn_last _ _ _ _ _ _ _ _ _ _ c.loop-k.invariant (omega arith)

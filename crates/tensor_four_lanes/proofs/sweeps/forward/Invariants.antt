@@ -1,11 +1,7 @@
 -- Behind `first` and up to knot `k` both blocks have their rows, each by the row before it; in hand are the slopes and the row of knot
--- `k` and the numbers at the knot behind it. The measure is the knots left before `stop`.
-use Prim.Native.Nat.{◌-◌}
+-- `k` and the numbers at the knot behind it.
 use Rattle.tensor_four_lanes.proofs.ForwardTurns.{Turn}
 use Rattle.tensor_four_lanes.proofs.sweeps.forward.Given as goal
 
 abbrev pub invariant-loop-k : goal.invariant-loop-k
 invariant-loop-k l = Turn l.initial.w l.w l.first l.stop l.places l.step l.y l.s l.d l.k
-
-abbrev pub decreases-loop-k : goal.decreases-loop-k
-decreases-loop-k l = l.stop - l.k

@@ -1,11 +1,6 @@
 -- The steps from `from` to knot `k` have their four slopes, in hand are the lanes' numbers at knot `k`, and no other place is touched.
--- The measure is the steps left.
-use Prim.Native.Nat.{◌-◌}
 use Rattle.tensor_four_lanes.proofs.SlopeTurns.{Turn}
 use Rattle.tensor_four_lanes.proofs.sweeps.slopes.Given as goal
 
 abbrev pub invariant-loop-k : goal.invariant-loop-k
 invariant-loop-k l = Turn l.initial.w l.w l.from l.stop l.places l.step l.y l.k
-
-abbrev pub decreases-loop-k : goal.decreases-loop-k
-decreases-loop-k l = l.stop - l.k

@@ -1,10 +1,7 @@
 -- From `l` down to `k` the numbers of `SECOND` are those of the way back, each by the one above it; below `k` they are as they were,
--- and the z in hand is number `k`. The measure is `k`.
+-- and the z in hand is number `k`.
 use Rattle.tensor_plan.proofs.SecondTurns.{BackTurn}
 use Rattle.tensor_plan.proofs.cycle.second_back.Given as goal
 
 abbrev pub invariant-loop-k : goal.invariant-loop-k
 invariant-loop-k l = BackTurn l.initial.w l.w l.l l.z l.k
-
-abbrev pub decreases-loop-k : goal.decreases-loop-k
-decreases-loop-k l = l.k

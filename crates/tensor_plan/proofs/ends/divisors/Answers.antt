@@ -1,4 +1,6 @@
 use native.Mathlib.Omega.{arith}
+use mathlib.Core.Path.{◌≡◌}
+use Prim.Native.Nat.{◌-◌}
 use lib.ListN.{length-set}
 use Rattle.tensor_plan.proofs.DivisorTurns.{turn_first, turn_next, turn_last}
 use Rattle.tensor_plan.proofs.ends.divisors.Goals as goal
@@ -16,10 +18,12 @@ pub bounds-w-k-in-loop-k-3 : goal.bounds-w-k-in-loop-k-3
 bounds-w-k-in-loop-k-3 c = simp length-set (omega arith)
 
 pub loop-k-preserved : goal.loop-k-preserved
-loop-k-preserved c = turn_next _ _ _ _ _ _ _ _ _ c.loop-k.invariant c.loop-k-test.true
+loop-k-preserved c = turn_next _ _ _ _ _ _ _ _ _ c.loop-k.invariant (omega arith)
 
-pub bounds-w-k-3 : goal.bounds-w-k-3
-bounds-w-k-3 c = simp length-set (omega arith)
+pub bounds-w-before-2 : goal.bounds-w-before-2
+bounds-w-before-2 c = simp length-set (omega arith)
 
 pub returns : goal.returns
-returns c = turn_last _ _ _ _ _ _ _ _ _ c.loop-k.invariant c.loop-k-test.false
+returns c =
+    let e : c.args.last - 1 ≡ c.loop-k.k = omega (arith, c.loop-k.invariant.most) in
+    rw e (turn_last _ _ _ _ _ _ _ _ _ c.loop-k.invariant (omega arith))
