@@ -4,11 +4,10 @@ use native.Mathlib.Omega.{arith}
 use mathlib.Core.Path.{◌≡◌, refl, sym, ◌∙◌}
 use mathlib.Core.Logic.{◌≢◌}
 use mathlib.Core.Bool.{Bool, true, false, cond}
-use mathlib.Core.List.{List, [], ◌∷◌}
+use mathlib.Core.List.{List}
 use Prim.Native.Nat.{ℕ, zero, suc, ◌<◌}
 use native.Mathlib.Nat.{zero-add}
 use lib.Dec.{ltb}
-use lib.ListN.{length, set, replicate}
 use lib.Ieee.{Float}
 use lib.Ieee.Scale.{finite}
 use borrow.Author.Tests.{ltb-true, ltb-false}
@@ -42,15 +41,6 @@ use Rattle.query_answer.specs.declared.ways.Way.TheVariants.{Walked, Searched, D
 use Rattle.query_answer.specs.declared.searched.Refusals.{Refusals}
 
 -- ---- the answer in a cell
-
--- four labels of 0 are all that stands in a slice of four
-pub cleared : (labels : List ℕ) → length labels ≡ most_axes → set (set (set (set labels 0 0) 1 0) 2 0) 3 0 ≡ replicate most_axes 0
-cleared [] four = absurd (omega arith)
-cleared (a ∷ []) four = absurd (omega arith)
-cleared (a ∷ b ∷ []) four = absurd (omega arith)
-cleared (a ∷ b ∷ c ∷ []) four = absurd (omega arith)
-cleared (a ∷ b ∷ c ∷ d ∷ []) four = refl
-cleared (a ∷ b ∷ c ∷ d ∷ e ∷ labels) four = absurd (omega arith)
 
 module _ (value : Float) (lower : List ℕ) {tested : Bool} (is : tested ≡ finite value) where
   pub accepted : tested ≡ true → record { refusal = 0; value = value; labels = lower } ≡ answer_in value lower

@@ -46,7 +46,6 @@ module _ (way : Way) (axes : ℕ) (points_in modes_in : List ℕ) (x coordinates
   -- the loop has come to axis i, whose knots begin at `begin`
   pub record Turn (lower : List ℕ) (weights : List Float) (r : Refusals) (begin i : ℕ) : Type 0 where
     pub fits : SearchFits axes points_in modes_in x coordinates
-    pub most : i ≤ axes
     pub begun : begin ≡ sum_below (place_of points_in) i
     pub placed : CellsPlaced points_in i lower weights
     pub found : (all : List Axis) → AxesOf axes points_in modes_in all → FoundOn way (grid axes all x) coordinates i lower weights r
@@ -57,7 +56,6 @@ module _ (way : Way) (axes : ℕ) (points_in modes_in : List ℕ) (x coordinates
   unfolding sum_below any
   turn_first lower weights given = record {
     fits = given.0;
-    most = omega arith;
     begun = refl;
     placed = record {
       four = rw given.1.no_cells refl;
@@ -93,9 +91,6 @@ module _ (way : Way) (axes : ℕ) (points_in modes_in : List ℕ) (x coordinates
 
       pub some_knot : 1 ≤ length part
       some_knot = omega (arith, size_given.0)
-
-      pub fewer_left : axes - (i + 1) < axes - i
-      fewer_left = omega arith
 
       pub axis_few : i < 4
       axis_few = omega (arith, turn.fits.in_range.few_axes)
@@ -170,7 +165,6 @@ module _ (way : Way) (axes : ℕ) (points_in modes_in : List ℕ) (x coordinates
         pub turn_next : Turn (set lower i cell) later told (begin + place_of points_in i) (i + 1)
         turn_next = record {
           fits = turn.fits;
-          most = omega arith;
           begun = rw (sum_more, turn.begun) refl;
           placed = record {
             four = simp length-set turn.placed.four;
@@ -181,9 +175,8 @@ module _ (way : Way) (axes : ℕ) (points_in modes_in : List ℕ) (x coordinates
           found = found_here;
         }
 
-    pub turn_last : axes ≤ i → FoundAmong way axes points_in modes_in x coordinates lower weights r
-    turn_last ge =
-        let all_axes : i ≡ axes = omega (arith, turn.most) in
+    pub turn_last : i ≡ axes → FoundAmong way axes points_in modes_in x coordinates lower weights r
+    turn_last all_axes =
         record {
           placed = subst (λ (k : ℕ). CellsPlaced points_in k lower weights) all_axes turn.placed;
           on = λ all are. subst (λ (k : ℕ). FoundOn way (grid axes all x) coordinates k lower weights r) all_axes (turn.found all are);

@@ -77,10 +77,7 @@ fn clear_labels(labels: &mut [usize])
     requires { length labels.old ≡ 4 }
     ensures { labels.new ≡ replicate most_axes 0 }
 {
-    labels[0] = 0;
-    labels[1] = 0;
-    labels[2] = 0;
-    labels[3] = 0;
+    labels.fill(0);
 }
 
 // A refusal: its number, +0.0, and labels 0.

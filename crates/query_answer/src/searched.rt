@@ -127,8 +127,7 @@ pub fn search_on_axes(
     let mut knots_refused = false;
     let mut outside = false;
     let mut begin = 0;
-    let mut i = 0;
-    while i < axes {
+    for i in 0..axes {
         let end = begin + points[i];
         let point = coordinates[i];
         let placed = outside::place_on_axis(modes[i], &knots[begin..end], point);
@@ -139,7 +138,6 @@ pub fn search_on_axes(
         knots_refused = knots_refused | ways::knots_refused(way, &knots[begin..end], cell);
         outside = outside | placed.refused;
         begin = end;
-        i += 1;
     }
     Refusals {
         coordinates: coordinates_refused,

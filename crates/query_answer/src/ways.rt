@@ -26,12 +26,7 @@ fn direct_cell(knots: &[f64], point: f64) -> usize
 fn by_search(way: Way) -> bool
     ensures { result ≡ by_search way }
 {
-    match way {
-        Way::Walked => true,
-        Way::Searched => true,
-        Way::Direct => false,
-        Way::Divided => false,
-    }
+    matches!(way, Way::Walked | Way::Searched)
 }
 
 // The cell on one axis: the search takes the point as it is given, the division takes it where its mode has placed it. Each is called from

@@ -35,9 +35,9 @@ module _ (cell₀ : List Float) (f : ℕ → Float) where
   pub reached_four :
       (cell : List Float) (e : ℕ) → Reached cell₀ cell f e → (four : List Float) → at four 0 ≡ f e → at four 1 ≡ f (e + 1)
       → at four 2 ≡ f (e + 2) → at four 3 ≡ f (e + 3)
-      → e + 3 < length cell₀ → Reached cell₀ (with_four cell e four) f (e + 4)
-  reached_four cell e i four first second third fourth room =
+      → e + 3 < length cell₀ → (next : ℕ) → next ≡ e + 4 → Reached cell₀ (with_four cell e four) f next
+  reached_four cell e i four first second third fourth room next is =
       let one = reached_more cell e i (at four 0) first (omega arith) (e + 1) (omega arith) in
       let two = reached_more _ (e + 1) one (at four 1) second (omega arith) (e + 2) (omega arith) in
       let three = reached_more _ (e + 2) two (at four 2) third (omega arith) (e + 3) (omega arith) in
-      reached_more _ (e + 3) three (at four 3) fourth (omega arith) (e + 4) (omega arith)
+      reached_more _ (e + 3) three (at four 3) fourth (omega arith) next (omega (arith, is))

@@ -108,11 +108,10 @@ pub fn blend_run(run: &mut [f64], numbers: &[f64], lower: usize, upper: usize, w
     requires { RunGiven (length run.old) numbers.now lower upper }
     ensures { RunBlended (length run.old) numbers.now lower upper weights run.new }
 {
-    let mut e = 0;
-    while e < run.len() {
+    for k in 0..run.len() / 4 {
+        let e = 4 * k;
         let four = four_blended(numbers, lower + 2 * e, upper + 2 * e, weights);
         store_four(run, e, four);
-        e += 4;
     }
 }
 
@@ -122,11 +121,10 @@ fn remove_by_fours(cell: &mut [f64], size: usize, weights: Weights)
     requires { (4 * size ≤ length cell.old) × (length cell.old ≤ 256) × (size % 4 ≡ 0) }
     ensures { Blended cell.old cell.new size weights }
 {
-    let mut e = 0;
-    while e < size {
+    for k in 0..size / 4 {
+        let e = 4 * k;
         let four = four_blended(cell, 2 * e, 2 * size + 2 * e, weights);
         store_four(cell, e, four);
-        e += 4;
     }
 }
 

@@ -1,14 +1,13 @@
 -- How far apart places stand: an index more on an axis is a stride more, and the stride of an axis is that of the next times its points.
-use mathlib.Core.Path.{◌≡◌, refl, sym}
+use mathlib.Core.Path.{◌≡◌, refl}
 use mathlib.Core.Logic.{⊎_elim}
 use Prim.Native.Nat.{ℕ, zero, suc, ◌+◌, ◌*◌, ◌<◌}
 use native.Mathlib.Omega.{arith}
 use native.Mathlib.Nat.{add-mul, mul_right_comm, eq-or-lt_of_le, le_of_suc-le-suc}
-use native.Mathlib.Numerals.{add-one}
 use Rattle.rules.specs.Sizes.{Place, moved, flat}
 use Rattle.rules.proofs.Places.{moved_own, flat_ext}
 use Rattle.grid.specs.Strides.{stride}
-use Rattle.grid.proofs.Strides.{stride_along, stride_first, stride_more, stride_more_axes, stride_last}
+use Rattle.grid.proofs.Strides.{stride_along, stride_more_axes, stride_last}
 
 -- the index on axis i raised by k
 pub raised : (n : ℕ → ℕ) (d i k : ℕ) (p : Place) → i < d → flat n d (moved p i (p i + k)) ≡ flat n d p + k * stride n d i

@@ -117,18 +117,7 @@ module _ (cell₀ : List Float) (axes : ℕ) (spots : Spots) (tensor : List Floa
     pub power : masks ≡ 2 ^ axes
     pub exact : length cell₀ ≡ 4 ^ (axes - 1)
     pub same_length : length cell ≡ length cell₀
-    pub most : run ≤ 2 ^ axes / 4
     pub done : (r k : ℕ) → r < run → k < masks → at cell (r * masks + k) ≡ run_number r k
-
-  pub turn_first : RunsGiven axes spots tensor × (length cell₀ ≡ 4 ^ (axes - 1)) → masks ≡ 2 ^ axes → Turn cell₀ 0
-  turn_first given power = record {
-    given = given.0;
-    power = power;
-    exact = given.1;
-    same_length = refl;
-    most = omega arith;
-    done = λ r k h. absurd (omega arith);
-  }
 
   module _ (cell : List Float) (run : ℕ) (turn : Turn cell run) (lt : run < masks / 4) where
     these : Counts axes (2 ^ axes) (2 ^ axes / 4) (4 ^ (axes - 1))
@@ -214,16 +203,7 @@ module _ (cell₀ : List Float) (axes : ℕ) (spots : Spots) (tensor : List Floa
         power = turn.power;
         exact = turn.exact;
         same_length = later_length ∙ turn.same_length;
-        most = omega (arith, below);
         done = done_next;
-      }
-
-  pub turn_last : (cell : List Float) (run : ℕ) → Turn cell run → masks / 4 ≤ run → RunsRemoved axes spots tensor w cell
-  turn_last cell run turn h =
-      let last : 2 ^ axes / 4 ≤ run = rw (← turn.power) h in
-      record {
-        exact = turn.same_length ∙ turn.exact;
-        number = λ r k l b. rw turn.power at (turn.done r k (omega arith) (rw turn.power b));
       }
 
 -- ---- what the runs are of the cell

@@ -30,8 +30,7 @@ fn remove_runs(cell: &mut [f64], axes: usize, spots: Spots, weights: Weights, te
     ensures { RunsRemoved axes spots tensor.now weights cell.new }
 {
     let masks = grid::masks(axes);
-    let mut run = 0;
-    while run < masks / 4 {
+    for run in 0..masks / 4 {
         let start = spots.first + run / 2 * spots.next + run % 2 * spots.last;
         let to = run * masks;
         query_blend::blend_run(
@@ -41,7 +40,6 @@ fn remove_runs(cell: &mut [f64], axes: usize, spots: Spots, weights: Weights, te
             start + spots.above,
             weights,
         );
-        run += 1;
     }
 }
 

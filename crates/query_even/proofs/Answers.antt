@@ -5,11 +5,11 @@ use mathlib.Core.Path.{◌≡◌, refl, sym, ap, ◌∙◌}
 use mathlib.Core.Logic.{◌≢◌}
 use mathlib.Core.Bool.{Bool, true, false, cond}
 use mathlib.Core.List.{List}
-use Prim.Native.Nat.{ℕ, ◌-◌, ◌<◌}
+use Prim.Native.Nat.{ℕ, ◌<◌}
 use lib.ListN.{length}
 use lib.Ieee.{Float}
 use Rattle.rules.specs.Numbers.{at}
-use Rattle.rules.specs.Sizes.{Grid, points, knots, place_of}
+use Rattle.rules.specs.Sizes.{Grid, points, place_of}
 use Rattle.rules.specs.Refusals.{some_number_refused, some_knots_refused, answer_refused}
 use Rattle.rules.specs.Outside.{some_outside_refused}
 use Rattle.rules.specs.Even.{some_uneven_refused, uneven_axis, uneven_interval}

@@ -12,7 +12,7 @@ use borrow.Author.Tests.{ltb-false}
 use Rattle.rules.specs.Numbers.{at, any}
 use Rattle.rules.specs.Sizes.{Grid, points, knots, sum_below, knots_length, place_of}
 use Rattle.rules.specs.Refusals.{number_refused, step_refused}
-use Rattle.rules.specs.Even.{first_that, first_failing}
+use Rattle.rules.specs.Even.{first_failing}
 use Rattle.base_numbers.proofs.Scan.{any_none, any_more, any_found, any_end, any_at}
 use Rattle.rules.specs.declared.Axis.{Axis}
 use Rattle.rules.proofs.Sums.{sum_ext}
@@ -25,7 +25,6 @@ use Rattle.query_even.specs.Qualities.{lacks, first_lack, lacking_axis, lacking_
 use Rattle.query_even.specs.Lacking.{FirstLack, LackAmong}
 use Rattle.query_even.specs.declared.qualities.Quality.{Quality}
 use Rattle.query_even.specs.declared.qualities.Quality.TheVariants.{Finite, Rising, Even}
-use Rattle.query_even.specs.declared.qualities.Lack.{Lack}
 
 -- knots that lack nothing have no place where they do
 no_lack : (quality : Quality) (x : List Float) (n : ℕ) → lacks quality x n ≡ false → first_lack quality x n ≡ 0

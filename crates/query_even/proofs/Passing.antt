@@ -1,27 +1,25 @@
 -- One pass over the knots: on an axis no knot fails to rise and no interval fails while the flag is down, and where it stays down on all
 -- axes, 7, 8 and 21 pass.
 use native.Mathlib.Omega.{arith}
-use mathlib.Core.Path.{◌≡◌, refl, sym, ap, ◌∙◌}
-use mathlib.Core.Bool.{Bool, true, false, not}
+use mathlib.Core.Path.{◌≡◌, refl, sym, ◌∙◌}
+use mathlib.Core.Bool.{false}
 use mathlib.Core.List.{List}
 use Prim.Native.Nat.{ℕ, ◌+◌, ◌-◌, ◌<◌, ◌≤◌}
 use lib.ListN.{length}
-use lib.Ieee.{Float, lt}
-use Rattle.rules.specs.Numbers.{at, any}
+use lib.Ieee.{Float}
+use Rattle.rules.specs.Numbers.{any}
 use Rattle.rules.specs.Sizes.{sum_below, place_of}
-use Rattle.rules.specs.Refusals.{knots_refused, some_knots_refused, some_number_refused}
-use Rattle.rules.specs.Even.{first_failing, fails}
-use Rattle.rules.specs.declared.Axis.{Axis}
+use Rattle.rules.specs.Refusals.{some_knots_refused}
+use Rattle.rules.specs.Even.{fails}
 use Rattle.rules.proofs.Sums.{sum_ext}
 use Rattle.base_numbers.proofs.Scan.{any_none, any_more}
 use Rattle.grid.specs.GridOfCall.{grid, points_of, InRange}
 use Rattle.grid_checks.specs.Rising.{not_rising}
 use Rattle.grid_checks.proofs.FiniteKnots.{grid_finite}
 use Rattle.axis_even.proofs.First as first
-use Rattle.query_answer.specs.PointsAndModes.{PointsOf}
 use Rattle.query_even.specs.Lacking.{PassAmong}
 use Rattle.query_even.specs.declared.qualities.Quality.TheVariants.{Rising, Even}
-use Rattle.query_even.proofs.LackingAxis.{Walk, walk_first, walk_within, walk_size, walk_next, walk_last}
+use Rattle.query_even.proofs.LackingAxis.{Walk, walk_first, walk_last}
 
 -- ---- one axis
 

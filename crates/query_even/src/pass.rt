@@ -19,17 +19,12 @@ fn axis_may_be_refused(knots: &[f64]) -> bool
     let step = knots[1] - knots[0];
     let tolerance = axis_even::tolerance(step);
     let mut found = !(knots[0] < knots[1]);
-    let mut i = 1;
-    while i < last {
+    for i in 1..last {
         found = found
             | !(knots[i] < knots[i + 1])
             | axis_even::may_fail(knots[i + 1] - knots[i], step, tolerance);
-        i += 1;
     }
-    if found {
-        return true;
-    }
-    !base_numbers::is_finite(knots[last] - knots[0])
+    found || !base_numbers::is_finite(knots[last] - knots[0])
 }
 
 // Whether those of an axis in use may be. Not a public call: what refusals 1, 2 and 4 leave is required, and four points.
@@ -39,14 +34,12 @@ pub fn knots_may_be_refused(axes: usize, points: &[usize], knots: &[f64]) -> boo
     ensures { result ≡ false → PassAmong axes points.now knots.now }
 {
     let mut begin = 0;
-    let mut i = 0;
-    while i < axes {
+    for i in 0..axes {
         let end = begin + points[i];
         if axis_may_be_refused(&knots[begin..end]) {
             return true;
         }
         begin = end;
-        i += 1;
     }
     false
 }

@@ -28,12 +28,10 @@ pub struct Lack {
 fn first_not_finite(knots: &[f64]) -> usize
     ensures { result ≡ first_lack Finite knots.now (length knots.now) }
 {
-    let mut i = 0;
-    while i < knots.len() {
+    for i in 0..knots.len() {
         if !base_numbers::is_finite(knots[i]) {
             return i;
         }
-        i += 1;
     }
     0
 }
@@ -42,12 +40,10 @@ fn first_not_finite(knots: &[f64]) -> usize
 fn first_step_refused(knots: &[f64]) -> usize
     ensures { result ≡ first_lack Rising knots.now (length knots.now) }
 {
-    let mut i = 0;
-    while i + 1 < knots.len() {
+    for i in 0..knots.len().saturating_sub(1) {
         if rising::step_refused(knots[i], knots[i + 1]) {
             return i;
         }
-        i += 1;
     }
     0
 }
@@ -83,8 +79,7 @@ pub fn first_lacking(quality: Quality, axes: usize, points: &[usize], knots: &[f
     ensures { LackAmong quality axes points.now knots.now result }
 {
     let mut begin = 0;
-    let mut i = 0;
-    while i < axes {
+    for i in 0..axes {
         let end = begin + points[i];
         if lacks(quality, &knots[begin..end]) {
             return Lack {
@@ -94,7 +89,6 @@ pub fn first_lacking(quality: Quality, axes: usize, points: &[usize], knots: &[f
             };
         }
         begin = end;
-        i += 1;
     }
     Lack {
         found: false,

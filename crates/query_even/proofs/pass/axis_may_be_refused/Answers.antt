@@ -1,5 +1,4 @@
 use mathlib.Core.Path.{refl, sym, ◌∙◌}
-use mathlib.Core.Bool.{true≢false}
 use native.Mathlib.Omega.{arith}
 use borrow.Author.Rules.{rules}
 use borrow.Author.Tests.{not-false}
@@ -13,30 +12,24 @@ use Rattle.query_even.proofs.Passing.{rises_first, rises_next}
 use Rattle.query_even.proofs.pass.axis_may_be_refused.Goals as goal
 
 pub loop-i-init : goal.loop-i-init
-loop-i-init c = (omega arith, omega arith, λ down. rises_first _ (search rules) down)
+loop-i-init c = λ down. rises_first _ (search rules) down
 
 pub loop-i-preserved : goal.loop-i-preserved
 unfolding h
-loop-i-preserved c = (
-  omega arith,
-  omega arith,
-  λ down.
-      let none = neither _ _ down in
-      let before = neither _ _ none.0 in
-      rises_next _ _ (c.loop-i.invariant.2 before.0) (omega arith) before.1
-      (fails_is _ _ _ _ _ refl refl c.tolerance-tolerance.ensures _ refl
-      ∙ neither_above _ _ _ (sym c.may_fail.ensures ∙ none.1)),
-)
+loop-i-preserved c =
+    λ down.
+    let none = neither _ _ down in
+    let before = neither _ _ none.0 in
+    rises_next _ _ (c.loop-i.invariant before.0) (omega arith) before.1
+    (fails_is _ _ _ _ _ refl refl c.tolerance-tolerance.ensures _ refl
+    ∙ neither_above _ _ _ (sym c.may_fail.ensures ∙ none.1))
 
-pub returns-then-found : goal.returns-then-found
-returns-then-found c = λ down. absurd (true≢false down)
-
-pub returns : goal.returns
-returns c =
+pub returns-else-found : goal.returns-else-found
+returns-else-found c =
     λ down.
     let x = c.args.knots.now in
-    let so_far = c.loop-i.invariant.2 c.if-found.false in (
-      finite_steps x (length x) c.shared_slice_known-7-1.given (omega arith)
+    let so_far = c.loop-i.invariant c.if-found.false in (
+      finite_steps x (length x) c.type_inv.knots (omega arith)
           (any_end _ _ _ so_far.rise (omega arith))
           (sym c.is_finite.ensures ∙ not-false _ down),
       sym (turn_last _ _ _ _ so_far.even (omega arith) ∙ failing_is _ _),

@@ -1,6 +1,5 @@
 use native.Mathlib.Omega.{arith}
 use mathlib.Core.Path.{refl, sym, ap}
-use mathlib.Core.Bool.{true≢false}
 use lib.Dec.{ltb}
 use Rattle.query_even.proofs.LackingAxis.{walk_within, walk_size, walk_next}
 use Rattle.query_even.proofs.Passing.{passing_first, passing_last}
@@ -15,20 +14,11 @@ overflow_add-end c = omega (arith, walk_within _ _ _ _ _ _ c.loop-i.invariant.ev
 pub offset_bounds-knots-begin : goal.offset_bounds-knots-begin
 offset_bounds-knots-begin c = omega (arith, walk_within _ _ _ _ _ _ c.loop-i.invariant.even c.loop-i-test.true)
 
-pub slice_bounds-axis_may_be_refused-count : goal.slice_bounds-axis_may_be_refused-count
-slice_bounds-axis_may_be_refused-count c = omega (arith, walk_within _ _ _ _ _ _ c.loop-i.invariant.even c.loop-i-test.true)
-
-pub slice_bounds-axis_may_be_refused-start : goal.slice_bounds-axis_may_be_refused-start
-slice_bounds-axis_may_be_refused-start c = omega (arith, walk_within _ _ _ _ _ _ c.loop-i.invariant.even c.loop-i-test.true)
-
 pub slice_bounds-axis_may_be_refused-end : goal.slice_bounds-axis_may_be_refused-end
 slice_bounds-axis_may_be_refused-end c = omega (arith, walk_within _ _ _ _ _ _ c.loop-i.invariant.even c.loop-i-test.true)
 
 pub axis_may_be_refused-requires : goal.axis_may_be_refused-requires
 axis_may_be_refused-requires c = walk_size _ _ _ _ _ _ c.loop-i.invariant.even c.loop-i-test.true
-
-pub returns-then-axis_may_be_refused : goal.returns-then-axis_may_be_refused
-returns-then-axis_may_be_refused c = λ down. absurd (true≢false down)
 
 pub loop-i-preserved : goal.loop-i-preserved
 loop-i-preserved c =

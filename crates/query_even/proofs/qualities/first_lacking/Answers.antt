@@ -1,5 +1,5 @@
 use native.Mathlib.Omega.{arith}
-use Rattle.query_even.proofs.LackingAxis.{walk_first, walk_within, walk_size, walk_found, walk_next, walk_last}
+use Rattle.query_even.proofs.LackingAxis.{walk_first, walk_within, walk_found, walk_next, walk_last}
 use Rattle.query_even.proofs.qualities.first_lacking.Goals as goal
 
 pub loop-i-init : goal.loop-i-init
@@ -11,32 +11,8 @@ overflow_add-end c = omega (arith, walk_within _ _ _ _ _ _ c.loop-i.invariant c.
 pub offset_bounds-knots-begin : goal.offset_bounds-knots-begin
 offset_bounds-knots-begin c = omega (arith, walk_within _ _ _ _ _ _ c.loop-i.invariant c.loop-i-test.true)
 
-pub slice_bounds-lacks-count : goal.slice_bounds-lacks-count
-slice_bounds-lacks-count c = omega (arith, walk_within _ _ _ _ _ _ c.loop-i.invariant c.loop-i-test.true)
-
-pub slice_bounds-lacks-start : goal.slice_bounds-lacks-start
-slice_bounds-lacks-start c = omega (arith, walk_within _ _ _ _ _ _ c.loop-i.invariant c.loop-i-test.true)
-
 pub slice_bounds-lacks-end : goal.slice_bounds-lacks-end
 slice_bounds-lacks-end c = omega (arith, walk_within _ _ _ _ _ _ c.loop-i.invariant c.loop-i-test.true)
-
-pub lacks-requires : goal.lacks-requires
-lacks-requires c = walk_size _ _ _ _ _ _ c.loop-i.invariant c.loop-i-test.true
-
-pub offset_bounds-knots-begin-then-lacks : goal.offset_bounds-knots-begin-then-lacks
-offset_bounds-knots-begin-then-lacks c = omega (arith, walk_within _ _ _ _ _ _ c.loop-i.invariant c.loop-i-test.true)
-
-pub slice_bounds-first_lack-count : goal.slice_bounds-first_lack-count
-slice_bounds-first_lack-count c = omega (arith, walk_within _ _ _ _ _ _ c.loop-i.invariant c.loop-i-test.true)
-
-pub slice_bounds-first_lack-start : goal.slice_bounds-first_lack-start
-slice_bounds-first_lack-start c = omega (arith, walk_within _ _ _ _ _ _ c.loop-i.invariant c.loop-i-test.true)
-
-pub slice_bounds-first_lack-end : goal.slice_bounds-first_lack-end
-slice_bounds-first_lack-end c = omega (arith, walk_within _ _ _ _ _ _ c.loop-i.invariant c.loop-i-test.true)
-
-pub first_lack-requires : goal.first_lack-requires
-first_lack-requires c = walk_size _ _ _ _ _ _ c.loop-i.invariant c.loop-i-test.true
 
 pub returns-then-lacks : goal.returns-then-lacks
 returns-then-lacks c =

@@ -2,7 +2,6 @@ use mathlib.Core.Path.{sym, ap, ◌∙◌}
 use mathlib.Core.Bool.{not}
 use native.Mathlib.Nat.{sub-zero}
 use native.Mathlib.Omega.{arith}
-use Rattle.rules.specs.Numbers.{at}
 use Rattle.axis_even.proofs.First.{turn_first, turn_next, turn_found, turn_last}
 use Rattle.query_even.proofs.qualities.first_not_finite.Goals as goal
 
