@@ -13,31 +13,19 @@ pub const BEFORE: f64 = 7.0;
 pub fn same(these: &[f64], those: &[f64]) -> bool
     ensures { result ≡ true → these.now ≡ those.now }
 {
-    if these.len() != those.len() {
-        return false;
-    }
-    let mut i = 0;
-    while i < these.len() {
-        if base_text::pattern(these[i]) != base_text::pattern(those[i]) {
-            return false;
-        }
-        i += 1;
-    }
-    true
+    these.len() == those.len()
+        && these
+            .iter()
+            .zip(those)
+            .all(|(x, y)| base_text::pattern(*x) == base_text::pattern(*y))
 }
 
 // Whether every number of a slice is the given one, bit for bit: that it answers true only then is proved.
 pub fn all_are(numbers: &[f64], number: f64) -> bool
     ensures { result ≡ true → numbers.now ≡ replicate (length numbers.now) number }
 {
-    let mut i = 0;
-    while i < numbers.len() {
-        if base_text::pattern(numbers[i]) != base_text::pattern(number) {
-            return false;
-        }
-        i += 1;
-    }
-    true
+    let wanted = base_text::pattern(number);
+    numbers.iter().all(|x| base_text::pattern(*x) == wanted)
 }
 
 pub fn print(out: Stdout, bytes: &[u8]) {
@@ -60,10 +48,8 @@ pub fn print_number(out: Stdout, number: f64) {
 }
 
 pub fn print_numbers(out: Stdout, numbers: &[f64]) {
-    let mut i = 0;
-    while i < numbers.len() {
-        print_number(out, numbers[i]);
-        i += 1;
+    for number in numbers {
+        print_number(out, *number);
     }
 }
 

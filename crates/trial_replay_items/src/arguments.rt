@@ -1,14 +1,18 @@
 // What each call takes, in a table, and where the list has it for a case.
 ghost use Rattle.std.specs.Prelude.{◌≤◌};
 
-use crate::items::{
-    after_given, after_left, bytes_at, bytes_given, bytes_left, floats_at, floats_given,
-    floats_left, numbers_at, numbers_given, numbers_left,
-};
+use crate::items::{Held, after_given, after_left, given, is_left, length_at};
 use crate::words::{after, word};
 
 // A place past any list: what would stand there is an empty slice, and nothing is left in it.
 const PAST: usize = 4294967296;
+
+// Room for the longest slice of the list: of floats, of whole numbers and of bytes.
+pub const FLOATS: usize = 8192;
+
+pub const NUMBERS: usize = 32;
+
+pub const BYTES: usize = 512;
 
 // What stands behind the arguments of a call.
 const END: u8 = b' ';
@@ -48,10 +52,10 @@ fn letters_of(call: u64) -> [u8; 12] {
 
 // The small letter of a capital.
 fn small(letter: u8) -> u8 {
-    if letter < b'A' {
-        return letter;
+    match letter {
+        b'A'..=b'Z' => letter + 32,
+        _ => letter,
     }
-    if letter <= b'Z' { letter + 32 } else { letter }
 }
 
 // The place after an argument.
@@ -106,18 +110,11 @@ impl Argument {
 // The argument of a small letter, counted from a first one on; behind the last where there is none.
 fn found(list: &[u8], letters: [u8; 12], first: Argument, wanted: u8) -> Argument {
     let mut argument = first;
-    let mut k = 0;
-    while k < 12 {
-        let letter = letters[k];
+    for letter in letters {
         if small(letter) == wanted {
-            return Argument {
-                letter,
-                given: argument.given,
-                left: argument.left,
-            };
+            return Argument { letter, ..argument };
         }
         argument = argument.next(list, letter);
-        k += 1;
     }
     argument
 }
@@ -153,24 +150,21 @@ impl Case {
 
     // The argument of a letter, and the place after the case.
     fn argument(self, list: &[u8], letter: u8) -> Argument {
-        let letters = self.letters;
         let first = Argument {
             letter: END,
             given: self.begin,
             left: after(self.answer, 1),
         };
-        found(list, letters, first, letter)
+        found(list, self.letters, first, letter)
     }
 
     pub fn next(self, list: &[u8]) -> usize {
-        let last = self.argument(list, END);
-        last.left
+        self.argument(list, END).left
     }
 
     // Whether a call has its number.
     pub fn is_known(self) -> bool {
-        let letters = self.letters;
-        letters[0] != END
+        self.letters[0] != END
     }
 
     // A word, and all of them.
@@ -189,57 +183,21 @@ impl Case {
         ]
     }
 
-    // The floats of a letter in an array with room for the longest of the list, how many they are, and whether some stand as the list says.
-    pub fn floats(self, list: &[u8], letter: u8) -> [f64; 8192] {
+    // The slice of a letter in an array with room for the longest of the list, how long it is, and whether one stands as the list says.
+    pub fn slice<T: Held, const ROOM: usize>(self, list: &[u8], letter: u8) -> [T; ROOM] {
         let argument = self.argument(list, letter);
-        floats_given(list, argument.place())
+        given(list, argument.place())
     }
 
-    pub fn floats_end(self, list: &[u8], letter: u8) -> usize
-        ensures { result ≤ 8192 }
+    pub fn length<const ROOM: usize>(self, list: &[u8], letter: u8) -> usize
+        ensures { result ≤ ROOM }
     {
         let argument = self.argument(list, letter);
-        floats_at(list, argument.place())
+        length_at::<ROOM>(list, argument.place())
     }
 
-    pub fn floats_stand(self, list: &[u8], letter: u8, s: &[f64]) -> bool {
+    pub fn stands<T: Held>(self, list: &[u8], letter: u8, slice: &[T]) -> bool {
         let argument = self.argument(list, letter);
-        floats_left(list, argument.place(), argument.place_left(), s)
-    }
-
-    // The whole numbers of a letter, likewise.
-    pub fn numbers(self, list: &[u8], letter: u8) -> [usize; 32] {
-        let argument = self.argument(list, letter);
-        numbers_given(list, argument.place())
-    }
-
-    pub fn numbers_end(self, list: &[u8], letter: u8) -> usize
-        ensures { result ≤ 32 }
-    {
-        let argument = self.argument(list, letter);
-        numbers_at(list, argument.place())
-    }
-
-    pub fn numbers_stand(self, list: &[u8], letter: u8, s: &[usize]) -> bool {
-        let argument = self.argument(list, letter);
-        numbers_left(list, argument.place(), argument.place_left(), s)
-    }
-
-    // The bytes of a letter, likewise.
-    pub fn bytes(self, list: &[u8], letter: u8) -> [u8; 512] {
-        let argument = self.argument(list, letter);
-        bytes_given(list, argument.place())
-    }
-
-    pub fn bytes_end(self, list: &[u8], letter: u8) -> usize
-        ensures { result ≤ 512 }
-    {
-        let argument = self.argument(list, letter);
-        bytes_at(list, argument.place())
-    }
-
-    pub fn bytes_stand(self, list: &[u8], letter: u8, s: &[u8]) -> bool {
-        let argument = self.argument(list, letter);
-        bytes_left(list, argument.place(), argument.place_left(), s)
+        is_left(list, argument.place(), argument.place_left(), slice)
     }
 }

@@ -1,29 +1,23 @@
 // Words of the list, and places in it.
 ghost use Rattle.std.specs.Prelude.{◌≡◌, ◌+◌, ◌<◌, ◌≤◌, length};
-ghost use Rattle.trial_replay_items.specs.Words.{bytes_from, word_at};
-
-pub fn wide(byte: u8) -> u64
-    ensures { (result ≡ byte) × (result < 256) }
-{
-    byte as u64
-}
-
-// The number of four bytes, most significant first.
-fn half_word(bytes: &[u8], at: usize) -> u64
-    requires { at + 4 ≤ length bytes.now }
-    ensures { (result ≡ bytes_from bytes.now at 4) × (result < 4294967296) }
-{
-    let high = wide(bytes[at]) * 256 + wide(bytes[at + 1]);
-    let low = wide(bytes[at + 2]) * 256 + wide(bytes[at + 3]);
-    high * 65536 + low
-}
+ghost use Rattle.trial_replay_items.specs.Words.{word_at};
 
 // Word k of the list, and 0 past its last whole word.
 pub fn word(list: &[u8], k: usize) -> u64
     ensures { result ≡ word_at list.now k }
 {
     if k < list.len() / 8 {
-        half_word(list, 8 * k) * 4294967296 + half_word(list, 8 * k + 4)
+        let at = 8 * k;
+        u64::from_be_bytes([
+            list[at],
+            list[at + 1],
+            list[at + 2],
+            list[at + 3],
+            list[at + 4],
+            list[at + 5],
+            list[at + 6],
+            list[at + 7],
+        ])
     } else {
         0
     }
@@ -33,19 +27,16 @@ pub fn word(list: &[u8], k: usize) -> u64
 pub fn after(place: usize, words: usize) -> usize
     ensures { result ≤ 8589934592 }
 {
-    if 4294967296 < place {
-        return 4294967296;
+    if 4294967296 < place || 4294967296 < words {
+        4294967296
+    } else {
+        place + words
     }
-    if 4294967296 < words {
-        return 4294967296;
-    }
-    place + words
 }
 
 // A length that the list gives, or the most that there is room for.
 pub fn held(length: u64, room: usize) -> usize
     ensures { result ≤ room }
 {
-    let n = length as usize;
-    if n < room { n } else { room }
+    room.min(length as usize)
 }
