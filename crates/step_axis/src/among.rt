@@ -7,20 +7,20 @@ ghost use Rattle.rules.specs.declared.StepDirection as StepDirection;
 ghost use Rattle.step_checks.specs.StepsChecked.{PointGiven};
 ghost use Rattle.step_axis.specs.AmongKnots.{AxisLocated, Stepped};
 
-use rules::{AxisLocation, ExactIndex, StepDirection};
+use rules::{AxisLocation, StepDirection};
 
-// Which of the knots at a lower index and after it equals the point.
-pub fn exact_index(knots: &[f64], lower: usize, point: f64) -> ExactIndex
+// Which of the knots at a lower index and after it equals the point, if one does.
+pub fn exact_index(knots: &[f64], lower: usize, point: f64) -> Option<usize>
     requires { lower + 1 < length knots.now }
     ensures { result ≡ exact_index knots.now lower point }
 {
     if knots[lower] == point {
-        return ExactIndex::Found(lower);
+        return Some(lower);
     }
     if knots[lower + 1] == point {
-        return ExactIndex::Found(lower + 1);
+        return Some(lower + 1);
     }
-    ExactIndex::NotFound
+    None
 }
 
 // Where a point lies: on a knot, or in its cell at a fraction of the width.
@@ -30,8 +30,8 @@ pub fn locate_axis(knots: &[f64], point: f64) -> AxisLocation
 {
     let lower = axis_locate::locate_lower_index(knots, point);
     match exact_index(knots, lower, point) {
-        ExactIndex::Found(index) => AxisLocation::Exact(index),
-        ExactIndex::NotFound => AxisLocation::Between {
+        Some(index) => AxisLocation::Exact(index),
+        None => AxisLocation::Between {
             lower,
             frac: (point - knots[lower]) / (knots[lower + 1] - knots[lower]),
         },

@@ -3,12 +3,12 @@
 use Rattle.step_axis.proofs.Found.{on_knot, in_cell}
 use Rattle.step_axis.proofs.among.locate_axis.Goals as goal
 
-pub returns-in-Found : goal.returns-in-Found
-returns-in-Found c =
+pub returns-in-Some : goal.returns-in-Some
+returns-in-Some c =
     on_knot _ _ _ c.requires c.locate_lower_index-lower.ensures c.exact_index.ensures _
-    c.in-Found.is
+    c.in-Some.is
 
-pub returns-in-NotFound : goal.returns-in-NotFound
-returns-in-NotFound c =
+pub returns-in-None : goal.returns-in-None
+returns-in-None c =
     in_cell _ _ _ c.requires c.locate_lower_index-lower.ensures c.exact_index.ensures
-    c.in-NotFound.is
+    c.in-None.is
