@@ -3,7 +3,7 @@
 use Rattle.step_checks.proofs.Accepted.{sizes_accepted}
 use Rattle.step_surface.proofs.stepped_of_points.Goals as goal
 
-pub knots_and_coordinates_refusal-met-requires : goal.knots_and_coordinates_refusal-met-requires
-knots_and_coordinates_refusal-met-requires c =
+pub check_knots_and_coordinates-met-requires : goal.check_knots_and_coordinates-met-requires
+check_knots_and_coordinates-met-requires c =
     let sizes = sizes_accepted _ _ _ _ _ c.requires.none_refused in
     (sizes.0, c.requires.four_points, sizes.2)

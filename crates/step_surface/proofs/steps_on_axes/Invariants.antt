@@ -7,6 +7,3 @@ use Rattle.step_surface.proofs.steps_on_axes.Given as goal
 
 abbrev pub invariant-loop-i : goal.invariant-loop-i
 invariant-loop-i l = Turn l.axes (place_of l.points) l.knots l.directions l.coordinates l.indices l.number l.begin l.i
-
-abbrev pub decreases-loop-i : goal.decreases-loop-i
-decreases-loop-i l = l.axes - l.i
