@@ -57,10 +57,8 @@ fn some_interval_may_fail(knots: &[f64]) -> bool
     let tolerance = tolerance(step);
     let last = knots.len() - 1;
     let mut found = false;
-    let mut interval = 1;
-    while interval < last {
-        found = found | may_fail(knots[interval + 1] - knots[interval], step, tolerance);
-        interval += 1;
+    for interval in 1..last {
+        found |= may_fail(knots[interval + 1] - knots[interval], step, tolerance);
     }
     found
 }
@@ -72,12 +70,10 @@ fn first_failing_interval(knots: &[f64]) -> usize
 {
     let step = knots[1] - knots[0];
     let tolerance = tolerance(step);
-    let mut i = 1;
-    while i < knots.len() - 1 {
+    for i in 1..knots.len() - 1 {
         if fails(knots[i + 1] - knots[i], step, tolerance) {
             return i;
         }
-        i += 1;
     }
     0
 }
@@ -105,10 +101,7 @@ pub fn locate_lower_index_uniform(first: f64, step: f64, points: usize, point: f
     }
     if t < 18446744073709551616.0 {
         let index = std::num::truncating_f64_to_u64(t) as usize;
-        if index < points - 2 {
-            return index;
-        }
-        return points - 2;
+        return index.min(points - 2);
     }
     0
 }

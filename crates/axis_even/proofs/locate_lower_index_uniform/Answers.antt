@@ -15,11 +15,6 @@ truncating_f64_to_u64-index-requires c = record {
   upper_bound = subst T (sym c.if-t-2.true) tt;
 }
 
-pub returns-then-index-points : goal.returns-then-index-points
-returns-then-index-points c =
-    direct_held _ _ _ _ c.if-t.false c.if-t-2.true c.truncating_f64_to_u64-index.result _
-    c.truncating_f64_to_u64-index.ensures (omega arith)
-
 pub returns-then-t-2 : goal.returns-then-t-2
 returns-then-t-2 c =
     direct_held _ _ _ _ c.if-t.false c.if-t-2.true c.truncating_f64_to_u64-index.result _
