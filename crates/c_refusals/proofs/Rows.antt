@@ -9,27 +9,34 @@ use lib.Dec.{ltb}
 use lib.ListN.{length, get_or}
 use lib.Ieee.{Float}
 use borrow.Author.Tests.{lt-ltb}
+use Rattle.std.specs.Prelude.{Result, Err}
+use Rattle.std.specs.Result.{IsErrAnd}
+use Rattle.std.proofs.lemmas.Result.{IfOk-weaker}
+use Rattle.rules.specs.Answers.{number_of, refusal_of}
 use Rattle.rules.specs.Ends.{not_a_knot}
 use Rattle.rules.specs.Sizes.{most_axes, unused_axis, place_of, sum_below, product_below, knots_length, samples_length}
 use Rattle.rules.specs.Numbers.{any}
 use Rattle.rules.specs.Refusals.{points_refused, length_refused}
+use Rattle.rules.specs.declared.Refusal.{Refusal}
+use Rattle.rules.specs.declared.Refusal.TheVariants.{Axes, Length}
 use Rattle.rules.specs.declared.Mode.TheVariants.{Extend}
 use Rattle.rules.proofs.Refused.{any_ext}
 use Rattle.rules.proofs.Sums.{sum_ext, product_ext}
 use Rattle.grid.specs.GridOfCall.{points_of, InRange}
 use Rattle.grid_checks.specs.Check.{points_check}
-use Rattle.grid_checks.specs.SizesFound.{SizesFound}
+use Rattle.grid_checks.specs.SizesFound.{SizesFound, SizesOf}
 use Rattle.grid_checks.specs.Tables.{row, lowest}
 use Rattle.grid_checks.specs.declared.sizes.Sizes.{Sizes}
-use Rattle.grid_checks.proofs.Rows.{stop, pass, none_applies, rows_stop, rows_pass, axes_few, in_range, exact}
+use Rattle.grid_checks.proofs.Rows.{stop, pass, none_applies, rows_given, rows_pass, axes_few, in_range, exact}
 use Rattle.c_axes.specs.Axes.{axis_without_ends, axes_without_ends}
 use Rattle.c_refusals.specs.OwnRefusals.{sizes_given, axes_rows, axes_own_refusal, query_later_rows}
-use Rattle.c_refusals.specs.OwnSizes.{OwnSizes, rows_of_sizes}
+use Rattle.c_refusals.specs.OwnSizes.{SizesGiven, OwnSizes, rows_of_sizes}
 
 module _ (axes : ℕ) (points : List ℕ) {number : ℕ} (e : number ≡ axes_own_refusal axes points) where
-  pub axes_stop : (later : ℕ) → (number ≡ 0 → ⊥) → number ≡ lowest (axes_rows axes points) later
+  pub axes_given : {Given : Type 0} (given : Result Given Refusal) (met : Refusal) → number ≡ number_of met
+      → IsErrAnd given (λ refusal. refusal ≡ met) → (later : ℕ) → refusal_of given ≡ lowest (axes_rows axes points) later
   unfolding axes_own_refusal
-  axes_stop = rows_stop (axes_rows axes points) tt e
+  axes_given given met is_number = rows_given (axes_rows axes points) tt given met (sym is_number ∙ e)
 
   pub axes_pass : {answer : ℕ} (later : ℕ) → number ≡ 0 → answer ≡ later → answer ≡ lowest (axes_rows axes points) later
   unfolding axes_own_refusal
@@ -74,23 +81,19 @@ module _ (axes : ℕ) (points : List ℕ) where
     product_given = product_ext _ _ axes (given_below few)
 
   -- what is found where the number of axes is refused
-  pub refused_axes : (ltb axes 1 || ltb most_axes axes) ≡ true → OwnSizes axes points (record { refusal = 1; knots = 0; numbers = 0 })
+  pub refused_axes : (ltb axes 1 || ltb most_axes axes) ≡ true → OwnSizes axes points (Err Axes)
   unfolding axes_own_refusal
-  refused_axes bad = record { refusal = stop _ refl bad; knots = λ z. absurd (omega arith); numbers = λ z. absurd (omega arith) }
+  refused_axes bad = record { refusal = stop _ refl bad; sizes = tt }
 
   module _ (some : (ltb axes 1 || ltb most_axes axes) ≡ false) where
     -- and where the points are not four
     pub refused_points : length_refused (length points) most_axes ≡ true
-        → OwnSizes axes points (record { refusal = 4; knots = 0; numbers = 0 })
+        → OwnSizes axes points (Err Length)
     unfolding axes_own_refusal
-    refused_points bad = record {
-      refusal = pass _ refl some (stop _ refl bad);
-      knots = λ z. absurd (omega arith);
-      numbers = λ z. absurd (omega arith);
-    }
+    refused_points bad = record { refusal = pass _ refl some (stop _ refl bad); sizes = tt }
 
     -- where they are, the sizes found of them are those of the axes
-    pub sizes_of_four : {r : Sizes} → length_refused (length points) most_axes ≡ false → SizesFound axes (place_of points) r
+    pub sizes_of_four : {r : Result Sizes Refusal} → length_refused (length points) most_axes ≡ false → SizesFound axes (place_of points) r
         → OwnSizes axes points r
     unfolding points_check axes_own_refusal
     sizes_of_four four found =
@@ -103,14 +106,19 @@ module _ (axes : ℕ) (points : List ℕ) where
               ∙ sym
               (ap₂ (λ (refused : Bool) (product : ℕ). lowest (row 2 refused ∷ row 3 (ltb 4096 (product * 2 ^ axes)) ∷ []) 0)
               (refused_given few) (product_given few))));
-          knots = λ none. found.knots none ∙ sym (sum_given few);
-          numbers = λ none. found.numbers none ∙ sym (ap (λ (product : ℕ). product * 2 ^ axes) (product_given few));
+          sizes =
+              IfOk-weaker _ (SizesOf axes (place_of points)) (SizesGiven axes points)
+              (λ sizes of. record {
+                knots = of.knots ∙ sym (sum_given few);
+                numbers = of.numbers ∙ sym (ap (λ (product : ℕ). product * 2 ^ axes) (product_given few));
+              })
+              found.sizes;
         }
 
   -- a query's rows by the sizes that were found are its rows by the points
   pub later_of_sizes :
-      {r : Sizes} → OwnSizes axes points r → r.refusal ≡ 0
+      {r : Sizes} → SizesGiven axes points r
       → (modes : List ℕ) (knots tensor coordinates value : List Float) (labels : List ℕ) {number : ℕ}
       → number ≡ lowest (rows_of_sizes axes r modes knots tensor coordinates value labels) 0
       → number ≡ lowest (query_later_rows axes points modes knots tensor coordinates value labels) 0
-  later_of_sizes found none modes knots tensor coordinates value labels e = rw (← found.knots none, ← found.numbers none) e
+  later_of_sizes found modes knots tensor coordinates value labels e = rw (← found.knots, ← found.numbers) e

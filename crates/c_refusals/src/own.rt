@@ -1,8 +1,9 @@
 // The host's own refusals of curves, tensors, queries and sheets, in one order: with axes 1, 4 for the points, 2, 3, 4 for every other
-// slice and slot, 13 for the kinds and 22 for the modes; on one axis 2, 4 and 13; of a sheet that is read 4 alone. Each is 0 where none
-// applies, and then the call's own follow. Steps have theirs in c_step::own, and the device in c_device.
+// slice and slot, 13 for the kinds and 22 for the modes; on one axis 2, 4 and 13; of a sheet that is read 4 alone. Where none applies,
+// the call's own follow. Steps have theirs in c_step::own, and the device in c_device.
 ghost use Rattle.std.specs.Prelude.{◌≡◌, ◌||◌, ◌≤◌};
 ghost use Rattle.rules.specs.Sizes.{knots_length, samples_length};
+ghost use Rattle.rules.specs.Answers.{refusal_of};
 ghost use Rattle.rules.specs.Refusals.{length_refused};
 ghost use Rattle.grid.specs.GridOfCall.{sizes_of, points_of, InRange};
 ghost use Rattle.c_refusals.specs.OwnRefusals.{
@@ -14,7 +15,6 @@ ghost use Rattle.c_refusals.specs.OwnRefusals.{
   found_slots_refused,
   moments_own_refusal,
   curve_own_refusal,
-  axes_own_refusal,
   build_own_refusal,
   change_own_refusal,
   write_own_refusal,
@@ -32,7 +32,7 @@ use c_axes::{axes_without_ends, some_kinds_refused, some_modes_refused};
 use grid_checks::sizes::Sizes;
 use grid_checks::{lengths, sizes};
 use grid_codes::ends::{kinds_refused, wide};
-use rules::Axis;
+use rules::{Axis, Refusal};
 
 // Whether kinds or values are not those of one axis's two ends.
 fn two_ends_refused(kinds: &[u8], values: &[f64]) -> bool
@@ -45,73 +45,56 @@ fn two_ends_refused(kinds: &[u8], values: &[f64]) -> bool
 }
 
 // Of the curve's moments: two ends, and the call's own slices, which 13 comes after.
-pub fn moments_own_refusal(
+pub fn check_moments(
     points: usize,
     knots: &[f64],
     samples: &[f64],
     kinds: &[u8],
     values: &[f64],
     moments: &[f64],
-) -> usize
-    ensures { result ≡ moments_own_refusal points knots.now samples.now kinds.now values.now
+) -> Result<(), Refusal>
+    ensures { refusal_of result ≡ moments_own_refusal points knots.now samples.now kinds.now values.now
         moments.now }
 {
     if sizes::points_refused(points) {
-        return 2;
+        return Err(Refusal::Points);
     }
     if two_ends_refused(kinds, values) {
-        return 4;
+        return Err(Refusal::Length);
     }
     if lengths::axis_refused(points, knots.len(), samples.len(), moments.len()) {
-        return 4;
+        return Err(Refusal::Length);
     }
     if kinds_refused(wide(kinds[0]), wide(kinds[1])) {
-        return 13;
+        return Err(Refusal::Kinds);
     }
-    0
+    Ok(())
 }
 
 // Of the curve's value: its slot.
-pub fn curve_own_refusal(points: usize, value: &[f64]) -> usize
-    ensures { result ≡ curve_own_refusal points value.now }
+pub fn check_curve(points: usize, value: &[f64]) -> Result<(), Refusal>
+    ensures { refusal_of result ≡ curve_own_refusal points value.now }
 {
     if sizes::points_refused(points) {
-        return 2;
+        return Err(Refusal::Points);
     }
     if lengths::length_refused(value.len(), 1) {
-        return 4;
+        return Err(Refusal::Length);
     }
-    0
+    Ok(())
 }
 
-// What every call with axes meets first, with the sizes that were found: 1 for the number of axes alone, 4 for points that are not four, 2,
-// 3, or 0.
-pub fn axes_own_sizes(axes: usize, points: &[usize]) -> Sizes
+// What every call with axes meets first: 1 for the number of axes alone, 4 for points that are not four, 2, 3, or else the sizes of its grid.
+pub fn check_axes(axes: usize, points: &[usize]) -> Result<Sizes, Refusal>
     ensures { OwnSizes axes points.now result }
 {
     if sizes::axes_refused(axes) {
-        return Sizes {
-            refusal: 1,
-            knots: 0,
-            numbers: 0,
-        };
+        return Err(Refusal::Axes);
     }
     if lengths::length_refused(points.len(), 4) {
-        return Sizes {
-            refusal: 4,
-            knots: 0,
-            numbers: 0,
-        };
+        return Err(Refusal::Length);
     }
     sizes::sizes_of_points(axes, points)
-}
-
-// The same number alone.
-pub fn axes_own_refusal(axes: usize, points: &[usize]) -> usize
-    ensures { result ≡ axes_own_refusal axes points.now }
-{
-    let found = axes_own_sizes(axes, points);
-    found.refusal
 }
 
 // Whether kinds or values are not those of the eight ends of four axes.
@@ -125,7 +108,7 @@ fn eight_ends_refused(kinds: &[u8], values: &[f64]) -> bool
 }
 
 // Of a build: eight ends, and the call's own slices, which 13 comes after.
-pub fn build_own_refusal(
+pub fn check_build(
     axes: usize,
     points: &[usize],
     kinds: &[u8],
@@ -133,25 +116,22 @@ pub fn build_own_refusal(
     knots: &[f64],
     samples: &[f64],
     tensor: &[f64],
-) -> usize
-    ensures { result ≡ build_own_refusal axes points.now kinds.now values.now knots.now
+) -> Result<(), Refusal>
+    ensures { refusal_of result ≡ build_own_refusal axes points.now kinds.now values.now knots.now
         samples.now tensor.now }
 {
-    let refusal = axes_own_refusal(axes, points);
-    if refusal != 0 {
-        return refusal;
-    }
+    check_axes(axes, points)?;
     if eight_ends_refused(kinds, values) {
-        return 4;
+        return Err(Refusal::Length);
     }
     let all = axes_without_ends(axes, points);
     if lengths::build_refused(axes, all, knots.len(), samples.len(), tensor.len()) {
-        return 4;
+        return Err(Refusal::Length);
     }
     if some_kinds_refused(axes, kinds) {
-        return 13;
+        return Err(Refusal::Kinds);
     }
-    0
+    Ok(())
 }
 
 // Whether the place or the slot of the count of a change is of another length.
@@ -165,7 +145,7 @@ fn place_or_lanes_refused(place: &[usize], lanes: &[usize]) -> bool
 }
 
 // Of a change: eight ends, the place, the slot of the count, and the call's own slices.
-pub fn change_own_refusal(
+pub fn check_change(
     axes: usize,
     points: &[usize],
     kinds: &[u8],
@@ -174,28 +154,25 @@ pub fn change_own_refusal(
     tensor: &[f64],
     place: &[usize],
     lanes: &[usize],
-) -> usize
-    ensures { result ≡ change_own_refusal axes points.now kinds.now values.now knots.now
+) -> Result<(), Refusal>
+    ensures { refusal_of result ≡ change_own_refusal axes points.now kinds.now values.now knots.now
         tensor.now place.now lanes.now }
 {
-    let refusal = axes_own_refusal(axes, points);
-    if refusal != 0 {
-        return refusal;
-    }
+    check_axes(axes, points)?;
     if eight_ends_refused(kinds, values) {
-        return 4;
+        return Err(Refusal::Length);
     }
     if place_or_lanes_refused(place, lanes) {
-        return 4;
+        return Err(Refusal::Length);
     }
     let all = axes_without_ends(axes, points);
     if lengths::change_refused(axes, all, knots.len(), tensor.len()) {
-        return 4;
+        return Err(Refusal::Length);
     }
     if some_kinds_refused(axes, kinds) {
-        return 13;
+        return Err(Refusal::Kinds);
     }
-    0
+    Ok(())
 }
 
 // Whether knots or samples are not as many as the axes say: the build's test, told of a tensor that has its length. Not a public call: what
@@ -218,7 +195,7 @@ fn modes_or_slot_refused(modes: &[u8], slot: &[usize]) -> bool
 }
 
 // Of a sheet that is written: eight ends, the modes, the slot of the length, and the call's own slices.
-pub fn write_own_refusal(
+pub fn check_write(
     axes: usize,
     points: &[usize],
     kinds: &[u8],
@@ -227,31 +204,28 @@ pub fn write_own_refusal(
     knots: &[f64],
     samples: &[f64],
     length: &[usize],
-) -> usize
-    ensures { result ≡ write_own_refusal axes points.now kinds.now values.now modes.now
+) -> Result<(), Refusal>
+    ensures { refusal_of result ≡ write_own_refusal axes points.now kinds.now values.now modes.now
         knots.now samples.now length.now }
 {
-    let refusal = axes_own_refusal(axes, points);
-    if refusal != 0 {
-        return refusal;
-    }
+    check_axes(axes, points)?;
     if eight_ends_refused(kinds, values) {
-        return 4;
+        return Err(Refusal::Length);
     }
     if modes_or_slot_refused(modes, length) {
-        return 4;
+        return Err(Refusal::Length);
     }
     let all = axes_without_ends(axes, points);
     if parts_refused(axes, all, knots.len(), samples.len()) {
-        return 4;
+        return Err(Refusal::Length);
     }
     if some_kinds_refused(axes, kinds) {
-        return 13;
+        return Err(Refusal::Kinds);
     }
     if some_modes_refused(axes, modes) {
-        return 22;
+        return Err(Refusal::Mode);
     }
-    0
+    Ok(())
 }
 
 // Whether a slot of a query's answer is of another length.
@@ -276,7 +250,7 @@ fn modes_or_slots_refused(modes: &[u8], value: &[f64], labels: &[usize]) -> bool
 
 // What a query on axes of these sizes meets after them: 4 for the modes, the slots of its answer and its own slices, and 22. Not a public
 // call: at most four axes are required.
-fn query_later_refusal(
+fn check_query_later(
     axes: usize,
     sizes: Sizes,
     modes: &[u8],
@@ -285,27 +259,27 @@ fn query_later_refusal(
     coordinates: &[f64],
     value: &[f64],
     labels: &[usize],
-) -> usize
+) -> Result<(), Refusal>
     requires { axes ≤ 4 }
-    ensures { result ≡ lowest
+    ensures { refusal_of result ≡ lowest
         (rows_of_sizes axes sizes modes.now knots.now tensor.now coordinates.now
         value.now labels.now)
         0 }
 {
     if modes_or_slots_refused(modes, value, labels) {
-        return 4;
+        return Err(Refusal::Length);
     }
     if lengths::query_lengths_refused(axes, sizes, knots.len(), tensor.len(), coordinates.len()) {
-        return 4;
+        return Err(Refusal::Length);
     }
     if some_modes_refused(axes, modes) {
-        return 22;
+        return Err(Refusal::Mode);
     }
-    0
+    Ok(())
 }
 
 // Of a query: what its axes meet, and then 4 for the modes, the slots of its answer and its own slices, and 22.
-pub fn query_own_refusal(
+pub fn check_query(
     axes: usize,
     points: &[usize],
     modes: &[u8],
@@ -314,15 +288,12 @@ pub fn query_own_refusal(
     coordinates: &[f64],
     value: &[f64],
     labels: &[usize],
-) -> usize
-    ensures { result ≡ query_own_refusal axes points.now modes.now knots.now tensor.now
+) -> Result<(), Refusal>
+    ensures { refusal_of result ≡ query_own_refusal axes points.now modes.now knots.now tensor.now
         coordinates.now value.now labels.now }
 {
-    let found = axes_own_sizes(axes, points);
-    if found.refusal != 0 {
-        return found.refusal;
-    }
-    query_later_refusal(
+    let found = check_axes(axes, points)?;
+    check_query_later(
         axes,
         found,
         modes,
@@ -335,7 +306,7 @@ pub fn query_own_refusal(
 }
 
 // Of the query of even axes: the same, and before the modes and the other slots 4 for the slot of an axis that is not even.
-pub fn even_query_own_refusal(
+pub fn check_even_query(
     axes: usize,
     points: &[usize],
     modes: &[u8],
@@ -345,18 +316,15 @@ pub fn even_query_own_refusal(
     value: &[f64],
     labels: &[usize],
     uneven: &[usize],
-) -> usize
-    ensures { result ≡ even_query_own_refusal axes points.now modes.now knots.now tensor.now
+) -> Result<(), Refusal>
+    ensures { refusal_of result ≡ even_query_own_refusal axes points.now modes.now knots.now tensor.now
         coordinates.now value.now labels.now uneven.now }
 {
-    let found = axes_own_sizes(axes, points);
-    if found.refusal != 0 {
-        return found.refusal;
-    }
+    let found = check_axes(axes, points)?;
     if lengths::length_refused(uneven.len(), 2) {
-        return 4;
+        return Err(Refusal::Length);
     }
-    query_later_refusal(
+    check_query_later(
         axes,
         found,
         modes,
@@ -382,43 +350,43 @@ fn found_slots_refused(axes: &[usize], points: &[usize], kinds: &[u8], values: &
 }
 
 // Of a sheet that is read as one of edition 1: what is found of its axes.
-pub fn read_edition_1_own_refusal(
+pub fn check_read_edition_1(
     axes: &[usize],
     points: &[usize],
     kinds: &[u8],
     values: &[f64],
-) -> usize
-    ensures { result ≡ read_edition_1_own_refusal axes.now points.now kinds.now values.now }
+) -> Result<(), Refusal>
+    ensures { refusal_of result ≡ read_edition_1_own_refusal axes.now points.now kinds.now values.now }
 {
     if found_slots_refused(axes, points, kinds, values) {
-        return 4;
+        return Err(Refusal::Length);
     }
-    0
+    Ok(())
 }
 
 // Of a sheet: what is found of its axes, their modes among it, and its edition.
-pub fn read_own_refusal(
+pub fn check_read(
     axes: &[usize],
     points: &[usize],
     kinds: &[u8],
     values: &[f64],
     modes: &[u8],
     edition: &[usize],
-) -> usize
-    ensures { result ≡ read_own_refusal axes.now points.now kinds.now values.now modes.now
+) -> Result<(), Refusal>
+    ensures { refusal_of result ≡ read_own_refusal axes.now points.now kinds.now values.now modes.now
         edition.now }
 {
     if found_slots_refused(axes, points, kinds, values) {
-        return 4;
+        return Err(Refusal::Length);
     }
     if modes_or_slot_refused(modes, edition) {
-        return 4;
+        return Err(Refusal::Length);
     }
-    0
+    Ok(())
 }
 
 // Of a sheet's tensor: the same, and the slot of the length.
-pub fn sheet_tensor_own_refusal(
+pub fn check_sheet_tensor(
     axes: &[usize],
     points: &[usize],
     kinds: &[u8],
@@ -426,18 +394,18 @@ pub fn sheet_tensor_own_refusal(
     modes: &[u8],
     edition: &[usize],
     length: &[usize],
-) -> usize
-    ensures { result ≡ sheet_tensor_own_refusal axes.now points.now kinds.now values.now
+) -> Result<(), Refusal>
+    ensures { refusal_of result ≡ sheet_tensor_own_refusal axes.now points.now kinds.now values.now
         modes.now edition.now length.now }
 {
     if found_slots_refused(axes, points, kinds, values) {
-        return 4;
+        return Err(Refusal::Length);
     }
     if modes_or_slot_refused(modes, edition) {
-        return 4;
+        return Err(Refusal::Length);
     }
     if lengths::length_refused(length.len(), 1) {
-        return 4;
+        return Err(Refusal::Length);
     }
-    0
+    Ok(())
 }

@@ -3,7 +3,7 @@
 use mathlib.Core.Path.{sym, ◌∙◌}
 use Rattle.grid_checks.proofs.Rows.{exact, axes_few}
 use Rattle.c_refusals.proofs.Rows.{refused_axes, refused_points, sizes_of_four}
-use Rattle.c_refusals.proofs.own.axes_own_sizes.Goals as goal
+use Rattle.c_refusals.proofs.own.check_axes.Goals as goal
 
 pub returns-then-axes_refused : goal.returns-then-axes_refused
 returns-then-axes_refused c = refused_axes _ _ (sym c.axes_refused.ensures ∙ c.if-axes_refused.true)

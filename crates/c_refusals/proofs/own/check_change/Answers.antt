@@ -5,40 +5,41 @@ use Rattle.grid.specs.GridOfCall.{points_of, InRange}
 use Rattle.grid_checks.proofs.Rows.{first, second, stop, pass, Past}
 use Rattle.c_axes.specs.Axes.{axes_without_ends}
 use Rattle.c_refusals.specs.OwnRefusals.{change_own_rows, change_own_refusal}
-use Rattle.c_refusals.proofs.Rows.{axes_stop, axes_pass, points_four, points_in_range}
+use Rattle.c_refusals.proofs.Rows.{axes_given, axes_pass, points_four, points_in_range}
 use Rattle.c_refusals.proofs.Lengths.{eight_lengths}
-use Rattle.c_refusals.proofs.own.change_own_refusal.Goals as goal
-use Rattle.c_refusals.proofs.own.change_own_refusal.Goals.{Else-change_refused, Else-refusal-ne0}
+use Rattle.c_refusals.proofs.own.check_change.Goals as goal
+use Rattle.c_refusals.proofs.own.check_change.Goals.{Else-change_refused, In_ok-check_axes}
 
-past_axes : (c : Else-refusal-ne0) → Past ((change_own_rows c.args.axes c.args.points.now c.args.kinds.now c.args.values.now c.args.knots.now
+past_axes : (c : In_ok-check_axes) → Past ((change_own_rows c.args.axes c.args.points.now c.args.kinds.now c.args.values.now c.args.knots.now
     c.args.tensor.now c.args.place.now c.args.lanes.now)) 4
-past_axes c answer e = axes_pass _ _ c.axes_own_refusal-refusal.ensures _ c.if-refusal-ne0.false e
+past_axes c answer e = axes_pass _ _ c.in_ok-check_axes.ensures.refusal _ refl e
 
-range : (c : Else-refusal-ne0) → InRange c.args.axes (points_of (axes_without_ends c.args.axes c.args.points.now))
-range c = points_in_range _ _ c.axes_own_refusal-refusal.ensures c.if-refusal-ne0.false
+range : (c : In_ok-check_axes) → InRange c.args.axes (points_of (axes_without_ends c.args.axes c.args.points.now))
+range c = points_in_range _ _ c.in_ok-check_axes.ensures.refusal refl
 
 past_lengths : (c : Else-change_refused) → Past ((change_own_rows c.args.axes c.args.points.now c.args.kinds.now c.args.values.now c.args.knots.now
     c.args.tensor.now c.args.place.now c.args.lanes.now)) 5
 past_lengths c answer e =
-    (axes_pass _ _ c.axes_own_refusal-refusal.ensures _ c.if-refusal-ne0.false (pass _ (second
+    (axes_pass _ _ c.in_ok-check_axes.ensures.refusal _ refl (pass _ (second
     (second c.eight_ends_refused.ensures c.if-eight_ends_refused.false
     c.place_or_lanes_refused.ensures)
     c.if-place_or_lanes_refused.false
     (rw c.axes_without_ends-all.ensures at c.change_refused.ensures))
     c.if-change_refused.false e))
 
-pub returns-then-refusal-ne0 : goal.returns-then-refusal-ne0
+pub returns-in_err-check_axes : goal.returns-in_err-check_axes
 unfolding change_own_refusal
-returns-then-refusal-ne0 c = axes_stop _ _ c.axes_own_refusal-refusal.ensures _ c.if-refusal-ne0.true
+returns-in_err-check_axes c =
+    axes_given _ _ c.in_err-check_axes.ensures.refusal c.from_residual.result _ refl c.from_residual.ensures.1 _
 
 pub returns-then-eight_ends_refused : goal.returns-then-eight_ends_refused
 unfolding change_own_refusal
-returns-then-eight_ends_refused c = past_axes (goal.at.returns-then-eight_ends_refused c).Else-refusal-ne0 _ (stop _ (first _ (first _ c.eight_ends_refused.ensures c.if-eight_ends_refused.true) refl) refl)
+returns-then-eight_ends_refused c = past_axes (goal.at.returns-then-eight_ends_refused c).In_ok-check_axes _ (stop _ (first _ (first _ c.eight_ends_refused.ensures c.if-eight_ends_refused.true) refl) refl)
 
 pub returns-then-place_or_lanes_refused : goal.returns-then-place_or_lanes_refused
 unfolding change_own_refusal
 returns-then-place_or_lanes_refused c =
-    past_axes (goal.at.returns-then-place_or_lanes_refused c).Else-refusal-ne0 _
+    past_axes (goal.at.returns-then-place_or_lanes_refused c).In_ok-check_axes _
     (stop _
     (first _
     (second c.eight_ends_refused.ensures c.if-eight_ends_refused.false
@@ -47,15 +48,15 @@ returns-then-place_or_lanes_refused c =
     refl)
 
 pub axes_without_ends-all-requires : goal.axes_without_ends-all-requires
-axes_without_ends-all-requires c = points_four _ _ c.axes_own_refusal-refusal.ensures c.if-refusal-ne0.false
+axes_without_ends-all-requires c = points_four _ _ c.in_ok-check_axes.ensures.refusal refl
 
 pub change_refused-requires : goal.change_refused-requires
-change_refused-requires c = rw c.axes_without_ends-all.ensures (range (goal.at.change_refused-requires c).Else-refusal-ne0)
+change_refused-requires c = rw c.axes_without_ends-all.ensures (range (goal.at.change_refused-requires c).In_ok-check_axes)
 
 pub returns-then-change_refused : goal.returns-then-change_refused
 unfolding change_own_refusal
 returns-then-change_refused c =
-    past_axes (goal.at.returns-then-change_refused c).Else-refusal-ne0 _
+    past_axes (goal.at.returns-then-change_refused c).In_ok-check_axes _
     (stop _ (second
     (second c.eight_ends_refused.ensures c.if-eight_ends_refused.false
     c.place_or_lanes_refused.ensures)
@@ -65,7 +66,7 @@ returns-then-change_refused c =
 
 pub some_kinds_refused-requires : goal.some_kinds_refused-requires
 some_kinds_refused-requires c = (
-  (range (goal.at.some_kinds_refused-requires c).Else-refusal-ne0).few_axes,
+  (range (goal.at.some_kinds_refused-requires c).In_ok-check_axes).few_axes,
   (eight_lengths c.args.kinds.now c.args.values.now
       (sym c.eight_ends_refused.ensures ∙ c.if-eight_ends_refused.false)).0,
 )

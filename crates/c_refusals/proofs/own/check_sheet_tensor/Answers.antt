@@ -2,7 +2,7 @@
 use mathlib.Core.Path.{refl}
 use Rattle.grid_checks.proofs.Rows.{first, second, stop, pass}
 use Rattle.c_refusals.specs.OwnRefusals.{sheet_tensor_own_refusal}
-use Rattle.c_refusals.proofs.own.sheet_tensor_own_refusal.Goals as goal
+use Rattle.c_refusals.proofs.own.check_sheet_tensor.Goals as goal
 
 pub returns-then-found_slots_refused : goal.returns-then-found_slots_refused
 unfolding sheet_tensor_own_refusal

@@ -5,22 +5,22 @@ use Rattle.grid.specs.GridOfCall.{points_of, InRange}
 use Rattle.grid_checks.proofs.Rows.{first, second, stop, pass, Past}
 use Rattle.c_axes.specs.Axes.{axes_without_ends}
 use Rattle.c_refusals.specs.OwnRefusals.{write_own_rows, write_own_refusal}
-use Rattle.c_refusals.proofs.Rows.{axes_stop, axes_pass, points_four, points_in_range}
+use Rattle.c_refusals.proofs.Rows.{axes_given, axes_pass, points_four, points_in_range}
 use Rattle.c_refusals.proofs.Lengths.{eight_lengths, mode_slot_lengths}
-use Rattle.c_refusals.proofs.own.write_own_refusal.Goals as goal
-use Rattle.c_refusals.proofs.own.write_own_refusal.Goals.{Else-parts_refused, Else-refusal-ne0, Else-some_kinds_refused}
+use Rattle.c_refusals.proofs.own.check_write.Goals as goal
+use Rattle.c_refusals.proofs.own.check_write.Goals.{Else-parts_refused, In_ok-check_axes, Else-some_kinds_refused}
 
-past_axes : (c : Else-refusal-ne0) → Past ((write_own_rows c.args.axes c.args.points.now c.args.kinds.now c.args.values.now c.args.modes.now
+past_axes : (c : In_ok-check_axes) → Past ((write_own_rows c.args.axes c.args.points.now c.args.kinds.now c.args.values.now c.args.modes.now
     c.args.knots.now c.args.samples.now c.args.length.now)) 4
-past_axes c answer e = axes_pass _ _ c.axes_own_refusal-refusal.ensures _ c.if-refusal-ne0.false e
+past_axes c answer e = axes_pass _ _ c.in_ok-check_axes.ensures.refusal _ refl e
 
-range : (c : Else-refusal-ne0) → InRange c.args.axes (points_of (axes_without_ends c.args.axes c.args.points.now))
-range c = points_in_range _ _ c.axes_own_refusal-refusal.ensures c.if-refusal-ne0.false
+range : (c : In_ok-check_axes) → InRange c.args.axes (points_of (axes_without_ends c.args.axes c.args.points.now))
+range c = points_in_range _ _ c.in_ok-check_axes.ensures.refusal refl
 
 past_lengths : (c : Else-parts_refused) → Past ((write_own_rows c.args.axes c.args.points.now c.args.kinds.now c.args.values.now c.args.modes.now
     c.args.knots.now c.args.samples.now c.args.length.now)) 5
 past_lengths c answer e =
-    (axes_pass _ _ c.axes_own_refusal-refusal.ensures _ c.if-refusal-ne0.false (pass _ (second
+    (axes_pass _ _ c.in_ok-check_axes.ensures.refusal _ refl (pass _ (second
     (second c.eight_ends_refused.ensures c.if-eight_ends_refused.false
     c.modes_or_slot_refused.ensures)
     c.if-modes_or_slot_refused.false
@@ -29,25 +29,26 @@ past_lengths c answer e =
 
 past_kinds : (c : Else-some_kinds_refused) → Past ((write_own_rows c.args.axes c.args.points.now c.args.kinds.now c.args.values.now c.args.modes.now
     c.args.knots.now c.args.samples.now c.args.length.now)) 6
-past_kinds c answer e = ((axes_pass _ _ c.axes_own_refusal-refusal.ensures _ c.if-refusal-ne0.false (pass _ (second
+past_kinds c answer e = ((axes_pass _ _ c.in_ok-check_axes.ensures.refusal _ refl (pass _ (second
     (second c.eight_ends_refused.ensures c.if-eight_ends_refused.false
     c.modes_or_slot_refused.ensures)
     c.if-modes_or_slot_refused.false
     (rw c.axes_without_ends-all.ensures at c.parts_refused.ensures))
     c.if-parts_refused.false (pass _ c.some_kinds_refused.ensures c.if-some_kinds_refused.false e))))
 
-pub returns-then-refusal-ne0 : goal.returns-then-refusal-ne0
+pub returns-in_err-check_axes : goal.returns-in_err-check_axes
 unfolding write_own_refusal
-returns-then-refusal-ne0 c = axes_stop _ _ c.axes_own_refusal-refusal.ensures _ c.if-refusal-ne0.true
+returns-in_err-check_axes c =
+    axes_given _ _ c.in_err-check_axes.ensures.refusal c.from_residual.result _ refl c.from_residual.ensures.1 _
 
 pub returns-then-eight_ends_refused : goal.returns-then-eight_ends_refused
 unfolding write_own_refusal
-returns-then-eight_ends_refused c = past_axes (goal.at.returns-then-eight_ends_refused c).Else-refusal-ne0 _ (stop _ (first _ (first _ c.eight_ends_refused.ensures c.if-eight_ends_refused.true) refl) refl)
+returns-then-eight_ends_refused c = past_axes (goal.at.returns-then-eight_ends_refused c).In_ok-check_axes _ (stop _ (first _ (first _ c.eight_ends_refused.ensures c.if-eight_ends_refused.true) refl) refl)
 
 pub returns-then-modes_or_slot_refused : goal.returns-then-modes_or_slot_refused
 unfolding write_own_refusal
 returns-then-modes_or_slot_refused c =
-    past_axes (goal.at.returns-then-modes_or_slot_refused c).Else-refusal-ne0 _
+    past_axes (goal.at.returns-then-modes_or_slot_refused c).In_ok-check_axes _
     (stop _
     (first _
     (second c.eight_ends_refused.ensures c.if-eight_ends_refused.false
@@ -56,15 +57,15 @@ returns-then-modes_or_slot_refused c =
     refl)
 
 pub axes_without_ends-all-requires : goal.axes_without_ends-all-requires
-axes_without_ends-all-requires c = points_four _ _ c.axes_own_refusal-refusal.ensures c.if-refusal-ne0.false
+axes_without_ends-all-requires c = points_four _ _ c.in_ok-check_axes.ensures.refusal refl
 
 pub parts_refused-requires : goal.parts_refused-requires
-parts_refused-requires c = rw c.axes_without_ends-all.ensures (range (goal.at.parts_refused-requires c).Else-refusal-ne0)
+parts_refused-requires c = rw c.axes_without_ends-all.ensures (range (goal.at.parts_refused-requires c).In_ok-check_axes)
 
 pub returns-then-parts_refused : goal.returns-then-parts_refused
 unfolding write_own_refusal
 returns-then-parts_refused c =
-    past_axes (goal.at.returns-then-parts_refused c).Else-refusal-ne0 _
+    past_axes (goal.at.returns-then-parts_refused c).In_ok-check_axes _
     (stop _ (second
     (second c.eight_ends_refused.ensures c.if-eight_ends_refused.false
     c.modes_or_slot_refused.ensures)
@@ -74,7 +75,7 @@ returns-then-parts_refused c =
 
 pub some_kinds_refused-requires : goal.some_kinds_refused-requires
 some_kinds_refused-requires c = (
-  (range (goal.at.some_kinds_refused-requires c).Else-refusal-ne0).few_axes,
+  (range (goal.at.some_kinds_refused-requires c).In_ok-check_axes).few_axes,
   (eight_lengths c.args.kinds.now c.args.values.now
       (sym c.eight_ends_refused.ensures ∙ c.if-eight_ends_refused.false)).0,
 )
@@ -85,7 +86,7 @@ returns-then-some_kinds_refused c = past_lengths (goal.at.returns-then-some_kind
 
 pub some_modes_refused-requires : goal.some_modes_refused-requires
 some_modes_refused-requires c = (
-  (range (goal.at.some_modes_refused-requires c).Else-refusal-ne0).few_axes,
+  (range (goal.at.some_modes_refused-requires c).In_ok-check_axes).few_axes,
   (mode_slot_lengths c.args.modes.now c.args.length.now
       (sym c.modes_or_slot_refused.ensures ∙ c.if-modes_or_slot_refused.false)).0,
 )

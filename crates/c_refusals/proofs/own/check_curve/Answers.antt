@@ -2,7 +2,7 @@
 use mathlib.Core.Path.{refl}
 use Rattle.grid_checks.proofs.Rows.{stop, pass}
 use Rattle.c_refusals.specs.OwnRefusals.{curve_own_refusal}
-use Rattle.c_refusals.proofs.own.curve_own_refusal.Goals as goal
+use Rattle.c_refusals.proofs.own.check_curve.Goals as goal
 
 pub returns-then-points_refused : goal.returns-then-points_refused
 unfolding curve_own_refusal

@@ -4,8 +4,8 @@ use mathlib.Core.Path.{refl, sym, ◌∙◌}
 use Rattle.grid_checks.proofs.Rows.{first, second, stop, pass, Past}
 use Rattle.c_refusals.specs.OwnSizes.{rows_of_sizes}
 use Rattle.c_refusals.proofs.Lengths.{mode_lengths}
-use Rattle.c_refusals.proofs.own.query_later_refusal.Goals as goal
-use Rattle.c_refusals.proofs.own.query_later_refusal.Goals.{Else-query_lengths_refused}
+use Rattle.c_refusals.proofs.own.check_query_later.Goals as goal
+use Rattle.c_refusals.proofs.own.check_query_later.Goals.{Else-query_lengths_refused}
 
 past_lengths : (c : Else-query_lengths_refused) → Past ((rows_of_sizes c.args.axes c.args.sizes c.args.modes.now c.args.knots.now c.args.tensor.now
     c.args.coordinates.now c.args.value.now c.args.labels.now)) 1

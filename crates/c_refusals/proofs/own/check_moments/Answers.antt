@@ -8,8 +8,8 @@ use Rattle.grid_codes.specs.Kinds.{kinds_refused}
 use Rattle.grid_checks.proofs.Rows.{first, second, stop, pass, Past}
 use Rattle.c_refusals.specs.OwnRefusals.{moments_own_rows, moments_own_refusal}
 use Rattle.c_refusals.proofs.Lengths.{two_lengths}
-use Rattle.c_refusals.proofs.own.moments_own_refusal.Goals as goal
-use Rattle.c_refusals.proofs.own.moments_own_refusal.Goals.{Else-axis_refused, Else-points_refused, Else-two_ends_refused}
+use Rattle.c_refusals.proofs.own.check_moments.Goals as goal
+use Rattle.c_refusals.proofs.own.check_moments.Goals.{Else-axis_refused, Else-points_refused, Else-two_ends_refused}
 
 past_points : (c : Else-points_refused) → Past ((moments_own_rows c.args.points c.args.knots.now c.args.samples.now c.args.kinds.now c.args.values.now
     c.args.moments.now)) 1

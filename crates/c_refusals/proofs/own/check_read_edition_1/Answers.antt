@@ -2,7 +2,7 @@
 use mathlib.Core.Path.{refl}
 use Rattle.grid_checks.proofs.Rows.{stop, pass}
 use Rattle.c_refusals.specs.OwnRefusals.{read_edition_1_own_refusal}
-use Rattle.c_refusals.proofs.own.read_edition_1_own_refusal.Goals as goal
+use Rattle.c_refusals.proofs.own.check_read_edition_1.Goals as goal
 
 pub returns-then-found_slots_refused : goal.returns-then-found_slots_refused
 unfolding read_edition_1_own_refusal
