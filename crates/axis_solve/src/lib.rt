@@ -59,8 +59,8 @@ fn diag_mod(w: &mut [f64], l: usize, gamma: f64, corner: f64)
     requires { RowsGiven w.old l × (0 < l) }
     ensures { DiagMod w.old w.new l gamma corner }
 {
-    w[DIAG] = w[DIAG] - gamma;
-    w[DIAG + l] = w[DIAG + l] - corner * corner / gamma;
+    w[DIAG] -= gamma;
+    w[DIAG + l] -= corner * corner / gamma;
 }
 
 // The right side of the second solve: gamma, zeros, corner.
@@ -68,9 +68,7 @@ fn u_vec(w: &mut [f64], l: usize, gamma: f64, corner: f64)
     requires { RowsGiven w.old l × (0 < l) }
     ensures { UVec w.old w.new l gamma corner }
 {
-    for k in 1..l {
-        w[RHS + k] = 0.0;
-    }
+    w[RHS + 1..RHS + l].fill(0.0);
     w[RHS] = gamma;
     w[RHS + l] = corner;
 }
@@ -92,7 +90,7 @@ fn subtract(w: &mut [f64], l: usize, factor: f64)
     ensures { Subtracted w.old w.new (l + 1) factor }
 {
     for k in 0..l + 1 {
-        w[MOMENTS + k] = w[MOMENTS + k] - factor * w[Z + k];
+        w[MOMENTS + k] -= factor * w[Z + k];
     }
 }
 
