@@ -6,6 +6,7 @@
 ghost use Rattle.c_curve.specs.CurveExports.{MomentsExport, CurveExport};
 
 use c_refusals::{own, slots};
+use rules::number_told;
 
 // The moments of the curve, one for each point, under the two ends given. Refuses 2 4 5 7 8 9 10, and 4 and 13 of its own.
 pub fn moments(
@@ -20,12 +21,12 @@ pub fn moments(
     ensures { MomentsExport points knots.now samples.now kinds.now values.now moments.old
         scratch.old result moments.new scratch.new }
 {
-    let refusal = own::moments_own_refusal(points, knots, samples, kinds, values, moments);
-    if refusal != 0 {
-        return refusal;
+    if let Err(refusal) = own::check_moments(points, knots, samples, kinds, values, moments) {
+        return refusal.number();
     }
     let condition = c_axes::condition_given(kinds, values, 0);
-    axis_curve::moments(points, knots, samples, condition, moments, scratch)
+    let given = axis_curve::moments(points, knots, samples, condition, moments, scratch);
+    number_told(given)
 }
 
 // The curve's value at a point, in a slot of one. Refuses 2 4 7 8 10, and then it is +0.0; and 4 of its own.
@@ -40,12 +41,18 @@ pub fn curve(
     ensures { CurveExport points knots.now samples.now moments.now point value.old result
         value.new }
 {
-    let refusal = own::curve_own_refusal(points, value);
-    if refusal != 0 {
+    if let Err(refusal) = own::check_curve(points, value) {
         slots::store_value(value, 0.0);
-        return refusal;
+        return refusal.number();
     }
-    let answer = axis_curve::curve(points, knots, samples, moments, point);
-    slots::store_value(value, answer.value);
-    answer.refusal
+    match axis_curve::curve(points, knots, samples, moments, point) {
+        Ok(found) => {
+            slots::store_value(value, found);
+            0
+        }
+        Err(refusal) => {
+            slots::store_value(value, 0.0);
+            refusal.number()
+        }
+    }
 }

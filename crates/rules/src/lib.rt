@@ -5,7 +5,7 @@
 ghost use Rattle.std.specs.Prelude.{◌≡◌};
 ghost use Rattle.rules.specs.Ends.{zero_valued, crossed, not_a_knot, natural, clamped, periodic, first_derivative, second_derivative};
 ghost use Rattle.rules.specs.Sizes.{unused_axis};
-ghost use Rattle.rules.specs.Answers.{number_of};
+ghost use Rattle.rules.specs.Answers.{number_of, refusal_of};
 
 // An end of an axis.
 #[derive(Clone, Copy)]
@@ -115,6 +115,16 @@ pub enum Refusal {
 pub enum EvenRefusal {
     Refused(Refusal),
     Uneven { axis: usize, interval: usize },
+}
+
+// What C is told of a call that gives nothing else: the number of its refusal, or 0.
+pub fn number_told(given: Result<(), Refusal>) -> usize
+    ensures { result ≡ refusal_of given }
+{
+    match given {
+        Ok(()) => 0,
+        Err(refusal) => refusal.number(),
+    }
 }
 
 impl Refusal {
