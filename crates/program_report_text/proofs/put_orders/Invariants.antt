@@ -1,6 +1,4 @@
 -- The lines of the orders below `k` stand from `at` on, at most 67 bytes each, and `end` is the place behind them.
--- The measure is the orders left.
-use Prim.Native.Nat.{◌-◌}
 use lib.ListN.{get_or}
 use Rattle.program_report_text.specs.ReportText.{order_line}
 use Rattle.program_report_text.proofs.Loops.{Turn}
@@ -8,6 +6,3 @@ use Rattle.program_report_text.proofs.put_orders.Given as goal
 
 abbrev pub invariant-loop-k : goal.invariant-loop-k
 invariant-loop-k l = Turn (λ i. order_line i (get_or l.orders i (record { entries = 0; nonzero = 0; largest = 0 }))) 5 l.initial.text l.at l.k l.text l.end
-
-abbrev pub decreases-loop-k : goal.decreases-loop-k
-decreases-loop-k l = 5 - l.k
