@@ -116,12 +116,10 @@ pub fn put_field(bytes: &mut [u8], at: usize, width: usize, n: u64)
     }
     if width <= 8 {
         put_narrow_field(bytes, at, width, n)
+    } else if width == 64 {
+        put_pattern(bytes, at, n)
     } else {
-        if width == 64 {
-            put_pattern(bytes, at, n)
-        } else {
-            put_field_by_eights(bytes, at, width, n)
-        }
+        put_field_by_eights(bytes, at, width, n)
     }
 }
 
