@@ -9,8 +9,8 @@ ghost use Rattle.rules.specs.Refusals.{some_number_refused};
 ghost use Rattle.base_bits.specs.Written.{patch, with_field, number_fields, with_fields};
 ghost use Rattle.base_bits.specs.BitsThere.{Within};
 
-use crate::words::across_words;
 use crate::first_bits;
+use crate::words::across_words;
 
 // The `count` lowest bits of a number.
 fn lowest(n: u64, count: usize) -> u8
