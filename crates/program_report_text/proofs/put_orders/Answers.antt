@@ -15,9 +15,6 @@ put_order-end-requires c =
 pub loop-k-preserved : goal.loop-k-preserved
 loop-k-preserved c = turn_next _ _ _ _ _ _ _ c.loop-k.invariant _ _ c.loop-k-test.true c.put_order-end.ensures
 
-pub shape_of-text : goal.shape_of-text
-shape_of-text c = (turn_place _ _ _ _ _ _ _ c.loop-k.invariant 67 (λ i h. order_most i _ h)).1
-
 pub returns : goal.returns
 unfolding order_lines
 returns c = turn_last _ _ _ _ _ _ _ c.loop-k.invariant c.loop-k-test.false

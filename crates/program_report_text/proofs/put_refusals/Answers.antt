@@ -20,9 +20,6 @@ loop-i-preserved c =
     turn_next _ _ _ _ _ _ _ c.loop-i.invariant _ _ c.loop-i-test.true
     (rw (add-one c.loop-i.i) at c.put_occurred-end.ensures)
 
-pub shape_of-text : goal.shape_of-text
-shape_of-text c = (turn_place _ _ _ _ _ _ _ c.loop-i.invariant 32 (λ k h. occurred_most (suc k) _ (omega arith))).1
-
 pub returns : goal.returns
 unfolding refusal_lines
 returns c = turn_last _ _ _ _ _ _ _ c.loop-i.invariant c.loop-i-test.false
