@@ -2,9 +2,9 @@
 -- them.
 use Prim.Native.Nat.{suc}
 use lib.ListN.{get_or}
-use Rattle.program_report_text.specs.ReportText.{occurred_line}
-use Rattle.program_report_text.proofs.Loops.{Turn}
+use Rattle.base_text.specs.PutBytes.{Put}
+use Rattle.program_report_text.specs.ReportText.{lines_below, occurred_line}
 use Rattle.program_report_text.proofs.put_refusals.Given as goal
 
 abbrev pub invariant-loop-i : goal.invariant-loop-i
-invariant-loop-i l = Turn (λ k. occurred_line (suc k) (get_or l.refusals (suc k) 0)) 23 l.initial.text l.at l.i l.text l.end
+invariant-loop-i l = Put (lines_below (λ k. occurred_line (suc k) (get_or l.refusals (suc k) 0)) l.i) l.initial.text l.at l.text l.end
