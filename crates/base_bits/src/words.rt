@@ -4,7 +4,8 @@ ghost use Rattle.base_bits.specs.Bits.{field};
 
 use crate::first_bits;
 
-// The number of eight bytes. Summed two by two: so the compiler sees that no two of them share a bit, and loads all eight at once.
+// The number of eight bytes. Summed two by two, where from_be_bytes of the library adds one after the other: so the compiler sees that no
+// two of them share a bit, and loads all eight at once.
 fn of_eight_bytes(
     first: u8,
     second: u8,

@@ -9,8 +9,8 @@ ghost use Rattle.rules.specs.Refusals.{some_number_refused};
 ghost use Rattle.base_bits.specs.Written.{patch, with_field, number_fields, with_fields};
 ghost use Rattle.base_bits.specs.BitsThere.{Within};
 
-use crate::words::across_words;
 use crate::first_bits;
+use crate::words::across_words;
 
 // The `count` lowest bits of a number.
 fn lowest(n: u64, count: usize) -> u8
@@ -116,12 +116,10 @@ pub fn put_field(bytes: &mut [u8], at: usize, width: usize, n: u64)
     }
     if width <= 8 {
         put_narrow_field(bytes, at, width, n)
+    } else if width == 64 {
+        put_pattern(bytes, at, n)
     } else {
-        if width == 64 {
-            put_pattern(bytes, at, n)
-        } else {
-            put_field_by_eights(bytes, at, width, n)
-        }
+        put_field_by_eights(bytes, at, width, n)
     }
 }
 

@@ -6,7 +6,7 @@ use native.Mathlib.Nat.{add-zero, add-suc, suc-add, zero-add}
 use native.Mathlib.Numerals.{add-one}
 use native.Mathlib.Omega.{arith}
 use lib.ListN.{length, take, get_or, set, length-append}
-use lib.Seq.{sets, sets-eq, length-sets, length-take-le, take-suc, take_all}
+use lib.Seq.{sets, sets-eq, length-sets, take-suc}
 use Rattle.base_text.specs.Lines.{written}
 use Rattle.base_text.specs.PutBytes.{Put}
 
@@ -38,25 +38,7 @@ put_written {text} {before} {after} {end} p room =
 
 -- ---- the loop of `put_word`
 
-pub record Turn (word before : List ℕ) (at i : ℕ) (text : List ℕ) (behind : ℕ) : Type 0 where
-  pub most : i ≤ length word
-  pub put : Put (take i word) before at text behind
-
 -- the next byte goes right behind those that stand
-pub turn_place : {word before text : List ℕ} {at i behind : ℕ} → Turn word before at i text behind
-    → (behind ≡ at + i) × (length text ≡ length before)
-turn_place {word} {before} {text} {at} {i} {behind} t = (t.put.end ∙ rw (length-take-le i word t.most), put_length t.put)
-
-pub turn_first : (word text : List ℕ) (at : ℕ) → Turn word text at 0 text at
-turn_first word text at = record { most = omega arith; put = put_none text at }
-
-pub turn_next : {word before text after : List ℕ} {at i behind end : ℕ} → Turn word before at i text behind → i < length word
-    → Put (get_or word i 0 ∷ []) text behind after end → Turn word before at (i + 1) after end
-turn_next {word} {before} {text} {after} {at} {i} {behind} {end} t more q = record {
-  most = omega arith;
-  put = rw (add-one i, take-suc word i 0 more) (put_more t.put q);
-}
-
-pub turn_last : {word before text : List ℕ} {at i behind : ℕ} → Turn word before at i text behind → length word ≤ i
-    → Put word before at text behind
-turn_last {word} {before} {text} {at} {i} {behind} t done = rw (take_all i word done) at t.put
+pub byte_more : (word : List ℕ) (i : ℕ) {before text after : List ℕ} {at behind end : ℕ} → Put (take i word) before at text behind
+    → i < length word → Put (get_or word i 0 ∷ []) text behind after end → Put (take (i + 1) word) before at after end
+byte_more word i p more q = rw (add-one i, take-suc word i 0 more) (put_more p q)

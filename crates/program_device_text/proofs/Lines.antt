@@ -53,13 +53,12 @@ line_of_one number = append-nil (signed_line number)
 -- ---- the loop over the cursors
 
 pub record Turn (curve before : List ℕ) (n : ℕ) (text : List ℕ) (behind : ℕ) : Type 0 where
-  pub most : n ≤ last_cursor curve + 1
   pub put : Put (signed_lines (take n (curve_numbers curve))) before 0 text behind
   pub short : behind ≤ 7 * n
 
 pub turn_first : (curve text : List ℕ) → Turn curve text 0 text 0
 unfolding signed_lines
-turn_first curve text = record { most = omega arith; put = put_none text 0; short = omega arith }
+turn_first curve text = record { put = put_none text 0; short = omega arith }
 
 pub turn_length : {curve before text : List ℕ} {n behind : ℕ} → Turn curve before n text behind → length text ≡ length before
 turn_length t = put_length t.put
@@ -78,7 +77,6 @@ pub turn_next : {curve before text after : List ℕ} {n behind end : ℕ} → cu
 turn_next {curve} {before} {text} {after} {n} {behind} {end} accepted t more q =
     let all = how_many curve in
     record {
-      most = omega arith;
       put =
           rw (
             add-one n,

@@ -1,3 +1,2 @@
 mod Brought
-mod Keeps
 mod Turns

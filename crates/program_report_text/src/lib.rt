@@ -56,10 +56,8 @@ fn put_refusals(refusals: [u64; 24], text: &mut [u8], at: usize) -> usize
     ensures { Put (refusal_lines refusals) text.old at text.new result }
 {
     let mut end = at;
-    let mut i = 0;
-    while i < 23 {
+    for i in 0..23 {
         end = put_occurred(i + 1, refusals[i + 1], text, end);
-        i += 1;
     }
     end
 }
@@ -91,10 +89,8 @@ fn put_orders(orders: [OrderTotals; 5], text: &mut [u8], at: usize) -> usize
     ensures { Put (order_lines orders) text.old at text.new result }
 {
     let mut end = at;
-    let mut k = 0;
-    while k < 5 {
+    for k in 0..5 {
         end = put_order(k, orders[k], text, end);
-        k += 1;
     }
     end
 }

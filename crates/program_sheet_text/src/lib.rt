@@ -31,13 +31,7 @@ fn put_text(refusal: usize, numbers: &[f64], text: &mut [u8]) -> usize
 fn lent_refusal(knots: usize, samples: usize, tensor: usize, scratch: usize, text: usize) -> usize
     ensures { result ≡ lent_refusal knots samples tensor scratch text }
 {
-    if knots != 1024 {
-        return 4;
-    }
-    if samples != 1024 {
-        return 4;
-    }
-    if tensor != 4096 {
+    if knots != 1024 || samples != 1024 || tensor != 4096 {
         return 4;
     }
     if scratch < 6144 {

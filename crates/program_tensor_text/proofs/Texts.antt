@@ -5,11 +5,11 @@ use Prim.Native.Nat.{ℕ, ◌+◌, ◌*◌, ◌<◌, ◌≤◌}
 use native.Mathlib.Numerals.{add-one}
 use native.Mathlib.Omega.{arith}
 use lib.ListN.{length, get_or, take, length-append}
-use lib.Seq.{length-take-le, take-suc, take_all}
+use lib.Seq.{length-take-le, take-suc}
 use lib.Ieee.{Float, nan, binary64, to_bits}
 use Rattle.base_text.specs.Lines.{decimal}
 use Rattle.base_text.specs.PutBytes.{Put}
-use Rattle.base_text.proofs.Puts.{put_none, put_more, put_length}
+use Rattle.base_text.proofs.Puts.{put_more}
 use Rattle.base_text.proofs.HexDigits.{length_hex_digits}
 use Rattle.base_text.proofs.Decimals.{decimal_length, length_word_line}
 use Rattle.program_tensor_text.specs.TensorText.{number_line, number_lines, tensor_line, tensor_text}
@@ -35,33 +35,17 @@ length_lines [] = refl
 length_lines (number ∷ more) =
     length-append (number_line number) (number_lines more) ∙ rw (length_line number, length_lines more) (omega arith)
 
-pub record Turn (numbers : List Float) (before : List ℕ) (at i : ℕ) (text : List ℕ) (behind : ℕ) : Type 0 where
-  pub most : i ≤ length numbers
-  pub put : Put (number_lines (take i numbers)) before at text behind
+-- the next line goes right behind those of the first i numbers
+pub lines_place : (numbers : List Float) (i : ℕ) {before text : List ℕ} {at behind : ℕ} → Put (number_lines (take i numbers)) before at text behind
+    → i ≤ length numbers → behind ≡ at + 17 * i
+lines_place numbers i p most = p.end ∙ rw (length_lines (take i numbers), length-take-le i numbers most)
 
-pub turn_first : (numbers : List Float) (text : List ℕ) (at : ℕ) → Turn numbers text at 0 text at
-unfolding number_lines
-turn_first numbers text at = record { most = omega arith; put = put_none text at }
-
--- the next line goes right behind those that stand
-pub turn_place : {numbers : List Float} {before text : List ℕ} {at i behind : ℕ} → Turn numbers before at i text behind
-    → (behind ≡ at + 17 * i) × (length text ≡ length before)
-turn_place {numbers} {before} {text} {at} {i} {behind} t =
-    (t.put.end ∙ rw (length_lines (take i numbers), length-take-le i numbers t.most), put_length t.put)
-
-pub turn_next : {numbers : List Float} {before text after : List ℕ} {at i behind end : ℕ} → Turn numbers before at i text behind
-    → i < length numbers
-    → Put (number_line (get_or numbers i nan)) text behind after end → Turn numbers before at (i + 1) after end
-turn_next {numbers} {before} {text} {after} {at} {i} {behind} {end} t more q = record {
-  most = omega arith;
-  put =
-      rw (add-one i, take-suc numbers i nan more, lines_more (take i numbers) (get_or numbers i nan ∷ []), line_of_one (get_or numbers i nan))
-      (put_more t.put q);
-}
-
-pub turn_last : {numbers : List Float} {before text : List ℕ} {at i behind : ℕ} → Turn numbers before at i text behind → length numbers ≤ i
-    → Put (number_lines numbers) before at text behind
-turn_last {numbers} {before} {text} {at} {i} {behind} t done = rw (take_all i numbers done) at t.put
+pub line_more : (numbers : List Float) (i : ℕ) {before text after : List ℕ} {at behind end : ℕ}
+    → Put (number_lines (take i numbers)) before at text behind → i < length numbers → Put (number_line (get_or numbers i nan)) text behind after end
+    → Put (number_lines (take (i + 1) numbers)) before at after end
+line_more numbers i p more q =
+    rw (add-one i, take-suc numbers i nan more, lines_more (take i numbers) (get_or numbers i nan ∷ []), line_of_one (get_or numbers i nan))
+    (put_more p q)
 
 -- ---- the whole text
 

@@ -42,8 +42,5 @@ loop-n-preserved c =
     turn_next c.requires.0 c.loop-n.invariant c.loop-n-test.true
     (rw (read (goal.at.loop-n-preserved c).After-cursor_number-number) at c.put_signed_line-end.ensures)
 
-pub shape_of-text : goal.shape_of-text
-shape_of-text c = turn_length c.loop-n.invariant
-
 pub returns : goal.returns
 returns c = turn_last c.loop-n.invariant c.loop-n-test.false

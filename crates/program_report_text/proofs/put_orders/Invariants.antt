@@ -1,13 +1,8 @@
 -- The lines of the orders below `k` stand from `at` on, at most 67 bytes each, and `end` is the place behind them.
--- The measure is the orders left.
-use Prim.Native.Nat.{◌-◌}
 use lib.ListN.{get_or}
-use Rattle.program_report_text.specs.ReportText.{order_line}
-use Rattle.program_report_text.proofs.Loops.{Turn}
+use Rattle.base_text.specs.PutBytes.{Put}
+use Rattle.program_report_text.specs.ReportText.{lines_below, order_line}
 use Rattle.program_report_text.proofs.put_orders.Given as goal
 
 abbrev pub invariant-loop-k : goal.invariant-loop-k
-invariant-loop-k l = Turn (λ i. order_line i (get_or l.orders i (record { entries = 0; nonzero = 0; largest = 0 }))) 5 l.initial.text l.at l.k l.text l.end
-
-abbrev pub decreases-loop-k : goal.decreases-loop-k
-decreases-loop-k l = 5 - l.k
+invariant-loop-k l = Put (lines_below (λ i. order_line i (get_or l.orders i (record { entries = 0; nonzero = 0; largest = 0 }))) l.k) l.initial.text l.at l.text l.end

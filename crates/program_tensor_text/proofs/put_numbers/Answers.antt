@@ -1,20 +1,16 @@
 use native.Mathlib.Omega.{arith}
-use Rattle.program_tensor_text.proofs.Texts.{turn_first, turn_place, turn_next, turn_last}
+use Rattle.base_text.proofs.Puts.{put_none, put_length}
+use Rattle.program_tensor_text.specs.TensorText.{number_lines}
+use Rattle.program_tensor_text.proofs.Texts.{lines_place, line_more}
 use Rattle.program_tensor_text.proofs.put_numbers.Goals as goal
 
 pub loop-number-init : goal.loop-number-init
-loop-number-init c = turn_first _ _ _
+unfolding number_lines
+loop-number-init c = put_none _ _
 
 pub put_number_line-end-requires : goal.put_number_line-end-requires
 put_number_line-end-requires c =
-    let t = turn_place c.loop-number.invariant in
-    omega (arith, c.requires, t.0, t.1)
+    omega (arith, c.requires, lines_place _ _ c.loop-number.invariant (omega arith), put_length c.loop-number.invariant)
 
 pub loop-number-preserved : goal.loop-number-preserved
-loop-number-preserved c = turn_next c.loop-number.invariant (omega arith) c.put_number_line-end.ensures
-
-pub shape_of-text : goal.shape_of-text
-shape_of-text c = (turn_place c.loop-number.invariant).1
-
-pub returns : goal.returns
-returns c = turn_last c.loop-number.invariant (omega arith)
+loop-number-preserved c = line_more _ _ c.loop-number.invariant (omega arith) c.put_number_line-end.ensures
