@@ -22,12 +22,10 @@ fn some_slope_refused(x: &[f64], y: &[f64], m: &[f64], row: &mut [f64]) -> bool
 {
     let last = x.len() - 1;
     let mut refused = false;
-    let mut i = 0;
-    while i < last {
+    for i in 0..last {
         let slope = knot_slope(x, y, m, i);
-        refused = refused | !base_numbers::is_finite(slope);
+        refused |= !base_numbers::is_finite(slope);
         row[i] = slope;
-        i += 1;
     }
     let slope = knot_slope(x, y, m, last);
     row[last] = slope;
@@ -71,7 +69,7 @@ pub fn curve(
     let refusal = grid_checks::curve_refusal(points, knots, samples, moments.len(), point);
     if refusal != 0 {
         return CurveAnswer {
-            refusal: refusal,
+            refusal,
             value: 0.0,
         };
     }
@@ -80,7 +78,7 @@ pub fn curve(
     if base_numbers::is_finite(value) {
         CurveAnswer {
             refusal: 0,
-            value: value,
+            value,
         }
     } else {
         CurveAnswer {
