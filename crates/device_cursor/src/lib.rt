@@ -36,21 +36,12 @@ pub struct NextAnswer {
     pub cursor: Cursor,
 }
 
-fn wide(byte: u8) -> u64
-    ensures { (result ≡ byte) × (result < 256) }
-{
-    byte as u64
-}
-
 // Four bytes, the lowest first: it requires that they are there.
 fn four_bytes(curve: &[u8], at: usize) -> u64
     requires { at + 4 ≤ length curve.now }
     ensures { (result ≡ four_bytes curve.now at) × (result < 4294967296) }
 {
-    wide(curve[at])
-        + 256 * wide(curve[at + 1])
-        + 65536 * wide(curve[at + 2])
-        + 16777216 * wide(curve[at + 3])
+    u32::from_le_bytes([curve[at], curve[at + 1], curve[at + 2], curve[at + 3]]) as u64
 }
 
 // The number with a sign in four bytes: it requires that they are there.
@@ -81,14 +72,11 @@ fn cell_at(curve: &[u8], i: usize) -> Cell
 }
 
 // Whether so many bytes are 1 to 255 whole cells.
+#[tactic(auto, unfolding(crate::specs::DeviceCurve::whole_cells))]
 fn whole_cells(length: usize) -> bool
     ensures { result ≡ whole_cells length }
 {
-    if length % 16 == 0 {
-        if 16 <= length { length <= 4080 } else { false }
-    } else {
-        false
-    }
+    length % 16 == 0 && 16 <= length && length <= 4080
 }
 
 // Whether the number in four bytes is out of the range of a value. Lifted by 32,768, without the carry, a number in range is below 65,536,
@@ -152,14 +140,12 @@ fn some_of_fours_refused(curve: &[u8]) -> bool
     let mut p1 = false;
     let mut d0 = false;
     let mut d1 = false;
-    let mut i = 0;
-    while i < fours {
+    for i in 0..fours {
         let at = 64 * i;
         p0 = p0 | four_values_refused(curve, at);
         p1 = p1 | four_values_refused(curve, at + 4);
         d0 = d0 | four_slopes_refused(curve, at + 8);
         d1 = d1 | four_slopes_refused(curve, at + 12);
-        i += 1;
     }
     p0 | p1 | d0 | d1
 }
@@ -170,10 +156,8 @@ fn some_cell_refused(curve: &[u8]) -> bool
 {
     let cells = curve.len() / 16;
     let mut refused = some_of_fours_refused(curve);
-    let mut i = 4 * (curve.len() / 64);
-    while i < cells {
+    for i in 4 * (curve.len() / 64)..cells {
         refused = refused | cell_refused(curve, i);
-        i += 1;
     }
     refused
 }

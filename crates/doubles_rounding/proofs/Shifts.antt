@@ -1,7 +1,7 @@
 -- The code's rounding: a number moved up until the digits that are kept stand above its last eleven places, and these rounded off.
 use mathlib.Core.Path.{◌≡◌, refl, sym, ap, ◌∙◌, subst}
 use mathlib.Core.Logic.{◌⊎◌, inl, inr}
-use Prim.Native.Nat.{ℕ, zero, suc, ◌+◌, ◌-◌, ◌*◌, ◌/◌, ◌%◌, ◌^◌, ◌≤◌, ◌<◌}
+use Prim.Native.Nat.{ℕ, zero, suc, ◌+◌, ◌-◌, ◌*◌, ◌/◌, ◌%◌, ◌^◌, ◌≤◌, ◌<◌, min}
 use native.Mathlib.Nat.{
   le_trans,
   le_of_eq,
@@ -18,9 +18,9 @@ use native.Mathlib.Nat.{
   zero-lt-suc,
 }
 use native.Mathlib.Omega.{arith}
-use mathlib.Core.Bool.{Bool, cond}
-use borrow.Author.Tests.{lt-ltb, le-ltb}
-use lib.Dec.{lit<}
+use mathlib.Core.Bool.{Bool, true, false, cond}
+use borrow.Author.Tests.{lt-ltb, le-ltb, ltb-true, ltb-false, leb-true, leb-false}
+use lib.Dec.{lit<, ltb, leb}
 use lib.Pow.{pow-add, pow_pos, pow_mono}
 use lib.Count.{count_leading_zeros, leading_top, leading_unique}
 use lib.Ieee.{Format, binary64, prec, hid, size}
@@ -111,7 +111,7 @@ shifted_high s e z some small count h =
     count_is : (z j e : ℕ) → z + suc j ≡ 64 → z ≤ e + 1 → suc (j + e - 10) - 53 ≡ e + 1 - z
     count_is z j e s h = omega arith
 
-pub shifted_low : (s e z : ℕ) → 0 < s → s < 2 ^ 64 → count_leading_zeros 64 s ≡ z → e + 1 < z → Shifted s e (e + 1)
+shifted_low : (s e z : ℕ) → 0 < s → s < 2 ^ 64 → count_leading_zeros 64 s ≡ z → e + 1 < z → Shifted s e (e + 1)
 shifted_low s e z some small count h =
     let t = leading_top 64 s some small in
     let j = t.0 in
@@ -144,6 +144,20 @@ module _ (s e r q : ℕ) (h : Shifted s e r) (is : q ≡ closest (s * 2 ^ r % wo
       moved s e r h ∙ ap (λ (x : ℕ). capped binary64 ((e + 1 - r) * leading + x))
       (ap (λ (x : ℕ). closest x 2048) (sym (mod-eq_of_lt h.fits)) ∙ sym is)
 
+-- all zeros in front are taken where the exponent has as many steps, and else one more than its steps
+pub shifted_least : (s e z r : ℕ) → 0 < s → s < 2 ^ 64 → count_leading_zeros 64 s ≡ z → r ≡ min z (e + 1) → Shifted s e r
+shifted_least s e z r some small count least = go (leb z (e + 1)) refl
+  where
+    go : (b : Bool) → leb z (e + 1) ≡ b → Shifted s e r
+    go true t =
+        let l : z ≤ e + 1 = leb-true z (e + 1) t in
+        let own : z ≡ r = omega (arith, least) in
+        subst (Shifted s e) own (shifted_high s e z some small count l)
+    go false t =
+        let l : e + 1 < z = leb-false z (e + 1) t in
+        let own : e + 1 ≡ r = omega (arith, least) in
+        subst (Shifted s e) own (shifted_low s e z some small count l)
+
 -- ---- a sum of like signs: its highest digit is one of the two top places, or the exponent is 0
 pub shifted_none : (s e : ℕ) → top_place ≤ s → s < word → Shifted s e 0
 shifted_none s e l h = shifted_high s e 0 (omega arith) h (sym (leading_unique 64 s 0 64 refl h (omega arith))) (omega arith)
@@ -166,15 +180,28 @@ shifted_one s (suc e) h l =
 
 -- the code's packing
 module _ (k q c : ℕ) (is : q ≡ c) where
-  pub packed_under : k * leading + q < infinity → k * leading + q ≡ capped binary64 (k * leading + c)
+  packed_under : k * leading + q < infinity → k * leading + q ≡ capped binary64 (k * leading + c)
   packed_under l =
       sym (ap (λ (x : ℕ). capped binary64 (k * leading + x)) (sym is)
       ∙ ap (λ (b : Bool). cond b (k * leading + q) infinity) (lt-ltb (k * leading + q) infinity l))
 
-  pub packed_over : infinity ≤ k * leading + q → infinity ≡ capped binary64 (k * leading + c)
+  packed_over : infinity ≤ k * leading + q → infinity ≡ capped binary64 (k * leading + c)
   packed_over l =
       sym (ap (λ (x : ℕ). capped binary64 (k * leading + x)) (sym is)
       ∙ ap (λ (b : Bool). cond b (k * leading + q) infinity) (le-ltb (k * leading + q) infinity l))
+
+  pub packed_least : (r : ℕ) → r ≡ min (k * leading + q) infinity → (r ≡ capped binary64 (k * leading + c)) × (r ≤ infinity)
+  packed_least r least = go (ltb (k * leading + q) infinity) refl
+    where
+      go : (b : Bool) → ltb (k * leading + q) infinity ≡ b → (r ≡ capped binary64 (k * leading + c)) × (r ≤ infinity)
+      go true t =
+          let l : k * leading + q < infinity = ltb-true (k * leading + q) infinity t in
+          let own : r ≡ k * leading + q = omega (arith, least) in
+          (own ∙ packed_under l, omega (arith, least))
+      go false t =
+          let l : infinity ≤ k * leading + q = ltb-false (k * leading + q) infinity t in
+          let own : r ≡ infinity = omega (arith, least) in
+          (own ∙ packed_over l, omega (arith, least))
 
 pub packed_none : (s e : ℕ) → Shifted s e 0 → capped binary64 ((e + 1) * leading + closest s 2048) ≡ pattern binary64 (s * 2 ^ e) 1024
 packed_none s e h =

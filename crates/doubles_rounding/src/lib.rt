@@ -23,11 +23,7 @@ fn packed(t: u64, k: u64) -> u64
     ensures { (result ≡ capped binary64 (k * leading + closest t 2048)) × (result ≤ infinity) }
 {
     let p = k * 0x10000000000000 + eleven_off(t);
-    if p < 0x7FF0000000000000 {
-        p
-    } else {
-        0x7FF0000000000000
-    }
+    p.min(0x7FF0000000000000)
 }
 
 // How far s is moved up before its last eleven places are rounded off.
@@ -36,7 +32,7 @@ fn shift(s: u64, e: u64) -> u64
     ensures { Shifted s e result }
 {
     let zeros = u64::leading_zeros(s) as u64;
-    if zeros <= e + 1 { zeros } else { e + 1 }
+    zeros.min(e + 1)
 }
 
 // The pattern of s * 2 ^ e / 1024 units, rounded.

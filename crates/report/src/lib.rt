@@ -127,6 +127,7 @@ fn take_sheets(
 {
     let mut sum = totals;
     let mut at = 0;
+    // A while: a turn goes on by as many bytes as a sheet has.
     while least <= bytes.len() - at {
         let next = take_sheet(sum, &bytes[at..], knots, samples, scratch);
         let so_far = next.totals;

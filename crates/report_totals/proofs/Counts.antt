@@ -12,7 +12,6 @@ use lib.Dec.{eqb}
 use lib.Ieee.{Float}
 use lib.Ieee.Scale.{finite}
 use lib.ListN.{length}
-use lib.Pow.{pow_mono}
 use Rattle.rules.specs.Numbers.{at}
 use Rattle.base_numbers.proofs.Scan.{any_at}
 use Rattle.report_totals.specs.Totals.{magnitude}
@@ -33,18 +32,12 @@ unfolding of_mask
 mask_next masks mask numbers e p nonzero largest size one most place so_far size_is one_is most_is =
     rw (add-one p, so_far, ← place) (totals_parts _ _ _ _ _ _ (omega arith) (rw (one_is, size_is)) (rw (most_is, size_is)))
 
--- four axes have 16 masks
-pub masks_few : {axes masks : ℕ} → axes ≤ 4 → masks ≡ 2 ^ axes → masks ≤ 16
-masks_few few e = let most = pow_mono few in omega arith
-
 truth : (b : Bool) → not b ≡ false → b ≡ true
 truth true e = refl
 truth false e = sym e
 
-module _ (masks mask places : ℕ) (numbers : List Float) where
-  pub record Counted (nonzero largest next_nonzero next_largest e p : ℕ) : Type 0 where
-    pub most : p ≤ places
-    pub place : e ≡ p * masks + mask
+module _ (masks mask : ℕ) (numbers : List Float) where
+  pub record Counted (nonzero largest next_nonzero next_largest p : ℕ) : Type 0 where
     pub first : of_mask masks mask numbers p ≡ record { entries = p; nonzero = nonzero; largest = largest }
     pub second : of_mask masks (mask + 1) numbers p ≡ record { entries = p; nonzero = next_nonzero; largest = next_largest }
 
@@ -53,9 +46,9 @@ module _ (axes masks mask places : ℕ) (numbers : List Float) (given : InPlaces
   whole : places * masks ≡ length numbers
   whole = rw (masks_are, places_are) (sym given.whole)
 
-  pub counted_first : Counted masks mask places numbers 0 0 0 0 mask 0
+  pub counted_first : Counted masks mask numbers 0 0 0 0 0
   unfolding of_mask
-  counted_first = record { most = omega arith; place = omega arith; first = refl; second = refl }
+  counted_first = record { first = refl; second = refl }
 
   pub places_few : places ≤ 4096
   places_few =
@@ -65,8 +58,11 @@ module _ (axes masks mask places : ℕ) (numbers : List Float) (given : InPlaces
   pub finite_at : (k : ℕ) → k < length numbers → finite (at numbers k) ≡ true
   finite_at k h = truth (finite (at numbers k)) (any_at _ (length numbers) given.finite k h)
 
-  module _ (nonzero largest next_nonzero next_largest e p : ℕ)
-      (t : Counted masks mask places numbers nonzero largest next_nonzero next_largest e p) where
+  module _ (nonzero largest next_nonzero next_largest p : ℕ) (t : Counted masks mask numbers nonzero largest next_nonzero next_largest p) where
+    -- where the number of the first mask stands
+    abbrev e : ℕ
+    e = p * masks + mask
+
     pub counts_few : (nonzero ≤ p) × (next_nonzero ≤ p)
     counts_few = (
       rw t.first at (of_mask_most masks mask numbers p).1,
@@ -76,24 +72,21 @@ module _ (axes masks mask places : ℕ) (numbers : List Float) (given : InPlaces
     module _ (h : p < places) where
       -- both numbers are there
       pub inside : e + 1 < length numbers
-      inside = let l = digits_lt {q = p} {m = places} {r = mask + 1} {c = masks} h below in omega (arith, t.place, whole)
+      inside = let l = digits_lt {q = p} {m = places} {r = mask + 1} {c = masks} h below in omega (arith, whole)
 
       pub counted_next : (size next_size one next_one later next_later : ℕ)
           → size ≡ magnitude (at numbers e) → next_size ≡ magnitude (at numbers (e + 1))
           → one ≡ one_if (not (eqb size 0)) → next_one ≡ one_if (not (eqb next_size 0))
           → later ≡ max largest size → next_later ≡ max next_largest next_size
-          → Counted masks mask places numbers (nonzero + one) later (next_nonzero + next_one) next_later (e + masks) (p + 1)
+          → Counted masks mask numbers (nonzero + one) later (next_nonzero + next_one) next_later (p + 1)
       counted_next size next_size one next_one later next_later s s' o o' l l' = record {
-        most = omega arith;
-        place = omega (arith, t.place);
-        first = mask_next masks mask numbers e p nonzero largest size one later t.place t.first s o l;
+        first = mask_next masks mask numbers e p nonzero largest size one later refl t.first s o l;
         second =
-            mask_next masks (mask + 1) numbers (e + 1) p next_nonzero next_largest next_size next_one next_later (omega (arith, t.place))
+            mask_next masks (mask + 1) numbers (e + 1) p next_nonzero next_largest next_size next_one next_later (omega arith)
             t.second s' o' l';
       }
 
-    pub counted_last : places ≤ p
+    pub counted_last : p ≡ places
         → (record { entries = places; nonzero = nonzero; largest = largest } ≡ of_mask masks mask numbers places)
         × (record { entries = places; nonzero = next_nonzero; largest = next_largest } ≡ of_mask masks (mask + 1) numbers places)
-    counted_last end =
-        let full : p ≡ places = omega (arith, t.most) in (rw (← full) (sym t.first), rw (← full) (sym t.second))
+    counted_last full = (rw (← full) (sym t.first), rw (← full) (sym t.second))

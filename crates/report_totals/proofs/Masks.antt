@@ -176,18 +176,13 @@ module _ (orders : List OrderTotals) (axes : ℕ) (numbers : List Float) (places
   abbrev so_far : ℕ → ℕ → OrderTotals
   so_far m k = sum (get_or orders k no_entries) (by_masks axes numbers k places m)
 
-  pub record Turn (all : List OrderTotals) (mask : ℕ) : Type 0 where
-    pub most : mask ≤ 2 ^ axes
-    pub half : ℕ
-    pub even : mask ≡ 2 * half
-    pub done : all ≡ table 5 (so_far mask)
+  -- so many pairs of masks are counted
+  pub record Turn (all : List OrderTotals) (pair : ℕ) : Type 0 where
+    pub done : all ≡ table 5 (so_far (2 * pair))
 
   pub turn_first : length orders ≡ 5 → Turn orders 0
   unfolding by_masks
   turn_first five = record {
-    most = omega arith;
-    half = 0;
-    even = refl;
     done = table_of no_entries orders 5 five ∙ table_ext 5 _ _ (λ k l. sum_none (get_or orders k no_entries));
   }
 
@@ -216,8 +211,11 @@ module _ (orders : List OrderTotals) (axes : ℕ) (numbers : List Float) (places
         let few = room.few in
         rw (done, at_table 5 (so_far m) k no_entries small, room.said) (omega arith, omega arith)
 
-  module _ (all : List OrderTotals) (mask : ℕ) (t : Turn all mask) (h : mask < 2 ^ axes) (first : OrderTotals)
-      (first_is : first ≡ of_mask (2 ^ axes) mask numbers places) (k : ℕ) (k_is : k ≡ ones mask) (small : k < 5) where
+  module _ (all : List OrderTotals) (pair : ℕ) (t : Turn all pair) (h : 2 * pair + 1 < 2 ^ axes) (first : OrderTotals)
+      (first_is : first ≡ of_mask (2 ^ axes) (2 * pair) numbers places) (k : ℕ) (k_is : k ≡ ones (2 * pair)) (small : k < 5) where
+    abbrev mask : ℕ
+    mask = 2 * pair
+
     pub first_room : Room orders (places * 2 ^ axes)
         → ((get_or all k no_entries).entries + first.entries < 2 ^ 64) × ((get_or all k no_entries).nonzero + first.nonzero < 2 ^ 64)
     first_room room = rw first_is (order_room room all mask t.done (omega arith) k small mask)
@@ -233,33 +231,28 @@ module _ (orders : List OrderTotals) (axes : ℕ) (numbers : List Float) (places
             × ((get_or (set all k later) next no_entries).nonzero + second.nonzero < 2 ^ 64)
         second_room room = rw second_is (order_room room (set all k later) (suc mask) half_done (omega arith) next next_small (mask + 1))
 
-        pub turn_next : 1 ≤ axes → (last : OrderTotals) → last ≡ sum (get_or (set all k later) next no_entries) second
-            → Turn (set (set all k later) next last) (mask + 2)
-        turn_next some last last_is =
+        pub turn_next : (last : OrderTotals) → last ≡ sum (get_or (set all k later) next no_entries) second
+            → Turn (set (set all k later) next last) (pair + 1)
+        turn_next last last_is =
             let e = add-one mask in
             let own : next ≡ ones (suc mask) = next_is ∙ ap ones e in
-            let two : mask + 2 ≡ suc (suc mask) = omega arith in
-            let full = masks_even axes some in
+            let two : 2 * (pair + 1) ≡ suc (suc mask) = omega arith in
             record {
-              most = omega (arith, t.even, full.1);
-              half = t.half + 1;
-              even = omega (arith, t.even);
               done =
                   rw (two, own)
                   (mask_stored (set all k later) (suc mask) half_done (rw own at next_small) last
                   (last_is ∙ rw (second_is, own, e)));
             }
 
-  pub turn_last : (all : List OrderTotals) (mask : ℕ) → Turn all mask → 2 ^ axes ≤ mask → places * 2 ^ axes ≡ length numbers
+  pub turn_last : (all : List OrderTotals) (pair : ℕ) → Turn all pair → 2 * pair ≡ 2 ^ axes → places * 2 ^ axes ≡ length numbers
       → Tallied orders (tensor_entries axes numbers) all
   unfolding orders_of
-  turn_last all mask t end whole before said =
+  turn_last all pair t full whole before said =
       let long = length_table (length numbers) (entry axes numbers 0) in
-      let full : mask ≡ 2 ^ axes = omega (arith, t.most) in
       t.done ∙ table_ext 5 _ _ (λ k l.
       let own : get_or orders k no_entries ≡ order_totals (of_order k before) =
       rw said (at_table 5 (λ j. order_totals (of_order j before)) k no_entries l) in
-      let masked : so_far mask k ≡ sum (order_totals (of_order k before)) (by_masks axes numbers k places (2 ^ axes)) = rw (full, own) in
+      let masked : so_far (2 * pair) k ≡ sum (order_totals (of_order k before)) (by_masks axes numbers k places (2 ^ axes)) = rw (full, own) in
       masked ∙ sym (places_counted axes numbers k before places (omega arith))
       ∙ ap (λ (l : List Entry). order_totals (of_order k (before ++ l)))
       (take_all (places * 2 ^ axes) (tensor_entries axes numbers) (omega arith)))

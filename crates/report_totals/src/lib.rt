@@ -40,12 +40,6 @@ fn order_of_mask(mask: usize) -> usize
     usize::count_ones(mask) as usize
 }
 
-fn larger(a: u64, b: u64) -> u64
-    ensures { result ≡ max a b }
-{
-    if a < b { b } else { a }
-}
-
 // How many of one entry are not zero, by its magnitude.
 fn one_if_not_zero(size: u64) -> u64
     ensures { result ≡ one_if (not (eqb size 0)) }
@@ -78,17 +72,14 @@ fn count_masks(tensor: &[f64], axes: usize, masks: usize, mask: usize, places: u
     let mut largest = 0;
     let mut next_nonzero = 0;
     let mut next_largest = 0;
-    let mut e = mask;
-    let mut p = 0;
-    while p < places {
+    for p in 0..places {
+        let e = p * masks + mask;
         let size = magnitude_of(tensor[e]);
         let next_size = magnitude_of(tensor[e + 1]);
         nonzero += one_if_not_zero(size);
-        largest = larger(largest, size);
+        largest = largest.max(size);
         next_nonzero += one_if_not_zero(next_size);
-        next_largest = larger(next_largest, next_size);
-        e += masks;
-        p += 1;
+        next_largest = next_largest.max(next_size);
     }
     TwoMasks {
         first: OrderTotals {
@@ -112,7 +103,7 @@ fn together(a: OrderTotals, b: OrderTotals) -> OrderTotals
     OrderTotals {
         entries: a.entries + b.entries,
         nonzero: a.nonzero + b.nonzero,
-        largest: larger(a.largest, b.largest),
+        largest: a.largest.max(b.largest),
     }
 }
 
@@ -124,14 +115,13 @@ fn tally(orders: [OrderTotals; 5], axes: usize, tensor: &[f64]) -> [OrderTotals;
     let masks = grid::masks(axes);
     let places = tensor.len() >> axes;
     let mut all = orders;
-    let mut mask = 0;
-    while mask < masks {
+    for pair in 0..masks / 2 {
+        let mask = 2 * pair;
         let two = count_masks(tensor, axes, masks, mask, places);
         let k = order_of_mask(mask);
         all[k] = together(all[k], two.first);
         let next = order_of_mask(mask + 1);
         all[next] = together(all[next], two.second);
-        mask += 2;
     }
     all
 }

@@ -5,4 +5,4 @@ use Rattle.device_cursor.proofs.four_bytes.Goals as goal
 
 pub returns : goal.returns
 unfolding four_bytes
-returns c = (rw (c.wide-4.ensures.0, c.wide-3.ensures.0, c.wide-2.ensures.0, c.wide.ensures.0), omega arith)
+returns c = (omega (arith, c.from_le_bytes.ensures), c.from_le_bytes.type_inv)

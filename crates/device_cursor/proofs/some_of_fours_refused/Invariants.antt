@@ -1,10 +1,6 @@
--- Each flag says whether the column of its number is out of range in a cell below `4 * i`. The measure is the fours left.
-use Prim.Native.Nat.{◌≤◌, ◌-◌}
+-- Each flag says whether the column of its number is out of range in a cell below `4 * i`.
 use Rattle.device_cursor.proofs.Columns.{Kept}
 use Rattle.device_cursor.proofs.some_of_fours_refused.Given as goal
 
 abbrev pub invariant-loop-i : goal.invariant-loop-i
-invariant-loop-i l = (l.i ≤ l.fours) × Kept l.curve l.i l.p0 l.p1 l.d0 l.d1
-
-abbrev pub decreases-loop-i : goal.decreases-loop-i
-decreases-loop-i l = l.fours - l.i
+invariant-loop-i l = Kept l.curve l.i l.p0 l.p1 l.d0 l.d1

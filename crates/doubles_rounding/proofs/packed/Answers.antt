@@ -1,12 +1,7 @@
--- Below infinity's pattern the sum of exponent and digits is the pattern (`packed_under`); from there on it is infinity's (`packed_over`).
-use native.Mathlib.Omega.{arith}
-use Rattle.doubles_rounding.proofs.Shifts.{packed_under, packed_over}
+-- The smaller of infinity's pattern and the sum of exponent and digits is the pattern, capped (`packed_least`).
+use borrow.Author.Rules.{rules}
+use Rattle.doubles_rounding.proofs.Shifts.{packed_least}
 use Rattle.doubles_rounding.proofs.packed.Goals as goal
 
-pub returns-then-p-lt9218868437227405312 : goal.returns-then-p-lt9218868437227405312
-returns-then-p-lt9218868437227405312 c = (packed_under _ _ _ c.eleven_off.ensures.0 (omega arith), omega arith)
-
-pub returns-else-p-lt9218868437227405312 : goal.returns-else-p-lt9218868437227405312
-returns-else-p-lt9218868437227405312 c =
-    let e = c.eleven_off in
-    (packed_over c.args.k e.result _ e.ensures.0 (omega arith), omega arith)
+pub returns : goal.returns
+returns c = packed_least _ _ _ c.eleven_off.ensures.0 _ (search rules)
