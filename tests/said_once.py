@@ -10,7 +10,6 @@ ROOT = Path(__file__).resolve().parent.parent
 
 # Laws whose crates have nothing in common but the kit, which does not have them; and names that each file makes its own.
 KNOWN = {
-    ("base_floats/proofs/Equals.antt never", "trial_lines/proofs/Equal.antt not_true"),
     ("doubles_patterns/proofs/Values.antt sub_mul", "exact_rounding/proofs/Operations.antt sub_mul"),
     ("device_cursor/proofs/Walks.antt below_or_not", "tensor_fours/proofs/Fours.antt below_or_not"),
     ("query_measured/proofs/EvenExample.antt on_the_grid", "query_measured/proofs/Example.antt on_the_grid"),

@@ -24,10 +24,17 @@ pub fn print_change(
     change: ChangedSample,
 ) {
     let mut scratch = [BEFORE; 2500];
-    let place = change.place;
-    let answer = tensor::change(axes, all, knots, tensor, &mut scratch, place, change.sample);
+    let answer = tensor::change(
+        axes,
+        all,
+        knots,
+        tensor,
+        &mut scratch,
+        change.place,
+        change.sample,
+    );
     print(out, name);
-    print_counts(out, place);
+    print_counts(out, &change.place);
     print_refusal(out, b"", b"change", answer.refusal);
     print(out, b" lanes");
     print_count(out, answer.lanes);
@@ -38,10 +45,7 @@ pub fn print_change(
 
 // The sample of an accepted change stands among the samples.
 fn stand(samples: &mut [f64], number: usize, sample: f64, refusal: usize) {
-    if refusal != 0 {
-        return;
-    }
-    if number < samples.len() {
+    if refusal == 0 && number < samples.len() {
         samples[number] = sample;
     }
 }

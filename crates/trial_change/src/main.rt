@@ -24,10 +24,8 @@ fn list(
     list: [ChangedSample; 6],
 ) {
     print_build(out, name, axes, all, knots, samples, tensor);
-    let mut i = 0;
-    while i < 6 {
-        compared::print_change(out, name, axes, all, knots, samples, tensor, list[i]);
-        i += 1;
+    for change in list {
+        compared::print_change(out, name, axes, all, knots, samples, tensor, change);
     }
 }
 

@@ -26,29 +26,19 @@ fn in_order(
     first: Change,
     second: Change,
 ) {
-    let first_place = first.place;
-    let second_place = second.place;
     print_build(out, name, axes, all, knots, samples, tensor);
-    print_change(
-        out,
-        name,
-        axes,
-        all,
-        knots,
-        tensor,
-        first_place,
-        first.sample,
-    );
-    print_change(
-        out,
-        name,
-        axes,
-        all,
-        knots,
-        tensor,
-        second_place,
-        second.sample,
-    );
+    for change in [first, second] {
+        print_change(
+            out,
+            name,
+            axes,
+            all,
+            knots,
+            tensor,
+            change.place,
+            change.sample,
+        );
+    }
 }
 
 // Four steps accepted. What stands past the axes in use is not read, so it need not be the same in both orders.

@@ -3,16 +3,16 @@
 use rules::{Axis, Condition, Mode, StepDirection};
 use std::io::Stdout;
 use trial_lines::{print, print_count, print_number, print_refusal};
-use trial_tensor_lines::{print_counts, print_query};
+use trial_tensor_lines::{grids, print_answer, print_counts, print_query};
 
 // Two axes of three points each, both in one mode.
 pub fn two_of_three(mode: Mode) -> [Axis; 4] {
     let axis = Axis {
         points: 3,
         condition: Condition::natural(),
-        mode: mode,
+        mode,
     };
-    [axis, axis, Axis::unused(), Axis::unused()]
+    grids::two(axis, axis)
 }
 
 // The quick query.
@@ -26,12 +26,7 @@ pub fn print_quick(
     coordinates: &[f64],
 ) {
     let answer = query_quick::quick_query(axes, all, knots, tensor, coordinates);
-    let labels = answer.labels;
-    print_refusal(out, name, b"quick query", answer.refusal);
-    print_number(out, answer.value);
-    print(out, b" labels");
-    print_counts(out, labels);
-    print(out, b"\n");
+    print_answer(out, name, b"quick query", answer);
 }
 
 // The direct query.
@@ -45,12 +40,7 @@ pub fn print_direct(
     coordinates: &[f64],
 ) {
     let answer = query_direct::direct_query(axes, all, knots, tensor, coordinates);
-    let labels = answer.labels;
-    print_refusal(out, name, b"direct query", answer.refusal);
-    print_number(out, answer.value);
-    print(out, b" labels");
-    print_counts(out, labels);
-    print(out, b"\n");
+    print_answer(out, name, b"direct query", answer);
 }
 
 // The query of even axes, with the axis that is not even and its interval.
@@ -64,11 +54,10 @@ pub fn print_even(
     coordinates: &[f64],
 ) {
     let answer = query_even::even_query(axes, all, knots, tensor, coordinates);
-    let labels = answer.labels;
     print_refusal(out, name, b"even query", answer.refusal);
     print_number(out, answer.value);
     print(out, b" labels");
-    print_counts(out, labels);
+    print_counts(out, &answer.labels);
     print(out, b" uneven");
     print_count(out, answer.axis);
     print_count(out, answer.interval);
@@ -126,10 +115,9 @@ pub fn print_stepped(
     coordinates: &[f64],
 ) {
     let answer = step_surface::stepped(axes, all, directions, knots, samples, coordinates);
-    let indices = answer.indices;
     print_refusal(out, name, call, answer.refusal);
     print_number(out, answer.value);
     print(out, b" indices");
-    print_counts(out, indices);
+    print_counts(out, &answer.indices);
     print(out, b"\n");
 }

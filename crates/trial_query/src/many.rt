@@ -2,32 +2,31 @@
 use crate::lines;
 use rules::{Axis, Condition, Mode, StepDirection};
 use std::io::Stdout;
-use trial_lines::{BEFORE, print, print_count, print_numbers, print_refusal};
+use trial_lines::{BEFORE, print, print_numbers, print_refusal};
 use trial_tensor_lines::{grids, print_counts};
 
 // What stands in labels and refusals before a call.
 const UNWRITTEN: usize = 9;
 
-// The call and what it leaves of three points.
-fn print_three(
+// A call on three points, by what it makes of the values, the labels and the refusals that it is lent, and what it leaves of these.
+fn print_three<F: FnOnce(&mut [f64], &mut [usize], &mut [usize]) -> usize>(
     out: Stdout,
     name: &[u8],
     call: &[u8],
-    refusal: usize,
-    values: &[f64],
-    labels: [usize; 12],
-    refusals: [usize; 3],
-) {
+    asked: F,
+)
+    requires { F.IsAlwaysCallable asked }
+{
+    let mut values = [BEFORE; 3];
+    let mut labels = [UNWRITTEN; 12];
+    let mut refusals = [UNWRITTEN; 3];
+    let refusal = asked(&mut values, &mut labels, &mut refusals);
     print_refusal(out, name, call, refusal);
-    print_numbers(out, values);
+    print_numbers(out, &values);
     print(out, b" labels");
-    print_counts(out, [labels[0], labels[1], labels[2], labels[3]]);
-    print_counts(out, [labels[4], labels[5], labels[6], labels[7]]);
-    print_counts(out, [labels[8], labels[9], labels[10], labels[11]]);
+    print_counts(out, &labels);
     print(out, b" refusals");
-    print_count(out, refusals[0]);
-    print_count(out, refusals[1]);
-    print_count(out, refusals[2]);
+    print_counts(out, &refusals);
     print(out, b"\n");
 }
 
@@ -35,50 +34,30 @@ fn print_three(
 fn queries(out: Stdout, name: &[u8], mode: Mode, knots: &[f64], coordinates: &[f64]) {
     let all = grids::one_in_mode(4, Condition::natural(), mode);
     let tensor = [0.0, 1.0, 2.0, -1.0, 1.0, 0.5, -3.0, 2.0];
-    let mut values = [BEFORE; 3];
-    let mut labels = [UNWRITTEN; 12];
-    let mut refusals = [UNWRITTEN; 3];
-    let refusal = query_many::quick_queries(
-        1,
-        all,
-        knots,
-        &tensor,
-        coordinates,
-        &mut values,
-        &mut labels,
-        &mut refusals,
-    );
-    print_three(
-        out,
-        name,
-        b"quick queries",
-        refusal,
-        &values,
-        labels,
-        refusals,
-    );
-    let mut values = [BEFORE; 3];
-    let mut labels = [UNWRITTEN; 12];
-    let mut refusals = [UNWRITTEN; 3];
-    let refusal = query_many::direct_queries(
-        1,
-        all,
-        knots,
-        &tensor,
-        coordinates,
-        &mut values,
-        &mut labels,
-        &mut refusals,
-    );
-    print_three(
-        out,
-        name,
-        b"direct queries",
-        refusal,
-        &values,
-        labels,
-        refusals,
-    );
+    print_three(out, name, b"quick queries", |values, labels, refusals| {
+        query_many::quick_queries(
+            1,
+            all,
+            knots,
+            &tensor,
+            coordinates,
+            values,
+            labels,
+            refusals,
+        )
+    });
+    print_three(out, name, b"direct queries", |values, labels, refusals| {
+        query_many::direct_queries(
+            1,
+            all,
+            knots,
+            &tensor,
+            coordinates,
+            values,
+            labels,
+            refusals,
+        )
+    });
 }
 
 // The stepped surface.
@@ -92,29 +71,19 @@ fn steps(
     samples: &[f64],
     coordinates: &[f64],
 ) {
-    let mut values = [BEFORE; 3];
-    let mut indices = [UNWRITTEN; 12];
-    let mut refusals = [UNWRITTEN; 3];
-    let refusal = step_many::stepped_many(
-        axes,
-        all,
-        directions,
-        knots,
-        samples,
-        coordinates,
-        &mut values,
-        &mut indices,
-        &mut refusals,
-    );
-    print_three(
-        out,
-        name,
-        b"stepped many",
-        refusal,
-        &values,
-        indices,
-        refusals,
-    );
+    print_three(out, name, b"stepped many", |values, indices, refusals| {
+        step_many::stepped_many(
+            axes,
+            all,
+            directions,
+            knots,
+            samples,
+            coordinates,
+            values,
+            indices,
+            refusals,
+        )
+    });
 }
 
 fn stepped(out: Stdout) {

@@ -4,8 +4,8 @@ use rules::{Axis, Condition, Mode};
 // An axis that extends.
 pub fn axis(points: usize, condition: Condition) -> Axis {
     Axis {
-        points: points,
-        condition: condition,
+        points,
+        condition,
         mode: Mode::Extend,
     }
 }
@@ -15,16 +15,12 @@ pub fn one(points: usize, condition: Condition) -> [Axis; 4] {
 }
 
 pub fn one_in_mode(points: usize, condition: Condition, mode: Mode) -> [Axis; 4] {
-    [
-        Axis {
-            points: points,
-            condition: condition,
-            mode: mode,
-        },
-        Axis::unused(),
-        Axis::unused(),
-        Axis::unused(),
-    ]
+    let axis = Axis {
+        points,
+        condition,
+        mode,
+    };
+    [axis, Axis::unused(), Axis::unused(), Axis::unused()]
 }
 
 pub fn two(first: Axis, second: Axis) -> [Axis; 4] {
@@ -38,25 +34,21 @@ pub fn three(first: Axis, second: Axis, third: Axis) -> [Axis; 4] {
 // The knots of two axes, of which the first has so many: 0, 1, 2 and so on, twice.
 pub fn rising(knots: &mut [f64], first: usize) {
     let mut knot = 0.0;
-    let mut i = 0;
-    while i < knots.len() {
+    for (i, place) in knots.iter_mut().enumerate() {
         if i == first {
             knot = 0.0;
         }
-        knots[i] = knot;
+        *place = knot;
         knot += 1.0;
-        i += 1;
     }
 }
 
 // From 0 up by 3.25, and down by 10 where that passes 10.
 pub fn sawtooth(numbers: &mut [f64]) {
     let mut number = 0.0;
-    let mut i = 0;
-    while i < numbers.len() {
-        numbers[i] = number;
+    for place in numbers {
+        *place = number;
         number = next_tooth(number);
-        i += 1;
     }
 }
 

@@ -2,7 +2,7 @@
 
 #![tactic(auto)]
 
-use rules::Axis;
+use rules::{Axis, QueryAnswer};
 use std::io::Stdout;
 use trial_lines::{
     BEFORE, print, print_count, print_number, print_numbers, print_output, print_refusal,
@@ -59,18 +59,21 @@ pub fn print_query(
     coordinates: &[f64],
 ) {
     let answer = query_full::query(axes, all, knots, tensor, coordinates);
-    let labels = answer.labels;
-    print_refusal(out, name, b"query", answer.refusal);
+    print_answer(out, name, b"query", answer);
+}
+
+// The answer of a query: the value, and the labels.
+pub fn print_answer(out: Stdout, name: &[u8], call: &[u8], answer: QueryAnswer) {
+    print_refusal(out, name, call, answer.refusal);
     print_number(out, answer.value);
     print(out, b" labels");
-    print_counts(out, labels);
+    print_counts(out, &answer.labels);
     print(out, b"\n");
 }
 
-// The numbers of a place, or the labels of a point.
-pub fn print_counts(out: Stdout, counts: [usize; 4]) {
-    print_count(out, counts[0]);
-    print_count(out, counts[1]);
-    print_count(out, counts[2]);
-    print_count(out, counts[3]);
+// The numbers of a place, or the labels of points.
+pub fn print_counts(out: Stdout, counts: &[usize]) {
+    for count in counts {
+        print_count(out, *count);
+    }
 }

@@ -19,7 +19,6 @@ fn print_verify(
 ) {
     let mut scratch = [BEFORE; 2500];
     let answer = tensor_verify::verify(axes, all, knots, tensor, &mut scratch);
-    let place = answer.place;
     print_refusal(out, name, b"verify", answer.refusal);
     if answer.whole {
         print(out, b" whole");
@@ -27,7 +26,7 @@ fn print_verify(
         print(out, b" not whole");
     }
     print(out, b" place");
-    print_counts(out, place);
+    print_counts(out, &answer.place);
     print(out, b" mask");
     print_count(out, answer.mask);
     print(out, b" differing");
