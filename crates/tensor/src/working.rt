@@ -12,10 +12,8 @@ pub fn store_samples(w: &mut [f64], samples: &[f64], masks: usize)
     requires { Lies w.old (length samples.now) tensor_begin masks × (1 ≤ masks) }
     ensures { Stored w.old w.new (at samples.now) (length samples.now) tensor_begin masks }
 {
-    let mut k = 0;
-    while k < samples.len() {
+    for k in 0..samples.len() {
         w[TENSOR + k * masks] = samples[k];
-        k += 1;
     }
 }
 

@@ -87,10 +87,8 @@ fn solve_masks(
 {
     let limit = masks(axis);
     let mut lanes = 0;
-    let mut mask = 0;
-    while mask < limit {
+    for mask in 0..limit {
         lanes += solve_lanes(w, axes, all, knots, place, whole, axis, mask, plan);
-        mask += 1;
     }
     lanes
 }
@@ -100,10 +98,7 @@ fn solve_masks(
 fn goes_by_four(axes: usize, n: usize, ends: Condition) -> bool
     ensures { result ≡ true → fewest_points ends ≤ n → (n ≤ plan_row_length) × (fewest_planned ends ≤ n) }
 {
-    if axes == 1 {
-        return false;
-    }
-    if 128 < n {
+    if axes == 1 || 128 < n {
         return false;
     }
     match ends {
@@ -160,10 +155,8 @@ pub fn solve_axes(
         × (result ≡ lanes_solved_below (points_of all) axes whole axes) }
 {
     let mut lanes = 0;
-    let mut axis = 0;
-    while axis < axes {
+    for axis in 0..axes {
         lanes += solve_along(w, axes, all, knots, place, whole, axis);
-        axis += 1;
     }
     lanes
 }

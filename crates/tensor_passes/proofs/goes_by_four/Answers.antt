@@ -9,9 +9,6 @@ use Rattle.tensor_passes.proofs.goes_by_four.Goals as goal
 pub returns-then-axes-eq1 : goal.returns-then-axes-eq1
 returns-then-axes-eq1 c = λ goes enough. not_both false goes refl
 
-pub returns-then-n-gt128 : goal.returns-then-n-gt128
-returns-then-n-gt128 c = λ goes enough. not_both false goes refl
-
 pub returns-in-Endpoints : goal.returns-in-Endpoints
 returns-in-Endpoints c = λ goes enough. ends_go _ _ _ _ c.in-Endpoints.is c.if-n-gt128.false enough
 

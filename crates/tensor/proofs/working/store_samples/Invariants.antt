@@ -1,6 +1,4 @@
 -- The first `k` samples stand at mask 0, `masks` apart behind the rows, and no other place has changed.
--- The measure is the samples left.
-use Prim.Native.Nat.{◌-◌}
 use lib.ListN.{length}
 use Rattle.rules.specs.Numbers.{at}
 use Rattle.tensor_lane.proofs.Storing.{Turn}
@@ -8,6 +6,3 @@ use Rattle.tensor.proofs.working.store_samples.Given as goal
 
 abbrev pub invariant-loop-k : goal.invariant-loop-k
 invariant-loop-k l = Turn l.initial.w l.w (at l.samples) (length l.samples) 2048 l.masks l.k
-
-abbrev pub decreases-loop-k : goal.decreases-loop-k
-decreases-loop-k l = length l.samples - l.k
