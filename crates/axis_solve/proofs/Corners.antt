@@ -1,11 +1,15 @@
 -- The stores of `diag_mod` and `u_vec`, on plain lists: the ends of a row, and zeros between them.
 use native.Mathlib.Omega.{arith}
-use mathlib.Core.Path.{◌≡◌, refl, ◌∙◌}
+use mathlib.Core.Path.{◌≡◌, refl, subst, ◌∙◌}
 use mathlib.Core.Logic.{◌≢◌}
-use mathlib.Core.List.{List}
-use Prim.Native.Nat.{ℕ, suc, ◌+◌, ◌<◌, ◌≤◌}
-use lib.ListN.{length, set, length-set}
-use lib.Seq.{get_or-set_same, get_or-set_other}
+use mathlib.Core.List.{List, []}
+use Prim.Native.Nat.{ℕ, zero, suc, ◌+◌, ◌-◌, ◌<◌, ◌≤◌}
+use lib.ListN.{length, set, take, drop, replicate, length-set, length-replicate, length-take, length-drop}
+use borrow.Rule.Slice.PartMut.{put_mid}
+use Rattle.std.proofs.lemmas.Slice.{put_mid-paste}
+use Rattle.std.proofs.lemmas.List.Edits.{fill_from_more}
+use native.Mathlib.Numerals.{add-one}
+use lib.Seq.{paste, paste-zero, get_or-set_same, get_or-set_other}
 use lib.Ieee.{Float, nan}
 use borrow.Author.Count.{below_more}
 use Rattle.rules.specs.Numbers.{at, ◌⊖◌, ◌⊗◌, ◌⊘◌, plus_zero}
@@ -51,7 +55,7 @@ pub record Turn (w₀ w : List Float) (l k : ℕ) : Type 0 where
   pub between : (j : ℕ) → j < k → 0 < j → row w 1024 j ≡ plus_zero
   pub kept : (j : ℕ) → Outside 1024 (suc l) j → at w j ≡ at w₀ j
 
-pub turn_first : (w : List Float) (l : ℕ) → RowsGiven w l → 0 < l → Turn w w l 1
+turn_first : (w : List Float) (l : ℕ) → RowsGiven w l → 0 < l → Turn w w l 1
 turn_first w l g more = record {
   given = g;
   least = omega arith;
@@ -61,7 +65,7 @@ turn_first w l g more = record {
   kept = λ j o. refl;
 }
 
-pub turn_next : (w₀ w : List Float) (l k : ℕ) → Turn w₀ w l k → k < l → Turn w₀ (set w (1024 + k) plus_zero) l (k + 1)
+turn_next : (w₀ w : List Float) (l k : ℕ) → Turn w₀ w l k → k < l → Turn w₀ (set w (1024 + k) plus_zero) l (k + 1)
 turn_next w₀ w l k t lt =
     let other : (j : ℕ) → j ≢ 1024 + k → at (set w (1024 + k) plus_zero) j ≡ at w j =
     λ j n. get_or-set_other w (1024 + k) j plus_zero nan n in
@@ -76,6 +80,26 @@ turn_next w₀ w l k t lt =
           (λ a. get_or-set_same w (1024 + k) plus_zero nan (omega arith));
       kept = λ j o. other j (o k (omega arith)) ∙ t.kept j o;
     }
+
+-- k zeros put in at once, from place 1 on
+put_in : (w : List Float) (l k : ℕ) → RowsGiven w l → k < l → Turn w (paste w 1025 (replicate k plus_zero) k) l (k + 1)
+put_in w l zero g lt = subst (λ (v : List Float). Turn w v l 1) (paste-zero w 1025 []) (turn_first w l g (omega arith))
+put_in w l (suc k) g lt =
+    let next : 1024 + (k + 1) ≡ 1025 + k = omega arith in
+    simp add-one
+    (simp add-one at
+    (rw (next, fill_from_more w 1025 k plus_zero (omega (arith, g))) at
+    (turn_next w (paste w 1025 (replicate k plus_zero) k) l (k + 1) (put_in w l k g (omega arith)) (omega arith))))
+
+-- what a fill of the places between the ends leaves
+pub filled : (w zeros : List Float) (l : ℕ) → RowsGiven w l → 0 < l
+    → zeros ≡ replicate (length (take (1024 + l - 1025) (drop 1025 w))) plus_zero
+    → Turn w (put_mid 1025 (1024 + l - 1025) w zeros) l l
+filled w zeros l g more is =
+    let inside : length (take (1024 + l - 1025) (drop 1025 w)) ≡ l - 1 = simp (length-take, length-drop) (omega (arith, g)) in
+    let all : l - 1 + 1 ≡ l = omega arith in
+    rw (put_mid-paste 1025 (1024 + l - 1025) w zeros (replicate (l - 1) plus_zero) (l - 1) (rw inside at is) (omega arith) (simp length-replicate))
+    (subst (Turn w (paste w 1025 (replicate (l - 1) plus_zero) (l - 1)) l) all (put_in w l (l - 1) g (omega arith)))
 
 pub turn_last : (w₀ w : List Float) (l k : ℕ) (gamma corner : Float) → Turn w₀ w l k → l ≤ k
     → UVec w₀ (set (set w 1024 gamma) (1024 + l) corner) l gamma corner

@@ -68,9 +68,7 @@ fn u_vec(w: &mut [f64], l: usize, gamma: f64, corner: f64)
     requires { RowsGiven w.old l × (0 < l) }
     ensures { UVec w.old w.new l gamma corner }
 {
-    for k in 1..l {
-        w[RHS + k] = 0.0;
-    }
+    w[RHS + 1..RHS + l].fill(0.0);
     w[RHS] = gamma;
     w[RHS + l] = corner;
 }

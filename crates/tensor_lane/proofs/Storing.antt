@@ -8,6 +8,7 @@ use lib.ListN.{length, set, take, drop, length-set}
 use lib.Seq.{get_or-set_same, get_or-set_other}
 use lib.Ieee.{Float, nan}
 use borrow.Author.Count.{below_more}
+use Rattle.rules.specs.Numbers.{at}
 use Rattle.rules.specs.Curve.{knot_slope}
 use Rattle.tensor_lane.specs.LaneInScratch.{Lies, Stored, slope_of_rows}
 use Rattle.tensor_lane.proofs.Parts.{part_ext}

@@ -1,6 +1,6 @@
 -- How many lanes the passes solve: what bounds them, and for a change the closed sum.
 use native.Mathlib.Omega.{arith}
-use native.Mathlib.Nat.{add-sub_of_le, two-pow-succ, eq-or-lt_of_le}
+use native.Mathlib.Nat.{add-sub_of_le, zero-mul, suc-mul, two-pow-succ, le_refl, eq-or-lt_of_le}
 use mathlib.Core.Path.{◌≡◌, refl, ap, ◌∙◌}
 use mathlib.Core.Logic.{⊎_elim}
 use mathlib.Core.Bool.{Bool, false, cond}

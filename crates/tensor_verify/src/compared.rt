@@ -28,10 +28,8 @@ pub fn count_differing(ours: &[f64], others: &[f64]) -> usize
     ensures { result ≡ count_that (differs_at ours.now others.now) (length ours.now) }
 {
     let mut count = 0;
-    let mut i = 0;
-    while i < ours.len() {
+    for i in 0..ours.len() {
         count += one_if_differs(ours[i], others[i]);
-        i += 1;
     }
     count
 }
@@ -41,12 +39,10 @@ fn first_differing(ours: &[f64], others: &[f64]) -> usize
     requires { Comparable ours.now others.now }
     ensures { result ≡ first_that (differs_at ours.now others.now) (length ours.now) 0 }
 {
-    let mut i = 0;
-    while i < ours.len() {
+    for i in 0..ours.len() {
         if differs(ours[i], others[i]) {
             return i;
         }
-        i += 1;
     }
     0
 }

@@ -14,12 +14,9 @@ pub fn place_of_number(axes: usize, all: [Axis; 4], number: usize) -> [usize; 4]
 {
     let mut place = [0; 4];
     let mut rest = number;
-    let mut left = axes;
-    while 0 < left {
-        let axis = left - 1;
+    for axis in (0..axes).rev() {
         place[axis] = rest % all[axis].points;
-        rest = rest / all[axis].points;
-        left = axis;
+        rest /= all[axis].points;
     }
     place
 }

@@ -6,7 +6,7 @@ use Rattle.tensor_verify.proofs.Numbers.{count_none, count_more, count_fits, our
 use Rattle.tensor_verify.proofs.compared.count_differing.Goals as goal
 
 pub loop-i-init : goal.loop-i-init
-loop-i-init c = (count_none _, omega arith)
+loop-i-init c = count_none _
 
 pub bounds-others-i : goal.bounds-others-i
 bounds-others-i c = omega (arith, c.requires.same_length)
@@ -16,16 +16,12 @@ one_if_differs-count-requires c = (ours_finite _ _ c.requires _ (omega arith), o
 
 pub overflow_add-count : goal.overflow_add-count
 overflow_add-count c =
-    let inv = c.loop-i.invariant in
-    omega (arith, count_fits _ _ _ _ inv.0 c.one_if_differs-count.ensures)
+    omega (arith, count_fits _ _ _ _ c.loop-i.invariant c.one_if_differs-count.ensures)
 
 pub loop-i-preserved : goal.loop-i-preserved
-loop-i-preserved c =
-    let inv = c.loop-i.invariant in
-    (count_more _ _ _ _ inv.0 c.one_if_differs-count.ensures, omega arith)
+loop-i-preserved c = count_more _ _ _ _ c.loop-i.invariant c.one_if_differs-count.ensures
 
 pub returns : goal.returns
 returns c =
-    let inv = c.loop-i.invariant in
-    let all : c.loop-i.i ≡ length c.args.ours.now = omega (arith, inv.1) in
-    inv.0 ∙ ap (count_that _) all
+    let all : c.loop-i.i ≡ length c.args.ours.now = omega arith in
+    c.loop-i.invariant ∙ ap (count_that _) all

@@ -3,38 +3,35 @@ use native.Mathlib.Omega.{arith}
 use Rattle.tensor_verify.proofs.Indices.{turn_first, turn_next, turn_last}
 use Rattle.tensor_verify.proofs.places.place_of_number.Goals as goal
 
-pub loop-left-init : goal.loop-left-init
-loop-left-init c = turn_first _ _ _ c.requires.few_axes
+pub loop-axis-init : goal.loop-axis-init
+loop-axis-init c = turn_first _ _ _ c.requires.few_axes
 
 pub offset_bounds-all-axis : goal.offset_bounds-all-axis
-offset_bounds-all-axis c = omega (arith, c.loop-left.invariant.few)
+offset_bounds-all-axis c = omega (arith, c.loop-axis.invariant.few)
 
 pub bounds-all-axis : goal.bounds-all-axis
-bounds-all-axis c = omega (arith, c.loop-left.invariant.few)
+bounds-all-axis c = omega (arith, c.loop-axis.invariant.few)
 
 pub nonzero_rem-place : goal.nonzero_rem-place
-nonzero_rem-place c = omega (arith, c.requires.some_points (c.loop-left.left - 1) (omega (arith, c.loop-left.invariant.within)))
+nonzero_rem-place c = omega (arith, c.requires.some_points (c.loop-axis.axis - 1) (omega (arith, c.loop-axis.invariant.within)))
 
 pub offset_bounds-place-axis : goal.offset_bounds-place-axis
-offset_bounds-place-axis c = omega (arith, c.loop-left.invariant.few)
+offset_bounds-place-axis c = omega (arith, c.loop-axis.invariant.few)
 
 pub bounds-place-axis : goal.bounds-place-axis
-bounds-place-axis c = omega (arith, c.loop-left.invariant.few)
+bounds-place-axis c = omega (arith, c.loop-axis.invariant.few)
 
-pub offset_bounds-all-axis-in-loop-left : goal.offset_bounds-all-axis-in-loop-left
-offset_bounds-all-axis-in-loop-left c = omega (arith, c.loop-left.invariant.few)
+pub offset_bounds-all-axis-in-loop-axis : goal.offset_bounds-all-axis-in-loop-axis
+offset_bounds-all-axis-in-loop-axis c = omega (arith, c.loop-axis.invariant.few)
 
-pub bounds-all-axis-in-loop-left : goal.bounds-all-axis-in-loop-left
-bounds-all-axis-in-loop-left c = omega (arith, c.loop-left.invariant.few)
+pub bounds-all-axis-in-loop-axis : goal.bounds-all-axis-in-loop-axis
+bounds-all-axis-in-loop-axis c = omega (arith, c.loop-axis.invariant.few)
 
 pub nonzero_div-rest : goal.nonzero_div-rest
-nonzero_div-rest c = omega (arith, c.requires.some_points (c.loop-left.left - 1) (omega (arith, c.loop-left.invariant.within)))
+nonzero_div-rest c = omega (arith, c.requires.some_points (c.loop-axis.axis - 1) (omega (arith, c.loop-axis.invariant.within)))
 
-pub loop-left-smaller : goal.loop-left-smaller
-loop-left-smaller c = omega arith
-
-pub loop-left-preserved : goal.loop-left-preserved
-loop-left-preserved c = turn_next _ _ _ _ _ _ _ (omega arith) c.loop-left.invariant
+pub loop-axis-preserved : goal.loop-axis-preserved
+loop-axis-preserved c = turn_next _ _ _ _ _ _ _ (omega arith) c.loop-axis.invariant
 
 pub returns : goal.returns
-returns c = turn_last _ _ _ _ _ _ c.loop-left.invariant (omega arith)
+returns c = turn_last _ _ _ _ _ _ c.loop-axis.invariant (omega arith)
