@@ -35,14 +35,12 @@ fn steps_on_axes(
     let mut indices = [0; 4];
     let mut number = 0;
     let mut begin = 0;
-    let mut i = 0;
-    while i < axes {
+    for i in 0..axes {
         let end = begin + points[i];
         let index = step_axis::among::step_index(directions[i], &knots[begin..end], coordinates[i]);
         indices[i] = index;
         number = number * points[i] + index;
         begin = end;
-        i += 1;
     }
     Steps { number, indices }
 }
