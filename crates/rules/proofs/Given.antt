@@ -33,7 +33,7 @@ use Rattle.rules.specs.declared.Refusal.TheVariants.{
   Lost,
 }
 
-pub err_given : {T : Type 0} (given : Result T Refusal) (met : Refusal) → IsErrAnd given (λ refusal. refusal ≡ met) → given ≡ Err met
+pub err_given : {T E : Type 0} (given : Result T E) (met : E) → IsErrAnd given (λ refusal. refusal ≡ met) → given ≡ Err met
 err_given given met h = let p = err_from_is_err_and given h in rw (p.1, p.2) refl
 
 pub given_on : {T : Type 0} (given : Result T Refusal) (met : Refusal) → IsErrAnd given (λ refusal. refusal ≡ met)
