@@ -23,29 +23,20 @@ pub fn direct_query(
     ensures { DirectQueryExport axes points.now modes.now knots.now tensor.now
         coordinates.now value.old labels.old result value.new labels.new }
 {
-    let refusal = own::query_own_refusal(
-        axes,
-        points,
-        modes,
-        knots,
-        tensor,
-        coordinates,
-        value,
-        labels,
-    );
-    if refusal != 0 {
+    let own = own::check_query(axes, points, modes, knots, tensor, coordinates, value, labels);
+    if let Err(refusal) = own {
         slots::store_query(value, labels, 0.0, [0; 4]);
-        return refusal;
+        return refusal.number();
     }
-    let answer = query_direct::direct_query_of_points(
-        axes,
-        points,
-        modes,
-        knots,
-        tensor,
-        coordinates,
-    );
-    let found = answer.labels;
-    slots::store_query(value, labels, answer.value, found);
-    answer.refusal
+    match query_direct::direct_query_of_points(axes, points, modes, knots, tensor, coordinates) {
+        Ok(found) => {
+            let cell = found.labels;
+            slots::store_query(value, labels, found.value, cell);
+            0
+        }
+        Err(refusal) => {
+            slots::store_query(value, labels, 0.0, [0; 4]);
+            refusal.number()
+        }
+    }
 }

@@ -26,7 +26,7 @@ pub fn quick_queries(
         coordinates.now values.old labels.old refusals.old result values.new
         labels.new refusals.new }
 {
-    let refusal = own::queries_own_refusal(
+    let own = own::check_queries(
         axes,
         points,
         modes,
@@ -37,8 +37,8 @@ pub fn quick_queries(
         labels,
         refusals,
     );
-    if refusal != 0 {
-        return refusal;
+    if let Err(refusal) = own {
+        return refusal.number();
     }
     query_many::each::answer_each(
         Way::Searched,
@@ -71,7 +71,7 @@ pub fn direct_queries(
         coordinates.now values.old labels.old refusals.old result values.new
         labels.new refusals.new }
 {
-    let refusal = own::queries_own_refusal(
+    let own = own::check_queries(
         axes,
         points,
         modes,
@@ -82,8 +82,8 @@ pub fn direct_queries(
         labels,
         refusals,
     );
-    if refusal != 0 {
-        return refusal;
+    if let Err(refusal) = own {
+        return refusal.number();
     }
     query_many::each::answer_each(
         Way::Divided,

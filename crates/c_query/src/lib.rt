@@ -6,6 +6,7 @@
 ghost use Rattle.c_query.specs.QueryExports.{QueryExport, QuickQueryExport, EvenQueryExport};
 
 use c_refusals::{own, slots};
+use rules::{EvenRefusal, Refusal};
 
 // The surface's value at the coordinates, in a slot of one, and the four labels, with a mode for each axis. Refuses 1 2 3 4 7 8 18 10, in
 // this order, and then value and labels are 0; and 4 and 22 of its own.
@@ -22,24 +23,22 @@ pub fn query(
     ensures { QueryExport axes points.now modes.now knots.now tensor.now coordinates.now
         value.old labels.old result value.new labels.new }
 {
-    let refusal = own::query_own_refusal(
-        axes,
-        points,
-        modes,
-        knots,
-        tensor,
-        coordinates,
-        value,
-        labels,
-    );
-    if refusal != 0 {
+    let own = own::check_query(axes, points, modes, knots, tensor, coordinates, value, labels);
+    if let Err(refusal) = own {
         slots::store_query(value, labels, 0.0, [0; 4]);
-        return refusal;
+        return refusal.number();
     }
-    let answer = query_full::query_of_points(axes, points, modes, knots, tensor, coordinates);
-    let found = answer.labels;
-    slots::store_query(value, labels, answer.value, found);
-    answer.refusal
+    match query_full::query_of_points(axes, points, modes, knots, tensor, coordinates) {
+        Ok(found) => {
+            let cell = found.labels;
+            slots::store_query(value, labels, found.value, cell);
+            0
+        }
+        Err(refusal) => {
+            slots::store_query(value, labels, 0.0, [0; 4]);
+            refusal.number()
+        }
+    }
 }
 
 // The same in the cell that the search finds, on any knots. Refuses as the query, by 7 for a coordinate and by 8 for the found cell's knots
@@ -57,31 +56,22 @@ pub fn quick_query(
     ensures { QuickQueryExport axes points.now modes.now knots.now tensor.now
         coordinates.now value.old labels.old result value.new labels.new }
 {
-    let refusal = own::query_own_refusal(
-        axes,
-        points,
-        modes,
-        knots,
-        tensor,
-        coordinates,
-        value,
-        labels,
-    );
-    if refusal != 0 {
+    let own = own::check_query(axes, points, modes, knots, tensor, coordinates, value, labels);
+    if let Err(refusal) = own {
         slots::store_query(value, labels, 0.0, [0; 4]);
-        return refusal;
+        return refusal.number();
     }
-    let answer = query_quick::quick_query_of_points(
-        axes,
-        points,
-        modes,
-        knots,
-        tensor,
-        coordinates,
-    );
-    let found = answer.labels;
-    slots::store_query(value, labels, answer.value, found);
-    answer.refusal
+    match query_quick::quick_query_of_points(axes, points, modes, knots, tensor, coordinates) {
+        Ok(found) => {
+            let cell = found.labels;
+            slots::store_query(value, labels, found.value, cell);
+            0
+        }
+        Err(refusal) => {
+            slots::store_query(value, labels, 0.0, [0; 4]);
+            refusal.number()
+        }
+    }
 }
 
 // The same on even axes, in the cell that one division finds, and after 21 the axis that is not even and its interval, in a slot of two.
@@ -101,7 +91,7 @@ pub fn even_query(
         coordinates.now value.old labels.old uneven.old result value.new
         labels.new uneven.new }
 {
-    let refusal = own::even_query_own_refusal(
+    let own = own::check_even_query(
         axes,
         points,
         modes,
@@ -112,20 +102,23 @@ pub fn even_query(
         labels,
         uneven,
     );
-    if refusal != 0 {
+    if let Err(refusal) = own {
         slots::store_even_query(value, labels, uneven, 0.0, [0; 4], 0, 0);
-        return refusal;
+        return refusal.number();
     }
-    let answer = query_even::even_query_of_points(axes, points, modes, knots, tensor, coordinates);
-    let found = answer.labels;
-    slots::store_even_query(
-        value,
-        labels,
-        uneven,
-        answer.value,
-        found,
-        answer.axis,
-        answer.interval,
-    );
-    answer.refusal
+    match query_even::even_query_of_points(axes, points, modes, knots, tensor, coordinates) {
+        Ok(found) => {
+            let cell = found.labels;
+            slots::store_even_query(value, labels, uneven, found.value, cell, 0, 0);
+            0
+        }
+        Err(EvenRefusal::Uneven { axis, interval }) => {
+            slots::store_even_query(value, labels, uneven, 0.0, [0; 4], axis, interval);
+            Refusal::Uneven.number()
+        }
+        Err(EvenRefusal::Refused(refusal)) => {
+            slots::store_even_query(value, labels, uneven, 0.0, [0; 4], 0, 0);
+            refusal.number()
+        }
+    }
 }

@@ -6,7 +6,7 @@
 ghost use Rattle.c_step.specs.StepExports.{ExactExport, AxisExport, StepExport, SteppedExport};
 
 use c_refusals::slots::{store_count, store_query};
-use rules::{AxisLocation, ExactIndex};
+use rules::AxisLocation;
 
 pub mod directions; // directions.rt: directions as numbers
 pub mod own; // own.rt: the host's own refusals, before the call's
@@ -23,15 +23,20 @@ pub fn exact_index(
 ) -> usize
     ensures { ExactExport points knots.now lower point found.old result found.new }
 {
-    let refusal = own::exact_own_refusal(points, found);
-    if refusal != 0 {
-        slots::store_exact(found, ExactIndex::NotFound);
-        return refusal;
+    if let Err(refusal) = own::check_exact(points, found) {
+        slots::store_exact(found, None);
+        return refusal.number();
     }
-    let answer = step_axis::exact_index(points, knots, lower, point);
-    let index = answer.index;
-    slots::store_exact(found, index);
-    answer.refusal
+    match step_axis::exact_index(points, knots, lower, point) {
+        Ok(index) => {
+            slots::store_exact(found, index);
+            0
+        }
+        Err(refusal) => {
+            slots::store_exact(found, None);
+            refusal.number()
+        }
+    }
 }
 
 // Where a point lies: 0 and the index of the knot that it equals, or 1 and the lower index of its cell, in a slot of two, and the fraction,
@@ -46,15 +51,20 @@ pub fn locate_axis(
     ensures { AxisExport points knots.now point location.old fraction.old result location.new
         fraction.new }
 {
-    let refusal = own::axis_own_refusal(points, location, fraction);
-    if refusal != 0 {
+    if let Err(refusal) = own::check_axis(points, location, fraction) {
         slots::store_location(location, fraction, AxisLocation::Exact(0));
-        return refusal;
+        return refusal.number();
     }
-    let answer = step_axis::locate_axis(points, knots, point);
-    let found = answer.location;
-    slots::store_location(location, fraction, found);
-    answer.refusal
+    match step_axis::locate_axis(points, knots, point) {
+        Ok(found) => {
+            slots::store_location(location, fraction, found);
+            0
+        }
+        Err(refusal) => {
+            slots::store_location(location, fraction, AxisLocation::Exact(0));
+            refusal.number()
+        }
+    }
 }
 
 // The index of the knot that a point steps to, in a slot of one. Refuses 2 4 7 8, and then it is 0; and 4 and 22 of its own.
@@ -67,15 +77,21 @@ pub fn locate_step_index(
 ) -> usize
     ensures { StepExport points knots.now direction point index.old result index.new }
 {
-    let refusal = own::step_own_refusal(points, knots, direction, index);
-    if refusal != 0 {
+    if let Err(refusal) = own::check_step(points, knots, direction, index) {
         store_count(index, 0);
-        return refusal;
+        return refusal.number();
     }
     let given = directions::direction_of_number(direction);
-    let answer = step_axis::locate_step_index(given, points, knots, point);
-    store_count(index, answer.index);
-    answer.refusal
+    match step_axis::locate_step_index(given, points, knots, point) {
+        Ok(found) => {
+            store_count(index, found);
+            0
+        }
+        Err(refusal) => {
+            store_count(index, 0);
+            refusal.number()
+        }
+    }
 }
 
 // The sample at the place that the coordinates step to, in a slot of one, and the four indices of that place. Refuses 1 2 3 4 7 8, and then
@@ -93,7 +109,7 @@ pub fn stepped(
     ensures { SteppedExport axes points.now directions.now knots.now samples.now
         coordinates.now value.old indices.old result value.new indices.new }
 {
-    let refusal = own::stepped_own_refusal(
+    let own = own::check_stepped(
         axes,
         points,
         directions,
@@ -103,13 +119,20 @@ pub fn stepped(
         value,
         indices,
     );
-    if refusal != 0 {
+    if let Err(refusal) = own {
         store_query(value, indices, 0.0, [0; 4]);
-        return refusal;
+        return refusal.number();
     }
     let given = directions::directions_given(axes, directions);
-    let answer = step_surface::stepped_of_points(axes, points, given, knots, samples, coordinates);
-    let found = answer.indices;
-    store_query(value, indices, answer.value, found);
-    answer.refusal
+    match step_surface::stepped_of_points(axes, points, given, knots, samples, coordinates) {
+        Ok(found) => {
+            let place = found.indices;
+            store_query(value, indices, found.value, place);
+            0
+        }
+        Err(refusal) => {
+            store_query(value, indices, 0.0, [0; 4]);
+            refusal.number()
+        }
+    }
 }

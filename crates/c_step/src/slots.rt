@@ -3,7 +3,7 @@ ghost use Rattle.std.specs.Prelude.{◌≡◌, [], ◌∷◌, length};
 ghost use Rattle.c_step.specs.StepExports.{in_pair, exact_numbers, location_slots_refused, LocationStored};
 
 use grid_checks::lengths;
-use rules::{AxisLocation, ExactIndex};
+use rules::AxisLocation;
 
 // Two numbers go to a slot. Not a public call: its length is required.
 fn store_two(slot: &mut [usize], first: usize, second: usize)
@@ -15,15 +15,15 @@ fn store_two(slot: &mut [usize], first: usize, second: usize)
 }
 
 // An exact index goes to its slot.
-pub fn store_exact(slot: &mut [usize], index: ExactIndex)
+pub fn store_exact(slot: &mut [usize], index: Option<usize>)
     ensures { slot.new ≡ in_pair slot.old (exact_numbers index) }
 {
     if lengths::length_refused(slot.len(), 2) {
         return;
     }
     match index {
-        ExactIndex::Found(found) => store_two(slot, 1, found),
-        ExactIndex::NotFound => store_two(slot, 0, 0),
+        Some(found) => store_two(slot, 1, found),
+        None => store_two(slot, 0, 0),
     }
 }
 

@@ -6,6 +6,7 @@
 ghost use Rattle.c_tensor.specs.TensorExports.{BuildExport, ChangeExport};
 
 use c_refusals::{own, slots};
+use rules::number_told;
 
 // The tensor of the samples on a grid. Refuses 1 2 3 4 5 7 8 9 10, and 4 and 13 of its own.
 pub fn build(
@@ -21,12 +22,12 @@ pub fn build(
     ensures { BuildExport axes points.now kinds.now values.now knots.now samples.now
         tensor.old scratch.old result tensor.new scratch.new }
 {
-    let refusal = own::build_own_refusal(axes, points, kinds, values, knots, samples, tensor);
-    if refusal != 0 {
-        return refusal;
+    if let Err(refusal) = own::check_build(axes, points, kinds, values, knots, samples, tensor) {
+        return refusal.number();
     }
     let all = c_axes::axes_given(axes, points, kinds, values);
-    tensor::build(axes, all, knots, samples, tensor, scratch)
+    let built = tensor::build(axes, all, knots, samples, tensor, scratch);
+    number_told(built)
 }
 
 // One sample changed in a tensor, and how many lanes were solved, in a slot of one. Refuses 1 to 10, and then it is 0; and 4 and 13 of its
@@ -47,14 +48,17 @@ pub fn change(
         scratch.old place.now sample lanes.old result tensor.new scratch.new
         lanes.new }
 {
-    let refusal = own::change_own_refusal(axes, points, kinds, values, knots, tensor, place, lanes);
-    if refusal != 0 {
+    let own = own::check_change(axes, points, kinds, values, knots, tensor, place, lanes);
+    if let Err(refusal) = own {
         slots::store_count(lanes, 0);
-        return refusal;
+        return refusal.number();
     }
     let all = c_axes::axes_given(axes, points, kinds, values);
     let changed = c_axes::place_given(place);
-    let answer = tensor::change(axes, all, knots, tensor, scratch, changed, sample);
-    slots::store_count(lanes, answer.lanes);
-    answer.refusal
+    let (number, solved) = match tensor::change(axes, all, knots, tensor, scratch, changed, sample) {
+        Ok(solved) => (0, solved),
+        Err(refusal) => (refusal.number(), 0),
+    };
+    slots::store_count(lanes, solved);
+    number
 }

@@ -25,14 +25,16 @@ pub fn verify(
     ensures { VerifyExport axes points.now kinds.now values.now knots.now tensor.now
         scratch.old place.old found.old result scratch.new place.new found.new }
 {
-    let refusal = own::verify_own_refusal(axes, points, kinds, values, knots, tensor, place, found);
-    if refusal != 0 {
-        let nothing = tensor_verify::refused(refusal);
-        slots::store_found(place, found, nothing);
-        return refusal;
+    let own = own::check_verify(axes, points, kinds, values, knots, tensor, place, found);
+    if let Err(refusal) = own {
+        slots::store_found(place, found, Err(refusal));
+        return refusal.number();
     }
     let all = c_axes::axes_given(axes, points, kinds, values);
-    let answer = tensor_verify::verify(axes, all, knots, tensor, scratch);
-    slots::store_found(place, found, answer);
-    answer.refusal
+    let verdict = tensor_verify::verify(axes, all, knots, tensor, scratch);
+    slots::store_found(place, found, verdict);
+    match verdict {
+        Ok(_) => 0,
+        Err(refusal) => refusal.number(),
+    }
 }

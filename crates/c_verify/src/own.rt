@@ -1,12 +1,14 @@
 // What the host itself refuses of a call that looks at a tensor, in the order of c_refusals::own.
 ghost use Rattle.std.specs.Prelude.{◌≡◌};
+ghost use Rattle.rules.specs.Answers.{refusal_of};
 ghost use Rattle.c_verify.specs.VerifyExports.{verify_own_refusal};
 
 use crate::slots;
 use c_refusals::own;
+use rules::Refusal;
 
 // Its slots, and all that a change's own refusals look at but the slot of a count, for which a slot of one stands in.
-pub fn verify_own_refusal(
+pub fn check_verify(
     axes: usize,
     points: &[usize],
     kinds: &[u8],
@@ -15,18 +17,15 @@ pub fn verify_own_refusal(
     tensor: &[f64],
     place: &[usize],
     found: &[usize],
-) -> usize
-    ensures { result ≡ verify_own_refusal axes points.now kinds.now values.now knots.now
+) -> Result<(), Refusal>
+    ensures { refusal_of result ≡ verify_own_refusal axes points.now kinds.now values.now knots.now
         tensor.now place.now found.now }
 {
-    let refusal = own::axes_own_refusal(axes, points);
-    if refusal != 0 {
-        return refusal;
-    }
+    own::check_axes(axes, points)?;
     if slots::slots_refused(place, found) {
-        return 4;
+        return Err(Refusal::Length);
     }
-    own::change_own_refusal(
+    own::check_change(
         axes,
         points,
         kinds,

@@ -7,15 +7,13 @@ use Rattle.c_query.proofs.Given.{axes_given}
 use Rattle.c_many.proofs.Given.{few, points_fit}
 use Rattle.c_many.proofs.quick_queries.Goals as goal
 
-pub returns-then-refusal-ne0 : goal.returns-then-refusal-ne0
-returns-then-refusal-ne0 c = none_written _ _ _ _ _ c.queries_own_refusal-refusal.ensures c.if-refusal-ne0.true
 
 pub answer_each-requires : goal.answer_each-requires
-answer_each-requires c = points_fit _ _ _ _ _ _ _ _ _ (sym c.queries_own_refusal-refusal.ensures ∙ c.if-refusal-ne0.false)
+answer_each-requires c = points_fit _ _ _ _ _ _ _ _ _ (sym c.in_default.ensures)
 
 pub returns : goal.returns
 returns c =
-    let none = sym c.queries_own_refusal-refusal.ensures ∙ c.if-refusal-ne0.false in
+    let none = sym c.in_default.ensures in
     let s = c.args in
     let fit =
     points_fit s.axes s.points.now s.modes.now s.knots.now s.tensor.now s.coordinates.now s.values.now

@@ -9,13 +9,13 @@ returns-then-length_refused c = rw (sym c.length_refused.ensures ∙ c.if-length
 pub store_two-requires : goal.store_two-requires
 store_two-requires c = exact _ 2 (sym c.length_refused.ensures ∙ c.if-length_refused.false)
 
-pub store_two-requires-in-NotFound : goal.store_two-requires-in-NotFound
-store_two-requires-in-NotFound c = exact _ 2 (sym c.length_refused.ensures ∙ c.if-length_refused.false)
+pub store_two-requires-in-None : goal.store_two-requires-in-None
+store_two-requires-in-None c = exact _ 2 (sym c.length_refused.ensures ∙ c.if-length_refused.false)
 
-pub returns-in-Found : goal.returns-in-Found
-returns-in-Found c = rw (sym c.length_refused.ensures ∙ c.if-length_refused.false, c.in-Found.is) c.store_two.ensures
+pub returns-in-Some : goal.returns-in-Some
+returns-in-Some c = rw (sym c.length_refused.ensures ∙ c.if-length_refused.false, c.in-Some.is) c.store_two.ensures
 
-pub returns-in-NotFound : goal.returns-in-NotFound
-returns-in-NotFound c =
-    rw (sym c.length_refused.ensures ∙ c.if-length_refused.false, c.in-NotFound.is)
-    c.store_two-in-NotFound.ensures
+pub returns-in-None : goal.returns-in-None
+returns-in-None c =
+    rw (sym c.length_refused.ensures ∙ c.if-length_refused.false, c.in-None.is)
+    c.store_two-in-None.ensures

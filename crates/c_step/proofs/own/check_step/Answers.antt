@@ -3,8 +3,8 @@ use mathlib.Core.Path.{refl}
 use borrow.Author.Tests.{lt-ltb, le-ltb}
 use Rattle.grid_checks.proofs.Rows.{first, second, stop, pass, Past}
 use Rattle.c_step.specs.StepExports.{step_own_rows, step_own_refusal}
-use Rattle.c_step.proofs.own.step_own_refusal.Goals as goal
-use Rattle.c_step.proofs.own.step_own_refusal.Goals.{Else-length_refused-2, Else-points_refused}
+use Rattle.c_step.proofs.own.check_step.Goals as goal
+use Rattle.c_step.proofs.own.check_step.Goals.{Else-length_refused-2, Else-points_refused}
 
 past_points : (c : Else-points_refused) → Past ((step_own_rows c.args.points c.args.knots.now c.args.direction c.args.index.now)) 1
 past_points c answer e = pass _ c.points_refused.ensures c.if-points_refused.false e

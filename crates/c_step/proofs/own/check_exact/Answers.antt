@@ -2,7 +2,7 @@
 use mathlib.Core.Path.{refl}
 use Rattle.grid_checks.proofs.Rows.{stop, pass}
 use Rattle.c_step.specs.StepExports.{exact_own_refusal}
-use Rattle.c_step.proofs.own.exact_own_refusal.Goals as goal
+use Rattle.c_step.proofs.own.check_exact.Goals as goal
 
 pub returns-then-points_refused : goal.returns-then-points_refused
 unfolding exact_own_refusal

@@ -10,18 +10,18 @@ use Rattle.grid_checks.proofs.Rows.{first, second, stop, pass, Past}
 use Rattle.step_checks.proofs.Samples.{samples_told}
 use Rattle.c_axes.specs.Axes.{axes_without_ends}
 use Rattle.c_refusals.specs.OwnRefusals.{sizes_given}
-use Rattle.c_refusals.proofs.Rows.{axes_stop, axes_pass, points_in_range}
+use Rattle.c_refusals.proofs.Rows.{axes_given, axes_pass, points_in_range}
 use Rattle.c_step.specs.StepExports.{stepped_slots_refused, stepped_own_rows, stepped_own_refusal}
 use Rattle.c_step.proofs.Lengths.{directions_four}
-use Rattle.c_step.proofs.own.stepped_own_refusal.Goals as goal
-use Rattle.c_step.proofs.own.stepped_own_refusal.Goals.{After-stepped_lengths_refused, Else-found-ne0, Else-stepped_lengths_refused}
+use Rattle.c_step.proofs.own.check_stepped.Goals as goal
+use Rattle.c_step.proofs.own.check_stepped.Goals.{After-stepped_lengths_refused, In_ok-found, Else-stepped_lengths_refused}
 
-past_axes : (c : Else-found-ne0) → Past ((stepped_own_rows c.args.axes c.args.points.now c.args.numbers.now c.args.knots.now c.args.samples.now
+past_axes : (c : In_ok-found) → Past ((stepped_own_rows c.args.axes c.args.points.now c.args.numbers.now c.args.knots.now c.args.samples.now
     c.args.coordinates.now c.args.value.now c.args.indices.now)) 4
-past_axes c answer e = axes_pass _ _ c.axes_own_sizes-found.ensures.refusal _ c.if-found-ne0.false e
+past_axes c answer e = axes_pass _ _ c.in_ok-found.ensures.refusal _ refl e
 
-range : (c : Else-found-ne0) → InRange c.args.axes (points_of (axes_without_ends c.args.axes c.args.points.now))
-range c = points_in_range _ _ c.axes_own_sizes-found.ensures.refusal c.if-found-ne0.false
+range : (c : In_ok-found) → InRange c.args.axes (points_of (axes_without_ends c.args.axes c.args.points.now))
+range c = points_in_range _ _ c.in_ok-found.ensures.refusal refl
 
 -- the lengths that the sizes tell are those of the axes given
 told : (c : After-stepped_lengths_refused) → let s =
@@ -36,37 +36,36 @@ told : (c : After-stepped_lengths_refused) → let s =
     )
     )
 told c =
-    let found = c.axes_own_sizes-found.ensures in
-    let none = c.if-found-ne0.false in
+    let found = c.in_ok-found.ensures.sizes in
     second c.stepped_slots_refused.ensures c.if-stepped_slots_refused.false
-    (rw (← found.knots none, ← samples_told c.args.axes _ (found.numbers none)) c.stepped_lengths_refused.ensures)
+    (rw (← found.knots, ← samples_told c.args.axes _ found.numbers) c.stepped_lengths_refused.ensures)
 
 past_lengths : (c : Else-stepped_lengths_refused) → Past ((stepped_own_rows c.args.axes c.args.points.now c.args.numbers.now c.args.knots.now c.args.samples.now
     c.args.coordinates.now c.args.value.now c.args.indices.now)) 5
-past_lengths c answer e = (axes_pass _ _ c.axes_own_sizes-found.ensures.refusal _ c.if-found-ne0.false (pass _ ((let found = c.axes_own_sizes-found.ensures in
-    let none = c.if-found-ne0.false in
+past_lengths c answer e = (axes_pass _ _ c.in_ok-found.ensures.refusal _ refl (pass _ ((let found = c.in_ok-found.ensures.sizes in
     second c.stepped_slots_refused.ensures c.if-stepped_slots_refused.false
-    (rw (← found.knots none, ← samples_told c.args.axes _ (found.numbers none)) c.stepped_lengths_refused.ensures))) c.if-stepped_lengths_refused.false e))
+    (rw (← found.knots, ← samples_told c.args.axes _ found.numbers) c.stepped_lengths_refused.ensures))) c.if-stepped_lengths_refused.false e))
 
-pub returns-then-found-ne0 : goal.returns-then-found-ne0
+pub returns-in_err-found : goal.returns-in_err-found
 unfolding stepped_own_refusal
-returns-then-found-ne0 c = axes_stop _ _ c.axes_own_sizes-found.ensures.refusal _ c.if-found-ne0.true
+returns-in_err-found c =
+    axes_given _ _ c.in_err-found.ensures.refusal c.from_residual.result _ refl c.from_residual.ensures.1 _
 
 pub returns-then-stepped_slots_refused : goal.returns-then-stepped_slots_refused
 unfolding stepped_own_refusal
-returns-then-stepped_slots_refused c = past_axes (goal.at.returns-then-stepped_slots_refused c).Else-found-ne0 _ (stop _ (first _ c.stepped_slots_refused.ensures c.if-stepped_slots_refused.true) refl)
+returns-then-stepped_slots_refused c = past_axes (goal.at.returns-then-stepped_slots_refused c).In_ok-found _ (stop _ (first _ c.stepped_slots_refused.ensures c.if-stepped_slots_refused.true) refl)
 
 pub stepped_lengths_refused-requires : goal.stepped_lengths_refused-requires
-stepped_lengths_refused-requires c = (range (goal.at.stepped_lengths_refused-requires c).Else-found-ne0).few_axes
+stepped_lengths_refused-requires c = (range (goal.at.stepped_lengths_refused-requires c).In_ok-found).few_axes
 
 pub returns-then-stepped_lengths_refused : goal.returns-then-stepped_lengths_refused
 unfolding stepped_own_refusal
-returns-then-stepped_lengths_refused c = past_axes (goal.at.returns-then-stepped_lengths_refused c).Else-found-ne0 _ (stop _ (told (goal.at.returns-then-stepped_lengths_refused c).After-stepped_lengths_refused) c.if-stepped_lengths_refused.true)
+returns-then-stepped_lengths_refused c = past_axes (goal.at.returns-then-stepped_lengths_refused c).In_ok-found _ (stop _ (told (goal.at.returns-then-stepped_lengths_refused c).After-stepped_lengths_refused) c.if-stepped_lengths_refused.true)
 
 pub some_direction_refused-requires : goal.some_direction_refused-requires
 some_direction_refused-requires c =
     let s = c.args in (
-      (range (goal.at.some_direction_refused-requires c).Else-found-ne0).few_axes,
+      (range (goal.at.some_direction_refused-requires c).In_ok-found).few_axes,
       directions_four s.numbers.now s.value.now s.indices.now
           (sym c.stepped_slots_refused.ensures ∙ c.if-stepped_slots_refused.false),
     )
