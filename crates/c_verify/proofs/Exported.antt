@@ -6,7 +6,7 @@ use lib.Ieee.{Float}
 use borrow.Author.Tests.{ne_eqb}
 use Rattle.rules.specs.declared.Axis.{Axis}
 use Rattle.tensor_verify.specs.Verify.{refused_with, verify_answer, VerifyPromise}
-use Rattle.tensor_verify.specs.declared.VerifyAnswer.{VerifyAnswer}
+use Rattle.tensor_verify.specs.Verify.{VerifyAnswer}
 use Rattle.c_axes.specs.Axes.{axes_given, grid_given}
 use Rattle.c_refusals.proofs.Exported.{untouched, left}
 use Rattle.c_verify.specs.VerifyExports.{verify_own_refusal, verify_told, FoundStored, VerifyExport}

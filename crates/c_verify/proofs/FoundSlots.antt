@@ -5,7 +5,7 @@ use mathlib.Core.List.{List}
 use Prim.Native.Nat.{ℕ}
 use lib.ListN.{length, set}
 use Rattle.grid_checks.proofs.Rows.{exact_2}
-use Rattle.tensor_verify.specs.declared.VerifyAnswer.{VerifyAnswer}
+use Rattle.tensor_verify.specs.Verify.{VerifyAnswer}
 use Rattle.c_axes.proofs.Slots.{three_stored}
 use Rattle.c_verify.specs.VerifyExports.{verify_slots_refused, FoundStored}
 

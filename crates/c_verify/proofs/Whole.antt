@@ -15,7 +15,7 @@ use Rattle.rules.proofs.Tables.{length_table}
 use Rattle.base_floats.specs.Place.{AllFit}
 use Rattle.grid_checks.proofs.Rows.{length_fits}
 use Rattle.tensor_verify.specs.Verify.{samples_in, verify_answer}
-use Rattle.tensor_verify.specs.declared.VerifyAnswer.{VerifyAnswer}
+use Rattle.tensor_verify.specs.Verify.{VerifyAnswer}
 use Rattle.tensor_verify.proofs.Whole.{whole_is_built, built_is_whole}
 use Rattle.c_axes.specs.Axes.{grid_given}
 use Rattle.c_tensor.specs.TensorExports.{BuildExport}

@@ -6,7 +6,7 @@ use Rattle.rules.specs.Refusals.{length_refused}
 use Rattle.rules.specs.Calls.{stored, scratch_after}
 use Rattle.grid_checks.specs.Tables.{Refusal, row, lowest}
 use Rattle.tensor_verify.specs.Verify.{refused_with, verify_refusal, verify_answer}
-use Rattle.tensor_verify.specs.declared.VerifyAnswer.{VerifyAnswer}
+use Rattle.tensor_verify.specs.Verify.{VerifyAnswer}
 use Rattle.c_axes.specs.Axes.{some_kinds_refused, grid_given}
 use Rattle.c_refusals.specs.OwnRefusals.{sizes_given, axes_rows, eight_ends_refused}
 

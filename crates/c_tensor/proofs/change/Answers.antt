@@ -6,6 +6,7 @@ use Rattle.rules.specs.Answers.{change_told}
 use Rattle.c_refusals.proofs.Lengths.{change_lengths}
 use Rattle.c_tensor.proofs.Exported.{change_called}
 use Rattle.c_tensor.proofs.change.Goals as goal
+use Rattle.c_tensor.proofs.change.Goals.{in-Ok, in-Err-change}
 
 pub axes_given-all-requires : goal.axes_given-all-requires
 axes_given-all-requires c =
@@ -15,13 +16,15 @@ axes_given-all-requires c =
 pub place_given-changed-requires : goal.place_given-changed-requires
 place_given-changed-requires c = (change_lengths _ _ _ _ _ _ _ _ (sym c.in_default.ensures)).0
 
-pub returns-in-Ok : goal.returns-in-Ok
-returns-in-Ok c =
-    change_called _ _ _ _ _ _ _ _ _ _ c.in_default.ensures refl _ c.axes_given-all.ensures _ c.place_given-changed.ensures
-    (change_told (Ok c.in-Ok.solved)) c.in-Ok.ensures c.store_count-in-Ok.ensures
-
-pub returns-in-Err-change : goal.returns-in-Err-change
-returns-in-Err-change c =
-    rw c.number-in-Err-change.ensures
-    (change_called _ _ _ _ _ _ _ _ _ _ c.in_default.ensures refl _ c.axes_given-all.ensures _ c.place_given-changed.ensures
-    (change_told (Err c.in-Err-change.refusal)) c.in-Err-change.ensures c.store_count-in-Err-change.ensures)
+pub returns : goal.returns
+returns c =
+    elim c.match-change.branch [
+      in-Ok w ↦
+          rw w.number-is
+          (change_called _ _ _ _ _ _ _ _ _ _ c.in_default.ensures refl _ c.axes_given-all.ensures _ c.place_given-changed.ensures
+          (change_told (Ok w.in-Ok.solved)) w.in-Ok.ensures (rw w.number-is at c.store_count-2.ensures)) |
+      in-Err-change w ↦
+          rw (w.number-is, w.number-in-Err-change.ensures)
+          (change_called _ _ _ _ _ _ _ _ _ _ c.in_default.ensures refl _ c.axes_given-all.ensures _ c.place_given-changed.ensures
+          (change_told (Err w.in-Err-change.refusal)) w.in-Err-change.ensures (rw w.number-is at c.store_count-2.ensures))
+    ]
