@@ -56,8 +56,8 @@ fn put_refusals(refusals: [u64; 24], text: &mut [u8], at: usize) -> usize
     ensures { Put (refusal_lines refusals) text.old at text.new result }
 {
     let mut end = at;
-    for i in 0..23 {
-        end = put_occurred(i + 1, refusals[i + 1], text, end);
+    for number in 1..24 {
+        end = put_occurred(number, refusals[number], text, end);
     }
     end
 }
