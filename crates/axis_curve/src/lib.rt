@@ -76,10 +76,7 @@ pub fn curve(
     let cell = axis_locate::locate_lower_index(knots, point);
     let value = curve_in_cell(knots, samples, moments, cell, point);
     if base_numbers::is_finite(value) {
-        CurveAnswer {
-            refusal: 0,
-            value,
-        }
+        CurveAnswer { refusal: 0, value }
     } else {
         CurveAnswer {
             refusal: 10,

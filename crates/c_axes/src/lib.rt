@@ -117,7 +117,9 @@ pub fn some_modes_refused(axes: usize, modes: &[u8]) -> bool
     requires { (axes ≤ 4) × (length modes.now ≡ 4) }
     ensures { result ≡ some_modes_refused axes modes.now }
 {
-    modes[..axes].iter().any(|mode| is_unknown_mode(wide(*mode)))
+    modes[..axes]
+        .iter()
+        .any(|mode| is_unknown_mode(wide(*mode)))
 }
 
 // Entry i of the four with its mode, where the axis is in use.
