@@ -129,11 +129,9 @@ fn axis_in_mode(axes: usize, all: [Axis; 4], modes: &[u8], i: usize) -> Axis
 {
     let axis = all[i];
     if i < axes {
-        let condition = axis.condition;
         Axis {
-            points: axis.points,
-            condition,
             mode: mode_of_number(wide(modes[i])),
+            ..axis
         }
     } else {
         axis
