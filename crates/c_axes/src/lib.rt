@@ -117,7 +117,9 @@ pub fn some_modes_refused(axes: usize, modes: &[u8]) -> bool
     requires { (axes ≤ 4) × (length modes.now ≡ 4) }
     ensures { result ≡ some_modes_refused axes modes.now }
 {
-    modes[..axes].iter().any(|mode| is_unknown_mode(wide(*mode)))
+    modes[..axes]
+        .iter()
+        .any(|mode| is_unknown_mode(wide(*mode)))
 }
 
 // Entry i of the four with its mode, where the axis is in use.
@@ -127,11 +129,9 @@ fn axis_in_mode(axes: usize, all: [Axis; 4], modes: &[u8], i: usize) -> Axis
 {
     let axis = all[i];
     if i < axes {
-        let condition = axis.condition;
         Axis {
-            points: axis.points,
-            condition,
             mode: mode_of_number(wide(modes[i])),
+            ..axis
         }
     } else {
         axis

@@ -93,8 +93,7 @@ fn value_of_end(end: End) -> f64
 {
     match end {
         End::NotAKnot => 0.0,
-        End::FirstDerivative(value) => value,
-        End::SecondDerivative(value) => value,
+        End::FirstDerivative(value) | End::SecondDerivative(value) => value,
     }
 }
 

@@ -1,3 +1,4 @@
+mod Copied
 mod Parts
 mod Labels
 pub mod InTurn

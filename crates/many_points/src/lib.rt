@@ -22,11 +22,7 @@ pub fn store_answer(
     ensures { AnswerPut values.old labels.old refusals.old place given values.new
         labels.new refusals.new }
 {
-    let found = given.labels;
     values[place] = given.value;
-    labels[4 * place] = found[0];
-    labels[4 * place + 1] = found[1];
-    labels[4 * place + 2] = found[2];
-    labels[4 * place + 3] = found[3];
+    labels[4 * place..4 * place + 4].copy_from_slice(&given.labels);
     refusals[place] = given.refusal;
 }

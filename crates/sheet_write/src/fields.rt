@@ -22,11 +22,7 @@ fn put_end(bytes: &mut [u8], at: usize, end: End) -> usize
 {
     match end {
         End::NotAKnot => at,
-        End::FirstDerivative(value) => {
-            put_number(bytes, at, value);
-            at + 64
-        }
-        End::SecondDerivative(value) => {
+        End::FirstDerivative(value) | End::SecondDerivative(value) => {
             put_number(bytes, at, value);
             at + 64
         }
@@ -53,11 +49,10 @@ fn put_head(bytes: &mut [u8], at: usize, width: usize, axis: Axis)
     ensures { bytes.new ≡ with_head bytes.old at width axis }
 {
     let condition = axis.condition;
-    let mode = axis.mode;
     put_field(bytes, at, 8, (axis.points - 1) as u64);
     put_field(bytes, at + 8, 2, wide(lower_kind(condition)));
     put_field(bytes, at + 10, 2, wide(upper_kind(condition)));
-    put_field(bytes, at + 12, width, wide(mode_number(mode)))
+    put_field(bytes, at + 12, width, wide(mode_number(axis.mode)))
 }
 
 // An axis: what it has before its numbers, the numbers of its ends, its knots.
@@ -66,9 +61,8 @@ fn put_axis(bytes: &mut [u8], at: usize, width: usize, axis: Axis, knots: &[f64]
     ensures { (result ≡ at + bits_in (axis_fields width axis knots.now))
         × (bytes.new ≡ with_fields bytes.old at (axis_fields width axis knots.now)) }
 {
-    let condition = axis.condition;
     put_head(bytes, at, width, axis);
-    let next = put_ends(bytes, at + 12 + width, condition);
+    let next = put_ends(bytes, at + 12 + width, axis.condition);
     put_numbers(bytes, next, knots);
     next + 64 * knots.len()
 }

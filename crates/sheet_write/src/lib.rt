@@ -48,7 +48,9 @@ fn some_mode_refused(edition: usize, axes: usize, all: [Axis; 4]) -> bool
     requires { axes ≤ 4 }
     ensures { result ≡ some_mode_refused edition (sizes_of axes all) }
 {
-    all[..axes].iter().any(|axis| mode_refused(edition, axis.mode))
+    all[..axes]
+        .iter()
+        .any(|axis| mode_refused(edition, axis.mode))
 }
 
 // What is refused of the edition: 12, 23, or 0.

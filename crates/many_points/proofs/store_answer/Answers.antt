@@ -1,17 +1,10 @@
 -- The value, the four labels and the refusal go to the places of one point.
 use mathlib.Core.Path.{refl}
 use native.Mathlib.Omega.{arith}
-use lib.ListN.{length-set}
+use native.Mathlib.Nat.{add-sub_cancel_left}
+use borrow.Author.Rules.{rules}
+use Rattle.many_points.proofs.Copied.{labels_copied}
 use Rattle.many_points.proofs.store_answer.Goals as goal
 
-pub bounds-labels-place-2 : goal.bounds-labels-place-2
-bounds-labels-place-2 c = simp length-set (omega arith)
-
-pub bounds-labels-place-3 : goal.bounds-labels-place-3
-bounds-labels-place-3 c = simp length-set (omega arith)
-
-pub bounds-labels-place-4 : goal.bounds-labels-place-4
-bounds-labels-place-4 c = simp length-set (omega arith)
-
 pub returns : goal.returns
-returns c = record { value = refl; its_labels = refl; refusal = refl }
+returns c = record { value = refl; its_labels = rw (c.copy_from_slice.ensures.after, add-sub_cancel_left) (labels_copied c.args.labels.now _ c.args.given.labels (search rules) (omega arith)); refusal = refl }
