@@ -3,18 +3,16 @@
 use native.Mathlib.Omega.{arith}
 use Rattle.doubles_product.proofs.Answers.{product_signed, product_nothing, product_zero, product_zero_back}
 use Rattle.doubles_product.proofs.finite_product.Goals as goal
-
-pub returns-then-p-eq0 : goal.returns-then-p-eq0
-returns-then-p-eq0 c =
-    let a = c.args.a in
-    let b = c.args.b in
-    product_nothing a b _ c.sign_of.ensures.0 (omega arith) (omega arith) (product_zero _ _ (omega arith))
+use Rattle.doubles_product.proofs.finite_product.Goals.{then-p-eq0, else-p-eq0}
 
 pub returns-then-o-eq0 : goal.returns-then-o-eq0
 returns-then-o-eq0 c =
     let a = c.args.a in
     let b = c.args.b in
-    product_nothing a b _ c.sign_of-then-o-eq0.ensures.0 (omega arith) (omega arith) (product_zero_back _ _ (omega arith))
+    elim c.if-p-eq0.branch [
+      | then-p-eq0 w ↦ product_nothing a b _ c.sign_of.ensures.0 (omega arith) (omega arith) (product_zero _ _ (omega arith))
+      | else-p-eq0 w ↦ product_nothing a b _ c.sign_of.ensures.0 (omega arith) (omega arith) (product_zero_back _ _ (omega arith))
+    ]
 
 pub returns-else-o-eq0 : goal.returns-else-o-eq0
 returns-else-o-eq0 c =
