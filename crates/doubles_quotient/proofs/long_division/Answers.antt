@@ -39,7 +39,7 @@ overflow_add-quotient-else-left-n-2 c =
 pub loop-digit-preserved : goal.loop-digit-preserved
 loop-digit-preserved c =
     elim c.if-left-n.branch [
-      | then-left-n w ↦ rw (w.quotient-is, w.rest-is) (turn_next _ _ _ _ _ _ c.loop-digit.invariant (omega arith) (omega arith) (omega arith) w.if-left-n.true)
+      | then-left-n w ↦ rw (w.quotient-is, w.rest-is) (turn_next _ _ _ _ _ _ c.loop-digit.invariant (omega arith) (omega arith) (omega arith) (omega arith))
       | else-left-n w ↦ rw (w.quotient-is, w.rest-is) (turn_more _ _ _ _ _ _ c.loop-digit.invariant (omega arith) (omega arith) (omega arith) (omega arith))
     ]
 
