@@ -215,13 +215,13 @@ nan_right (inf s) = (refl, refl)
 nan_right (fin s m e) = (refl, refl)
 
 module _ (a b : ℕ) where
-  pub nan_first : infinity < magnitude a → (false ≡ is_less a b) × (false ≡ is_equal a b)
+  nan_first : infinity < magnitude a → (false ≡ is_less a b) × (false ≡ is_equal a b)
   nan_first h = (
     sym (ap (λ (z : Float). lt z (of_bits binary64 b)) (nan_of a h) ∙ (nan_left (of_bits binary64 b)).0),
     sym (ap (λ (z : Float). eq z (of_bits binary64 b)) (nan_of a h) ∙ (nan_left (of_bits binary64 b)).1),
   )
 
-  pub nan_second : infinity < magnitude b → (false ≡ is_less a b) × (false ≡ is_equal a b)
+  nan_second : infinity < magnitude b → (false ≡ is_less a b) × (false ≡ is_equal a b)
   nan_second h = (
     sym (ap (lt (of_bits binary64 a)) (nan_of b h) ∙ (nan_right (of_bits binary64 a)).0),
     sym (ap (eq (of_bits binary64 a)) (nan_of b h) ∙ (nan_right (of_bits binary64 a)).1),
@@ -330,3 +330,11 @@ module _ (a b : ℕ) where
 
   pub unordered_second : magnitude a ≤ infinity → ltb infinity (magnitude b) ≡ is_unordered a b
   unordered_second h = sym (sym (unordered a b) ∙ ap (λ (x : Bool). x || ltb infinity (magnitude b)) (le-ltb infinity (magnitude a) h))
+
+-- one of two is a NaN
+pub one_nan : (a b : ℕ) → (magnitude a ≤ infinity → infinity < magnitude b) → (false ≡ is_less a b) × (false ≡ is_equal a b)
+one_nan a b other = go (le_or_lt (magnitude a) infinity)
+  where
+    go : (magnitude a ≤ infinity) ⊎ (infinity < magnitude a) → (false ≡ is_less a b) × (false ≡ is_equal a b)
+    go (inl x) = nan_second a b (other x)
+    go (inr x) = nan_first a b x

@@ -11,12 +11,10 @@ pub fn less(a: u64, b: u64) -> bool
 {
     let p = a % 0x8000000000000000;
     let o = b % 0x8000000000000000;
-    if 0x7FF0000000000000 < p {
-        false
-    } else if 0x7FF0000000000000 < o {
+    if 0x7FF0000000000000 < p || 0x7FF0000000000000 < o {
         false
     } else if a < 0x8000000000000000 {
-        if b < 0x8000000000000000 { p < o } else { false }
+        b < 0x8000000000000000 && p < o
     } else if b < 0x8000000000000000 {
         0 < p + o
     } else {
@@ -30,9 +28,7 @@ pub fn equal(a: u64, b: u64) -> bool
 {
     let p = a % 0x8000000000000000;
     let o = b % 0x8000000000000000;
-    if 0x7FF0000000000000 < p {
-        false
-    } else if 0x7FF0000000000000 < o {
+    if 0x7FF0000000000000 < p || 0x7FF0000000000000 < o {
         false
     } else if p == 0 {
         o == 0
@@ -45,16 +41,12 @@ pub fn equal(a: u64, b: u64) -> bool
 pub fn at_most(a: u64, b: u64) -> bool
     ensures { result ≡ is_at_most a b }
 {
-    if less(a, b) { true } else { equal(a, b) }
+    less(a, b) || equal(a, b)
 }
 
 // Whether one of two doubles is a NaN.
 pub fn unordered(a: u64, b: u64) -> bool
     ensures { result ≡ is_unordered a b }
 {
-    if 0x7FF0000000000000 < a % 0x8000000000000000 {
-        true
-    } else {
-        0x7FF0000000000000 < b % 0x8000000000000000
-    }
+    0x7FF0000000000000 < a % 0x8000000000000000 || 0x7FF0000000000000 < b % 0x8000000000000000
 }

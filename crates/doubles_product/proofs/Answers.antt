@@ -2,7 +2,7 @@
 use mathlib.Core.Path.{◌≡◌, refl, sym, ap, ◌∙◌}
 use mathlib.Core.Bool.{Bool, true, false, cond}
 use mathlib.Core.Logic.{◌⊎◌, inl, inr}
-use Prim.Native.Nat.{ℕ, ◌+◌, ◌*◌, ◌^◌, ◌≤◌, ◌<◌}
+use Prim.Native.Nat.{ℕ, zero, suc, ◌+◌, ◌*◌, ◌^◌, ◌≤◌, ◌<◌}
 use native.Mathlib.Nat.{add-zero, zero-mul, mul-zero, mul_assoc, mul_left_comm, mul-pos}
 use native.Mathlib.Omega.{arith}
 use lib.Dec.{eqb, lit<}
@@ -62,17 +62,22 @@ zero_pattern : pattern binary64 0 (2 ^ low binary64) ≡ 0
 unfolding pattern size
 zero_pattern = pattern_same binary64 0 (2 ^ low binary64) 0 1 (pow_pos (low binary64)) (lit< tt) refl ∙ refl
 
-pub product_zero : (p o : ℕ) → p ≡ 0 → product_of_units (units_of p) (units_of o) ≡ 0
+product_zero : (p o : ℕ) → p ≡ 0 → product_of_units (units_of p) (units_of o) ≡ 0
 unfolding product_of_units
 product_zero p o e =
     ap (λ (x : ℕ). pattern binary64 (x * units_of o) (2 ^ low binary64)) (ap units_of e ∙ units_zero)
     ∙ ap (λ (x : ℕ). pattern binary64 x (2 ^ low binary64)) (zero-mul (units_of o)) ∙ zero_pattern
 
-pub product_zero_back : (p o : ℕ) → o ≡ 0 → product_of_units (units_of p) (units_of o) ≡ 0
+product_zero_back : (p o : ℕ) → o ≡ 0 → product_of_units (units_of p) (units_of o) ≡ 0
 unfolding product_of_units
 product_zero_back p o e =
     ap (λ (x : ℕ). pattern binary64 (units_of p * x) (2 ^ low binary64)) (ap units_of e ∙ units_zero)
     ∙ ap (λ (x : ℕ). pattern binary64 x (2 ^ low binary64)) (mul-zero (units_of p)) ∙ zero_pattern
+
+-- one of the two is zero
+pub product_one_zero : (p o : ℕ) → (0 < p → o ≡ 0) → product_of_units (units_of p) (units_of o) ≡ 0
+product_one_zero zero o other = product_zero zero o refl
+product_one_zero (suc p) o other = product_zero_back (suc p) o (other (omega arith))
 
 -- ---- infinity
 inf_zero : (s t : Bool) (y : Float) (Y L : ℕ) → 0 < L → HasValue y t Y L → Y ≡ 0
@@ -181,3 +186,18 @@ at_zero p o h e = go (le_or_lt infinity p)
     go : (infinity ≤ p) ⊎ (p < infinity) → infinity ≤ p
     go (inl x) = x
     go (inr x) = let y = h x in absurd (let q : ⊥ = omega arith in q)
+
+-- a NaN is one of the two, or an infinity and a zero are both
+pub product_invalid : (a b : ℕ) → (magnitude a < infinity → infinity ≤ magnitude b)
+    → (magnitude a ≤ infinity → magnitude b ≤ infinity → 0 < magnitude a → magnitude b ≡ 0) → not_a_number ≡ product_pattern a b
+product_invalid a b one met = go (le_or_lt (magnitude a) infinity) (le_or_lt (magnitude b) infinity) (le_or_lt (magnitude a) 0)
+  where
+    go : (magnitude a ≤ infinity) ⊎ (infinity < magnitude a) → (magnitude b ≤ infinity) ⊎ (infinity < magnitude b)
+        → (magnitude a ≤ 0) ⊎ (0 < magnitude a) → not_a_number ≡ product_pattern a b
+    go (inr x) y z = product_nan a b (omega arith)
+    go (inl x) (inr y) z = product_nan_back a b (omega arith)
+    go (inl x) (inl y) (inl z) = let h = one (omega arith) in product_zero_inf a b (omega (arith, h)) (omega arith)
+    go (inl x) (inl y) (inr z) =
+        let zero : magnitude b ≡ 0 = met x y z in
+        let h = at_zero (magnitude a) (magnitude b) one zero in
+        product_inf_zero a b (omega (arith, h)) zero

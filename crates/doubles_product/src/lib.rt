@@ -65,15 +65,10 @@ fn normals_multiplied(p: u64, o: u64) -> u64
 fn both_normal(p: u64, o: u64) -> bool
     ensures { result ≡ true → (leading ≤ p) × (p < infinity) × (leading ≤ o) × (o < infinity) }
 {
-    if p < 0x10000000000000 {
-        false
-    } else if o < 0x10000000000000 {
-        false
-    } else if p < 0x7FF0000000000000 {
-        o < 0x7FF0000000000000
-    } else {
-        false
-    }
+    0x10000000000000 <= p
+        && 0x10000000000000 <= o
+        && p < 0x7FF0000000000000
+        && o < 0x7FF0000000000000
 }
 
 // The product of two finite doubles.
@@ -83,9 +78,7 @@ fn finite_product(a: u64, b: u64) -> u64
 {
     let p = a % 0x8000000000000000;
     let o = b % 0x8000000000000000;
-    if p == 0 {
-        sign_of(a, b)
-    } else if o == 0 {
+    if p == 0 || o == 0 {
         sign_of(a, b)
     } else {
         sign_of(a, b) + magnitudes_multiplied(p, o)
@@ -99,13 +92,7 @@ fn infinite_product(a: u64, b: u64) -> u64
 {
     let p = a % 0x8000000000000000;
     let o = b % 0x8000000000000000;
-    if 0x7FF0000000000000 < p {
-        0x7FF8000000000000
-    } else if 0x7FF0000000000000 < o {
-        0x7FF8000000000000
-    } else if p == 0 {
-        0x7FF8000000000000
-    } else if o == 0 {
+    if 0x7FF0000000000000 < p || 0x7FF0000000000000 < o || p == 0 || o == 0 {
         0x7FF8000000000000
     } else {
         sign_of(a, b) + 0x7FF0000000000000
@@ -116,12 +103,8 @@ fn infinite_product(a: u64, b: u64) -> u64
 fn other_product(a: u64, b: u64) -> u64
     ensures { result ≡ product_pattern a b }
 {
-    if a % 0x8000000000000000 < 0x7FF0000000000000 {
-        if b % 0x8000000000000000 < 0x7FF0000000000000 {
-            finite_product(a, b)
-        } else {
-            infinite_product(a, b)
-        }
+    if a % 0x8000000000000000 < 0x7FF0000000000000 && b % 0x8000000000000000 < 0x7FF0000000000000 {
+        finite_product(a, b)
     } else {
         infinite_product(a, b)
     }

@@ -1,7 +1,8 @@
 -- The quotient of two doubles by their patterns, case by case.
 use mathlib.Core.Path.{◌≡◌, refl, sym, ap, ◌∙◌}
 use mathlib.Core.Bool.{Bool, true, false, cond}
-use Prim.Native.Nat.{ℕ, ◌+◌, ◌*◌, ◌^◌, ◌<◌}
+use mathlib.Core.Logic.{◌⊎◌, inl, inr}
+use Prim.Native.Nat.{ℕ, ◌+◌, ◌*◌, ◌^◌, ◌≤◌, ◌<◌}
 use native.Mathlib.Nat.{add-zero, zero-mul, mul_comm, mul_assoc, mul_left_comm, mul-pos}
 use native.Mathlib.Omega.{arith}
 use lib.Dec.{eqb, lit<}
@@ -14,6 +15,7 @@ use lib.Ieee.Exact.{HasValue}
 use lib.Ieee.Scale.{round_same}
 use Rattle.doubles_patterns.specs.Doubles.{quotient_pattern}
 use Rattle.doubles_patterns.specs.Patterns.{infinity, not_a_number, magnitude, negative, sign_weight, pattern, units_of, quotient_of_units}
+use Rattle.doubles_patterns.proofs.Sizes.{le_or_lt}
 use Rattle.doubles_patterns.proofs.Packing.{round_pattern_over, pattern_same}
 use Rattle.doubles_patterns.proofs.Magnitudes.{units_zero, units_some}
 use Rattle.doubles_patterns.proofs.Specials.{value_of, nan_of, inf_of, to_bits_nan, to_bits_inf, value_zero, value_some}
@@ -173,3 +175,11 @@ module _ (a b : ℕ) where
       sym (ap (λ (x : Float). to_bits binary64 (div binary64 x (of_bits binary64 b))) (inf_of a h)
       ∙ ap (λ (y : Float). to_bits binary64 (div binary64 (inf (negative a)) y)) (inf_of b g)
       ∙ ap (to_bits binary64) (div_infs (negative a) (negative b)) ∙ to_bits_nan)
+
+-- a NaN is one of the two
+pub quotient_of_nan : (a b : ℕ) → (magnitude a ≤ infinity → infinity < magnitude b) → not_a_number ≡ quotient_pattern a b
+quotient_of_nan a b other = go (le_or_lt (magnitude a) infinity)
+  where
+    go : (magnitude a ≤ infinity) ⊎ (infinity < magnitude a) → not_a_number ≡ quotient_pattern a b
+    go (inl x) = quotient_nan_back a b (other x)
+    go (inr x) = quotient_nan a b x

@@ -20,11 +20,9 @@ fn long_division(m: u64, n: u64) -> u64
     let guide = (n / 0x2000000000 + 1) as u32;
     let mut quotient = 0;
     let mut rest = m;
-    let mut i: u32 = 0;
-    while i < 5 {
+    for _digit in 0..5u32 {
         let guess = ((rest / 0x4000000) as u32 / guide) as u64;
         let left = rest * 2048 - guess * n;
-        i += 1;
         if left < n {
             quotient = quotient * 2048 + guess;
             rest = left;
@@ -81,9 +79,7 @@ fn infinite_quotient(a: u64, b: u64) -> u64
 {
     let p = a % 0x8000000000000000;
     let o = b % 0x8000000000000000;
-    if 0x7FF0000000000000 < p {
-        0x7FF8000000000000
-    } else if 0x7FF0000000000000 < o {
+    if 0x7FF0000000000000 < p || 0x7FF0000000000000 < o {
         0x7FF8000000000000
     } else if p < 0x7FF0000000000000 {
         sign_of(a, b)
@@ -98,12 +94,8 @@ fn infinite_quotient(a: u64, b: u64) -> u64
 pub fn quotient(a: u64, b: u64) -> u64
     ensures { result ≡ quotient_pattern a b }
 {
-    if a % 0x8000000000000000 < 0x7FF0000000000000 {
-        if b % 0x8000000000000000 < 0x7FF0000000000000 {
-            finite_quotient(a, b)
-        } else {
-            infinite_quotient(a, b)
-        }
+    if a % 0x8000000000000000 < 0x7FF0000000000000 && b % 0x8000000000000000 < 0x7FF0000000000000 {
+        finite_quotient(a, b)
     } else {
         infinite_quotient(a, b)
     }

@@ -1,20 +1,14 @@
--- Zero times a finite number is zero (`product_zero`, `product_zero_back`); else the magnitudes are multiplied. The sign is a minus where
--- the signs are unlike.
+-- Zero times a finite number is zero (`product_one_zero`); else the magnitudes are multiplied. The sign is a minus where the signs are
+-- unlike.
 use native.Mathlib.Omega.{arith}
-use Rattle.doubles_product.proofs.Answers.{product_signed, product_nothing, product_zero, product_zero_back}
+use Rattle.doubles_product.proofs.Answers.{product_signed, product_nothing, product_one_zero}
 use Rattle.doubles_product.proofs.finite_product.Goals as goal
-
-pub returns-then-p-eq0 : goal.returns-then-p-eq0
-returns-then-p-eq0 c =
-    let a = c.args.a in
-    let b = c.args.b in
-    product_nothing a b _ c.sign_of.ensures.0 (omega arith) (omega arith) (product_zero _ _ (omega arith))
 
 pub returns-then-o-eq0 : goal.returns-then-o-eq0
 returns-then-o-eq0 c =
     let a = c.args.a in
     let b = c.args.b in
-    product_nothing a b _ c.sign_of-then-o-eq0.ensures.0 (omega arith) (omega arith) (product_zero_back _ _ (omega arith))
+    product_nothing a b _ c.sign_of.ensures.0 (omega arith) (omega arith) (product_one_zero _ _ (λ some. grind arith))
 
 pub returns-else-o-eq0 : goal.returns-else-o-eq0
 returns-else-o-eq0 c =

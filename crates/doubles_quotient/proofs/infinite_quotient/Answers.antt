@@ -1,17 +1,11 @@
--- NaN with a NaN (`quotient_nan`, `quotient_nan_back`) and for two infinities (`quotient_infs`); a finite number by an infinity is zero
--- (`quotient_by_inf`), an infinity by a finite number an infinity (`quotient_of_inf`).
+-- NaN with a NaN (`quotient_of_nan`) and for two infinities (`quotient_infs`); a finite number by an infinity is zero (`quotient_by_inf`),
+-- an infinity by a finite number an infinity (`quotient_of_inf`).
 use native.Mathlib.Omega.{arith}
-use Rattle.doubles_quotient.proofs.Answers.{quotient_nan, quotient_nan_back, quotient_by_inf, quotient_of_inf, quotient_infs}
+use Rattle.doubles_quotient.proofs.Answers.{quotient_of_nan, quotient_by_inf, quotient_of_inf, quotient_infs}
 use Rattle.doubles_quotient.proofs.infinite_quotient.Goals as goal
 
-pub returns-then-p-gt9218868437227405312 : goal.returns-then-p-gt9218868437227405312
-returns-then-p-gt9218868437227405312 c = quotient_nan c.args.a c.args.b (omega arith)
-
 pub returns-then-o-gt9218868437227405312 : goal.returns-then-o-gt9218868437227405312
-returns-then-o-gt9218868437227405312 c =
-    let a = c.args.a in
-    let b = c.args.b in
-    quotient_nan_back a b (omega arith)
+returns-then-o-gt9218868437227405312 c = quotient_of_nan c.args.a c.args.b (λ number. grind arith)
 
 pub returns-then-p-lt9218868437227405312 : goal.returns-then-p-lt9218868437227405312
 returns-then-p-lt9218868437227405312 c =
