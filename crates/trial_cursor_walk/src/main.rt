@@ -20,17 +20,14 @@ fn print_refused(out: Stdout, refusal: usize) {
 // One call after the other, until one is refused.
 fn walk(out: Stdout, curve: &[u8]) {
     let mut cursor = Cursor::start();
-    loop {
+    'calls: loop {
         let answer = cursor.next(curve);
-        let refusal = answer.refusal;
-        let value = answer.value;
-        let moved = answer.cursor;
-        if refusal != 0 {
-            print_refused(out, refusal);
+        if answer.refusal != 0 {
+            print_refused(out, answer.refusal);
             return;
         }
-        print_value(out, value);
-        cursor = moved;
+        print_value(out, answer.value);
+        cursor = answer.cursor;
     }
 }
 

@@ -5,34 +5,18 @@
 
 #![tactic(auto)]
 
-ghost use Rattle.std.specs.Prelude.{◌+◌, ◌<◌, ◌≤◌, length};
-
 use program_streams::{Streams, read_input};
 
-fn wide(byte: u8) -> usize
-    ensures { result < 256 }
-{
-    byte as usize
-}
-
-// The length that stands at a place of the list. It requires that its two bytes are there.
-fn length_at(list: &[u8], at: usize) -> usize
-    requires { at + 2 ≤ length list.now }
-{
-    256 * wide(list[at]) + wide(list[at + 1])
-}
-
+// A while: a turn goes on by as many bytes as a sheet has.
 fn print_texts(streams: Streams, list: &[u8]) {
-    let mut at = 0;
-    while 2 <= list.len() - at {
-        let length = length_at(list, at);
-        let start = at + 2;
-        if list.len() - start < length {
+    let mut rest = list;
+    while let Some((length, behind)) = rest.split_first_chunk::<2>() {
+        let length = usize::from(u16::from_be_bytes(*length));
+        let Some((sheet, next)) = behind.split_at_checked(length) else {
             return;
-        }
-        let end = start + length;
-        program_sheet_print::print_text(streams, &list[start..end]);
-        at = end;
+        };
+        program_sheet_print::print_text(streams, sheet);
+        rest = next;
     }
 }
 
@@ -43,6 +27,5 @@ fn main(rt: HostRuntime) {
     if input.failed {
         return;
     }
-    let length = input.length;
-    print_texts(streams, &buffer[0..length]);
+    print_texts(streams, &buffer[..input.length]);
 }

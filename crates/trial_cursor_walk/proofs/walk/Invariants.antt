@@ -3,8 +3,8 @@ use Prim.Native.Nat.{◌+◌, ◌-◌, ◌≤◌}
 use Rattle.device_cursor.specs.DeviceCurve.{last_cursor}
 use Rattle.trial_cursor_walk.proofs.walk.Given as goal
 
-abbrev pub invariant-loop-moved : goal.invariant-loop-moved
-invariant-loop-moved l = l.cursor.n ≤ last_cursor l.curve + 1
+abbrev pub invariant-calls : goal.invariant-calls
+invariant-calls l = l.cursor.n ≤ last_cursor l.curve + 1
 
-abbrev pub decreases-loop-moved : goal.decreases-loop-moved
-decreases-loop-moved l = last_cursor l.curve + 1 - l.cursor.n
+abbrev pub decreases-calls : goal.decreases-calls
+decreases-calls l = last_cursor l.curve + 1 - l.cursor.n
