@@ -39,7 +39,8 @@ axis_fits g w whole i limit given in_use most =
     le_trans (axis_most (points g) g.axes whole sizes.some_points i limit)
     (mul-le-mul (le_trans most (pow-le-pow_right (lit< tt) {i = i} {j = 4} (omega (arith, sizes.few_axes)))) sizes.small)
 
-pub record Turn (g : Grid) (w₀ w : List Float) (whole : Bool) (place : Place) (i : ℕ) (plan : Option AxisPlan) (lanes mask : ℕ) : Type 0 where
+pub record Turn (g : Grid) (w₀ w : List Float) (whole : Bool) (place : Place) (i : ℕ) (plan : Option AxisPlan) (lanes mask : ℕ)
+  : Type 0 where
   pub given : PassGiven g w₀ place i 0
   pub planned : Planned g w i plan
   pub most : mask ≤ 2 ^ i
@@ -48,7 +49,8 @@ pub record Turn (g : Grid) (w₀ w : List Float) (whole : Bool) (place : Place) 
   pub count : lanes ≡ sum_below (lanes_solved (points g) g.axes whole i) mask
 
 pub turn_first :
-    (g : Grid) (w : List Float) (whole : Bool) (place : Place) (i : ℕ) (plan : Option AxisPlan) → PassGiven g w place i 0 × Planned g w i plan
+    (g : Grid) (w : List Float) (whole : Bool) (place : Place) (i : ℕ) (plan : Option AxisPlan)
+    → PassGiven g w place i 0 × Planned g w i plan
     → Turn g w w whole place i plan 0 0
 turn_first g w whole place i plan given = record {
   given = given.0;
