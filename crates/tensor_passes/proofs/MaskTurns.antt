@@ -40,7 +40,7 @@ axis_fits g w whole i limit given in_use most =
     (mul-le-mul (le_trans most (pow-le-pow_right (lit< tt) {i = i} {j = 4} (omega (arith, sizes.few_axes)))) sizes.small)
 
 pub record Turn (g : Grid) (w₀ w : List Float) (whole : Bool) (place : Place) (i : ℕ) (plan : Option AxisPlan) (lanes mask : ℕ)
-  : Type 0 where
+    : Type 0 where
   pub given : PassGiven g w₀ place i 0
   pub planned : Planned g w i plan
   pub most : mask ≤ 2 ^ i
