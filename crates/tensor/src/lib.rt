@@ -24,14 +24,7 @@ pub fn build(
     ensures { BuildPromise (grid axes all knots.now) samples.now tensor.old scratch.old (refusal_of result)
         tensor.new scratch.new }
 {
-    grid_checks::check_build(
-        axes,
-        all,
-        knots,
-        samples,
-        tensor.len(),
-        scratch.len(),
-    )?;
+    grid_checks::check_build(axes, all, knots, samples, tensor.len(), scratch.len())?;
     let masks = grid::masks(axes);
     working::store_samples(scratch, samples, masks);
     tensor_passes::solve_axes(scratch, axes, all, knots, [0; 4], true);
@@ -53,15 +46,7 @@ pub fn change(
     ensures { ChangePromise (grid axes all knots.now) tensor.old scratch.old (place_of place) sample (change_told result)
         tensor.new scratch.new }
 {
-    grid_checks::check_change(
-        axes,
-        all,
-        knots,
-        tensor,
-        scratch.len(),
-        place,
-        sample,
-    )?;
+    grid_checks::check_change(axes, all, knots, tensor, scratch.len(), place, sample)?;
     let spot = grid::place_number(axes, all, place) * grid::masks(axes);
     working::load(scratch, tensor, spot, sample);
     let lanes = tensor_passes::solve_axes(scratch, axes, all, knots, place, false);

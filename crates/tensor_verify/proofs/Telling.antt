@@ -41,8 +41,14 @@ module _ (axes : ℕ) (n : ℕ → ℕ) (tensor fresh : List Float) where
       → record { refusal = 0; whole = true; place = replicate most_axes 0; mask = 0; differing = 0 } ≡ compared axes n tensor fresh
   unfolding compared
   told_whole fine none =
-      rw (fine, none, none_first (differs_at tensor fresh) (length tensor) none, zero-mod, zero-div,
-      table_ext most_axes (unflat n axes 0) (λ j. 0) (λ j below. unflat_none n axes j))
+      rw (
+        fine,
+        none,
+        none_first (differs_at tensor fresh) (length tensor) none,
+        zero-mod,
+        zero-div,
+        table_ext most_axes (unflat n axes 0) (λ j. 0) (λ j below. unflat_none n axes j),
+      )
 
   pub told_found :
       (count first masks : ℕ) (place : List ℕ) → outcome_refused fresh ≡ false
