@@ -16,6 +16,6 @@ bounds-labels-place-4 c = simp length-set (omega arith)
 
 pub returns : goal.returns
 returns c = elim c.match-given.branch [
-  in-Ok w ↦ rw (w.in-Ok.is, w.value-is) (record { value = refl; its_labels = refl; refusal = refl })
+  | in-Ok w ↦ rw (w.in-Ok.is, w.value-is) (record { value = refl; its_labels = refl; refusal = refl })
   | in-Err w ↦ rw (w.in-Err.is, w.value-is, w.number.ensures) (record { value = refl; its_labels = refl; refusal = refl })
 ]
