@@ -26,7 +26,7 @@ pub fn stepped_many(
         coordinates.now values.old indices.old refusals.old result values.new
         indices.new refusals.new }
 {
-    let refusal = own::many_own_refusal(
+    let own = own::check_many(
         axes,
         points,
         directions,
@@ -37,8 +37,8 @@ pub fn stepped_many(
         indices,
         refusals,
     );
-    if refusal != 0 {
-        return refusal;
+    if let Err(refusal) = own {
+        return refusal.number();
     }
     let given = directions_given(axes, directions);
     step_many::each::answer_each(

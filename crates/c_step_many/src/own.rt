@@ -1,16 +1,17 @@
 // The host's own refusal of many points to step at.
 ghost use Rattle.std.specs.Prelude.{◌≡◌};
+ghost use Rattle.rules.specs.Answers.{refusal_of};
 ghost use Rattle.c_step_many.specs.ManyStepExports.{many_own_refusal};
 
-use c_refusals::own::axes_own_sizes;
+use c_refusals::own::check_axes;
 use c_step::directions::some_direction_refused;
 use grid_checks::lengths::length_refused;
 use many_points::lengths::points_lengths_refused;
+use rules::Refusal;
 use step_checks::stepped_lengths_refused;
 
-// What the axes meet, and then 4 for the directions, for knots and samples and for what is lent of the points, and 22. It is 0 where none
-// applies.
-pub fn many_own_refusal(
+// What the axes meet, and then 4 for the directions, for knots and samples and for what is lent of the points, and 22.
+pub fn check_many(
     axes: usize,
     points: &[usize],
     numbers: &[u8],
@@ -20,19 +21,16 @@ pub fn many_own_refusal(
     values: &[f64],
     indices: &[usize],
     refusals: &[usize],
-) -> usize
-    ensures { result ≡ many_own_refusal axes points.now numbers.now knots.now samples.now
+) -> Result<(), Refusal>
+    ensures { refusal_of result ≡ many_own_refusal axes points.now numbers.now knots.now samples.now
         coordinates.now values.now indices.now refusals.now }
 {
-    let found = axes_own_sizes(axes, points);
-    if found.refusal != 0 {
-        return found.refusal;
-    }
+    let found = check_axes(axes, points)?;
     if length_refused(numbers.len(), 4) {
-        return 4;
+        return Err(Refusal::Length);
     }
     if stepped_lengths_refused(axes, found, knots.len(), samples.len(), axes) {
-        return 4;
+        return Err(Refusal::Length);
     }
     if points_lengths_refused(
         axes,
@@ -41,10 +39,10 @@ pub fn many_own_refusal(
         indices.len(),
         refusals.len(),
     ) {
-        return 4;
+        return Err(Refusal::Length);
     }
     if some_direction_refused(axes, numbers) {
-        return 22;
+        return Err(Refusal::Mode);
     }
-    0
+    Ok(())
 }

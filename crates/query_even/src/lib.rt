@@ -53,7 +53,15 @@ fn even_query_by_walks(
             axis: uneven.axis,
             interval: uneven.place,
         }),
-        None => Ok(query_answer::answer(Way::Direct, axes, points, modes, knots, tensor, coordinates)?),
+        None => Ok(query_answer::answer(
+            Way::Direct,
+            axes,
+            points,
+            modes,
+            knots,
+            tensor,
+            coordinates,
+        )?),
     }
 }
 

@@ -56,7 +56,7 @@ fn queries(
     ensures { (answers : ℕ → QueryAnswer)
         → AnswersByWay way axes all knots.now tensor.now coordinates.now (length refusals.old) answers
         → EachAnswered (queries_refusal (grid axes all knots.now) tensor.now coordinates.now values.old labels.old refusals.old) answers
-            values.old labels.old refusals.old (refusal_of result) values.new labels.new refusals.new }
+        values.old labels.old refusals.old (refusal_of result) values.new labels.new refusals.new }
 {
     let points = grid::points_of(all);
     check_queries(

@@ -82,7 +82,11 @@ fn even_profile_by_walks(axes: usize, points: &[usize], knots: &[f64]) -> Result
 
 // The same on axes of these points, where 1 to 4 do not apply: one pass over the knots as the query of even axes makes it, and only where
 // it finds what may be refused the rest. Not a public call: that 1 to 4 do not apply is required, and four points.
-pub fn even_profile_of_points(axes: usize, points: &[usize], knots: &[f64]) -> Result<(), ProfileRefusal>
+pub fn even_profile_of_points(
+    axes: usize,
+    points: &[usize],
+    knots: &[f64],
+) -> Result<(), ProfileRefusal>
     requires { ProfileFits axes points.now knots.now }
     ensures { ProfileAmong axes points.now knots.now (even_profile_told result) }
 {

@@ -44,27 +44,27 @@ given_on given met h = ap refusal_of (err_given given met h)
 pub number_some : (refusal : Refusal) → number_of refusal ≡ 0 → ⊥
 number_some refusal e =
     let some = elim refusal as (λ r. 0 < number_of r) [
-      Axes ↦ omega arith |
-      Points ↦ omega arith |
-      Tensor ↦ omega arith |
-      Length ↦ omega arith |
-      Scratch ↦ omega arith |
-      Place ↦ omega arith |
-      Number ↦ omega arith |
-      Knots ↦ omega arith |
-      Fewness ↦ omega arith |
-      Outcome ↦ omega arith |
-      Short ↦ omega arith |
-      Edition ↦ omega arith |
-      Kinds ↦ omega arith |
-      Tail ↦ omega arith |
-      Buffer ↦ omega arith |
-      Stack ↦ omega arith |
-      Unused ↦ omega arith |
-      Outside ↦ omega arith |
-      Range ↦ omega arith |
-      Position ↦ omega arith |
-      Uneven ↦ omega arith |
-      Mode ↦ omega arith |
-      Lost ↦ omega arith
+      | Axes ↦ omega arith
+      | Points ↦ omega arith
+      | Tensor ↦ omega arith
+      | Length ↦ omega arith
+      | Scratch ↦ omega arith
+      | Place ↦ omega arith
+      | Number ↦ omega arith
+      | Knots ↦ omega arith
+      | Fewness ↦ omega arith
+      | Outcome ↦ omega arith
+      | Short ↦ omega arith
+      | Edition ↦ omega arith
+      | Kinds ↦ omega arith
+      | Tail ↦ omega arith
+      | Buffer ↦ omega arith
+      | Stack ↦ omega arith
+      | Unused ↦ omega arith
+      | Outside ↦ omega arith
+      | Range ↦ omega arith
+      | Position ↦ omega arith
+      | Uneven ↦ omega arith
+      | Mode ↦ omega arith
+      | Lost ↦ omega arith
     ] in omega (arith, e, some)

@@ -1,12 +1,26 @@
 // One point stepped after the other.
 ghost use Rattle.std.specs.Prelude.{◌≡◌, length};
 ghost use Rattle.rules.specs.Sizes.{place_of};
+ghost use Rattle.rules.specs.Answers.{query_told, stepped_told};
+ghost use Rattle.step_many.specs.ManySteps.{indices_as_labels};
 ghost use Rattle.many_points.specs.PointByPoint.{PointsFit, FirstStand};
 ghost use Rattle.step_checks.specs.StepChecks.{stepped_sizes_check};
 ghost use Rattle.step_many.specs.StepByStep.{SteppedAmong};
 
 use many_points::store_answer;
-use rules::{QueryAnswer, StepDirection};
+use rules::{Refusal, StepDirection, SteppedSample, ValueInCell};
+
+// A stepped sample as a query's answer, with its indices for labels.
+fn as_in_cell(given: Result<SteppedSample, Refusal>) -> Result<ValueInCell, Refusal>
+    ensures { query_told result ≡ indices_as_labels (stepped_told given) }
+{
+    let sample = given?;
+    let labels = sample.indices;
+    Ok(ValueInCell {
+        value: sample.value,
+        labels,
+    })
+}
 
 // The answer at each point, on axes of these points. Knots and samples are looked at before the first. Not a public call: what refusals 1
 // to 4 leave is required, and four points.
@@ -28,7 +42,7 @@ pub fn answer_each(
         coordinates.now (length refusals.old) (length refusals.old) values.new
         indices.new refusals.new }
 {
-    let met = grid_checks::knots_and_coordinates_refusal(axes, points, knots, samples);
+    let met = grid_checks::check_knots_and_coordinates(axes, points, knots, samples);
     let count = refusals.len();
     let mut begin = 0;
     for j in 0..count {
@@ -42,13 +56,7 @@ pub fn answer_each(
             samples,
             &coordinates[begin..end],
         );
-        let labels = given.indices;
-        let answer = QueryAnswer {
-            refusal: given.refusal,
-            value: given.value,
-            labels,
-        };
-        store_answer(values, indices, refusals, j, answer);
+        store_answer(values, indices, refusals, j, as_in_cell(given));
         begin = end;
     }
 }

@@ -5,6 +5,7 @@
 
 ghost use Rattle.std.specs.Prelude.{◌≡◌, cond, length};
 ghost use Rattle.rules.specs.Sizes.{place_of};
+ghost use Rattle.rules.specs.Answers.{refusal_of};
 ghost use Rattle.rules.specs.Calls.{or_else};
 ghost use Rattle.grid.specs.GridOfCall.{grid};
 ghost use Rattle.many_points.specs.ManyPoints.{points_lengths_refused};
@@ -12,12 +13,12 @@ ghost use Rattle.step_checks.specs.StepChecks.{stepped_sizes_check};
 ghost use Rattle.step_many.specs.ManySteps.{SteppedManyPromise};
 
 use many_points::lengths;
-use rules::{Axis, StepDirection};
+use rules::{Axis, Refusal, StepDirection};
 
 pub mod each; // each.rt: one point after the other
 
-// What is met of sizes and lengths: 1, 2, 3, 4, or 0. Not a public call: it requires four points.
-fn many_refusal(
+// What is met of sizes and lengths: 1, 2, 3, 4, or none. Not a public call: it requires four points.
+fn check_many(
     axes: usize,
     points: &[usize],
     knots: usize,
@@ -26,19 +27,16 @@ fn many_refusal(
     values: usize,
     indices: usize,
     count: usize,
-) -> usize
+) -> Result<(), Refusal>
     requires { length points.now ≡ 4 }
-    ensures { result ≡ or_else (stepped_sizes_check axes (place_of points.now) knots samples axes)
+    ensures { refusal_of result ≡ or_else (stepped_sizes_check axes (place_of points.now) knots samples axes)
         (cond (points_lengths_refused axes coordinates values indices count) 4 0) }
 {
-    let refusal = step_checks::stepped_sizes_refusal(axes, points, knots, samples, axes);
-    if refusal != 0 {
-        return refusal;
-    }
+    step_checks::check_stepped_sizes(axes, points, knots, samples, axes)?;
     if lengths::points_lengths_refused(axes, coordinates, values, indices, count) {
-        return 4;
+        return Err(Refusal::Length);
     }
-    0
+    Ok(())
 }
 
 // PUBLIC. The stepped surface at each of as many points as refusals are lent: the coordinates of a point stand after those of the point
@@ -54,13 +52,13 @@ pub fn stepped_many(
     values: &mut [f64],
     indices: &mut [usize],
     refusals: &mut [usize],
-) -> usize
+) -> Result<(), Refusal>
     ensures { SteppedManyPromise (grid axes all knots.now) directions samples.now coordinates.now
-        values.old indices.old refusals.old result values.new indices.new
+        values.old indices.old refusals.old (refusal_of result) values.new indices.new
         refusals.new }
 {
     let points = grid::points_of(all);
-    let refusal = many_refusal(
+    check_many(
         axes,
         &points,
         knots.len(),
@@ -69,10 +67,7 @@ pub fn stepped_many(
         values.len(),
         indices.len(),
         refusals.len(),
-    );
-    if refusal != 0 {
-        return refusal;
-    }
+    )?;
     each::answer_each(
         axes,
         &points,
@@ -84,5 +79,5 @@ pub fn stepped_many(
         indices,
         refusals,
     );
-    0
+    Ok(())
 }

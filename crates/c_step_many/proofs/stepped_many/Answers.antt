@@ -6,24 +6,22 @@ use Rattle.step_many.specs.StepByStep.{SteppedAmong}
 use Rattle.c_step_many.proofs.Given.{four_directions, all_fit, each_stepped}
 use Rattle.c_step_many.proofs.stepped_many.Goals as goal
 
-pub returns-then-refusal-ne0 : goal.returns-then-refusal-ne0
-returns-then-refusal-ne0 c = none_written _ _ _ _ _ c.many_own_refusal-refusal.ensures c.if-refusal-ne0.true
 
 pub directions_given-given-requires : goal.directions_given-given-requires
 directions_given-given-requires c =
     let s = c.args in
     four_directions s.axes s.points.now s.directions.now s.knots.now s.samples.now s.coordinates.now s.values.now
-    s.indices.now s.refusals.now (sym c.many_own_refusal-refusal.ensures ∙ c.if-refusal-ne0.false)
+    s.indices.now s.refusals.now (sym c.in_default.ensures)
 
 pub answer_each-requires : goal.answer_each-requires
 answer_each-requires c =
     let s = c.args in
     all_fit s.axes s.points.now s.directions.now s.knots.now s.samples.now s.coordinates.now s.values.now
-    s.indices.now s.refusals.now (sym c.many_own_refusal-refusal.ensures ∙ c.if-refusal-ne0.false)
+    s.indices.now s.refusals.now (sym c.in_default.ensures)
 
 pub returns : goal.returns
 returns c =
-    let none = sym c.many_own_refusal-refusal.ensures ∙ c.if-refusal-ne0.false in
+    let none = sym c.in_default.ensures in
     let s = c.args in
     all_written
     (SteppedAmong s.axes s.points.now c.directions_given-given.result s.knots.now s.samples.now)

@@ -4,8 +4,8 @@ use Rattle.many_points.proofs.Turns.{turn_first, end_within, part_fits, room, tu
 use Rattle.step_many.proofs.Stepping.{knots_fit, point_fits, among}
 use Rattle.step_many.proofs.each.answer_each.Goals as goal
 
-pub knots_and_coordinates_refusal-met-requires : goal.knots_and_coordinates_refusal-met-requires
-knots_and_coordinates_refusal-met-requires c = knots_fit _ c.args.points.now c.args.knots.now c.args.samples.now c.requires.0 c.requires.1
+pub check_knots_and_coordinates-met-requires : goal.check_knots_and_coordinates-met-requires
+check_knots_and_coordinates-met-requires c = knots_fit _ c.args.points.now c.args.knots.now c.args.samples.now c.requires.0 c.requires.1
 
 pub loop-j-init : goal.loop-j-init
 loop-j-init c = turn_first _ _ _ _ _ _ _ _ refl c.requires.2
@@ -23,7 +23,7 @@ pub answer-given-requires : goal.answer-given-requires
 answer-given-requires c = (
   point_fits _ _ _ _ c.requires.0 c.requires.1 _
       (part_fits _ _ _ _ _ _ _ _ _ _ c.loop-j.invariant c.loop-j-test.true),
-  c.knots_and_coordinates_refusal-met.ensures,
+  c.check_knots_and_coordinates-met.ensures,
 )
 
 pub store_answer-requires : goal.store_answer-requires
@@ -32,7 +32,7 @@ store_answer-requires c = room _ _ _ _ _ _ _ _ _ _ c.loop-j.invariant c.loop-j-t
 pub loop-j-preserved : goal.loop-j-preserved
 loop-j-preserved c =
     turn_next _ _ _ _ _ _ _ _ _ _ c.loop-j.invariant c.loop-j-test.true _
-    (among _ c.args.points.now _ _ _ _ _ c.answer-given.ensures) _ _ _ c.store_answer.ensures
+    (rw c.as_in_cell.ensures (among _ c.args.points.now _ _ _ _ _ c.answer-given.ensures)) _ _ _ c.store_answer.ensures
 
 pub shape_of-values : goal.shape_of-values
 shape_of-values c = c.loop-j.invariant.stand.values_count ∙ sym c.requires.2.values_exact

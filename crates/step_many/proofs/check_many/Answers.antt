@@ -1,22 +1,24 @@
 -- 1 to 4 of the axes, the knots and the samples, which some axis is left by, and then 4 of what is lent of the points stepped at.
 use mathlib.Core.Path.{refl}
+use Rattle.rules.proofs.Given.{err_given, number_some}
 use Rattle.grid_checks.proofs.Rows.{stop, pass}
 use Rattle.many_points.proofs.InTurn.{sizes_stop, sizes_pass}
 use Rattle.step_many.proofs.Refusing.{some_axes}
-use Rattle.step_many.proofs.many_refusal.Goals as goal
+use Rattle.step_many.proofs.check_many.Goals as goal
 
-pub returns-then-refusal-ne0 : goal.returns-then-refusal-ne0
-returns-then-refusal-ne0 c = sizes_stop _ c.stepped_sizes_refusal-refusal.ensures c.if-refusal-ne0.true
+pub returns-in_err-check_stepped_sizes : goal.returns-in_err-check_stepped_sizes
+returns-in_err-check_stepped_sizes c =
+    rw (err_given c.from_residual.result _ c.from_residual.ensures.1) (sizes_stop _ c.in_err-check_stepped_sizes.ensures (number_some _))
 
 pub points_lengths_refused-requires : goal.points_lengths_refused-requires
-points_lengths_refused-requires c = some_axes _ _ _ _ _ c.stepped_sizes_refusal-refusal.ensures c.if-refusal-ne0.false
+points_lengths_refused-requires c = some_axes _ _ _ _ _ c.in_ok-check_stepped_sizes.ensures refl
 
 pub returns-then-points_lengths_refused : goal.returns-then-points_lengths_refused
 returns-then-points_lengths_refused c =
-    sizes_pass _ c.stepped_sizes_refusal-refusal.ensures c.if-refusal-ne0.false
+    sizes_pass _ c.in_ok-check_stepped_sizes.ensures refl
     (stop _ c.points_lengths_refused.ensures c.if-points_lengths_refused.true)
 
 pub returns : goal.returns
 returns c =
-    sizes_pass _ c.stepped_sizes_refusal-refusal.ensures c.if-refusal-ne0.false
+    sizes_pass _ c.in_ok-check_stepped_sizes.ensures refl
     (pass _ c.points_lengths_refused.ensures c.if-points_lengths_refused.false refl)
