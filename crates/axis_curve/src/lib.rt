@@ -23,12 +23,10 @@ fn some_slope_refused(x: &[f64], y: &[f64], m: &[f64], row: &mut [f64]) -> bool
 {
     let last = x.len() - 1;
     let mut refused = false;
-    let mut i = 0;
-    while i < last {
+    for i in 0..last {
         let slope = knot_slope(x, y, m, i);
-        refused = refused | !base_numbers::is_finite(slope);
+        refused |= !base_numbers::is_finite(slope);
         row[i] = slope;
-        i += 1;
     }
     let slope = knot_slope(x, y, m, last);
     row[last] = slope;

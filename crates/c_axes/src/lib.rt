@@ -104,12 +104,10 @@ pub fn some_kinds_refused(axes: usize, kinds: &[u8]) -> bool
     requires { (axes ≤ 4) × (length kinds.now ≡ 8) }
     ensures { result ≡ some_kinds_refused axes kinds.now }
 {
-    let mut i = 0;
-    while i < axes {
+    for i in 0..axes {
         if kinds_refused(wide(kinds[2 * i]), wide(kinds[2 * i + 1])) {
             return true;
         }
-        i += 1;
     }
     false
 }
@@ -119,14 +117,7 @@ pub fn some_modes_refused(axes: usize, modes: &[u8]) -> bool
     requires { (axes ≤ 4) × (length modes.now ≡ 4) }
     ensures { result ≡ some_modes_refused axes modes.now }
 {
-    let mut i = 0;
-    while i < axes {
-        if is_unknown_mode(wide(modes[i])) {
-            return true;
-        }
-        i += 1;
-    }
-    false
+    modes[..axes].iter().any(|mode| is_unknown_mode(wide(*mode)))
 }
 
 // Entry i of the four with its mode, where the axis is in use.
@@ -198,8 +189,7 @@ fn store_mode(axis: Axis, i: usize, modes: &mut [u8])
     requires { (i < 4) × (length modes.old ≡ 4) }
     ensures { modes.new ≡ set modes.old i (mode_number axis.mode) }
 {
-    let mode = axis.mode;
-    modes[i] = mode_number(mode);
+    modes[i] = mode_number(axis.mode);
 }
 
 // The modes of the four axes go to their slice.

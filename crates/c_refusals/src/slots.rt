@@ -29,10 +29,7 @@ pub fn store_labels(labels: &mut [usize], found: [usize; 4])
     requires { length labels.old ≡ 4 }
     ensures { labels.new ≡ found }
 {
-    labels[0] = found[0];
-    labels[1] = found[1];
-    labels[2] = found[2];
-    labels[3] = found[3];
+    labels.copy_from_slice(&found);
 }
 
 // The value and the labels of a query go to their slots.

@@ -20,14 +20,7 @@ pub fn some_direction_refused(axes: usize, numbers: &[u8]) -> bool
     requires { (axes ≤ 4) × (length numbers.now ≡ 4) }
     ensures { result ≡ some_direction_refused axes numbers.now }
 {
-    let mut i = 0;
-    while i < axes {
-        if 1 < numbers[i] {
-            return true;
-        }
-        i += 1;
-    }
-    false
+    numbers[..axes].iter().any(|number| 1 < *number)
 }
 
 // Entry i of the four directions.

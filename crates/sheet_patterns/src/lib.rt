@@ -25,14 +25,7 @@ pub fn is_unused_refused(axes: usize, patterns: [u64; 4]) -> bool
     requires { axes ≤ 4 }
     ensures { result ≡ unused_refused axes patterns }
 {
-    let mut k = 0;
-    while k < 4 - axes {
-        if patterns[axes + k] != 0 {
-            return true;
-        }
-        k += 1;
-    }
-    false
+    patterns[axes..].iter().any(|pattern| *pattern != 0)
 }
 
 // The pattern of a refusal, whose number is small.

@@ -96,8 +96,7 @@ pub fn walk_axes(bytes: &[u8], width: usize, axes: usize) -> Walk
 {
     let mut all = [Axis::unused(); 4];
     let mut at = 7;
-    let mut i = 0;
-    while i < axes {
+    for i in 0..axes {
         if is_short(bytes, at, 12 + width) {
             let refusal = fault_of_short_head(bytes, width, at);
             return Walk { refusal, all, at };
@@ -109,7 +108,6 @@ pub fn walk_axes(bytes: &[u8], width: usize, axes: usize) -> Walk
         }
         all[i] = axis(bytes, width, at, head);
         at = after(width, at, head);
-        i += 1;
     }
     Walk {
         refusal: 0,
@@ -127,14 +125,12 @@ pub fn store_knots(bytes: &[u8], width: usize, axes: usize, knots: &mut [f64]) -
 {
     let mut at = 7;
     let mut from = 0;
-    let mut i = 0;
-    while i < axes {
+    for _ in 0..axes {
         let head = head_at(bytes, width, at);
         let to = from + head.points;
         fill(bytes, knots_from(width, at, head), &mut knots[from..to]);
         from = to;
         at = after(width, at, head);
-        i += 1;
     }
     at
 }

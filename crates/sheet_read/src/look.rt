@@ -32,10 +32,7 @@ fn has_more(bytes: &[u8], at: usize) -> bool
     requires { Within bytes.now at 0 }
     ensures { result ≡ tail_refused bytes.now at }
 {
-    if (at + 15) / 8 <= bytes.len() {
-        return true;
-    }
-    field_at(bytes, at, 8 * bytes.len() - at) != 0
+    (at + 15) / 8 <= bytes.len() || field_at(bytes, at, 8 * bytes.len() - at) != 0
 }
 
 // The fault that is met after the last axis: the tensor's length, the samples, and what follows them.

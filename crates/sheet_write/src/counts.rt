@@ -23,12 +23,8 @@ fn all_values(axes: usize, all: [Axis; 4]) -> usize
     ensures { (result ≡ values_below all axes) × (result ≤ 8) }
 {
     let mut sum = 0;
-    let mut i = 0;
-    while i < axes {
-        let axis = all[i];
-        let condition = axis.condition;
-        sum += values(condition);
-        i += 1;
+    for i in 0..axes {
+        sum += values(all[i].condition);
     }
     sum
 }

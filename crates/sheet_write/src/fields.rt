@@ -81,13 +81,11 @@ fn put_axes(bytes: &mut [u8], width: usize, axes: usize, all: [Axis; 4], knots: 
 {
     let mut at = 7;
     let mut from = 0;
-    let mut i = 0;
-    while i < axes {
+    for i in 0..axes {
         let axis = all[i];
         let to = from + axis.points;
         at = put_axis(bytes, at, width, axis, &knots[from..to]);
         from = to;
-        i += 1;
     }
     at
 }

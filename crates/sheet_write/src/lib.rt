@@ -48,16 +48,7 @@ fn some_mode_refused(edition: usize, axes: usize, all: [Axis; 4]) -> bool
     requires { axes ≤ 4 }
     ensures { result ≡ some_mode_refused edition (sizes_of axes all) }
 {
-    let mut i = 0;
-    while i < axes {
-        let axis = all[i];
-        let mode = axis.mode;
-        if mode_refused(edition, mode) {
-            return true;
-        }
-        i += 1;
-    }
-    false
+    all[..axes].iter().any(|axis| mode_refused(edition, axis.mode))
 }
 
 // What is refused of the edition: 12, 23, or 0.

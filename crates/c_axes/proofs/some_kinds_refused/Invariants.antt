@@ -1,6 +1,4 @@
 -- The walk over the axes in use: no axis below `i` has kinds that 13 refuses, and the first that has ends it with true.
--- The measure is the axes left.
-use Prim.Native.Nat.{◌≤◌, ◌-◌}
 use mathlib.Core.Path.{◌≡◌}
 use mathlib.Core.Bool.{false}
 use Rattle.rules.specs.Numbers.{any}
@@ -9,7 +7,4 @@ use Rattle.c_axes.specs.Axes.{lower_kind, upper_kind}
 use Rattle.c_axes.proofs.some_kinds_refused.Given as goal
 
 abbrev pub invariant-loop-i : goal.invariant-loop-i
-invariant-loop-i l = (l.i ≤ l.axes) × (any (λ k. kinds_refused (lower_kind l.kinds k) (upper_kind l.kinds k)) l.i ≡ false)
-
-abbrev pub decreases-loop-i : goal.decreases-loop-i
-decreases-loop-i l = l.axes - l.i
+invariant-loop-i l = any (λ k. kinds_refused (lower_kind l.kinds k) (upper_kind l.kinds k)) l.i ≡ false
