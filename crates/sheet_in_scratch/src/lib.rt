@@ -5,16 +5,17 @@
 
 ghost use Rattle.std.specs.Prelude.{◌≤◌, length};
 ghost use Rattle.rules.specs.Sizes.{scratch_length};
+ghost use Rattle.rules.specs.Answers.{refusal_of};
 ghost use Rattle.grid.specs.GridOfCall.{grid};
 ghost use Rattle.sheet_read.specs.Fields.{sheet_grid};
 ghost use Rattle.sheet_read.specs.FoundSoFar.{PartsRoom};
 ghost use Rattle.sheet_in_scratch.specs.InScratch.{InScratch, SheetInScratch};
 
 use grid_scratch::TENSOR;
-use rules::Axis;
+use rules::{Axis, Refusal};
 use sheet_read::store::store_parts;
 
-// What a build of a tensor of so many numbers refuses; after 0 the tensor stands in the scratch behind its rows.
+// A build of a tensor of so many numbers: where nothing is refused, it stands in the scratch behind its rows.
 fn build_in_scratch(
     axes: usize,
     all: [Axis; 4],
@@ -22,25 +23,22 @@ fn build_in_scratch(
     samples: &[f64],
     numbers: usize,
     scratch: &mut [f64],
-) -> usize
-    ensures { InScratch (grid axes all knots.now) samples.now numbers scratch.old result scratch.new }
+) -> Result<(), Refusal>
+    ensures { InScratch (grid axes all knots.now) samples.now numbers scratch.old (refusal_of result) scratch.new }
 {
-    let refusal = grid_checks::build_refusal(axes, all, knots, samples, numbers, scratch.len());
-    if refusal != 0 {
-        return refusal;
-    }
+    grid_checks::check_build(axes, all, knots, samples, numbers, scratch.len())?;
     let masks = grid::masks(axes);
     tensor::working::store_samples(scratch, samples, masks);
     tensor_passes::solve_axes(scratch, axes, all, knots, [0; 4], true);
     let end = TENSOR + numbers;
     if base_numbers::any_of_many_not_finite(&scratch[TENSOR..end]) {
-        return 10;
+        return Err(Refusal::Outcome);
     }
-    0
+    Ok(())
 }
 
 // Stores the knots and the samples of the sheet in the first places of two buffers, and builds its tensor. It requires a sheet without a
-// fault, what it says, and room for its numbers and its build. It answers what the build refuses.
+// fault, what it says, and room for its numbers and its build. Refuses what the build does.
 pub fn tensor_in_scratch(
     bytes: &[u8],
     edition: usize,
@@ -49,10 +47,10 @@ pub fn tensor_in_scratch(
     knots: &mut [f64],
     samples: &mut [f64],
     scratch: &mut [f64],
-) -> usize
+) -> Result<(), Refusal>
     requires { PartsRoom bytes.now edition axes all knots.old samples.old
         × (scratch_length (sheet_grid bytes.now) ≤ length scratch.old) }
-    ensures { SheetInScratch bytes.now knots.old result knots.new scratch.new }
+    ensures { SheetInScratch bytes.now knots.old (refusal_of result) knots.new scratch.new }
 {
     store_parts(bytes, edition, axes, all, knots, samples);
     let knots_end = grid::knots_length(axes, all);

@@ -1,11 +1,13 @@
 // The working tensor in the scratch: what is stored there before the passes, and what is done after them. None of these is a public call.
 ghost use Rattle.std.specs.Prelude.{◌+◌, ◌<◌, ◌≤◌, length};
 ghost use Rattle.rules.specs.Numbers.{at};
+ghost use Rattle.rules.specs.Answers.{refusal_of};
 ghost use Rattle.grid_scratch.specs.Layout.{tensor_begin};
 ghost use Rattle.tensor_lane.specs.LaneInScratch.{Lies, Stored};
 ghost use Rattle.tensor.specs.Working.{Loaded, Finished};
 
 use grid_scratch::TENSOR;
+use rules::Refusal;
 
 // The samples go to mask 0.
 pub fn store_samples(w: &mut [f64], samples: &[f64], masks: usize)
@@ -27,18 +29,17 @@ pub fn load(w: &mut [f64], tensor: &[f64], spot: usize, number: f64)
     w[TENSOR + spot] = number;
 }
 
-// What came out is looked at, and stored when all of it is finite; then the scratch is cleared. It answers 10, or 0 where the tensor was
-// stored.
-pub fn finish(tensor: &mut [f64], w: &mut [f64]) -> usize
+// What came out is looked at, and stored when all of it is finite; then the scratch is cleared. Refuses 10 with the tensor as it was.
+pub fn finish(tensor: &mut [f64], w: &mut [f64]) -> Result<(), Refusal>
     requires { tensor_begin + length tensor.old ≤ length w.old }
-    ensures { Finished tensor.old w.old result tensor.new w.new }
+    ensures { Finished tensor.old w.old (refusal_of result) tensor.new w.new }
 {
     let end = TENSOR + tensor.len();
     if base_numbers::any_of_many_not_finite(&w[TENSOR..end]) {
         base_numbers::clear(w);
-        return 10;
+        return Err(Refusal::Outcome);
     }
     base_numbers::copy(tensor, &w[TENSOR..end]);
     base_numbers::clear(w);
-    0
+    Ok(())
 }

@@ -1,5 +1,4 @@
--- With slopes and moments in their blocks, what is stored are the knot slopes of the four splines; and how a group is given under any
--- condition.
+-- With slopes and moments in their blocks, what is stored are the knot slopes of the four splines.
 use native.Mathlib.Omega.{arith}
 use mathlib.Core.Path.{◌≡◌, sym, ◌∙◌}
 use mathlib.Core.Logic.{⊎_elim}
@@ -13,17 +12,12 @@ use Rattle.rules.specs.Numbers.{at}
 use Rattle.rules.specs.Steps.{h}
 use Rattle.rules.specs.Moments.{moment, moments}
 use Rattle.rules.specs.Curve.{knot_slope, lane_slope}
-use Rattle.rules.specs.declared.End.{End}
 use Rattle.rules.specs.declared.Condition.{Condition}
-use Rattle.rules.specs.declared.Condition.TheVariants.{Endpoints, Periodic}
 use Rattle.rules.proofs.Tables.{at_table}
 use Rattle.tensor_fours.specs.Fours.{in_row}
-use Rattle.tensor_plan.specs.Plans.{PlanStands}
-use Rattle.tensor_plan.specs.declared.AxisPlan.{AxisPlan}
-use Rattle.tensor_four_lanes.specs.Groups.{samples, MomentsSolved, four_slope, FourGiven, EndsFour, CycleGroup}
+use Rattle.tensor_four_lanes.specs.Groups.{samples, MomentsSolved, four_slope}
 use Rattle.tensor_four_lanes.specs.Sweeps.{Lanes, slope_at, Laid}
 use Rattle.tensor_fours.proofs.Fours.{lane, each}
-use Rattle.tensor_plan.proofs.Plans.{ends_given, cycle_given}
 
 -- the lanes lie as before in a list as long, and so does a front part of them
 pub still_lies :
@@ -83,23 +77,3 @@ module _
       rows = λ j less. laid.rows j less ∙ solved.kept j (λ i b. omega arith);
       kept = λ j ge none. laid.kept j ge (λ l lt k less. none l lt k (omega (arith, enough))) ∙ solved.kept j (λ i b. omega arith);
     }
-
--- ---- a group by its condition
-
-module _ (w x : List Float) (condition : Condition) (plan : AxisPlan) (p : List ℕ) (to step : ℕ)
-    (given : FourGiven w x condition plan p to step) where
-  pub ends_group : (lower upper : End) → condition ≡ Endpoints lower upper → EndsFour w x lower upper plan.ends p to step
-  ends_group lower upper e =
-      let stands : PlanStands w x (Endpoints lower upper) plan = rw e at given.stands in
-      record {
-        rows = record { axis = ends_given w x condition lower upper e given.axis; planned = stands; numbers = given.numbers };
-        slopes = given.slopes;
-      }
-
-  pub cycle_group : condition ≡ Periodic → CycleGroup w x plan.cycle.ratio plan.cycle.rest p step × Lanes w (length x - 1) p to step
-  cycle_group e =
-      let stands : PlanStands w x Periodic plan = rw e at given.stands in
-      let axis = cycle_given w x condition e given.axis in (
-        record { room = axis.room; few = axis.few; enough = axis.enough; planned = stands; numbers = given.numbers },
-        given.slopes,
-      )

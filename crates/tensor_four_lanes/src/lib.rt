@@ -30,14 +30,14 @@ pub fn solve_four(
     ensures { Laid w.old w.new places to step (length x.now)
         (four_slope w.old x.now condition places step) }
 {
-    match condition {
-        Condition::Endpoints(lower, upper) => {
-            let ends = plan.ends;
+    match (condition, plan) {
+        (Condition::Endpoints(lower, upper), AxisPlan::Ends(ends)) => {
             solve_under_ends(w, x, lower, upper, ends, places, to, step);
         }
-        Condition::Periodic => {
-            let cycle = plan.cycle;
+        (Condition::Periodic, AxisPlan::Cycle(cycle)) => {
             solve_periodic(w, x, cycle.ratio, cycle.rest, places, to, step);
         }
+        // It is required that the plan is the condition's.
+        _ => unreachable!(),
     }
 }

@@ -3,11 +3,12 @@ use native.Mathlib.Omega.{arith}
 use native.Mathlib.Nat.{mul-le-mul, le_trans, pow-le-pow_right}
 use mathlib.Core.Path.{◌≡◌, refl, sym, ap₂, ◌∙◌}
 use mathlib.Core.List.{List}
-use mathlib.Core.Bool.{Bool, true}
+use mathlib.Core.Bool.{Bool}
 use Prim.Native.Nat.{ℕ, ◌+◌, ◌^◌, ◌<◌, ◌≤◌}
 use lib.Dec.{lit<}
 use lib.ListN.{length}
 use lib.Ieee.{Float}
+use Rattle.std.specs.Prelude.{Option, OnSome}
 use Rattle.rules.specs.Sizes.{Grid, points, sum_below, Place}
 use Rattle.grid.proofs.Products.{sum_none, sum_more}
 use Rattle.tensor_plan.specs.declared.AxisPlan.{AxisPlan}
@@ -38,7 +39,8 @@ axis_fits g w whole i limit given in_use most =
     le_trans (axis_most (points g) g.axes whole sizes.some_points i limit)
     (mul-le-mul (le_trans most (pow-le-pow_right (lit< tt) {i = i} {j = 4} (omega (arith, sizes.few_axes)))) sizes.small)
 
-pub record Turn (g : Grid) (w₀ w : List Float) (whole : Bool) (place : Place) (i : ℕ) (plan : AxisPlan) (lanes mask : ℕ) : Type 0 where
+pub record Turn (g : Grid) (w₀ w : List Float) (whole : Bool) (place : Place) (i : ℕ) (plan : Option AxisPlan) (lanes mask : ℕ)
+  : Type 0 where
   pub given : PassGiven g w₀ place i 0
   pub planned : Planned g w i plan
   pub most : mask ≤ 2 ^ i
@@ -47,7 +49,8 @@ pub record Turn (g : Grid) (w₀ w : List Float) (whole : Bool) (place : Place) 
   pub count : lanes ≡ sum_below (lanes_solved (points g) g.axes whole i) mask
 
 pub turn_first :
-    (g : Grid) (w : List Float) (whole : Bool) (place : Place) (i : ℕ) (plan : AxisPlan) → PassGiven g w place i 0 × Planned g w i plan
+    (g : Grid) (w : List Float) (whole : Bool) (place : Place) (i : ℕ) (plan : Option AxisPlan)
+    → PassGiven g w place i 0 × Planned g w i plan
     → Turn g w w whole place i plan 0 0
 turn_first g w whole place i plan given = record {
   given = given.0;
@@ -59,7 +62,7 @@ turn_first g w whole place i plan given = record {
 }
 
 module _
-    (g : Grid) (w₀ w : List Float) (whole : Bool) (place : Place) (i : ℕ) (plan : AxisPlan) (lanes mask : ℕ)
+    (g : Grid) (w₀ w : List Float) (whole : Bool) (place : Place) (i : ℕ) (plan : Option AxisPlan) (lanes mask : ℕ)
     (turn : Turn g w₀ w whole place i plan lanes mask)
   where
     pub pass_given : mask < 2 ^ i → PassGiven g w place i mask × Planned g w i plan
@@ -76,7 +79,7 @@ module _
     module _
         (w' : List Float) (solved : ℕ) (lt : mask < 2 ^ i)
         (pass : Passed g w w' whole place i mask × (solved ≡ lanes_solved (points g) g.axes whole i mask)
-        × (plan.made ≡ true → PlanKept w w'))
+        × OnSome plan (PlanKept w w'))
       where
         counted : lanes + solved ≡ sum_below (lanes_solved (points g) g.axes whole i) (mask + 1)
         counted = ap₂ ◌+◌ turn.count pass.1 ∙ sym (sum_more (lanes_solved (points g) g.axes whole i) mask)

@@ -2,17 +2,17 @@
 use native.Mathlib.Omega.{arith}
 use mathlib.Core.Path.{◌≡◌, refl, ap, ◌∙◌}
 use mathlib.Core.List.{List}
-use mathlib.Core.Bool.{Bool, false}
+use mathlib.Core.Bool.{Bool}
 use Prim.Native.Nat.{ℕ, ◌+◌, ◌<◌, ◌≤◌}
 use lib.ListN.{length}
 use lib.Ieee.{Float}
 use borrow.Author.Tests.{ltb-false}
+use Rattle.std.specs.Prelude.{Option, Some, None}
 use Rattle.rules.specs.Ends.{fewest_points}
 use Rattle.rules.specs.Sizes.{scratch_of_rows, Grid, points, condition, knots, Place, moved, spot}
 use Rattle.rules.specs.declared.End.{End}
 use Rattle.rules.specs.declared.Condition.{Condition}
 use Rattle.rules.specs.declared.Condition.TheVariants.{Endpoints, Periodic}
-use Rattle.rules.proofs.Cases.{not_both}
 use Rattle.rules.proofs.Locality.{slope_along_ext}
 use Rattle.grid_scratch.specs.Layout.{plan_row_length}
 use Rattle.tensor_plan.specs.Plans.{fewest_planned, PlanGiven, AxisPlanned}
@@ -38,10 +38,10 @@ plan_given w x ends room goes = record { room = room; few = goes.0; enough = goe
 
 -- a plan as it is made
 pub plan_made : (w w' x : List Float) (ends : Condition) (plan : AxisPlan) → PlanGiven w x ends → AxisPlanned w w' x ends plan
-    → PlannedFor w w' x ends plan
+    → PlannedFor w w' x ends (Some plan)
 plan_made w w' x ends plan given made = record {
   same_length = made.same_length;
-  stands = λ is. record {
+  stands = record {
     axis = record { room = omega (arith, given.room, made.same_length); few = given.few; enough = given.enough };
     stands = made.stands;
   };
@@ -49,12 +49,8 @@ plan_made w w' x ends plan given made = record {
 }
 
 -- and where there is none
-pub none_made : (w x : List Float) (ends : Condition) (plan : AxisPlan) → plan.made ≡ false → PlannedFor w w x ends plan
-none_made w x ends plan none = record {
-  same_length = refl;
-  stands = λ is. not_both plan.made is none;
-  kept = λ j ge. refl;
-}
+pub none_made : (w x : List Float) (ends : Condition) → PlannedFor w w x ends None
+none_made w x ends = record { same_length = refl; stands = tt; kept = λ j ge. refl }
 
 module _ (g : Grid) (place : Place) (i : ℕ) (w x : List Float) (given : PassGiven g w place i 0) (x_is : x ≡ knots g i)
     (knots_long : length (knots g i) ≡ points g i) where
@@ -64,7 +60,7 @@ module _ (g : Grid) (place : Place) (i : ℕ) (w x : List Float) (given : PassGi
       let enough = ltb-false (points g i) (fewest_points (condition g i)) (given.given.enough_points i given.in_use) in
       (omega (arith, given.given.room), omega (arith, enough, ap length x_is, knots_long))
 
-  module _ (plan : AxisPlan) (w₁ : List Float) (made : PlannedFor w w₁ x (condition g i) plan) where
+  module _ (plan : Option AxisPlan) (w₁ : List Float) (made : PlannedFor w w₁ x (condition g i) plan) where
     pub masks_given : PassGiven g w₁ place i 0 × Planned g w₁ i plan
     masks_given = (
       record {
@@ -73,7 +69,7 @@ module _ (g : Grid) (place : Place) (i : ℕ) (w x : List Float) (given : PassGi
         in_use = given.in_use;
         low = given.low;
       },
-      record { stands = λ is. rw x_is at (made.stands is) },
+      record { stands = rw x_is at made.stands },
     )
 
     -- the passes begin with the numbers that stood before the plan was made

@@ -1,11 +1,11 @@
 -- The plan of an axis serves the passes of all its masks, one after the other.
 use native.Mathlib.Omega.{arith}
 use mathlib.Core.Path.{◌≡◌, refl}
-use mathlib.Core.Bool.{true}
 use mathlib.Core.List.{List}
 use Prim.Native.Nat.{ℕ, zero, suc}
 use lib.ListN.{length}
 use lib.Ieee.{Float}
+use Rattle.std.specs.Prelude.{Option, Some, None, IfSome, OnSome}
 use Rattle.rules.specs.Ends.{condition_at, crossed}
 use Rattle.rules.specs.Sizes.{Grid, condition, knots}
 use Rattle.rules.specs.declared.Condition.{Condition}
@@ -35,22 +35,24 @@ stands_at_mask w x ends plan (suc mask) s = record {
 
 -- a pass of the numbers at a mask, with knots and ends as the code has them
 pub pass_stands :
-    (g : Grid) (i : ℕ) (plan : AxisPlan) (w x : List Float) (mask : ℕ) (ends : Condition) → x ≡ knots g i
+    (g : Grid) (i : ℕ) (plan : Option AxisPlan) (w x : List Float) (mask : ℕ) (ends : Condition) → x ≡ knots g i
     → ends ≡ condition_at mask (condition g i)
-    → Planned g w i plan → plan.made ≡ true → AxisStands w x ends plan
-pass_stands g i plan w x mask ends x_is ends_are planned made =
-    rw (x_is, ends_are) (stands_at_mask w (knots g i) (condition g i) plan mask (planned.stands made))
+    → Planned g w i plan → IfSome plan (AxisStands w x ends)
+pass_stands g i None w x mask ends x_is ends_are planned = tt
+pass_stands g i (Some plan) w x mask ends x_is ends_are planned =
+    rw (x_is, ends_are) (stands_at_mask w (knots g i) (condition g i) plan mask planned.stands)
 
 -- and the next pass finds it again
 pub planned_again :
-    (g : Grid) (i : ℕ) (plan : AxisPlan) (w w' : List Float) → length w' ≡ length w → (plan.made ≡ true → PlanKept w w')
+    (g : Grid) (i : ℕ) (plan : Option AxisPlan) (w w' : List Float) → length w' ≡ length w → OnSome plan (PlanKept w w')
     → Planned g w i plan
     → Planned g w' i plan
-planned_again g i plan w w' long kept planned = record {
-  stands = λ made.
-      let s = planned.stands made in
-      record {
+planned_again g i None w w' long kept planned = record { stands = tt }
+planned_again g i (Some plan) w w' long kept planned =
+    let s = planned.stands in
+    record {
+      stands = record {
         axis = record { room = omega (arith, s.axis.room); few = s.axis.few; enough = s.axis.enough };
-        stands = still_stands w w' (knots g i) (condition g i) plan s.axis (kept made) s.stands;
+        stands = still_stands w w' (knots g i) (condition g i) plan s.axis kept s.stands;
       };
-}
+    }

@@ -4,7 +4,7 @@
 
 #![tactic(auto)]
 
-ghost use Rattle.std.specs.Prelude.{◌≡◌, true, ◌^◌, ◌≤◌, length};
+ghost use Rattle.std.specs.Prelude.{◌≡◌, true, ◌^◌, ◌≤◌, length, OnSome};
 ghost use Rattle.rules.specs.Ends.{condition_at, fewest_points};
 ghost use Rattle.rules.specs.Sizes.{scratch_of_rows, place_of};
 ghost use Rattle.grid_scratch.specs.Layout.{plan_row_length};
@@ -25,7 +25,7 @@ ghost use Rattle.tensor_passes.specs.Passes.{
 
 use grid::{knots_before, masks, stride};
 use rules::{Axis, Condition};
-use tensor_plan::{AxisPlan, no_plan, plan_axis};
+use tensor_plan::{AxisPlan, plan_axis};
 use tensor_starts::walk_over;
 use tensor_walks::solve_walk;
 
@@ -40,7 +40,7 @@ fn condition_at(mask: usize, condition: Condition) -> Condition
     }
 }
 
-// One pass, by the plan of its axis where that was made. It answers how many lanes it solved.
+// One pass, by the plan of its axis if it has one. It answers how many lanes it solved.
 fn solve_lanes(
     w: &mut [f64],
     axes: usize,
@@ -50,12 +50,12 @@ fn solve_lanes(
     whole: bool,
     axis: usize,
     mask: usize,
-    plan: AxisPlan,
+    plan: Option<AxisPlan>,
 ) -> usize
     requires { PassGiven (grid axes all knots.now) w.old (place_of place) axis mask
         × Planned (grid axes all knots.now) w.old axis plan }
     ensures { Passed (grid axes all knots.now) w.old w.new whole (place_of place) axis mask
-        × (result ≡ lanes_solved (points_of all) axes whole axis mask) × (plan.made ≡ true → PlanKept w.old w.new) }
+        × (result ≡ lanes_solved (points_of all) axes whole axis mask) × OnSome plan (PlanKept w.old w.new) }
 {
     let entry = all[axis];
     let n = entry.points;
@@ -78,7 +78,7 @@ fn solve_masks(
     place: [usize; 4],
     whole: bool,
     axis: usize,
-    plan: AxisPlan,
+    plan: Option<AxisPlan>,
 ) -> usize
     requires { PassGiven (grid axes all knots.now) w.old (place_of place) axis 0
         × Planned (grid axes all knots.now) w.old axis plan }
@@ -107,15 +107,16 @@ fn goes_by_four(axes: usize, n: usize, ends: Condition) -> bool
     }
 }
 
-// The plan of an axis whose lanes are solved by four; of another, that there is none.
-fn plan_for(w: &mut [f64], x: &[f64], axes: usize, ends: Condition) -> AxisPlan
+// The plan of an axis whose lanes are solved by four; another has none.
+fn plan_for(w: &mut [f64], x: &[f64], axes: usize, ends: Condition) -> Option<AxisPlan>
     requires { (scratch_of_rows ≤ length w.old) × (fewest_points ends ≤ length x.now) }
     ensures { PlannedFor w.old w.new x.now ends result }
 {
     if goes_by_four(axes, x.len(), ends) {
-        return plan_axis(w, x, ends);
+        Some(plan_axis(w, x, ends))
+    } else {
+        None
     }
-    no_plan()
 }
 
 // The passes along an axis, which is planned once for all of them. It answers how many lanes they solved.

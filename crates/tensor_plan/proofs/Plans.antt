@@ -13,14 +13,17 @@ use Rattle.grid_scratch.specs.Layout.{plan_end}
 use Rattle.tensor_plan.specs.PlanOfEnds.{EndsGiven, EndsPlanMade}
 use Rattle.tensor_plan.specs.Cycle.{CycleGiven, CyclePlanMade}
 use Rattle.tensor_plan.specs.Plans.{fewest_planned, PlanGiven, PlanStands, AxisPlanned}
+use Rattle.tensor_plan.specs.declared.EndsPlan.{EndsPlan}
+use Rattle.tensor_plan.specs.declared.CyclePlan.{CyclePlan}
 use Rattle.tensor_plan.specs.declared.AxisPlan.{AxisPlan}
+use Rattle.tensor_plan.specs.declared.AxisPlan.TheVariants.{Ends, Cycle}
 use Rattle.tensor_plan.proofs.PlanOfEnds.{plan_crossed}
 
 module _ (w x : List Float) (condition : Condition) (lower upper : End) (e : condition ≡ Endpoints lower upper) where
   pub ends_given : PlanGiven w x condition → EndsGiven w x lower upper
   ends_given given = record { room = given.room; few = given.few; enough = omega (arith, given.enough, ap fewest_planned e) }
 
-  pub ends_planned : (w' : List Float) (plan : AxisPlan) → EndsPlanMade w w' x lower upper plan.ends → AxisPlanned w w' x condition plan
+  pub ends_planned : (w' : List Float) (plan : EndsPlan) → EndsPlanMade w w' x lower upper plan → AxisPlanned w w' x condition (Ends plan)
   ends_planned w' plan made =
       rw e (record { same_length = made.same_length; stands = made.planned; kept = λ j ge. made.kept j (omega arith) })
 
@@ -28,18 +31,22 @@ module _ (w x : List Float) (condition : Condition) (e : condition ≡ Periodic)
   pub cycle_given : PlanGiven w x condition → CycleGiven w x
   cycle_given given = record { room = given.room; few = given.few; enough = omega (arith, given.enough, ap fewest_planned e) }
 
-  pub cycle_planned : (w' : List Float) (plan : AxisPlan) → CyclePlanMade w w' x plan.cycle → AxisPlanned w w' x condition plan
+  pub cycle_planned : (w' : List Float) (plan : CyclePlan) → CyclePlanMade w w' x plan → AxisPlanned w w' x condition (Cycle plan)
   cycle_planned w' plan made = rw e (record { same_length = made.same_length; stands = made.planned; kept = made.kept })
 
 pub crossed_stands : (w x : List Float) (condition : Condition) (plan : AxisPlan) → PlanStands w x condition plan
     → PlanStands w x (crossed condition) plan
-crossed_stands w x (Endpoints lower upper) plan stands = plan_crossed w x lower upper plan.ends stands
-crossed_stands w x Periodic plan stands = stands
+crossed_stands w x (Endpoints lower upper) (Ends plan) stands = plan_crossed w x lower upper plan stands
+crossed_stands w x (Endpoints lower upper) (Cycle plan) stands = absurd stands
+crossed_stands w x Periodic (Ends plan) stands = absurd stands
+crossed_stands w x Periodic (Cycle plan) stands = stands
 
 pub still_stands :
     (w w' x : List Float) (condition : Condition) (plan : AxisPlan) → PlanGiven w x condition → ((j : ℕ) → j < plan_end → at w' j ≡ at w j)
     → PlanStands w x condition plan → PlanStands w' x condition plan
-still_stands w w' x (Endpoints lower upper) plan given same stands = record {
+still_stands w w' x (Endpoints lower upper) (Cycle plan) given same stands = absurd stands
+still_stands w w' x Periodic (Ends plan) given same stands = absurd stands
+still_stands w w' x (Endpoints lower upper) (Ends plan) given same stands = record {
   low_is = stands.low_is;
   last_is = stands.last_is;
   sub_is = stands.sub_is;
@@ -47,7 +54,7 @@ still_stands w w' x (Endpoints lower upper) plan given same stands = record {
   divisors = λ y j le. same (128 + (dropped lower + j)) (omega (arith, given.few, given.enough)) ∙ stands.divisors y j le;
   helpers = λ y j less. same (256 + (dropped lower + j)) (omega (arith, given.few, given.enough)) ∙ stands.helpers y j less;
 }
-still_stands w w' x Periodic plan given same stands = record {
+still_stands w w' x Periodic (Cycle plan) given same stands = record {
   steps = λ k less. same k (omega (arith, given.few)) ∙ stands.steps k less;
   divisors = λ y k le. same (128 + k) (omega (arith, given.few, given.enough)) ∙ stands.divisors y k le;
   helpers = λ y k less. same (256 + k) (omega (arith, given.few)) ∙ stands.helpers y k less;

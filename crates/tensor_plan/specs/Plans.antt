@@ -9,6 +9,7 @@ use Rattle.grid_scratch.specs.Layout.{plan_row_length, plan_end}
 use Rattle.tensor_plan.specs.PlanOfEnds.{EndsPlanned}
 use Rattle.tensor_plan.specs.Cycle.{CyclePlanned}
 use Rattle.tensor_plan.specs.declared.AxisPlan.{AxisPlan}
+use Rattle.tensor_plan.specs.declared.AxisPlan.TheVariants.{Ends, Cycle}
 
 -- the fewest points that are planned: on a periodic axis of one interval there is nothing to solve
 abbrev pub fewest_planned : Condition → ℕ
@@ -21,10 +22,12 @@ pub record PlanGiven (w x : List Float) (condition : Condition) : Type 0 where
   pub few : length x ≤ plan_row_length
   pub enough : fewest_planned condition ≤ length x
 
--- the plan stands in its rows
+-- the plan is the condition's, and stands in its rows
 abbrev pub PlanStands : List Float → List Float → Condition → AxisPlan → Type 0
-PlanStands w x (Endpoints lower upper) plan = EndsPlanned w x lower upper plan.ends
-PlanStands w x Periodic plan = CyclePlanned w x plan.cycle.ratio plan.cycle.rest
+PlanStands w x (Endpoints lower upper) (Ends plan) = EndsPlanned w x lower upper plan
+PlanStands w x (Endpoints lower upper) (Cycle plan) = ⊥
+PlanStands w x Periodic (Ends plan) = ⊥
+PlanStands w x Periodic (Cycle plan) = CyclePlanned w x plan.ratio plan.rest
 
 -- and what there is then
 pub record AxisPlanned (w w' x : List Float) (condition : Condition) (plan : AxisPlan) : Type 0 where

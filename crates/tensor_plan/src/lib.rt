@@ -4,7 +4,6 @@
 
 #![tactic(auto)]
 
-ghost use Rattle.std.specs.Prelude.{◌≡◌, false};
 ghost use Rattle.tensor_plan.specs.Plans.{PlanGiven, AxisPlanned};
 
 use crate::cycle::plan_cycle;
@@ -30,30 +29,11 @@ pub struct CyclePlan {
     pub rest: f64,
 }
 
-// A plan under any condition: whether it was made, and the part that the condition takes; the other is zeros.
+// A plan under either condition.
 #[derive(Clone, Copy)]
-pub struct AxisPlan {
-    pub made: bool,
-    pub ends: EndsPlan,
-    pub cycle: CyclePlan,
-}
-
-// What stands for the plan of an axis that has none.
-pub fn no_plan() -> AxisPlan
-    ensures { result.made ≡ false }
-{
-    AxisPlan {
-        made: false,
-        ends: EndsPlan {
-            low: 0,
-            last: 0,
-            sub: 0.0,
-        },
-        cycle: CyclePlan {
-            ratio: 0.0,
-            rest: 0.0,
-        },
-    }
+pub enum AxisPlan {
+    Ends(EndsPlan),
+    Cycle(CyclePlan),
 }
 
 // The steps, divisors and helpers of an axis go to the rows of the plan, and of a periodic one z, the second solve.
@@ -61,25 +41,8 @@ pub fn plan_axis(w: &mut [f64], x: &[f64], condition: Condition) -> AxisPlan
     requires { PlanGiven w.old x.now condition }
     ensures { AxisPlanned w.old w.new x.now condition result }
 {
-    let none = no_plan();
     match condition {
-        Condition::Endpoints(lower, upper) => {
-            let ends = plan_ends(w, x, lower, upper);
-            let cycle = none.cycle;
-            AxisPlan {
-                made: true,
-                ends,
-                cycle,
-            }
-        }
-        Condition::Periodic => {
-            let cycle = plan_cycle(w, x);
-            let ends = none.ends;
-            AxisPlan {
-                made: true,
-                ends,
-                cycle,
-            }
-        }
+        Condition::Endpoints(lower, upper) => AxisPlan::Ends(plan_ends(w, x, lower, upper)),
+        Condition::Periodic => AxisPlan::Cycle(plan_cycle(w, x)),
     }
 }

@@ -4,8 +4,7 @@ use mathlib.Core.List.{List}
 use lib.Ieee.{Float}
 use Rattle.rules.specs.Sizes.{Grid}
 use Rattle.rules.proofs.Unique.{same}
-use Rattle.tensor_verify.specs.Verify.{VerifyPromise}
-use Rattle.tensor_verify.specs.declared.VerifyAnswer.{VerifyAnswer}
+use Rattle.tensor_verify.specs.Verify.{VerifyAnswer, VerifyPromise}
 
 pub verify_unique :
     (g : Grid) (tensor scratch : List Float) (a a' : VerifyAnswer) (s s' : List Float)

@@ -32,6 +32,7 @@ use Rattle.tensor.proofs.Promises.{given_of}
 use Rattle.tensor_verify.specs.Verify.{
   samples_in,
   fresh,
+  VerifyAnswer,
   refused_with,
   first_stale,
   stale_numbers,
@@ -41,7 +42,6 @@ use Rattle.tensor_verify.specs.Verify.{
   VerifyPromise,
 }
 use Rattle.tensor_verify.specs.Compared.{compared}
-use Rattle.tensor_verify.specs.declared.VerifyAnswer.{VerifyAnswer}
 use Rattle.tensor_verify.proofs.Checking.{nowhere, verify_check, verify_outcome, check_is}
 
 -- ---- the samples of a tensor

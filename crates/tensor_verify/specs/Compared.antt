@@ -6,8 +6,7 @@ use Rattle.rules.specs.Numbers.{at, table}
 use Rattle.rules.specs.Sizes.{most_axes, unflat}
 use Rattle.rules.specs.Refusals.{some_number_refused, outcome_refused}
 use Rattle.rules.specs.Even.{first_that}
-use Rattle.tensor_verify.specs.Verify.{other_bits, count_that, refused_with}
-use Rattle.tensor_verify.specs.declared.VerifyAnswer.{VerifyAnswer}
+use Rattle.tensor_verify.specs.Verify.{other_bits, count_that, VerifyAnswer, refused_with}
 
 -- two slices of the same length, all finite
 pub record Comparable (ours others : List Float) : Type 0 where

@@ -1,5 +1,5 @@
 -- The chapter Verify of docs/RULES.md: the public call `verify`, which holds a tensor against the build of its own samples.
-use Rattle.std.specs.Prelude.{◌≡◌, Bool, false, not, ◌||◌, List, ℕ, zero, suc, ◌+◌, ◌*◌, length, replicate, Float}
+use Rattle.std.specs.Prelude.{◌≡◌, Bool, true, false, not, ◌||◌, List, ℕ, zero, suc, ◌+◌, ◌*◌, length, replicate, Float, Result, Ok, Err}
 use Rattle.std.proofs.Math.Bool.{cond}
 use Rattle.std.proofs.Math.Dec.{eqb}
 use Rattle.std.specs.Float.{binary64}
@@ -21,7 +21,10 @@ use Rattle.rules.specs.Refusals.{
 use Rattle.rules.specs.Even.{first_that}
 use Rattle.rules.specs.Tensor.{tensor, place_at, mask_at}
 use Rattle.rules.specs.Calls.{scratch_after}
-use Rattle.tensor_verify.specs.declared.VerifyAnswer.{VerifyAnswer}
+use Rattle.rules.specs.Answers.{number_of}
+use Rattle.rules.specs.declared.Refusal.{Refusal}
+use Rattle.tensor_verify.specs.declared.Verdict.{Verdict}
+use Rattle.tensor_verify.specs.declared.Verdict.TheVariants.{Whole, Differs}
 
 -- the samples of a tensor: its numbers at mask 0, in the order of their places
 unfoldable pub samples_in : Grid → List Float → List Float
@@ -41,9 +44,29 @@ unfoldable pub count_that : (ℕ → Bool) → ℕ → ℕ
 count_that test zero = 0
 count_that test (suc n) = count_that test n + cond (test n) 1 0
 
+-- the answer in numbers: the refusal, whether the tensor is whole, place and mask of the first number that differs, how many differ
+pub record VerifyAnswer : Type 0 where
+  pub refusal : ℕ
+  pub whole : Bool
+  pub place : List ℕ
+  pub mask : ℕ
+  pub differing : ℕ
+
 -- the answer of a refusal: its number, and nothing told
 abbrev pub refused_with : ℕ → VerifyAnswer
 refused_with refusal = record { refusal = refusal; whole = false; place = replicate most_axes 0; mask = 0; differing = 0 }
+
+-- the answer of what the call gives
+abbrev pub verify_told : Result Verdict Refusal → VerifyAnswer
+verify_told (Ok Whole) = record { refusal = 0; whole = true; place = replicate most_axes 0; mask = 0; differing = 0 }
+verify_told (Ok (Differs place mask differing)) = record {
+  refusal = 0;
+  whole = false;
+  place = place;
+  mask = mask;
+  differing = differing;
+}
+verify_told (Err refusal) = refused_with (number_of refusal)
 
 module _ (g : Grid) (t : List Float) where
   -- whether number e of the tensor differs from the fresh one

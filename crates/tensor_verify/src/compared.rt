@@ -35,7 +35,7 @@ pub fn count_differing(ours: &[f64], others: &[f64]) -> usize
 }
 
 // The first that differs, and 0 where none does.
-fn first_differing(ours: &[f64], others: &[f64]) -> usize
+pub fn first_differing(ours: &[f64], others: &[f64]) -> usize
     requires { Comparable ours.now others.now }
     ensures { result ≡ first_that (differs_at ours.now others.now) (length ours.now) 0 }
 {
@@ -45,15 +45,4 @@ fn first_differing(ours: &[f64], others: &[f64]) -> usize
         }
     }
     0
-}
-
-// The same where it is known how many differ: in a whole tensor none is looked for. Not a public call: the count is required.
-pub fn first_of_counted(count: usize, ours: &[f64], others: &[f64]) -> usize
-    requires { Comparable ours.now others.now × (count ≡ count_that (differs_at ours.now others.now) (length ours.now)) }
-    ensures { result ≡ first_that (differs_at ours.now others.now) (length ours.now) 0 }
-{
-    if count == 0 {
-        return 0;
-    }
-    first_differing(ours, others)
 }

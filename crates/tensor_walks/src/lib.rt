@@ -1,10 +1,10 @@
 // All lanes of a walk over the working tensor solved: four at a time where their axis has a plan, else one after the other. Not a public
 // call: it requires that the lanes lie in the working tensor, that no slope goes where another goes or where a number of theirs stands, and
-// that a plan that was made stands in its rows.
+// that a plan, if there is one, stands in its rows.
 
 #![tactic(auto)]
 
-ghost use Rattle.std.specs.Prelude.{◌≡◌, true};
+ghost use Rattle.std.specs.Prelude.{IfSome, OnSome};
 ghost use Rattle.tensor_walks.specs.Walked.{WalkGiven, WalkSolved};
 ghost use Rattle.tensor_walks.specs.ByFour.{AxisStands, PlanKept};
 
@@ -47,17 +47,17 @@ pub fn solve_walk(
     w: &mut [f64],
     x: &[f64],
     condition: Condition,
-    plan: AxisPlan,
+    plan: Option<AxisPlan>,
     walk: Walk,
     to: usize,
     step: usize,
 ) -> usize
-    requires { WalkGiven w.old x.now condition walk to step × (plan.made ≡ true → AxisStands w.old x.now condition plan) }
+    requires { WalkGiven w.old x.now condition walk to step × IfSome plan (AxisStands w.old x.now condition) }
     ensures { WalkSolved w.old w.new x.now condition walk to step result
-        × (plan.made ≡ true → PlanKept w.old w.new) }
+        × OnSome plan (PlanKept w.old w.new) }
 {
-    if plan.made {
-        return solve_by_four(w, x, condition, plan, walk, to, step);
+    match plan {
+        Some(made) => solve_by_four(w, x, condition, made, walk, to, step),
+        None => solve_singly(w, x, condition, walk, to, step),
     }
-    solve_singly(w, x, condition, walk, to, step)
 }

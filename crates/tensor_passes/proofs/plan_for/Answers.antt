@@ -13,5 +13,5 @@ returns-then-goes_by_four c =
     let pre = c.requires in
     plan_made _ _ _ _ _ (plan_given _ _ _ pre.0 (c.goes_by_four.ensures c.if-goes_by_four.true pre.1)) c.plan_axis.ensures
 
-pub returns : goal.returns
-returns c = none_made _ _ _ _ c.no_plan.ensures
+pub returns-else-goes_by_four : goal.returns-else-goes_by_four
+returns-else-goes_by_four c = none_made _ _ _

@@ -3,18 +3,18 @@
 use Rattle.tensor_plan.proofs.Plans.{ends_given, ends_planned, cycle_given, cycle_planned}
 use Rattle.tensor_plan.proofs.plan_axis.Goals as goal
 
-pub plan_ends-ends-requires : goal.plan_ends-ends-requires
-plan_ends-ends-requires c =
+pub plan_ends-requires : goal.plan_ends-requires
+plan_ends-requires c =
     let pre = c.requires in
     ends_given _ _ _ _ _ c.in-Endpoints.is pre
 
-pub plan_cycle-cycle-requires : goal.plan_cycle-cycle-requires
-plan_cycle-cycle-requires c =
+pub plan_cycle-requires : goal.plan_cycle-requires
+plan_cycle-requires c =
     let pre = c.requires in
     cycle_given _ _ _ c.in-Periodic.is pre
 
 pub returns-in-Endpoints : goal.returns-in-Endpoints
-returns-in-Endpoints c = ends_planned _ _ _ _ _ c.in-Endpoints.is _ _ c.plan_ends-ends.ensures
+returns-in-Endpoints c = ends_planned _ _ _ _ _ c.in-Endpoints.is _ _ c.plan_ends.ensures
 
 pub returns-in-Periodic : goal.returns-in-Periodic
-returns-in-Periodic c = cycle_planned _ _ _ c.in-Periodic.is _ _ c.plan_cycle-cycle.ensures
+returns-in-Periodic c = cycle_planned _ _ _ c.in-Periodic.is _ _ c.plan_cycle.ensures
