@@ -88,6 +88,7 @@ NOT_RULES = {
     "query_even/Lacking",
     "query_profile/Profiled",
     "many_points/PointByPoint",
+    "query_many/ByWay",
     "step_axis/AmongKnots",
     "step_surface/OnPoints",
     "step_surface/Indices",

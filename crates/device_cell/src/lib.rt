@@ -48,26 +48,17 @@ fn cell_of(p0: i32, p1: i32, d0: i32, d1: i32) -> Cell
 fn in_range(low: i64, high: i64, number: i64) -> bool
     ensures { result ≡ in_range low high number }
 {
-    if low <= number { number <= high } else { false }
+    low <= number && number <= high
 }
 
 // Whether the values and the slopes of a cell are in range.
 pub fn cell_in_range(cell: Cell) -> bool
     ensures { result ≡ cell_in_range cell }
 {
-    if in_range(-32768, 32767, cell.p0) {
-        if in_range(-32768, 32767, cell.p1) {
-            if in_range(-131072, 131071, cell.d0) {
-                in_range(-131072, 131071, cell.d1)
-            } else {
-                false
-            }
-        } else {
-            false
-        }
-    } else {
-        false
-    }
+    in_range(-32768, 32767, cell.p0)
+        && in_range(-32768, 32767, cell.p1)
+        && in_range(-131072, 131071, cell.d0)
+        && in_range(-131072, 131071, cell.d1)
 }
 
 // The weights at a position, which is required to be at most 256.

@@ -1,5 +1,5 @@
 -- What a query answers by the way of its cell, from 7 on.
-use Rattle.std.specs.Prelude.{◌≡◌, Bool, true, cond, List, ℕ, ◌<◌, replicate, Float}
+use Rattle.std.specs.Prelude.{◌≡◌, Bool, true, cond, List, ℕ, ◌<◌, replicate, Float, Result, Ok, Err}
 use Rattle.std.specs.Float.Ieee.Scale.{finite}
 use Rattle.rules.specs.Numbers.{plus_zero, at, any}
 use Rattle.rules.specs.Sizes.{most_axes, Grid, points, knots}
@@ -7,12 +7,12 @@ use Rattle.rules.specs.Refusals.{some_number_refused, answer_refused}
 use Rattle.rules.specs.Outside.{placed_on, some_outside_refused}
 use Rattle.rules.specs.Query.{value_in, cell_of}
 use Rattle.rules.specs.Calls.{labels_of, answer_of}
-use Rattle.rules.specs.Answers.{QueryAnswer}
+use Rattle.rules.specs.declared.Refusal.{Refusal}
+use Rattle.rules.specs.Answers.{QueryAnswer, query_told}
 use Rattle.axis_locate.specs.CellFound.{Rising}
 use Rattle.query_answer.specs.PointsAndModes.{OfAnyAxes}
 use Rattle.query_answer.specs.Ways.{by_search}
 use Rattle.query_answer.specs.CellsFound.{cells_by, knots_refuse}
-use Rattle.query_answer.specs.declared.Outcome.{Outcome}
 use Rattle.query_answer.specs.declared.searched.Refusals.{Refusals}
 use Rattle.query_answer.specs.declared.ways.Way.{Way}
 use Rattle.query_answer.specs.declared.ways.Way.TheVariants.{Walked, Searched, Direct, Divided}
@@ -25,9 +25,10 @@ refused_with refusal = record { refusal = refusal; value = plus_zero; labels = r
 abbrev pub answer_in : Float → List ℕ → QueryAnswer
 answer_in value lower = answer_of (cond (answer_refused value) 10 0) value lower
 
--- an answer whose labels stand in a slice
-abbrev pub with_labels : Outcome → List ℕ → QueryAnswer
-with_labels outcome labels = record { refusal = outcome.refusal; value = outcome.value; labels = labels }
+-- what is told of a value whose labels stand in a slice, which after a refusal nobody reads
+abbrev pub with_labels : Result Float Refusal → List ℕ → QueryAnswer
+with_labels (Ok value) labels = query_told (Ok (record { value = value; labels = labels }))
+with_labels (Err refusal) labels = query_told (Err refusal)
 
 -- the refusal where knots are refused: of a walk it may be 7
 abbrev pub knots_refusal : Way → List Float → ℕ

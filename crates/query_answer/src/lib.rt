@@ -1,15 +1,16 @@
 // What every query answers once its sizes and lengths are in order: its cell found on the axes, and 7, 8, 18 and 10 in this order. None of
-// these is a public call: `answer_to` requires what refusals 1 to 4 leave, with four points, four modes and room for four labels.
+// these is a public call: `answer` requires what refusals 1 to 4 leave, with four points and four modes.
 
 #![tactic(auto)]
 
-ghost use Rattle.std.specs.Prelude.{◌≡◌, length, replicate};
+ghost use Rattle.std.specs.Prelude.{◌≡◌, List, ℕ, length, replicate};
 ghost use Rattle.rules.specs.Sizes.{most_axes};
 ghost use Rattle.rules.specs.Outside.{mode_number};
+ghost use Rattle.rules.specs.Answers.{number_of, refusal_of, query_told};
 ghost use Rattle.query_answer.specs.PointsAndModes.{ModesOf, QueryFits};
-ghost use Rattle.query_answer.specs.AnswerByWay.{refused_with, answer_in, with_labels, knots_refusal, refusal_found, AnswerAmong};
+ghost use Rattle.query_answer.specs.AnswerByWay.{answer_in, with_labels, knots_refusal, refusal_found, AnswerAmong};
 
-use rules::{Axis, QueryAnswer};
+use rules::{Axis, Refusal, ValueInCell};
 use searched::Refusals;
 use ways::Way;
 
@@ -36,40 +37,47 @@ pub fn modes_of(all: [Axis; 4]) -> [u8; 4]
     ]
 }
 
-// A refusal: its number, +0.0, and labels 0.
-pub fn refused(refusal: usize) -> QueryAnswer
-    ensures { result ≡ refused_with refusal }
-{
-    QueryAnswer {
-        refusal,
-        value: 0.0,
-        labels: [0; 4],
-    }
-}
-
-// Which number it is where knots are refused: a walk has passed over those that are infinite or NaN, which are 7.
-fn knots_refusal(way: Way, knots: &[f64]) -> usize
-    ensures { result ≡ knots_refusal way knots.now }
+// The refusal where knots are refused: a walk has passed over those that are infinite or NaN, which are refused as numbers.
+fn knots_refusal(way: Way, knots: &[f64]) -> Refusal
+    ensures { number_of result ≡ knots_refusal way knots.now }
 {
     match way {
         Way::Walked => {
             if base_numbers::any_not_finite(knots) {
-                7
+                Refusal::Number
             } else {
-                8
+                Refusal::Knots
             }
         }
-        Way::Searched => 8,
-        Way::Direct => 8,
-        Way::Divided => 8,
+        Way::Searched | Way::Direct | Way::Divided => Refusal::Knots,
     }
 }
 
-// An answer without its labels, which go to a slice of the caller's: a struct that holds them goes through memory, and this one does not.
-#[derive(Clone, Copy)]
-pub struct Outcome {
-    pub refusal: usize,
-    pub value: f64,
+// What the axes refuse, by what was found on them: 7, 8 or 18.
+fn check_found(way: Way, knots: &[f64], refusals: Refusals) -> Result<(), Refusal>
+    ensures { refusal_of result ≡ refusal_found way knots.now refusals }
+{
+    if refusals.coordinates {
+        return Err(Refusal::Number);
+    }
+    if refusals.knots {
+        return Err(knots_refusal(way, knots));
+    }
+    if refusals.outside {
+        return Err(Refusal::Outside);
+    }
+    Ok(())
+}
+
+// A value that is worked out in a cell, or 10.
+fn check_value(value: f64) -> Result<f64, Refusal>
+    ensures { (lower : List ℕ) → with_labels result lower ≡ answer_in value lower }
+{
+    if base_numbers::is_finite(value) {
+        Ok(value)
+    } else {
+        Err(Refusal::Outcome)
+    }
 }
 
 // All four labels 0.
@@ -78,45 +86,6 @@ fn clear_labels(labels: &mut [usize])
     ensures { labels.new ≡ replicate most_axes 0 }
 {
     labels.fill(0);
-}
-
-// A refusal: its number, +0.0, and labels 0.
-fn refuse(labels: &mut [usize], refusal: usize) -> Outcome
-    requires { length labels.old ≡ 4 }
-    ensures { with_labels result labels.new ≡ refused_with refusal }
-{
-    clear_labels(labels);
-    Outcome {
-        refusal,
-        value: 0.0,
-    }
-}
-
-// A value, where the labels are the cell that it was worked out in, or 10.
-fn outcome_of(labels: &mut [usize], value: f64) -> Outcome
-    requires { length labels.old ≡ 4 }
-    ensures { with_labels result labels.new ≡ answer_in value labels.old }
-{
-    if base_numbers::is_finite(value) {
-        return Outcome { refusal: 0, value };
-    }
-    refuse(labels, 10)
-}
-
-// What the axes refuse, by what was found on them: 7, 8, 18, or 0.
-fn refusal_found(way: Way, knots: &[f64], refusals: Refusals) -> usize
-    ensures { result ≡ refusal_found way knots.now refusals }
-{
-    if refusals.coordinates {
-        return 7;
-    }
-    if refusals.knots {
-        return knots_refusal(way, knots);
-    }
-    if refusals.outside {
-        return 18;
-    }
-    0
 }
 
 // The answer on one axis, whose cell and weights stay in registers.
@@ -128,7 +97,7 @@ fn answer_on_one(
     tensor: &[f64],
     coordinates: &[f64],
     labels: &mut [usize],
-) -> Outcome
+) -> Result<f64, Refusal>
     requires { QueryFits 1 points.now modes.now knots.now tensor.now coordinates.now × (length labels.old ≡ 4) }
     ensures { AnswerAmong way 1 points.now modes.now knots.now tensor.now
         coordinates.now (with_labels result labels.new) }
@@ -144,12 +113,9 @@ fn answer_on_one(
         labels,
         &mut weights,
     );
-    let refusal = refusal_found(way, knots, refusals);
-    if refusal != 0 {
-        return refuse(labels, refusal);
-    }
+    check_found(way, knots, refusals)?;
     let value = query_cell::value(1, points, labels, &weights, tensor);
-    outcome_of(labels, value)
+    check_value(value)
 }
 
 // The same on two axes.
@@ -161,7 +127,7 @@ fn answer_on_two(
     tensor: &[f64],
     coordinates: &[f64],
     labels: &mut [usize],
-) -> Outcome
+) -> Result<f64, Refusal>
     requires { QueryFits 2 points.now modes.now knots.now tensor.now coordinates.now × (length labels.old ≡ 4) }
     ensures { AnswerAmong way 2 points.now modes.now knots.now tensor.now
         coordinates.now (with_labels result labels.new) }
@@ -177,17 +143,14 @@ fn answer_on_two(
         labels,
         &mut weights,
     );
-    let refusal = refusal_found(way, knots, refusals);
-    if refusal != 0 {
-        return refuse(labels, refusal);
-    }
+    check_found(way, knots, refusals)?;
     let value = query_cell::value_on_two(points, labels, &weights, tensor);
-    outcome_of(labels, value)
+    check_value(value)
 }
 
-// The answer at a point on axes of these points, with a mode's number for each: of their ends nothing is read. The labels are those of
-// the answer, whatever they were.
-pub fn answer_to(
+// The same on any number of axes. The labels become those of the cell, whatever they were, and after a refusal nobody reads them. They go to
+// a slice of the caller's: a struct that holds them goes through memory, and this Result does not.
+fn answer_to(
     way: Way,
     axes: usize,
     points: &[usize],
@@ -196,7 +159,7 @@ pub fn answer_to(
     tensor: &[f64],
     coordinates: &[f64],
     labels: &mut [usize],
-) -> Outcome
+) -> Result<f64, Refusal>
     requires { QueryFits axes points.now modes.now knots.now tensor.now coordinates.now × (length labels.old ≡ 4) }
     ensures { AnswerAmong way axes points.now modes.now knots.now tensor.now
         coordinates.now (with_labels result labels.new) }
@@ -219,15 +182,12 @@ pub fn answer_to(
         labels,
         &mut weights,
     );
-    let refusal = refusal_found(way, knots, refusals);
-    if refusal != 0 {
-        return refuse(labels, refusal);
-    }
+    check_found(way, knots, refusals)?;
     let value = query_cell::value(axes, points, labels, &weights, tensor);
-    outcome_of(labels, value)
+    check_value(value)
 }
 
-// The same, with its labels.
+// The value and the labels at a point on axes of these points, with a mode's number for each: of their ends nothing is read.
 pub fn answer(
     way: Way,
     axes: usize,
@@ -236,13 +196,13 @@ pub fn answer(
     knots: &[f64],
     tensor: &[f64],
     coordinates: &[f64],
-) -> QueryAnswer
+) -> Result<ValueInCell, Refusal>
     requires { QueryFits axes points.now modes.now knots.now tensor.now coordinates.now }
     ensures { AnswerAmong way axes points.now modes.now knots.now tensor.now
-        coordinates.now result }
+        coordinates.now (query_told result) }
 {
     let mut labels = [0; 4];
-    let outcome = answer_to(
+    let value = answer_to(
         way,
         axes,
         points,
@@ -251,10 +211,6 @@ pub fn answer(
         tensor,
         coordinates,
         &mut labels,
-    );
-    QueryAnswer {
-        refusal: outcome.refusal,
-        value: outcome.value,
-        labels,
-    }
+    )?;
+    Ok(ValueInCell { value, labels })
 }

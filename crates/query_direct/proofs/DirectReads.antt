@@ -11,7 +11,7 @@ use Rattle.rules.specs.Sizes.{Grid, points, knots, sum_below}
 use Rattle.rules.specs.Steps.{h}
 use Rattle.rules.specs.Refusals.{step_refused, found_cell_refused}
 use Rattle.rules.specs.Outside.{mode_at, side, nearest, placed, placed_on, outside, outside_refused}
-use Rattle.rules.specs.Even.{direct_cell, direct_cell_of}
+use Rattle.rules.specs.Even.{direct_cell_of}
 use Rattle.rules.specs.Query.{cell, fraction, value_in, even_cell_of, even_query}
 use Rattle.rules.specs.declared.Axis.{Axis}
 use Rattle.rules.specs.declared.Mode.{Mode}

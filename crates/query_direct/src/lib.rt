@@ -3,38 +3,30 @@
 
 #![tactic(auto)]
 
+ghost use Rattle.rules.specs.Answers.{query_told};
 ghost use Rattle.grid.specs.GridOfCall.{grid};
 ghost use Rattle.query_answer.specs.PointsAndModes.{QueryFits, OfAnyAxes};
 ghost use Rattle.query_direct.specs.DirectCalls.{DirectQueryPromise};
 
 use query_answer::ways::Way;
-use rules::{Axis, QueryAnswer};
+use rules::{Axis, Refusal, ValueInCell};
 
 // PUBLIC. The surface's value at a point, outside the knots of an axis as its mode says, of which hold moves the point before its cell is
 // found; and for each axis the label, which is the cell that was evaluated, 0 past those in use. The answer is that of the query of even
 // axes wherever that refuses neither the knots nor an axis. Of the knots it reads the first two of each axis, the last where the mode is
 // hold or refuse, and the two of the cell that is found; of the tensor the cell's corners. Refuses 1 2 3 4, 7 for a coordinate, 8 for the
-// found cell's knots, 18 10, in this order; then the value is +0.0 and every label 0.
+// found cell's knots, 18 10, in this order.
 pub fn direct_query(
     axes: usize,
     all: [Axis; 4],
     knots: &[f64],
     tensor: &[f64],
     coordinates: &[f64],
-) -> QueryAnswer
-    ensures { DirectQueryPromise (grid axes all knots.now) tensor.now coordinates.now result }
+) -> Result<ValueInCell, Refusal>
+    ensures { DirectQueryPromise (grid axes all knots.now) tensor.now coordinates.now (query_told result) }
 {
     let points = grid::points_of(all);
-    let refusal = grid_checks::query_sizes_refusal(
-        axes,
-        &points,
-        knots.len(),
-        tensor.len(),
-        coordinates.len(),
-    );
-    if refusal != 0 {
-        return query_answer::refused(refusal);
-    }
+    grid_checks::check_query_sizes(axes, &points, knots.len(), tensor.len(), coordinates.len())?;
     let modes = query_answer::modes_of(all);
     direct_query_of_points(axes, &points, &modes, knots, tensor, coordinates)
 }
@@ -48,10 +40,10 @@ pub fn direct_query_of_points(
     knots: &[f64],
     tensor: &[f64],
     coordinates: &[f64],
-) -> QueryAnswer
+) -> Result<ValueInCell, Refusal>
     requires { QueryFits axes points.now modes.now knots.now tensor.now coordinates.now }
     ensures { OfAnyAxes axes points.now modes.now knots.now
-        (λ g. DirectQueryPromise g tensor.now coordinates.now result) }
+        (λ g. DirectQueryPromise g tensor.now coordinates.now (query_told result)) }
 {
     query_answer::answer(
         Way::Divided,

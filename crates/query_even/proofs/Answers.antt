@@ -17,7 +17,9 @@ use Rattle.rules.specs.Query.{even_query}
 use Rattle.rules.specs.Calls.{or_else, answer_of}
 use Rattle.rules.specs.EvenCalls.{nothing_told, even_labels, even_query_refusal, even_query_answer, EvenQueryPromise}
 use Rattle.rules.specs.declared.Axis.{Axis}
-use Rattle.rules.specs.Answers.{EvenAnswer, QueryAnswer}
+use Rattle.std.specs.Prelude.{Err}
+use Rattle.rules.specs.declared.EvenRefusal.TheVariants.{Uneven}
+use Rattle.rules.specs.Answers.{EvenAnswer, QueryAnswer, even_told}
 use Rattle.rules.proofs.Refused.{or_else_met, any_ext}
 use Rattle.rules.proofs.Sums.{sum_ext}
 use Rattle.rules.proofs.EvenIsQuery.{answers_as_query}
@@ -37,7 +39,7 @@ use Rattle.query_answer.specs.declared.ways.Way.TheVariants.{Direct}
 use Rattle.query_answer.proofs.Answering.{refused_is}
 use Rattle.query_answer.proofs.Promised.{past_4, sizes_refuse}
 use Rattle.query_even.specs.Qualities.{lacking_axis, lacking_place}
-use Rattle.query_even.specs.Lacking.{FirstLack, KnotsPass, refused_uneven}
+use Rattle.query_even.specs.Lacking.{LackIs, KnotsPass}
 use Rattle.query_even.specs.declared.qualities.Quality.TheVariants.{Even}
 use Rattle.query_even.specs.declared.qualities.Lack.{Lack}
 
@@ -122,27 +124,27 @@ module _ (axes : ℕ) (points_in modes_in : List ℕ) (x tensor coordinates : Li
         → EvenQueryPromise g tensor coordinates r
     check_refuses some = refused_by g tensor coordinates check (refusal_is ∙ rw (← checked) (or_else_met check _ some)) some check_low
 
-    module _ (none : check ≡ 0) (uneven : Lack) (tells : FirstLack Even g uneven) where
-      after_check : refusal ≡ later uneven.found
-      after_check = refusal_is ∙ rw (← checked, none, tells.found) refl
+    module _ (none : check ≡ 0) where
+      after_check : refusal ≡ later (some_uneven_refused g)
+      after_check = refusal_is ∙ rw (← checked, none) refl
 
       -- an axis is not even
-      pub axis_refuses : uneven.found ≡ true → (r : EvenAnswer) → r ≡ refused_uneven uneven.axis uneven.place
-          → EvenQueryPromise g tensor coordinates r
+      pub axis_refuses : (uneven : Lack) → LackIs Even g uneven
+          → EvenQueryPromise g tensor coordinates (even_told (Err (Uneven uneven.axis uneven.place)))
       unfolding even_query_answer uneven_axis uneven_interval lacking_axis lacking_place
-      axis_refuses some r is =
-          let met : refusal ≡ 21 = after_check ∙ ap later some in
-          record { answer = is ∙ rw (tells.axis, tells.place, met) refl }
+      axis_refuses uneven tells =
+          let met : refusal ≡ 21 = after_check ∙ ap later tells.some in
+          record { answer = rw (tells.axis, tells.place, met) refl }
 
       -- every axis is: the knots pass
-      pub knots_pass : uneven.found ≡ false → KnotsPass g
+      pub knots_pass : some_uneven_refused g ≡ false → KnotsPass g
       unfolding knots_and_coordinates_check
       knots_pass even =
           let rows = none_applies (knots_and_coordinates_rows axes (place_of points_in) x coordinates) tt (sym checked ∙ none) in
           record {
             finite = (neither (some_number_refused x) (some_number_refused coordinates) rows.0).0;
             rise = sym same_knots ∙ rows.1.0;
-            even = sym tells.found ∙ even;
+            even = even;
           }
 
   -- where the knots pass the direct cell answers

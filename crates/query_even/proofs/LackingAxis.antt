@@ -3,17 +3,15 @@ use native.Mathlib.Omega.{arith}
 use mathlib.Core.Path.{◌≡◌, refl, sym, ap, ◌∙◌}
 use mathlib.Core.Bool.{Bool, true, false}
 use mathlib.Core.List.{List}
+use Rattle.std.specs.Prelude.{Some, None}
 use Prim.Native.Nat.{ℕ, ◌+◌, ◌-◌, ◌<◌, ◌≤◌}
 use native.Mathlib.Nat.{sub-zero, add-sub_cancel_left}
 use lib.ListN.{length, take, drop, length-drop}
 use lib.Seq.{length-take-le}
 use lib.Ieee.{Float}
-use borrow.Author.Tests.{ltb-false}
-use Rattle.rules.specs.Numbers.{at, any}
+use Rattle.rules.specs.Numbers.{any}
 use Rattle.rules.specs.Sizes.{Grid, points, knots, sum_below, knots_length, place_of}
-use Rattle.rules.specs.Refusals.{number_refused, step_refused}
-use Rattle.rules.specs.Even.{first_failing}
-use Rattle.base_numbers.proofs.Scan.{any_none, any_more, any_found, any_end, any_at}
+use Rattle.base_numbers.proofs.Scan.{any_none, any_more, any_found, any_end}
 use Rattle.rules.specs.declared.Axis.{Axis}
 use Rattle.rules.proofs.Sums.{sum_ext}
 use Rattle.grid.specs.GridOfCall.{grid, points_of, InRange}
@@ -22,16 +20,8 @@ use Rattle.grid.proofs.Knots as of_axis
 use Rattle.axis_even.proofs.First as first
 use Rattle.query_answer.specs.PointsAndModes.{PointsOf}
 use Rattle.query_even.specs.Qualities.{lacks, first_lack, lacking_axis, lacking_place}
-use Rattle.query_even.specs.Lacking.{FirstLack, LackAmong}
+use Rattle.query_even.specs.Lacking.{LackIs, LackAmong}
 use Rattle.query_even.specs.declared.qualities.Quality.{Quality}
-use Rattle.query_even.specs.declared.qualities.Quality.TheVariants.{Finite, Rising, Even}
-
--- knots that lack nothing have no place where they do
-no_lack : (quality : Quality) (x : List Float) (n : ℕ) → lacks quality x n ≡ false → first_lack quality x n ≡ 0
-no_lack Finite x n none =
-    let test : ℕ → Bool = λ k. number_refused (at x k) in first.found_none test n 0 (λ i l h. any_at test n none i (omega arith))
-no_lack Rising x n none = first.found_none (step_refused x) (n - 1) 0 (λ i l h. any_at (step_refused x) (n - 1) none i (omega arith))
-no_lack Even x n none = let z : first_failing x n ≡ 0 = omega (arith, ltb-false 0 (first_failing x n) none) in z
 
 module _ (quality : Quality) where
   module _ (g : Grid) where
@@ -69,7 +59,7 @@ module _ (quality : Quality) where
 
         pub turn_found :
             true ≡ lacks quality part (length part) → (place : ℕ) → place ≡ first_lack quality part (length part)
-            → FirstLack quality g (record { found = true; axis = i; place = place })
+            → LackIs quality g (record { axis = i; place = place })
         unfolding lacking_axis lacking_place
         turn_found some place is =
             let here : is_lacking i ≡ true = sym (some ∙ part_lacks) in
@@ -77,7 +67,7 @@ module _ (quality : Quality) where
             let own : place ≡ first_lack quality (knots g i) (points g i) =
             is ∙ rw (exact, of_axis.part_is g begin i turn.begun) refl in
             record {
-              found = sym (any_found is_lacking i g.axes l here);
+              some = any_found is_lacking i g.axes l here;
               axis = lowest;
               place = own ∙ ap (λ (j : ℕ). first_lack quality (knots g j) (points g j)) lowest;
             }
@@ -93,18 +83,8 @@ module _ (quality : Quality) where
               none = any_more is_lacking i turn.none here;
             }
 
-      pub turn_last : g.axes ≤ i → FirstLack quality g (record { found = false; axis = 0; place = 0 })
-      unfolding lacking_axis lacking_place
-      turn_last h =
-          let lowest : 0 ≡ lacking_axis quality g = rw sub-zero at (first.turn_last is_lacking 0 g.axes i turn.looks h) in
-          let all = any_end is_lacking i g.axes turn.none (omega (arith, turn.looks.most)) in
-          record {
-            found = sym all;
-            axis = lowest;
-            place =
-                sym (no_lack quality (knots g 0) (points g 0) (any_at is_lacking g.axes all 0 turn.in_range.some_axes))
-                ∙ ap (λ (j : ℕ). first_lack quality (knots g j) (points g j)) lowest;
-          }
+      pub turn_last : g.axes ≤ i → any is_lacking g.axes ≡ false
+      turn_last h = any_end is_lacking i g.axes turn.none (omega (arith, turn.looks.most))
 
   -- ---- on any axes with these points
 
@@ -158,7 +138,7 @@ module _ (quality : Quality) where
           pub walk_found :
               found ≡ true → (place : ℕ)
               → place ≡ first_lack quality (lent (place_of points_in i)) (length (lent (place_of points_in i)))
-              → LackAmong quality axes points_in x (record { found = true; axis = i; place = place })
+              → LackAmong quality axes points_in x (Some (record { axis = i; place = place }))
           walk_found some place is all are =
               turn_found (grid axes all x) begin i (walk.on all are) l (sym some ∙ own all are) place (rw (are i l) is)
 
@@ -170,5 +150,5 @@ module _ (quality : Quality) where
             on = λ all are. rw (are i l) at (turn_next (grid axes all x) begin i (walk.on all are) l (sym none ∙ own all are));
           }
 
-      pub walk_last : axes ≤ i → LackAmong quality axes points_in x (record { found = false; axis = 0; place = 0 })
+      pub walk_last : axes ≤ i → LackAmong quality axes points_in x None
       walk_last ge all are = turn_last (grid axes all x) begin i (walk.on all are) ge

@@ -56,7 +56,7 @@ module _ (axes : ℕ) (points_in : List ℕ) (x : List Float) where
   passing_last begin i passing ge all are =
       let range = passing.rising.in_range in
       let rise : some_knots_refused (grid axes all x) ≡ false =
-      sym (walk_last Rising axes points_in x begin i passing.rising ge all are).found in
+      walk_last Rising axes points_in x begin i passing.rising ge all are in
       record {
         finite = grid_finite axes all x
             (record {
@@ -67,5 +67,5 @@ module _ (axes : ℕ) (points_in : List ℕ) (x : List Float) where
             })
             (passing.rising.knots_exact ∙ sym (sum_ext (points_of all) (place_of points_in) axes are)) refl rise;
         rise = rise;
-        even = sym (walk_last Even axes points_in x begin i passing.even ge all are).found;
+        even = walk_last Even axes points_in x begin i passing.even ge all are;
       }

@@ -16,10 +16,9 @@ pub enum Quality {
     Even,
 }
 
-// Whether an axis lacks it; the lowest that does, and the first knot or interval by which it does. Both are 0 where none does.
+// An axis that lacks it, and its first knot or interval that does.
 #[derive(Clone, Copy)]
 pub struct Lack {
-    pub found: bool,
     pub axis: usize,
     pub place: usize,
 }
@@ -73,7 +72,12 @@ fn first_lack(quality: Quality, knots: &[f64]) -> usize
 }
 
 // The lowest axis that lacks it, on axes of so many points.
-pub fn first_lacking(quality: Quality, axes: usize, points: &[usize], knots: &[f64]) -> Lack
+pub fn first_lacking(
+    quality: Quality,
+    axes: usize,
+    points: &[usize],
+    knots: &[f64],
+) -> Option<Lack>
     requires { InRange axes (place_of points.now) × (length points.now ≡ 4)
         × (length knots.now ≡ sum_below (place_of points.now) axes) }
     ensures { LackAmong quality axes points.now knots.now result }
@@ -82,17 +86,12 @@ pub fn first_lacking(quality: Quality, axes: usize, points: &[usize], knots: &[f
     for i in 0..axes {
         let end = begin + points[i];
         if lacks(quality, &knots[begin..end]) {
-            return Lack {
-                found: true,
+            return Some(Lack {
                 axis: i,
                 place: first_lack(quality, &knots[begin..end]),
-            };
+            });
         }
         begin = end;
     }
-    Lack {
-        found: false,
-        axis: 0,
-        place: 0,
-    }
+    None
 }

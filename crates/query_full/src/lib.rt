@@ -3,35 +3,27 @@
 #![tactic(auto)]
 
 ghost use Rattle.rules.specs.Calls.{QueryPromise};
+ghost use Rattle.rules.specs.Answers.{query_told};
 ghost use Rattle.grid.specs.GridOfCall.{grid};
 ghost use Rattle.query_answer.specs.PointsAndModes.{QueryFits, OfAnyAxes};
 
 use query_answer::ways::Way;
-use rules::{Axis, QueryAnswer};
+use rules::{Axis, Refusal, ValueInCell};
 
 // PUBLIC. The surface's value at a point, where the mode of each axis says what is done with a coordinate outside its knots, and for each
-// axis the label, which is the cell that was evaluated, 0 past those in use. Refuses 1 2 3 4 7 8 18 10, in this order; then the value is
-// +0.0 and every label 0. The tensor is not searched for 7.
+// axis the label, which is the cell that was evaluated, 0 past those in use. Refuses 1 2 3 4 7 8 18 10, in this order. The tensor is not
+// searched for 7.
 pub fn query(
     axes: usize,
     all: [Axis; 4],
     knots: &[f64],
     tensor: &[f64],
     coordinates: &[f64],
-) -> QueryAnswer
-    ensures { QueryPromise (grid axes all knots.now) tensor.now coordinates.now result }
+) -> Result<ValueInCell, Refusal>
+    ensures { QueryPromise (grid axes all knots.now) tensor.now coordinates.now (query_told result) }
 {
     let points = grid::points_of(all);
-    let refusal = grid_checks::query_sizes_refusal(
-        axes,
-        &points,
-        knots.len(),
-        tensor.len(),
-        coordinates.len(),
-    );
-    if refusal != 0 {
-        return query_answer::refused(refusal);
-    }
+    grid_checks::check_query_sizes(axes, &points, knots.len(), tensor.len(), coordinates.len())?;
     let modes = query_answer::modes_of(all);
     query_of_points(axes, &points, &modes, knots, tensor, coordinates)
 }
@@ -45,10 +37,10 @@ pub fn query_of_points(
     knots: &[f64],
     tensor: &[f64],
     coordinates: &[f64],
-) -> QueryAnswer
+) -> Result<ValueInCell, Refusal>
     requires { QueryFits axes points.now modes.now knots.now tensor.now coordinates.now }
     ensures { OfAnyAxes axes points.now modes.now knots.now
-        (λ g. QueryPromise g tensor.now coordinates.now result) }
+        (λ g. QueryPromise g tensor.now coordinates.now (query_told result)) }
 {
     query_answer::answer(Way::Walked, axes, points, modes, knots, tensor, coordinates)
 }

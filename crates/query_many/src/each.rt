@@ -29,8 +29,7 @@ pub fn answer_each(
 {
     let count = refusals.len();
     let mut begin = 0;
-    let mut j = 0;
-    while j < count {
+    for j in 0..count {
         let end = begin + axes;
         let given = query_answer::answer(
             way,
@@ -43,6 +42,5 @@ pub fn answer_each(
         );
         store_answer(values, labels, refusals, j, given);
         begin = end;
-        j += 1;
     }
 }

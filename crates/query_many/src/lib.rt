@@ -3,22 +3,24 @@
 
 #![tactic(auto)]
 
-ghost use Rattle.std.specs.Prelude.{◌≡◌, ◌≤◌, length, cond};
+ghost use Rattle.std.specs.Prelude.{◌≡◌, ◌≤◌, ℕ, length, cond};
 ghost use Rattle.rules.specs.Sizes.{place_of};
 ghost use Rattle.rules.specs.Calls.{or_else};
+ghost use Rattle.rules.specs.Answers.{QueryAnswer, refusal_of};
 ghost use Rattle.grid.specs.GridOfCall.{grid};
 ghost use Rattle.grid_checks.specs.Check.{query_sizes_check};
-ghost use Rattle.many_points.specs.ManyPoints.{points_lengths_refused};
-ghost use Rattle.query_many.specs.ManyCalls.{QuickQueriesPromise, DirectQueriesPromise};
+ghost use Rattle.many_points.specs.ManyPoints.{points_lengths_refused, EachAnswered};
+ghost use Rattle.query_many.specs.ManyCalls.{queries_refusal, QuickQueriesPromise, DirectQueriesPromise};
+ghost use Rattle.query_many.specs.ByWay.{AnswersByWay};
 
 use many_points::lengths;
 use query_answer::ways::Way;
-use rules::Axis;
+use rules::{Axis, Refusal};
 
 pub mod each; // each.rt: one point after the other
 
-// What both meet of sizes and lengths: 1, 2, 3, 4, or 0. Not a public call: it requires four points.
-fn queries_refusal(
+// What both meet of sizes and lengths: 1, 2, 3 or 4. Not a public call: it requires four points.
+fn check_queries(
     axes: usize,
     points: &[usize],
     knots: usize,
@@ -27,19 +29,60 @@ fn queries_refusal(
     values: usize,
     labels: usize,
     count: usize,
-) -> usize
+) -> Result<(), Refusal>
     requires { length points.now ≡ 4 }
-    ensures { result ≡ or_else (query_sizes_check axes (place_of points.now) knots tensor axes)
+    ensures { refusal_of result ≡ or_else (query_sizes_check axes (place_of points.now) knots tensor axes)
         (cond (points_lengths_refused axes coordinates values labels count) 4 0) }
 {
-    let refusal = grid_checks::query_sizes_refusal(axes, points, knots, tensor, axes);
-    if refusal != 0 {
-        return refusal;
-    }
+    grid_checks::check_query_sizes(axes, points, knots, tensor, axes)?;
     if lengths::points_lengths_refused(axes, coordinates, values, labels, count) {
-        return 4;
+        return Err(Refusal::Length);
     }
-    0
+    Ok(())
+}
+
+// Both calls, each by its way: sizes and lengths, and then the answers at the points, whatever these are of the call for one point.
+fn queries(
+    way: Way,
+    axes: usize,
+    all: [Axis; 4],
+    knots: &[f64],
+    tensor: &[f64],
+    coordinates: &[f64],
+    values: &mut [f64],
+    labels: &mut [usize],
+    refusals: &mut [usize],
+) -> Result<(), Refusal>
+    ensures { (answers : ℕ → QueryAnswer)
+        → AnswersByWay way axes all knots.now tensor.now coordinates.now (length refusals.old) answers
+        → EachAnswered (queries_refusal (grid axes all knots.now) tensor.now coordinates.now values.old labels.old refusals.old) answers
+            values.old labels.old refusals.old (refusal_of result) values.new labels.new refusals.new }
+{
+    let points = grid::points_of(all);
+    check_queries(
+        axes,
+        &points,
+        knots.len(),
+        tensor.len(),
+        coordinates.len(),
+        values.len(),
+        labels.len(),
+        refusals.len(),
+    )?;
+    let modes = query_answer::modes_of(all);
+    each::answer_each(
+        way,
+        axes,
+        &points,
+        &modes,
+        knots,
+        tensor,
+        coordinates,
+        values,
+        labels,
+        refusals,
+    );
+    Ok(())
 }
 
 // PUBLIC. The quick query at each of as many points as refusals are lent: the coordinates of a point stand after those of the point before
@@ -54,38 +97,21 @@ pub fn quick_queries(
     values: &mut [f64],
     labels: &mut [usize],
     refusals: &mut [usize],
-) -> usize
+) -> Result<(), Refusal>
     ensures { QuickQueriesPromise (grid axes all knots.now) tensor.now coordinates.now values.old
-        labels.old refusals.old result values.new labels.new refusals.new }
+        labels.old refusals.old (refusal_of result) values.new labels.new refusals.new }
 {
-    let points = grid::points_of(all);
-    let refusal = queries_refusal(
-        axes,
-        &points,
-        knots.len(),
-        tensor.len(),
-        coordinates.len(),
-        values.len(),
-        labels.len(),
-        refusals.len(),
-    );
-    if refusal != 0 {
-        return refusal;
-    }
-    let modes = query_answer::modes_of(all);
-    each::answer_each(
+    queries(
         Way::Searched,
         axes,
-        &points,
-        &modes,
+        all,
         knots,
         tensor,
         coordinates,
         values,
         labels,
         refusals,
-    );
-    0
+    )
 }
 
 // PUBLIC. The direct query at each of as many points as refusals are lent, in the same way. Refuses 1 2 3 4, in this order, and then
@@ -99,36 +125,19 @@ pub fn direct_queries(
     values: &mut [f64],
     labels: &mut [usize],
     refusals: &mut [usize],
-) -> usize
+) -> Result<(), Refusal>
     ensures { DirectQueriesPromise (grid axes all knots.now) tensor.now coordinates.now values.old
-        labels.old refusals.old result values.new labels.new refusals.new }
+        labels.old refusals.old (refusal_of result) values.new labels.new refusals.new }
 {
-    let points = grid::points_of(all);
-    let refusal = queries_refusal(
-        axes,
-        &points,
-        knots.len(),
-        tensor.len(),
-        coordinates.len(),
-        values.len(),
-        labels.len(),
-        refusals.len(),
-    );
-    if refusal != 0 {
-        return refusal;
-    }
-    let modes = query_answer::modes_of(all);
-    each::answer_each(
+    queries(
         Way::Divided,
         axes,
-        &points,
-        &modes,
+        all,
         knots,
         tensor,
         coordinates,
         values,
         labels,
         refusals,
-    );
-    0
+    )
 }

@@ -21,23 +21,31 @@ use Rattle.rules.specs.Refusals.{
   some_knots_refused,
 }
 use Rattle.rules.specs.Even.{some_uneven_refused}
-use Rattle.rules.specs.Calls.{or_else}
 use Rattle.rules.specs.declared.Axis.{Axis}
-use Rattle.rules.proofs.Refused.{or_else_met, any_ext}
+use Rattle.rules.proofs.Refused.{or_else_met}
 use Rattle.rules.proofs.Sums.{sum_ext, product_ext}
-use Rattle.base_numbers.proofs.Scan.{any_never}
+use Rattle.base_numbers.proofs.Scan.{any_at, any_never}
 use Rattle.grid.specs.GridOfCall.{grid, points_of}
-use Rattle.grid_checks.specs.Check.{knots_of_points_refused}
-use Rattle.grid_checks.proofs.Rows.{rows_then, rows_below_10, none_applies, axes_few, in_range, exact, length_fits}
+use Rattle.grid.proofs.Knots.{knots_of_axis}
+use Rattle.std.specs.Prelude.{None}
+use Rattle.grid_checks.proofs.FiniteKnots.{axes_finite}
+use Rattle.grid_checks.proofs.Rows.{rows_then, none_applies, axes_few, in_range, exact as exact_length, length_fits}
 use Rattle.query_answer.specs.PointsAndModes.{PointsOf}
-use Rattle.query_even.specs.Qualities.{lacking_axis, lacking_place}
-use Rattle.query_even.specs.Lacking.{FirstLack, KnotsPass}
+use Rattle.query_answer.proofs.Accepted.{axis_numbers}
+use Rattle.query_even.specs.Qualities.{lacks, lacking_axis, lacking_place}
+use Rattle.query_even.specs.Lacking.{LackIs, FirstLack, KnotsPass}
 use Rattle.query_even.specs.declared.qualities.Quality.{Quality}
 use Rattle.query_even.specs.declared.qualities.Quality.TheVariants.{Finite, Rising, Even}
 use Rattle.query_even.specs.declared.qualities.Lack.{Lack}
-use Rattle.query_profile.specs.ProfileCalls.{told_of_lack, even_profile_refusal, even_profile_answer, EvenProfilePromise}
-use Rattle.query_profile.specs.Profiled.{profile_sizes_rows, profile_sizes_check, ProfileFits, profile_of}
-use Rattle.query_profile.specs.declared.EvenProfile.{EvenProfile}
+use Rattle.query_profile.specs.ProfileCalls.{
+  EvenProfile,
+  profile_of,
+  told_of_lack,
+  even_profile_refusal,
+  even_profile_answer,
+  EvenProfilePromise,
+}
+use Rattle.query_profile.specs.Profiled.{profile_sizes_rows, profile_sizes_check, ProfileFits}
 
 -- ---- where sizes and lengths are not refused
 
@@ -52,7 +60,7 @@ profile_fits axes points_in x four none =
       four_points = four;
       in_range = in_range few.0 few.1 rows.1.0;
       small = ltb-false most_in_a_tensor _ rows.1.1.0;
-      knots_exact = exact (length x) (sum_below n axes) rows.1.1.1.0;
+      knots_exact = exact_length (length x) (sum_below n axes) rows.1.1.1.0;
     }
 
 -- ---- they are refused
@@ -127,17 +135,30 @@ module _ (axes : ℕ) (points_in : List ℕ) (x : List Float) (fits : ProfileFit
   size_fine =
       le-ltb most_in_a_tensor (tensor_length g) (rw (product_ext (points g) (place_of points_in) axes are) fits.small)
 
+  exact : length x ≡ sum_below (points g) axes
+  exact = fits.knots_exact ∙ sym (sum_ext (points g) (place_of points_in) axes are)
+
   length_fine : length_refused (length x) (sum_below (points g) axes) ≡ false
-  length_fine = length_fits _ _ (fits.knots_exact ∙ sym (sum_ext (points g) (place_of points_in) axes are))
+  length_fine = length_fits _ _ exact
 
   -- what is looked at after 1 to 4 decides
   from_7 : even_profile_refusal g ≡ cond (some_number_refused x) 7 (cond (some_knots_refused g) 8 (cond (some_uneven_refused g) 21 0))
   unfolding even_profile_refusal
   from_7 = rw (axes_fine, points_fine, size_fine, length_fine) refl
 
-  same_knots : knots_of_points_refused axes (place_of points_in) x ≡ some_knots_refused g
-  same_knots = any_ext _ _ axes λ i l.
-      rw (are i l, sum_ext (points g) (place_of points_in) i (λ k h. are k (omega arith))) refl
+  -- an axis has a knot that is infinite or NaN where one of all knots is
+  same_numbers : any (λ i. lacks Finite (knots g i) (points g i)) axes ≡ some_number_refused x
+  same_numbers = go (some_number_refused x) refl (any (λ i. lacks Finite (knots g i) (points g i)) axes) refl
+    where
+      go : (all_knots : Bool) → some_number_refused x ≡ all_knots
+          → (on_axes : Bool) → any (λ i. lacks Finite (knots g i) (points g i)) axes ≡ on_axes → on_axes ≡ all_knots
+      go true e true f = refl
+      go false e false f = refl
+      go true e false f =
+          sym (axes_finite axes (points g) x exact (λ i l. any_at (λ j. lacks Finite (knots g j) (points g j)) axes f i l)) ∙ e
+      go false e true f =
+          sym f ∙ any_never (λ i. lacks Finite (knots g i) (points g i)) axes
+          (λ i l. rw (knots_of_axis g exact i l) at (axis_numbers g exact e i l))
 
   -- where the knots pass, none does
   pub passed_0 : KnotsPass g → (r : EvenProfile) → r ≡ profile_of 0 0 0 → EvenProfilePromise g r
@@ -145,35 +166,30 @@ module _ (axes : ℕ) (points_in : List ℕ) (x : List Float) (fits : ProfileFit
 
   -- the number asks for the quality that an axis lacks
   told : (number : ℕ) (quality : Quality) → ((of : Quality → ℕ) → told_of_lack number of ≡ of quality) → even_profile_refusal g ≡ number
-      → (lack : Lack) → FirstLack quality g lack → (r : EvenProfile) → r ≡ profile_of number lack.axis lack.place
-      → EvenProfilePromise g r
+      → (lack : Lack) → LackIs quality g lack → EvenProfilePromise g (profile_of number lack.axis lack.place)
   unfolding even_profile_answer
-  told number quality asks met lack tells r is = record {
-    answer = is
-        ∙ ap₂ (profile_of number) (tells.axis ∙ sym (asks (λ other. lacking_axis other g)))
+  told number quality asks met lack tells = record {
+    answer = ap₂ (profile_of number) (tells.axis ∙ sym (asks (λ other. lacking_axis other g)))
         (tells.place ∙ sym (asks (λ other. lacking_place other g)))
         ∙ rw met refl;
   }
 
-  pub told_7 : {numbers : Bool} → numbers ≡ some_number_refused x → numbers ≡ true
-      → (lack : Lack) → FirstLack Finite g lack → (r : EvenProfile) → r ≡ profile_of 7 lack.axis lack.place → EvenProfilePromise g r
-  told_7 looked some = told 7 Finite (λ of. refl) (from_7 ∙ rw (← looked, some) refl)
+  pub told_7 : (lack : Lack) → LackIs Finite g lack → EvenProfilePromise g (profile_of 7 lack.axis lack.place)
+  told_7 lack tells = told 7 Finite (λ of. refl) (from_7 ∙ rw (← same_numbers, tells.some) refl) lack tells
 
-  module _ {numbers : Bool} (looked : numbers ≡ some_number_refused x) (finite : numbers ≡ false) {steps : Bool}
-      (walked : steps ≡ knots_of_points_refused axes (place_of points_in) x) where
-    from_8 : even_profile_refusal g ≡ cond steps 8 (cond (some_uneven_refused g) 21 0)
-    from_8 = from_7 ∙ rw (← looked, finite, ← same_knots, ← walked) refl
+  module _ (finite : FirstLack Finite g None) where
+    from_8 : even_profile_refusal g ≡ cond (some_knots_refused g) 8 (cond (some_uneven_refused g) 21 0)
+    from_8 = from_7 ∙ rw (← same_numbers, finite) refl
 
-    pub told_8 : steps ≡ true → (lack : Lack) → FirstLack Rising g lack → (r : EvenProfile) → r ≡ profile_of 8 lack.axis lack.place
-        → EvenProfilePromise g r
-    told_8 some = told 8 Rising (λ of. refl) (from_8 ∙ rw some refl)
+    pub told_8 : (lack : Lack) → LackIs Rising g lack → EvenProfilePromise g (profile_of 8 lack.axis lack.place)
+    told_8 lack tells = told 8 Rising (λ of. refl) (from_8 ∙ rw tells.some refl) lack tells
 
-    module _ (rise : steps ≡ false) (lack : Lack) (tells : FirstLack Even g lack) where
-      from_21 : even_profile_refusal g ≡ cond lack.found 21 0
-      from_21 = from_8 ∙ rw (rise, tells.found) refl
+    module _ (rise : FirstLack Rising g None) where
+      from_21 : even_profile_refusal g ≡ cond (some_uneven_refused g) 21 0
+      from_21 = from_8 ∙ rw rise refl
 
-      pub told_21 : lack.found ≡ true → (r : EvenProfile) → r ≡ profile_of 21 lack.axis lack.place → EvenProfilePromise g r
-      told_21 some = told 21 Even (λ of. refl) (from_21 ∙ rw some refl) lack tells
+      pub told_21 : (lack : Lack) → LackIs Even g lack → EvenProfilePromise g (profile_of 21 lack.axis lack.place)
+      told_21 lack tells = told 21 Even (λ of. refl) (from_21 ∙ rw tells.some refl) lack tells
 
-      pub told_0 : lack.found ≡ false → (r : EvenProfile) → r ≡ profile_of 0 0 0 → EvenProfilePromise g r
-      told_0 none = nothing_told g 0 (from_21 ∙ rw none refl) (omega arith)
+      pub told_0 : FirstLack Even g None → EvenProfilePromise g (profile_of 0 0 0)
+      told_0 even = nothing_told g 0 (from_21 ∙ rw even refl) (omega arith) _ refl

@@ -7,20 +7,10 @@ use Prim.Native.Nat.{ℕ}
 use lib.Dec.{eqb}
 use lib.ListN.{length}
 use lib.Ieee.{Float}
-use Rattle.rules.specs.Numbers.{at}
 use Rattle.rules.specs.Sizes.{Grid, knots_length, tensor_length}
-use Rattle.rules.specs.Refusals.{
-  axes_refused,
-  some_points_refused,
-  tensor_refused,
-  length_refused,
-  some_number_refused,
-  some_knots_refused,
-  answer_refused,
-}
-use Rattle.rules.specs.Outside.{with_axes, ButForModes, some_outside_refused}
+use Rattle.rules.specs.Refusals.{axes_refused, some_points_refused, tensor_refused, length_refused, some_number_refused, some_knots_refused}
+use Rattle.rules.specs.Outside.{with_axes, ButForModes}
 use Rattle.rules.specs.Even.{some_uneven_refused}
-use Rattle.rules.specs.Query.{even_query}
 use Rattle.rules.specs.Calls.{query_lengths_refused}
 use Rattle.rules.specs.EvenCalls.{nothing_told, even_query_refusal, even_query_answer}
 use Rattle.rules.specs.declared.Axis.{Axis}

@@ -1,5 +1,5 @@
 -- The chapter ProfileCalls of docs/RULES.md: the refusal of the profile of even axes, and its answer.
-use Rattle.std.specs.Prelude.{◌≡◌, cond, ℕ, eqb, length}
+use Rattle.std.specs.Prelude.{◌≡◌, cond, ℕ, eqb, length, Result, Ok, Err}
 use Rattle.rules.specs.Sizes.{Grid, knots_length}
 use Rattle.rules.specs.Refusals.{
   axes_refused,
@@ -13,7 +13,27 @@ use Rattle.rules.specs.Even.{some_uneven_refused}
 use Rattle.query_even.specs.Qualities.{lacking_axis, lacking_place}
 use Rattle.query_even.specs.declared.qualities.Quality.{Quality}
 use Rattle.query_even.specs.declared.qualities.Quality.TheVariants.{Finite, Rising, Even}
-use Rattle.query_profile.specs.declared.EvenProfile.{EvenProfile}
+use Rattle.rules.specs.Answers.{number_of}
+use Rattle.query_profile.specs.declared.ProfileRefusal.{ProfileRefusal}
+use Rattle.query_profile.specs.declared.ProfileRefusal.TheVariants.{Refused, NotFinite, NotRising, Uneven}
+
+-- the answer, told in numbers as C is told it: the number of the refusal, 0 for none; after 7, 8 and 21 the lowest axis that is refused and
+-- its first knot or interval that is, both 0 else
+pub record EvenProfile : Type 0 where
+  pub refusal : ℕ
+  pub axis : ℕ
+  pub place : ℕ
+
+-- an answer of these numbers
+abbrev pub profile_of : ℕ → ℕ → ℕ → EvenProfile
+profile_of refusal axis place = record { refusal = refusal; axis = axis; place = place }
+
+abbrev pub even_profile_told : {T : Type 0} → Result T ProfileRefusal → EvenProfile
+even_profile_told (Ok given) = profile_of 0 0 0
+even_profile_told (Err (Refused refusal)) = profile_of (number_of refusal) 0 0
+even_profile_told (Err (NotFinite lack)) = profile_of 7 lack.axis lack.place
+even_profile_told (Err (NotRising lack)) = profile_of 8 lack.axis lack.place
+even_profile_told (Err (Uneven lack)) = profile_of 21 lack.axis lack.place
 
 -- what is told of the quality that a refusal asks for, and 0 where it asks for none
 abbrev pub told_of_lack : ℕ → (Quality → ℕ) → ℕ

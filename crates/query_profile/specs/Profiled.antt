@@ -7,8 +7,7 @@ use Rattle.grid.specs.GridOfCall.{grid, InRange}
 use Rattle.grid_checks.specs.Tables.{Refusal, row, lowest}
 use Rattle.grid_checks.specs.Check.{points_rows}
 use Rattle.query_answer.specs.PointsAndModes.{PointsOf}
-use Rattle.query_profile.specs.ProfileCalls.{EvenProfilePromise}
-use Rattle.query_profile.specs.declared.EvenProfile.{EvenProfile}
+use Rattle.query_profile.specs.ProfileCalls.{EvenProfile, EvenProfilePromise}
 
 -- 1 to 4 of axes with n i points on axis i and so many knots
 abbrev pub profile_sizes_rows : ℕ → (ℕ → ℕ) → ℕ → List Refusal
@@ -28,7 +27,3 @@ pub record ProfileFits (axes : ℕ) (points : List ℕ) (x : List Float) : Type 
 -- what is promised of the grid of any axes that have these points
 abbrev pub ProfileAmong : ℕ → List ℕ → List Float → EvenProfile → Type 0
 ProfileAmong axes points x r = (all : List Axis) → PointsOf axes points all → EvenProfilePromise (grid axes all x) r
-
--- an answer of these numbers
-abbrev pub profile_of : ℕ → ℕ → ℕ → EvenProfile
-profile_of refusal axis place = record { refusal = refusal; axis = axis; place = place }

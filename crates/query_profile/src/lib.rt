@@ -5,99 +5,89 @@
 
 ghost use Rattle.std.specs.Prelude.{◌≡◌, length};
 ghost use Rattle.rules.specs.Sizes.{place_of};
+ghost use Rattle.rules.specs.Answers.{refusal_of};
 ghost use Rattle.grid.specs.GridOfCall.{grid};
-ghost use Rattle.query_profile.specs.ProfileCalls.{EvenProfilePromise};
-ghost use Rattle.query_profile.specs.Profiled.{profile_sizes_check, profile_of, ProfileFits, ProfileAmong};
+ghost use Rattle.query_profile.specs.declared.ProfileRefusal.TheVariants.{Refused};
+ghost use Rattle.query_profile.specs.ProfileCalls.{even_profile_told, EvenProfilePromise};
+ghost use Rattle.query_profile.specs.Profiled.{profile_sizes_check, ProfileFits, ProfileAmong};
 
-use grid_checks::{lengths, numbers, rising, sizes};
-use query_even::qualities::Quality;
+use grid_checks::{lengths, sizes};
+use query_even::qualities::{Lack, Quality};
 use query_even::{pass, qualities};
-use rules::Axis;
+use rules::{Axis, Refusal};
 
-// A refusal's number, 0 for none; after 7, 8 and 21 the lowest axis that is refused and its first knot or interval that is, both counted
-// from 0. They are 0 in every other answer.
+// Why the profile refuses: for its sizes and lengths, or for the knots of the lowest axis that lacks a quality, and there for the first knot
+// or interval that does.
 #[derive(Clone, Copy)]
-pub struct EvenProfile {
-    pub refusal: usize,
-    pub axis: usize,
-    pub place: usize,
+pub enum ProfileRefusal {
+    Refused(Refusal),
+    NotFinite(Lack),
+    NotRising(Lack),
+    Uneven(Lack),
 }
 
-// A refusal with an axis and a place.
-fn profile_of(refusal: usize, axis: usize, place: usize) -> EvenProfile
-    ensures { result ≡ profile_of refusal axis place }
-{
-    EvenProfile {
-        refusal,
-        axis,
-        place,
+impl From<Refusal> for ProfileRefusal {
+    ghost from_gives = { λ refusal given. given ≡ Refused refusal };
+
+    fn from(refusal: Refusal) -> ProfileRefusal {
+        ProfileRefusal::Refused(refusal)
     }
 }
 
-// What axes of so many points and so many knots meet: 1, 2, 3, 4, or 0. Not a public call: four points are required.
-fn profile_sizes_refusal(axes: usize, points: &[usize], knots: usize) -> usize
+// What axes of so many points and so many knots meet: 1, 2, 3 or 4. Not a public call: four points are required.
+fn check_profile_sizes(axes: usize, points: &[usize], knots: usize) -> Result<(), Refusal>
     requires { length points.now ≡ 4 }
-    ensures { result ≡ profile_sizes_check axes (place_of points.now) knots }
+    ensures { refusal_of result ≡ profile_sizes_check axes (place_of points.now) knots }
 {
     if sizes::axes_refused(axes) {
-        return 1;
+        return Err(Refusal::Axes);
     }
-    let found = sizes::sizes_of_points(axes, points);
-    if found.refusal != 0 {
-        return found.refusal;
-    }
+    let found = sizes::sizes_of_points(axes, points)?;
     if lengths::length_refused(knots, found.knots) {
-        return 4;
+        return Err(Refusal::Length);
     }
-    0
+    Ok(())
 }
 
-// PUBLIC. Whether the knots of a grid are such that the query of even axes refuses neither them nor an axis: where the refusal is 0, the
+// PUBLIC. Whether the knots of a grid are such that the query of even axes refuses neither them nor an axis: where nothing is refused, the
 // direct query gives that query's whole answer, for every tensor, every modes and every coordinates. Refuses 1 2 3 4 7 8 21, in this order,
-// 4 for the knots and 7 in the knots alone. After 7 axis and place are the lowest axis with a knot that is infinite or NaN and its first;
-// after 8 the lowest axis whose knots are refused and its first interval that does not rise by a finite step; after 21 the lowest axis that
-// is not even and its first interval that fails. Both are counted from 0, and are 0 in every other answer.
-pub fn even_profile(axes: usize, all: [Axis; 4], knots: &[f64]) -> EvenProfile
-    ensures { EvenProfilePromise (grid axes all knots.now) result }
+// 4 for the knots and 7 in the knots alone. 7 tells the lowest axis with a knot that is infinite or NaN and its first; 8 the lowest axis
+// whose knots are refused and its first interval that does not rise by a finite step; 21 the lowest axis that is not even and its first
+// interval that fails. All are counted from 0.
+pub fn even_profile(axes: usize, all: [Axis; 4], knots: &[f64]) -> Result<(), ProfileRefusal>
+    ensures { EvenProfilePromise (grid axes all knots.now) (even_profile_told result) }
 {
     let points = grid::points_of(all);
-    let refusal = profile_sizes_refusal(axes, &points, knots.len());
-    if refusal != 0 {
-        return profile_of(refusal, 0, 0);
-    }
+    check_profile_sizes(axes, &points, knots.len())?;
     even_profile_of_points(axes, &points, knots)
 }
 
 // The same where knots may be refused: 7, 8 and 21 are looked for one after the other. Not a public call: that 1 to 4 do not apply is
 // required, and four points.
-fn even_profile_by_walks(axes: usize, points: &[usize], knots: &[f64]) -> EvenProfile
+fn even_profile_by_walks(axes: usize, points: &[usize], knots: &[f64]) -> Result<(), ProfileRefusal>
     requires { ProfileFits axes points.now knots.now }
-    ensures { ProfileAmong axes points.now knots.now result }
+    ensures { ProfileAmong axes points.now knots.now (even_profile_told result) }
 {
-    let knots_refused = rising::knots_of_points_refused(axes, points, knots);
-    if numbers::some_knot_refused(knots_refused, knots) {
-        let lack = qualities::first_lacking(Quality::Finite, axes, points, knots);
-        return profile_of(7, lack.axis, lack.place);
+    if let Some(lack) = qualities::first_lacking(Quality::Finite, axes, points, knots) {
+        return Err(ProfileRefusal::NotFinite(lack));
     }
-    if knots_refused {
-        let lack = qualities::first_lacking(Quality::Rising, axes, points, knots);
-        return profile_of(8, lack.axis, lack.place);
+    if let Some(lack) = qualities::first_lacking(Quality::Rising, axes, points, knots) {
+        return Err(ProfileRefusal::NotRising(lack));
     }
-    let lack = qualities::first_lacking(Quality::Even, axes, points, knots);
-    if lack.found {
-        return profile_of(21, lack.axis, lack.place);
+    match qualities::first_lacking(Quality::Even, axes, points, knots) {
+        Some(lack) => Err(ProfileRefusal::Uneven(lack)),
+        None => Ok(()),
     }
-    profile_of(0, 0, 0)
 }
 
 // The same on axes of these points, where 1 to 4 do not apply: one pass over the knots as the query of even axes makes it, and only where
 // it finds what may be refused the rest. Not a public call: that 1 to 4 do not apply is required, and four points.
-pub fn even_profile_of_points(axes: usize, points: &[usize], knots: &[f64]) -> EvenProfile
+pub fn even_profile_of_points(axes: usize, points: &[usize], knots: &[f64]) -> Result<(), ProfileRefusal>
     requires { ProfileFits axes points.now knots.now }
-    ensures { ProfileAmong axes points.now knots.now result }
+    ensures { ProfileAmong axes points.now knots.now (even_profile_told result) }
 {
     if pass::knots_may_be_refused(axes, points, knots) {
         return even_profile_by_walks(axes, points, knots);
     }
-    profile_of(0, 0, 0)
+    Ok(())
 }

@@ -1,6 +1,6 @@
 -- The chapter Answers of docs/RULES.md: what calls answer, told in numbers as C is told it: the number of the refusal, 0 for none, and
 -- beside it what is answered, +0.0 and 0 after a refusal.
-use Rattle.std.specs.Prelude.{ℕ, List, Float, Option, Some, None, Result, Ok, Err}
+use Rattle.std.specs.Prelude.{ℕ, List, Float, Option, None, Result, Ok, Err}
 use Rattle.rules.specs.Numbers.{plus_zero, table}
 use Rattle.rules.specs.Sizes.{most_axes}
 use Rattle.rules.specs.declared.Refusal.{Refusal}

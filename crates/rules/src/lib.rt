@@ -6,6 +6,7 @@ ghost use Rattle.std.specs.Prelude.{◌≡◌};
 ghost use Rattle.rules.specs.Ends.{zero_valued, crossed, not_a_knot, natural, clamped, periodic, first_derivative, second_derivative};
 ghost use Rattle.rules.specs.Sizes.{unused_axis};
 ghost use Rattle.rules.specs.Answers.{number_of, refusal_of};
+ghost use Rattle.rules.specs.declared.EvenRefusal.TheVariants.{Refused};
 
 // An end of an axis.
 #[derive(Clone, Copy)]
@@ -133,6 +134,14 @@ impl Refusal {
         ensures { result ≡ number_of self }
     {
         self as usize
+    }
+}
+
+impl From<Refusal> for EvenRefusal {
+    ghost from_gives = { λ refusal given. given ≡ Refused refusal };
+
+    fn from(refusal: Refusal) -> EvenRefusal {
+        EvenRefusal::Refused(refusal)
     }
 }
 

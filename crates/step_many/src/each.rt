@@ -31,8 +31,7 @@ pub fn answer_each(
     let met = grid_checks::knots_and_coordinates_refusal(axes, points, knots, samples);
     let count = refusals.len();
     let mut begin = 0;
-    let mut j = 0;
-    while j < count {
+    for j in 0..count {
         let end = begin + axes;
         let given = step_surface::answer(
             met,
@@ -51,6 +50,5 @@ pub fn answer_each(
         };
         store_answer(values, indices, refusals, j, answer);
         begin = end;
-        j += 1;
     }
 }

@@ -27,14 +27,12 @@ module _ (axes : ℕ) (n : ℕ → ℕ) (x : List Float) (directions : List Step
   -- the indices of the first i axes stand, and the knots of the next begin at `begin`
   pub record Turn (indices : List ℕ) (number begin i : ℕ) : Type 0 where
     pub given : AxesGiven axes n x coordinates
-    pub most : i ≤ axes
     pub begun : begin ≡ sum_below n i
     pub on_axes : OnAxes n x directions coordinates i number indices
 
   pub turn_first : AxesGiven axes n x coordinates → Turn (replicate 4 0) 0 0 0
   turn_first given = record {
     given = given;
-    most = omega arith;
     begun = sym (sum_none n);
     on_axes = record {
       four = refl;
@@ -105,7 +103,6 @@ module _ (axes : ℕ) (n : ℕ → ℕ) (x : List Float) (directions : List Step
         pub turn_next : Turn later (number * n i + index) (begin + n i) (i + 1)
         turn_next = record {
           given = turn.given;
-          most = omega arith;
           begun = rw (sum_more, turn.begun) refl;
           on_axes = record {
             four = simp length-set turn.on_axes.four;
@@ -116,5 +113,5 @@ module _ (axes : ℕ) (n : ℕ → ℕ) (x : List Float) (directions : List Step
           };
         }
 
-    pub turn_last : axes ≤ i → OnAxes n x directions coordinates axes number indices
-    turn_last h = let e : i ≡ axes = omega (arith, turn.most) in rw e at turn.on_axes
+    pub turn_last : i ≡ axes → OnAxes n x directions coordinates axes number indices
+    turn_last e = rw e at turn.on_axes

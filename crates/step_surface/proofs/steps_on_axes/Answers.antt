@@ -11,12 +11,6 @@ overflow_add-end c = omega (arith, end_within _ _ _ _ _ _ _ _ _ c.loop-i.invaria
 pub offset_bounds-knots-begin : goal.offset_bounds-knots-begin
 offset_bounds-knots-begin c = omega (arith, end_within _ _ _ _ _ _ _ _ _ c.loop-i.invariant c.loop-i-test.true)
 
-pub slice_bounds-step_index-count : goal.slice_bounds-step_index-count
-slice_bounds-step_index-count c = omega (arith, end_within _ _ _ _ _ _ _ _ _ c.loop-i.invariant c.loop-i-test.true)
-
-pub slice_bounds-step_index-start : goal.slice_bounds-step_index-start
-slice_bounds-step_index-start c = omega (arith, end_within _ _ _ _ _ _ _ _ _ c.loop-i.invariant c.loop-i-test.true)
-
 pub slice_bounds-step_index-end : goal.slice_bounds-step_index-end
 slice_bounds-step_index-end c = omega (arith, end_within _ _ _ _ _ _ _ _ _ c.loop-i.invariant c.loop-i-test.true)
 
@@ -43,4 +37,4 @@ pub loop-i-preserved : goal.loop-i-preserved
 loop-i-preserved c = turn_next _ _ _ _ _ _ _ _ _ c.loop-i.invariant c.loop-i-test.true _ c.step_index-index.ensures
 
 pub returns : goal.returns
-returns c = turn_last _ _ _ _ _ _ _ _ _ c.loop-i.invariant c.loop-i-test.false
+returns c = turn_last _ _ _ _ _ _ _ _ _ c.loop-i.invariant (omega (arith, c.loop-i.auto.i-end, c.loop-i-test.false))

@@ -1,6 +1,5 @@
 -- The walk over the axes: the indices below `i` are the rules' steps, those from `i` on 0, `number` is that of their place, and `begin` is
--- where the knots of axis `i` begin. The measure is the axes left.
-use Prim.Native.Nat.{◌-◌}
+-- where the knots of axis `i` begin.
 use Rattle.rules.specs.Sizes.{place_of}
 use Rattle.step_surface.proofs.Stepping.{Turn}
 use Rattle.step_surface.proofs.steps_on_axes.Given as goal

@@ -1,5 +1,5 @@
 -- No axis below `i` has an end that is refused by 7, and the first that has one answers. The measure is the axes left.
-use Prim.Native.Nat.{◌≤◌, ◌-◌}
+use Prim.Native.Nat.{◌≤◌}
 use mathlib.Core.Path.{◌≡◌}
 use mathlib.Core.Bool.{false}
 use Rattle.rules.specs.Numbers.{any}

@@ -1,5 +1,5 @@
 -- Refusal 9 of a grid: each axis below `i` has points enough for its condition. The measure is the axes left.
-use Prim.Native.Nat.{◌≤◌, ◌-◌}
+use Prim.Native.Nat.{◌≤◌}
 use mathlib.Core.Path.{◌≡◌}
 use mathlib.Core.Bool.{false}
 use Rattle.rules.specs.Numbers.{any}

@@ -1,6 +1,6 @@
 -- `start` is how many knots the axes below `i` have, and none of those axes is refused by 8; the part lent is the knots of axis `i`
 -- (`part_refused`). The measure is the axes left.
-use Prim.Native.Nat.{◌-◌, ◌≤◌}
+use Prim.Native.Nat.{◌≤◌}
 use mathlib.Core.Path.{◌≡◌}
 use mathlib.Core.Bool.{false}
 use lib.ListN.{take, drop}

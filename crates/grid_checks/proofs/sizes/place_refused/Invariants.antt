@@ -1,6 +1,6 @@
 -- Refusal 6: on every axis below `i` the index lies below the points, and the first axis where it does not answers. The measure is
 -- the axes left.
-use Prim.Native.Nat.{◌≤◌, ◌-◌}
+use Prim.Native.Nat.{◌≤◌}
 use mathlib.Core.Path.{◌≡◌}
 use mathlib.Core.Bool.{false}
 use lib.Dec.{leb}

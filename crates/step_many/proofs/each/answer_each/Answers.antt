@@ -1,6 +1,6 @@
 use native.Mathlib.Omega.{arith}
 use mathlib.Core.Path.{refl, sym, ◌∙◌}
-use Rattle.many_points.proofs.Turns.{turn_first, end_within, part_fits, room, fewer_left, turn_next, turn_last}
+use Rattle.many_points.proofs.Turns.{turn_first, end_within, part_fits, room, turn_next, turn_last}
 use Rattle.step_many.proofs.Stepping.{knots_fit, point_fits, among}
 use Rattle.step_many.proofs.each.answer_each.Goals as goal
 
@@ -16,12 +16,6 @@ overflow_add-end c = omega (arith, end_within _ _ _ _ _ _ _ _ _ _ c.loop-j.invar
 pub offset_bounds-coordinates-begin : goal.offset_bounds-coordinates-begin
 offset_bounds-coordinates-begin c = omega (arith, end_within _ _ _ _ _ _ _ _ _ _ c.loop-j.invariant c.loop-j-test.true)
 
-pub slice_bounds-answer-count : goal.slice_bounds-answer-count
-slice_bounds-answer-count c = omega (arith, end_within _ _ _ _ _ _ _ _ _ _ c.loop-j.invariant c.loop-j-test.true)
-
-pub slice_bounds-answer-start : goal.slice_bounds-answer-start
-slice_bounds-answer-start c = omega (arith, end_within _ _ _ _ _ _ _ _ _ _ c.loop-j.invariant c.loop-j-test.true)
-
 pub slice_bounds-answer-end : goal.slice_bounds-answer-end
 slice_bounds-answer-end c = omega (arith, end_within _ _ _ _ _ _ _ _ _ _ c.loop-j.invariant c.loop-j-test.true)
 
@@ -34,12 +28,6 @@ answer-given-requires c = (
 
 pub store_answer-requires : goal.store_answer-requires
 store_answer-requires c = room _ _ _ _ _ _ _ _ _ _ c.loop-j.invariant c.loop-j-test.true
-
-pub overflow_add-j : goal.overflow_add-j
-overflow_add-j c = record { fits = omega (arith, c.loop-j-test.true, c.well_formed.1.1.1.1.1.1.1.1.0.0) }
-
-pub loop-j-smaller : goal.loop-j-smaller
-loop-j-smaller c = fewer_left _ _ _ _ _ _ _ _ _ _ c.loop-j.invariant c.loop-j-test.true
 
 pub loop-j-preserved : goal.loop-j-preserved
 loop-j-preserved c =
