@@ -1,6 +1,6 @@
 -- The exit of a `?`: what a function gives there is the refusal that it has met, and that has a number.
 use mathlib.Core.Path.{◌≡◌, refl, ap}
-use Prim.Native.Nat.{◌<◌}
+use Prim.Native.Nat.{◌<◌, ◌≤◌}
 use native.Mathlib.Omega.{arith}
 use Rattle.std.specs.Prelude.{Result, Err}
 use Rattle.std.specs.Result.{IsErrAnd}
@@ -68,3 +68,32 @@ number_some refusal e =
       | Mode ↦ omega arith
       | Lost ↦ omega arith
     ] in omega (arith, e, some)
+
+-- and none has one above 23
+pub number_most : (refusal : Refusal) → number_of refusal ≤ 23
+number_most refusal =
+    elim refusal as (λ r. number_of r ≤ 23) [
+      Axes ↦ omega arith |
+      Points ↦ omega arith |
+      Tensor ↦ omega arith |
+      Length ↦ omega arith |
+      Scratch ↦ omega arith |
+      Place ↦ omega arith |
+      Number ↦ omega arith |
+      Knots ↦ omega arith |
+      Fewness ↦ omega arith |
+      Outcome ↦ omega arith |
+      Short ↦ omega arith |
+      Edition ↦ omega arith |
+      Kinds ↦ omega arith |
+      Tail ↦ omega arith |
+      Buffer ↦ omega arith |
+      Stack ↦ omega arith |
+      Unused ↦ omega arith |
+      Outside ↦ omega arith |
+      Range ↦ omega arith |
+      Position ↦ omega arith |
+      Uneven ↦ omega arith |
+      Mode ↦ omega arith |
+      Lost ↦ omega arith
+    ]

@@ -14,9 +14,8 @@ use Rattle.sheet_read.specs.Fields.{edition, axes, sheet_grid, sheet_samples}
 use Rattle.sheet_read.specs.Faults.{sheet_refusal}
 use Rattle.sheet_read.specs.Read.{over}
 use Rattle.sheet_read.proofs.Parts.{parts, take_over}
-use Rattle.sheet_build.specs.SheetTensor.{answer_of, own_refusal, SheetPromise}
+use Rattle.sheet_build.specs.SheetTensor.{answer_of, own_refusal, SheetPromise, SheetAnswer}
 use Rattle.sheet_build.specs.LentEnough.{Enough}
-use Rattle.sheet_build.specs.declared.SheetAnswer.{SheetAnswer}
 use Rattle.sheet_build.proofs.Builds.{answered_refusal, length_tensor}
 use Rattle.sheet_build.proofs.Enough.{reading_is, refusal_is}
 

@@ -13,8 +13,7 @@ use Rattle.rules.specs.declared.Axis.{Axis}
 use Rattle.grid.specs.GridOfCall.{grid, sizes_of}
 use Rattle.sheet_read.specs.Read.{over}
 use Rattle.rules.proofs.Refused.{none_counted}
-use Rattle.sheet_build.specs.SheetTensor.{unread_answer, read_answer, answer_of, grid_in, samples_in, parts_refusal, PartsPromise}
-use Rattle.sheet_build.specs.declared.SheetAnswer.{SheetAnswer}
+use Rattle.sheet_build.specs.SheetTensor.{unread_answer, read_answer, answer_of, grid_in, samples_in, parts_refusal, PartsPromise, SheetAnswer}
 
 -- a refusal before the build is answered as such
 pub unread_is : (reading refusal edition : ℕ) (g : Grid) → (reading ≡ 0 → ⊥) → unread_answer refusal ≡ answer_of reading refusal edition g

@@ -35,8 +35,8 @@ use Rattle.sheet_build.specs.SheetTensor.{
   reading_refusal,
   sheet_tensor_refusal,
   SheetPromise,
+  SheetAnswer,
 }
-use Rattle.sheet_build.specs.declared.SheetAnswer.{SheetAnswer}
 use Rattle.sheet_build.proofs.Faults.{reading_of_reading}
 use Rattle.sheet_build.proofs.Builds.{unread_is, answered_refusal}
 use Rattle.sheet_build.proofs.Promises.{refusal_met, refusal_passed, read_passed}

@@ -28,8 +28,8 @@ use Rattle.sheet_build.specs.SheetTensor.{
   reading_refusal,
   sheet_tensor_refusal,
   SheetPromise,
+  SheetAnswer,
 }
-use Rattle.sheet_build.specs.declared.SheetAnswer.{SheetAnswer}
 use Rattle.sheet_build.proofs.Builds.{answered_refusal, length_tensor}
 use Rattle.sheet_build.proofs.Promises.{read_passed}
 

@@ -4,8 +4,7 @@ use mathlib.Core.Path.{◌≡◌, sym, ◌∙◌}
 use mathlib.Core.List.{List}
 use Prim.Native.Nat.{ℕ}
 use lib.Ieee.{Float}
-use Rattle.sheet_build.specs.SheetTensor.{SheetPromise}
-use Rattle.sheet_build.specs.declared.SheetAnswer.{SheetAnswer}
+use Rattle.sheet_build.specs.SheetTensor.{SheetPromise, SheetAnswer}
 
 pub sheet_unique :
     (bytes : List ℕ) (knots samples tensor scratch : List Float) (a a' : SheetAnswer) (k k' s s' t t' w w' : List Float)

@@ -1,17 +1,28 @@
 -- The chapter SheetTensor of docs/RULES.md: the public call `tensor_of_sheet`, its refusal, its answer, and what stands afterwards in all
 -- that it was lent.
-use Rattle.std.specs.Prelude.{◌≡◌, cond, List, ℕ, zero, suc, ◌≤◌, length, take, Float}
+use Rattle.std.specs.Prelude.{◌≡◌, cond, List, ℕ, zero, suc, ◌≤◌, length, take, Float, Result, Ok, Err}
 use Rattle.rules.specs.Numbers.{zeros, table}
 use Rattle.rules.specs.Sizes.{most_axes, most_in_a_tensor, unused_axis, Grid, knots_length, samples_length, tensor_length, scratch_length}
 use Rattle.rules.specs.Refusals.{length_refused}
 use Rattle.rules.specs.Tensor.{tensor}
 use Rattle.rules.specs.Calls.{or_else, stored, counted, scratch_after, build_refusal}
+use Rattle.rules.specs.Answers.{number_of}
 use Rattle.rules.specs.declared.Axis.{Axis}
 use Rattle.grid.specs.GridOfCall.{grid, sizes_of, points_of, InRange}
 use Rattle.sheet_read.specs.Fields.{edition, sheet_grid, sheet_samples}
 use Rattle.sheet_read.specs.Faults.{sheet_refusal}
 use Rattle.sheet_read.specs.Read.{over, read_refusal}
-use Rattle.sheet_build.specs.declared.SheetAnswer.{SheetAnswer}
+use Rattle.sheet_build.specs.declared.BuiltSheet.{BuiltSheet}
+use Rattle.sheet_build.specs.declared.SheetRefusal.{SheetRefusal}
+use Rattle.sheet_build.specs.declared.SheetRefusal.TheVariants.{Unread, Unbuilt}
+
+-- the answer in numbers: the refusal, the edition, how many axes there are, the four axes, and how many numbers the tensor has
+pub record SheetAnswer : Type 0 where
+  pub refusal : ℕ
+  pub edition : ℕ
+  pub axes : ℕ
+  pub all : List Axis
+  pub length : ℕ
 
 -- the answer of a sheet that is not read: no edition, no axes, all four as not in use, and no numbers
 abbrev pub unread_answer : ℕ → SheetAnswer
@@ -31,6 +42,24 @@ read_answer refusal edition g = record {
 abbrev pub answer_of : ℕ → ℕ → ℕ → Grid → SheetAnswer
 answer_of zero refusal edition g = read_answer refusal edition g
 answer_of (suc reading) refusal edition g = unread_answer refusal
+
+-- the answer of what the call gives
+abbrev pub sheet_told : Result BuiltSheet SheetRefusal → SheetAnswer
+sheet_told (Ok built) = record {
+  refusal = 0;
+  edition = built.sheet.edition;
+  axes = built.sheet.axes;
+  all = built.sheet.all;
+  length = built.length;
+}
+sheet_told (Err (Unread refusal)) = unread_answer (number_of refusal)
+sheet_told (Err (Unbuilt refusal sheet)) = record {
+  refusal = number_of refusal;
+  edition = sheet.edition;
+  axes = sheet.axes;
+  all = sheet.all;
+  length = 0;
+}
 
 -- ---- a build whose numbers stand in the first places of buffers
 

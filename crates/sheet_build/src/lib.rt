@@ -3,53 +3,54 @@
 #![tactic(auto)]
 
 ghost use Rattle.std.specs.Prelude.{◌≡◌};
-ghost use Rattle.sheet_build.specs.SheetTensor.{unread_answer, grid_in, samples_in, PartsGiven, PartsPromise, SheetPromise};
+ghost use Rattle.sheet_build.specs.declared.SheetRefusal.TheVariants.{Unread};
+ghost use Rattle.sheet_build.specs.SheetTensor.{sheet_told, grid_in, samples_in, PartsGiven, PartsPromise, SheetPromise};
 
-use grid_codes::classes::{is_built, is_unread};
-use rules::Axis;
+use rules::Refusal;
+use sheet_read::Sheet;
 
-// A refusal's number, 0 for none, the sheet's edition, how many axes there are, the four axes, and how many numbers the tensor has.
+// What a sheet says whose tensor is built, and how many numbers the tensor has.
 #[derive(Clone, Copy)]
-pub struct SheetAnswer {
-    pub refusal: usize,
-    pub edition: usize,
-    pub axes: usize,
-    pub all: [Axis; 4],
+pub struct BuiltSheet {
+    pub sheet: Sheet,
     pub length: usize,
 }
 
-// The answer of a sheet that was not read: no edition, no axes, none of the four in use, and no numbers.
-fn not_read(refusal: usize) -> SheetAnswer
-    ensures { result ≡ unread_answer refusal }
-{
-    SheetAnswer {
-        refusal,
-        edition: 0,
-        axes: 0,
-        all: [Axis::unused(); 4],
-        length: 0,
+// Why there is no tensor: the sheet is not read, or it is read and what it says is not built.
+#[derive(Clone, Copy)]
+pub enum SheetRefusal {
+    Unread(Refusal),
+    Unbuilt { refusal: Refusal, sheet: Sheet },
+}
+
+impl From<Refusal> for SheetRefusal {
+    ghost from_gives = { λ refusal given. given ≡ Unread refusal };
+
+    // A refusal of the reader.
+    fn from(refusal: Refusal) -> SheetRefusal {
+        SheetRefusal::Unread(refusal)
     }
 }
 
 // The tensor of the parts that stand in the first places of the buffers. Not a public call: what refusals 1 and 2 leave is required, and
 // that the buffers have such places.
 fn build_parts(
-    edition: usize,
-    axes: usize,
-    all: [Axis; 4],
+    sheet: Sheet,
     knots: &[f64],
     samples: &[f64],
     tensor: &mut [f64],
     scratch: &mut [f64],
-) -> SheetAnswer
-    requires { PartsGiven axes all knots.now samples.now tensor.old }
-    ensures { PartsPromise (grid_in axes all knots.now) (samples_in axes all samples.now) tensor.old
-        scratch.old edition result tensor.new scratch.new }
+) -> Result<BuiltSheet, SheetRefusal>
+    requires { PartsGiven sheet.axes sheet.all knots.now samples.now tensor.old }
+    ensures { PartsPromise (grid_in sheet.axes sheet.all knots.now) (samples_in sheet.axes sheet.all samples.now)
+        tensor.old scratch.old sheet.edition (sheet_told result) tensor.new scratch.new }
 {
+    let axes = sheet.axes;
+    let all = sheet.all;
     let knots_end = grid::knots_length(axes, all);
     let samples_end = grid::samples_length(axes, all);
     let length = grid::tensor_length(axes, all);
-    let refusal = tensor::build(
+    let built = tensor::build(
         axes,
         all,
         &knots[0..knots_end],
@@ -57,49 +58,31 @@ fn build_parts(
         &mut tensor[0..length],
         scratch,
     );
-    if is_built(refusal) {
-        return SheetAnswer {
-            refusal,
-            edition,
-            axes,
-            all,
-            length,
-        };
-    }
-    SheetAnswer {
-        refusal,
-        edition,
-        axes,
-        all,
-        length: 0,
+    match built {
+        Ok(()) => Ok(BuiltSheet { sheet, length }),
+        Err(refusal) => Err(SheetRefusal::Unbuilt { refusal, sheet }),
     }
 }
 
-// PUBLIC. Reads a sheet of either edition and builds its tensor: edition, axes and the tensor's length are the answer, the sheet's knots,
+// PUBLIC. Reads a sheet of either edition and builds its tensor: edition, axes and the tensor's length are given, the sheet's knots,
 // its samples and the tensor's numbers go to the first places of their buffers. Refuses a tensor buffer of another length than 4,096 by 4,
 // then what the reader refuses, each by the reader's number, and then what the build refuses: 5 a scratch shorter than the tensor plus
-// 2,048, 7, 8, 9 and 10. After a refusal of the build the sheet has been read: the answer has its edition, its axes and a length of 0,
-// knots and samples stand in their buffers, and the tensor is as it was. After any refusal before the build the answer has edition 0 and no
-// axes, and all three are as they were. The scratch is +0.0 after 0 and 10, and else as it was.
+// 2,048, 7, 8, 9 and 10. After a refusal of the build the sheet has been read: its edition and its axes stand beside the refusal, knots
+// and samples in their buffers, and the tensor is as it was. After any refusal before the build nothing of the sheet is given, and all
+// three are as they were. The scratch is +0.0 after 10 and where nothing is refused, and else as it was.
 pub fn tensor_of_sheet(
     bytes: &[u8],
     knots: &mut [f64],
     samples: &mut [f64],
     tensor: &mut [f64],
     scratch: &mut [f64],
-) -> SheetAnswer
-    ensures { SheetPromise bytes.now knots.old samples.old tensor.old scratch.old result
+) -> Result<BuiltSheet, SheetRefusal>
+    ensures { SheetPromise bytes.now knots.old samples.old tensor.old scratch.old (sheet_told result)
         knots.new samples.new tensor.new scratch.new }
 {
     if tensor.len() != 4096 {
-        return not_read(4);
+        return Err(SheetRefusal::Unread(Refusal::Length));
     }
-    let sheet = sheet_read::read(bytes, knots, samples);
-    let fault = sheet.refusal;
-    if is_unread(fault) {
-        return not_read(fault);
-    }
-    let axes = sheet.axes;
-    let all = sheet.all;
-    build_parts(sheet.edition, axes, all, knots, samples, tensor, scratch)
+    let sheet = sheet_read::read(bytes, knots, samples)?;
+    build_parts(sheet, knots, samples, tensor, scratch)
 }

@@ -1,9 +1,11 @@
 -- The chapter Patterns of docs/RULES.md: coordinates, a value and a refusal as 64-bit patterns.
-use Rattle.std.specs.Prelude.{Bool, not, List, ℕ, zero, suc, ◌+◌, ◌-◌, eqb, get_or, Float}
+use Rattle.std.specs.Prelude.{Bool, not, List, ℕ, zero, suc, ◌+◌, ◌-◌, eqb, get_or, Float, Result, Ok, Err}
 use Rattle.std.specs.Float.{binary64}
 use Rattle.std.specs.Float.Ieee.{of_bits, to_bits}
 use Rattle.rules.specs.Numbers.{any, table}
 use Rattle.rules.specs.Sizes.{most_axes}
+use Rattle.rules.specs.Answers.{number_of}
+use Rattle.rules.specs.declared.Refusal.{Refusal}
 
 -- the pattern of coordinate i of the four
 abbrev pub pattern : List ℕ → ℕ → ℕ
@@ -25,3 +27,8 @@ refusal_pattern refusal = 0x7FF8_0000_0000_0000 + refusal
 abbrev pub answer_pattern : ℕ → Float → ℕ
 answer_pattern zero value = to_bits binary64 value
 answer_pattern (suc refusal) value = refusal_pattern (suc refusal)
+
+-- the pattern of what a call gives
+abbrev pub pattern_told : Result Float Refusal → ℕ
+pattern_told (Ok value) = to_bits binary64 value
+pattern_told (Err refusal) = refusal_pattern (number_of refusal)

@@ -4,9 +4,12 @@
 
 ghost use Rattle.std.specs.Prelude.{◌≡◌, true, ◌≤◌};
 ghost use Rattle.std.specs.Float.Ieee.Scale.{finite};
-ghost use Rattle.sheet_patterns.specs.Patterns.{coordinates, unused_refused, refusal_pattern, answer_pattern};
+ghost use Rattle.std.specs.Result.{IfOk};
+ghost use Rattle.rules.specs.Answers.{number_of};
+ghost use Rattle.sheet_patterns.specs.Patterns.{coordinates, unused_refused, refusal_pattern, pattern_told};
 
 use base_numbers::{float_of, pattern_of};
+use rules::Refusal;
 
 // The coordinates of all four patterns.
 pub fn coordinates_of(patterns: [u64; 4]) -> [f64; 4]
@@ -28,21 +31,20 @@ pub fn is_unused_refused(axes: usize, patterns: [u64; 4]) -> bool
     patterns[axes..].iter().any(|pattern| *pattern != 0)
 }
 
-// The pattern of a refusal, whose number is small.
-pub fn refusal_pattern(refusal: usize) -> u64
-    requires { refusal ≤ 23 }
-    ensures { result ≡ refusal_pattern refusal }
+// The pattern of a refusal.
+fn refusal_pattern(refusal: Refusal) -> u64
+    ensures { result ≡ refusal_pattern (number_of refusal) }
 {
-    0x7FF8000000000000 + refusal as u64
+    0x7FF8000000000000 + refusal.number() as u64
 }
 
-// The pattern of an answer: of its refusal, or of its value, which is finite where there is none.
-pub fn answer_pattern(refusal: usize, value: f64) -> u64
-    requires { (refusal ≤ 23) × (refusal ≡ 0 → finite value ≡ true) }
-    ensures { result ≡ answer_pattern refusal value }
+// The pattern of what a call gives: of its refusal, or of its value, which is finite.
+pub fn answer_pattern(given: Result<f64, Refusal>) -> u64
+    requires { IfOk given (λ value. finite value ≡ true) }
+    ensures { result ≡ pattern_told given }
 {
-    if refusal != 0 {
-        return refusal_pattern(refusal);
+    match given {
+        Ok(value) => pattern_of(value),
+        Err(refusal) => refusal_pattern(refusal),
     }
-    pattern_of(value)
 }

@@ -27,9 +27,9 @@ use Rattle.sheet_read.specs.Read.{
   ReadPromise,
   read_edition_1_refusal,
   Edition1Promise,
+  ReadAnswer,
+  Edition1Answer,
 }
-use Rattle.sheet_read.specs.declared.ReadAnswer.{ReadAnswer}
-use Rattle.sheet_read.specs.declared.Edition1Answer.{Edition1Answer}
 use Rattle.sheet_read.proofs.Promises.{answer_refusal}
 
 -- ---- its promise

@@ -15,9 +15,8 @@ use Rattle.base_bits.specs.Bits.{numbers}
 use Rattle.rules.proofs.Cases.{passed}
 use Rattle.sheet_read.specs.Fields.{edition, axes, entries, knots_below, sheet_grid, samples_begin, sheet_samples}
 use Rattle.sheet_read.specs.Faults.{sheet_refusal}
-use Rattle.sheet_read.specs.Read.{refused_answer, answer_of, over, buffers_refused, read_refusal, ReadPromise}
+use Rattle.sheet_read.specs.Read.{refused_answer, answer_of, over, buffers_refused, read_refusal, ReadPromise, ReadAnswer}
 use Rattle.base_bits.specs.BitsThere.{Within}
-use Rattle.sheet_read.specs.declared.ReadAnswer.{ReadAnswer}
 use Rattle.sheet_read.proofs.Extents.{begin_most}
 use Rattle.sheet_read.proofs.Sheets.{Accepted, samples_room, samples_most}
 

@@ -7,8 +7,7 @@ use lib.ListN.{length}
 use lib.Ieee.{Float}
 use Rattle.sheet_read.specs.Fields.{edition, axes, entries, knots_below, sheet_samples}
 use Rattle.sheet_read.specs.Faults.{sheet_refusal}
-use Rattle.sheet_read.specs.Read.{over, read_refusal, ReadPromise}
-use Rattle.sheet_read.specs.declared.ReadAnswer.{ReadAnswer}
+use Rattle.sheet_read.specs.Read.{over, read_refusal, ReadPromise, ReadAnswer}
 use Rattle.sheet_read.proofs.Promises.{answer_refusal, refusal_is, lengths_passed}
 
 pub read_unique :

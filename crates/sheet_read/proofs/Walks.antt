@@ -9,10 +9,14 @@ use native.Mathlib.Numerals.{add-one}
 use native.Mathlib.Omega.{arith}
 use borrow.Author.Tests.{ltb-false}
 use lib.ListN.{length, set, replicate}
+use Rattle.std.specs.Prelude.{Ok, Err}
+use Rattle.rules.specs.Answers.{number_of}
 use Rattle.rules.specs.Sizes.{unused_axis}
 use Rattle.rules.specs.Refusals.{points_refused}
 use Rattle.rules.specs.Calls.{or_else}
 use Rattle.rules.specs.declared.Axis.{Axis}
+use Rattle.rules.specs.declared.Refusal.{Refusal}
+use Rattle.rules.proofs.Given.{number_some}
 use Rattle.rules.proofs.Refused.{or_else_met, or_else_passed}
 use Rattle.base_bits.specs.Bits.{short, numbers_short}
 use Rattle.grid_codes.specs.Kinds.{periodic_at_one_end}
@@ -133,12 +137,10 @@ module _ (bytes : List ℕ) (n : ℕ) (all : List Axis) (at i : ℕ) (t : Turn b
   here : (fault : ℕ) → fault ≡ axis_fault bytes at → axes_fault bytes (suc i) ≡ fault
   here fault e = rw (axes_fault_next bytes i, t.faultless, ← t.place) (sym e)
 
-  pub turn_fault : (fault : ℕ) → fault ≡ axis_fault bytes at → (fault ≡ 0 → ⊥)
-      → Walked bytes n (record { refusal = fault; all = all; at = at })
-  turn_fault fault e met = record {
-    fault = sym (first_fault bytes i fault n (here fault e) met l);
-    all = λ z. absurd (met z);
-    end = λ z. absurd (met z);
+  pub turn_fault : (refusal : Refusal) → number_of refusal ≡ axis_fault bytes at → Walked bytes n (Err refusal)
+  turn_fault refusal e = record {
+    fault = sym (first_fault bytes i (number_of refusal) n (here (number_of refusal) e) (number_some refusal) l);
+    found = tt;
   }
 
   -- the axis at hand is there
@@ -157,11 +159,10 @@ module _ (bytes : List ℕ) (n : ℕ) (all : List Axis) (at i : ℕ) (t : Turn b
   }
 
 pub turn_last : (bytes : List ℕ) (n : ℕ) (all : List Axis) (at i : ℕ) → Turn bytes n all at i → n ≤ i
-    → Walked bytes n (record { refusal = 0; all = all; at = at })
+    → Walked bytes n (Ok (record { all = all; at = at }))
 turn_last bytes n all at i t ge =
     let e : i ≡ n = omega (arith, t.most) in
     record {
       fault = sym (rw e at t.faultless);
-      all = λ z. rw e at t.done;
-      end = λ z. rw e at t.place;
+      found = record { all = rw e at t.done; end = rw e at t.place };
     }

@@ -1,8 +1,11 @@
 -- What the functions that are no public calls require and ensure: that the bits they read are there, that places are small numbers, and
 -- what was found so far.
-use Rattle.std.specs.Prelude.{◌≡◌, List, ℕ, ◌*◌, ◌≤◌, length, Float}
+use Rattle.std.specs.Prelude.{◌≡◌, List, ℕ, ◌*◌, ◌≤◌, length, Float, Result}
+use Rattle.std.specs.Result.{IfOk}
 use Rattle.rules.specs.Sizes.{most_axes, samples_length}
+use Rattle.rules.specs.Answers.{refusal_of}
 use Rattle.rules.specs.declared.Axis.{Axis}
+use Rattle.rules.specs.declared.Refusal.{Refusal}
 use Rattle.grid.specs.GridOfCall.{points_of, InRange}
 use Rattle.sheet_read.specs.Fields.{edition, axes, axis_end, axis_begin, entries, knots_below, sheet_grid}
 use Rattle.sheet_read.specs.Faults.{axes_fault, sheet_refusal}
@@ -13,11 +16,15 @@ pub record Whole (bytes : List ℕ) (at : ℕ) : Type 0 where
   pub room : axis_end bytes at ≤ 8 * length bytes
   pub small : at ≤ 131072
 
--- what a walk over n axes has found: the first fault, 0 for none, and where there is none the axes, and the bit after the last
-pub record Walked (bytes : List ℕ) (n : ℕ) (walk : Walk) : Type 0 where
-  pub fault : walk.refusal ≡ axes_fault bytes n
-  pub all : walk.refusal ≡ 0 → walk.all ≡ entries bytes n
-  pub end : walk.refusal ≡ 0 → walk.at ≡ axis_begin bytes n
+-- what a walk over n axes finds where none has a fault: the axes, and the bit after the last
+pub record AxesFound (bytes : List ℕ) (n : ℕ) (walk : Walk) : Type 0 where
+  pub all : walk.all ≡ entries bytes n
+  pub end : walk.at ≡ axis_begin bytes n
+
+-- the first fault, or else these
+pub record Walked (bytes : List ℕ) (n : ℕ) (r : Result Walk Refusal) : Type 0 where
+  pub fault : refusal_of r ≡ axes_fault bytes n
+  pub found : IfOk r (AxesFound bytes n)
 
 -- axes that were walked over without a fault
 pub record NoFault (bytes : List ℕ) (n : ℕ) : Type 0 where

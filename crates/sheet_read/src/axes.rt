@@ -1,6 +1,7 @@
 // The axes of a sheet, one after the other. None of these is a public call: `fault_of_short_head` and `walk_axes` test whether the bits are
 // there, all others require it. All are told how many bits the mode of an axis has in the sheet's edition.
 ghost use Rattle.std.specs.Prelude.{◌≡◌, ◌+◌, ◌*◌, ◌<◌, ◌≤◌, length};
+ghost use Rattle.rules.specs.Answers.{number_of, refusal_of};
 ghost use Rattle.sheet_read.specs.Fields.{mode_bits, axis_at, axis_begin, knots_below};
 ghost use Rattle.sheet_read.specs.Faults.{axis_fault};
 ghost use Rattle.sheet_read.specs.Read.{over};
@@ -10,57 +11,55 @@ ghost use Rattle.sheet_read.specs.Heads.{HeadOf};
 
 use crate::heads::{Head, after, head_at, knots_from, values};
 use base_bits::{are_short, field_at, fill, is_short, number_at};
-use grid_codes::classes::is_unread;
 use grid_codes::ends::{condition_of_kind, end_of_kind, is_periodic_at_one_end, values_of_kind};
 use grid_codes::modes::{is_unknown_mode, mode_of_number};
-use rules::{Axis, Condition};
+use rules::{Axis, Condition, Refusal};
 
-// What a walk over the axes has found: the first fault, 0 for none, the four axes, and the bit after the last.
+// What a walk over axes without a fault finds: the four axes, and the bit after the last.
 #[derive(Clone, Copy)]
 pub struct Walk {
-    pub refusal: usize,
     pub all: [Axis; 4],
     pub at: usize,
 }
 
 // The fault of the axis at bit `at` where its head is not there whole, in the order of its fields.
-fn fault_of_short_head(bytes: &[u8], width: usize, at: usize) -> usize
+fn fault_of_short_head(bytes: &[u8], width: usize, at: usize) -> Refusal
     requires { (width ≡ mode_bits bytes.now) × (at ≤ 131072) × (8 * length bytes.now < at + (12 + width)) }
-    ensures { (result ≡ axis_fault bytes.now at) × (0 < result) }
+    ensures { number_of result ≡ axis_fault bytes.now at }
 {
     if is_short(bytes, at, 8) {
-        return 11;
+        return Refusal::Short;
     }
     if field_at(bytes, at, 8) < 1 {
-        return 2;
+        return Refusal::Points;
     }
     if is_short(bytes, at + 8, 4) {
-        return 11;
+        return Refusal::Short;
     }
     if is_periodic_at_one_end(field_at(bytes, at + 8, 2), field_at(bytes, at + 10, 2)) {
-        return 13;
+        return Refusal::Kinds;
     }
-    11
+    Refusal::Short
 }
 
 // The same where it is there.
-fn fault_of_head(bytes: &[u8], width: usize, at: usize, head: Head) -> usize
+fn check_head(bytes: &[u8], width: usize, at: usize, head: Head) -> Result<(), Refusal>
     requires { (width ≡ mode_bits bytes.now) × Within bytes.now at (12 + width) × HeadOf bytes.now at head × (at ≤ 131072) }
-    ensures { result ≡ axis_fault bytes.now at }
+    ensures { refusal_of result ≡ axis_fault bytes.now at }
 {
     if head.points < 2 {
-        return 2;
+        return Err(Refusal::Points);
     }
     if is_periodic_at_one_end(head.lower, head.upper) {
-        return 13;
+        return Err(Refusal::Kinds);
     }
     if is_unknown_mode(head.mode) {
-        return 22;
+        return Err(Refusal::Mode);
     }
     if are_short(bytes, at + 12 + width, values(head) + head.points) {
-        return 11;
+        return Err(Refusal::Short);
     }
-    0
+    Ok(())
 }
 
 // The ends of the axis at bit `at`. Knots follow, so there are patterns to read even where a kind has none.
@@ -90,7 +89,7 @@ fn axis(bytes: &[u8], width: usize, at: usize, head: Head) -> Axis
 }
 
 // Looks at the axes, up to the first fault.
-pub fn walk_axes(bytes: &[u8], width: usize, axes: usize) -> Walk
+pub fn walk_axes(bytes: &[u8], width: usize, axes: usize) -> Result<Walk, Refusal>
     requires { (width ≡ mode_bits bytes.now) × (axes ≤ 4) }
     ensures { Walked bytes.now axes result }
 {
@@ -98,22 +97,14 @@ pub fn walk_axes(bytes: &[u8], width: usize, axes: usize) -> Walk
     let mut at = 7;
     for i in 0..axes {
         if is_short(bytes, at, 12 + width) {
-            let refusal = fault_of_short_head(bytes, width, at);
-            return Walk { refusal, all, at };
+            return Err(fault_of_short_head(bytes, width, at));
         }
         let head = head_at(bytes, width, at);
-        let refusal = fault_of_head(bytes, width, at, head);
-        if is_unread(refusal) {
-            return Walk { refusal, all, at };
-        }
+        check_head(bytes, width, at, head)?;
         all[i] = axis(bytes, width, at, head);
         at = after(width, at, head);
     }
-    Walk {
-        refusal: 0,
-        all,
-        at,
-    }
+    Ok(Walk { all, at })
 }
 
 // Stores the knots, axis after axis, in the first places of `knots`. Answers the bit after the last axis.

@@ -7,6 +7,7 @@ use native.Mathlib.Nat.{sub-zero}
 use native.Mathlib.Omega.{arith}
 use borrow.Author.Tests.{not-false, lt-ltb, le-ltb}
 use lib.ListN.{length, take, drop}
+use Rattle.std.specs.Prelude.{Result, Ok, Err}
 use lib.Ieee.{Float}
 use lib.Ieee.Scale.{finite}
 use Rattle.rules.specs.Numbers.{at, table}
@@ -16,22 +17,25 @@ use Rattle.rules.specs.Outside.{some_outside_refused}
 use Rattle.rules.specs.Query.{query_in_modes}
 use Rattle.rules.specs.Calls.{or_else, query_lengths_refused, query_refusal, query_answer, QueryPromise}
 use Rattle.rules.specs.declared.Axis.{Axis}
-use Rattle.rules.specs.Answers.{QueryAnswer}
+use Rattle.rules.specs.Answers.{number_of, QueryAnswer, query_told}
+use Rattle.rules.specs.declared.Refusal.{Refusal}
+use Rattle.rules.specs.declared.Refusal.TheVariants.{Stack, Unused}
+use Rattle.rules.specs.declared.ValueInCell.{ValueInCell}
+use Rattle.rules.proofs.Given.{number_some}
 use Rattle.rules.proofs.Refused.{or_else_met}
 use Rattle.grid.specs.GridOfCall.{grid, sizes_of}
-use Rattle.sheet_patterns.specs.Patterns.{coordinates, unused_refused, refusal_pattern, answer_pattern}
-use Rattle.sheet_patterns.proofs.Refusals.{refused_with}
+use Rattle.sheet_patterns.specs.Patterns.{coordinates, unused_refused, answer_pattern, pattern_told}
+use Rattle.sheet_patterns.proofs.Refusals.{refused_with, accepted_with}
 use Rattle.sheet_read.specs.Fields.{edition, axes, entries, sheet_grid}
 use Rattle.sheet_read.specs.Faults.{sheet_refusal}
-use Rattle.sheet_read.specs.Read.{answer_of}
+use Rattle.sheet_read.specs.Read.{ReadAnswer, answer_of}
 use Rattle.sheet_read.specs.FoundSoFar.{PartsRoom}
-use Rattle.sheet_read.specs.declared.ReadAnswer.{ReadAnswer}
 use Rattle.sheet_read.proofs.Promises.{answer_refusal}
 use Rattle.sheet_build.specs.SheetTensor.{building_refusal}
-use Rattle.sheet_build.proofs.Few.{at_most, sheet_few, build_few}
+use Rattle.sheet_build.proofs.Few.{at_most}
 use Rattle.rules.proofs.Cases.{passed}
 use Rattle.sheet_surface.specs.SheetSurface.{built, asked, surface_refusal, surface, SurfacePromise}
-use Rattle.sheet_surface.specs.OnTheStack.{ReadSheet, SmallSheet}
+use Rattle.sheet_surface.specs.OnTheStack.{ReadSheet, SmallSheet, BuiltAndAsked, Surfaced}
 use Rattle.sheet_surface.proofs.Small.{axes_are, grid_is, tensor_is, range}
 
 -- ---- the query
@@ -68,10 +72,6 @@ pub read_of : {bytes : List ℕ} {said n : ℕ} {all : List Axis} {knots samples
     → ReadSheet bytes said n all
 read_of s = record { faultless = s.faultless; edition_said = s.edition_said; axes_said = s.axes_said; found = s.found }
 
--- as few are those of a build
-pub built_few : (bytes : List ℕ) (r : ℕ) → r ≡ building_refusal bytes → r ≤ 23
-built_few bytes r e = omega (arith, build_few bytes)
-
 pub four_long : (patterns : List ℕ) (four : List Float) → four ≡ coordinates 4 patterns → length four ≡ 4
 four_long patterns four e = ap length e
 
@@ -96,19 +96,21 @@ module _ (bytes patterns : List ℕ) where
   abbrev both : ℕ
   both = or_else (building_refusal bytes) (asked bytes patterns).refusal
 
-  pub build_refused : (r : ℕ) → r ≡ building_refusal bytes → (r ≡ 0 → ⊥)
-      → refusal_pattern r ≡ answer_pattern both (asked bytes patterns).value
-  build_refused r e met =
-      let is : r ≡ both = rw (← e) (sym (or_else_met r _ met)) in
-      refused_with r (asked bytes patterns).value met ∙ ap (λ (k : ℕ). answer_pattern k (asked bytes patterns).value) is
+  -- the build refuses
+  pub build_refused : (refusal : Refusal) → number_of refusal ≡ building_refusal bytes → BuiltAndAsked bytes patterns (Err refusal)
+  build_refused refusal e =
+      record { refused = rw (← e) (sym (or_else_met (number_of refusal) _ (number_some refusal))); value_is = tt }
 
-  module _ (a : QueryAnswer) (is : a ≡ asked bytes patterns) where
-    pub answer_fine : (a.refusal ≤ 23) × (a.refusal ≡ 0 → finite a.value ≡ true)
-    answer_fine = rw is (omega (arith, asked_few), asked_finite)
+  -- it does not: what the query gives
+  module _ (none : 0 ≡ building_refusal bytes) where
+    pub query_refused : (refusal : Refusal) → query_told (Err refusal) ≡ asked bytes patterns → BuiltAndAsked bytes patterns (Err refusal)
+    query_refused refusal is = record { refused = rw (← none) (ap (λ (a : QueryAnswer). a.refusal) is); value_is = tt }
 
-    pub query_answered : (r : ℕ) → r ≡ building_refusal bytes → r ≡ 0
-        → answer_pattern a.refusal a.value ≡ answer_pattern both (asked bytes patterns).value
-    query_answered r e none = rw (is, ← e, none)
+    pub query_answered : (found : ValueInCell) → query_told (Ok found) ≡ asked bytes patterns → BuiltAndAsked bytes patterns (Ok found.value)
+    query_answered found is = record {
+      refused = rw (← none) (ap (λ (a : QueryAnswer). a.refusal) is);
+      value_is = ap (λ (a : QueryAnswer). a.value) is;
+    }
 
   module _ (said n : ℕ) (all : List Axis) (s : ReadSheet bytes said n all) where
     pub query_asked :
@@ -129,9 +131,6 @@ module _ (bytes : List ℕ) (a : ReadAnswer)
     (read : a ≡ answer_of (sheet_refusal bytes) (edition bytes) (axes bytes) (entries bytes (axes bytes))) where
   fault_is : a.refusal ≡ sheet_refusal bytes
   fault_is = ap (λ (r : ReadAnswer). r.refusal) read ∙ answer_refusal _ _ _ _
-
-  pub fault_few : a.refusal ≤ 23
-  fault_few = omega (arith, fault_is, sheet_few bytes)
 
   module _ (none : a.refusal ≡ 0) where
     accepted : sheet_refusal bytes ≡ 0
@@ -157,26 +156,20 @@ module _ (bytes : List ℕ) (a : ReadAnswer)
   -- ---- the ways that it ends
 
   module _ (patterns : List ℕ) where
-    refused_by : (number : ℕ) → (number ≡ 0 → ⊥) → number ≡ surface_refusal bytes patterns → (r : ℕ) → r ≡ refusal_pattern number
-        → SurfacePromise bytes patterns r
-    unfolding surface
-    refused_by number met is r e = record {
-      answer =
-          e ∙ refused_with number (asked bytes patterns).value met ∙ ap (λ (k : ℕ). answer_pattern k (asked bytes patterns).value) is;
-    }
-
     -- the reader refuses
-    pub reader_refuses : (a.refusal ≡ 0 → ⊥) → (r : ℕ) → r ≡ refusal_pattern a.refusal → SurfacePromise bytes patterns r
+    pub reader_refuses : (refusal : Refusal) → a.refusal ≡ number_of refusal → Surfaced bytes patterns (Err refusal)
     unfolding surface_refusal
-    reader_refuses met = refused_by a.refusal met (rw (← fault_is) (sym (or_else_met a.refusal _ met)))
+    reader_refuses refusal e =
+        record { refused = rw (← fault_is, e) (sym (or_else_met (number_of refusal) _ (number_some refusal))); value_is = tt }
 
     module _ (none : a.refusal ≡ 0) (count : ℕ) (c : count ≡ tensor_length (sizes_of a.axes a.all)) where
       -- the tensor is too long
-      pub stack_refuses : 512 < count → (r : ℕ) → r ≡ refusal_pattern 16 → SurfacePromise bytes patterns r
+      pub stack_refuses : 512 < count → Surfaced bytes patterns (Err Stack)
       unfolding surface_refusal
-      stack_refuses long =
-          refused_by 16 (λ z. omega arith)
-          (rw (accepted none, lt-ltb 512 (tensor_length (sheet_grid bytes)) (omega (arith, count_is none count c))))
+      stack_refuses long = record {
+        refused = rw (accepted none, lt-ltb 512 (tensor_length (sheet_grid bytes)) (omega (arith, count_is none count c)));
+        value_is = tt;
+      }
 
       -- it is not: what is left to be met
       module _ (short : count ≤ 512) where
@@ -193,14 +186,27 @@ module _ (bytes : List ℕ) (a : ReadAnswer)
             )
 
         -- a pattern past the axes in use is not 0
-        pub unused_refuses : unused_refused a.axes patterns ≡ true → (r : ℕ) → r ≡ refusal_pattern 17 → SurfacePromise bytes patterns r
-        unused_refuses some = refused_by 17 (λ z. omega arith) (sym (short_is ∙ ap (λ (b : Bool). cond b 17 left) some))
+        pub unused_refuses : unused_refused a.axes patterns ≡ true → Surfaced bytes patterns (Err Unused)
+        unused_refuses some = record { refused = sym (short_is ∙ ap (λ (b : Bool). cond b 17 left) some); value_is = tt }
 
         -- the sheet's tensor is built and asked
-        pub sheet_asked : unused_refused a.axes patterns ≡ false → (r : ℕ) → r ≡ answer_pattern left (asked bytes patterns).value
-            → SurfacePromise bytes patterns r
-        unfolding surface
-        sheet_asked zeros r e = record {
-          answer =
-              e ∙ ap (λ (k : ℕ). answer_pattern k (asked bytes patterns).value) (sym (short_is ∙ ap (λ (b : Bool). cond b 17 left) zeros));
+        pub sheet_asked : unused_refused a.axes patterns ≡ false → {r : Result Float Refusal} → BuiltAndAsked bytes patterns r
+            → Surfaced bytes patterns r
+        sheet_asked zeros given = record {
+          refused = given.refused ∙ sym (short_is ∙ ap (λ (b : Bool). cond b 17 left) zeros);
+          value_is = given.value_is;
         }
+
+-- ---- the pattern of what the call gives
+
+module _ (bytes patterns : List ℕ) where
+  pub pattern_is : (r : Result Float Refusal) → Surfaced bytes patterns r → SurfacePromise bytes patterns (pattern_told r)
+  unfolding surface
+  pattern_is (Ok value) given = record {
+    answer = rw given.value_is (accepted_with _ (asked bytes patterns).value (sym given.refused));
+  }
+  pattern_is (Err refusal) given = record {
+    answer =
+        refused_with (number_of refusal) (asked bytes patterns).value (number_some refusal)
+        ∙ ap (λ (k : ℕ). answer_pattern k (asked bytes patterns).value) given.refused;
+  }

@@ -11,9 +11,8 @@ use Rattle.rules.specs.Answers.{QueryAnswer}
 use Rattle.sheet_patterns.specs.Patterns.{coordinates, unused_refused, answer_pattern}
 use Rattle.sheet_read.specs.Fields.{sheet_grid}
 use Rattle.sheet_read.specs.Faults.{sheet_refusal}
-use Rattle.sheet_build.specs.SheetTensor.{building_refusal, own_refusal, SheetPromise}
+use Rattle.sheet_build.specs.SheetTensor.{building_refusal, own_refusal, SheetAnswer, SheetPromise}
 use Rattle.sheet_build.specs.LentEnough.{Enough}
-use Rattle.sheet_build.specs.declared.SheetAnswer.{SheetAnswer}
 use Rattle.sheet_build.proofs.Alone.{answered_alone}
 use Rattle.sheet_build.proofs.Demand3.{grid_made, tensor_made, answer_is, grid_is, tensor_is}
 use Rattle.sheet_surface.specs.SheetSurface.{stack_refused, asked, surface_refusal, surface}

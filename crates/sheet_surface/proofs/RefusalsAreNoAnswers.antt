@@ -1,11 +1,16 @@
 -- No accepted answer has the pattern of a refusal, and two refusals have different patterns: so the pattern tells the refusal.
 use mathlib.Core.Path.{◌≡◌, refl, sym, ◌∙◌}
+use mathlib.Core.Bool.{true}
 use mathlib.Core.List.{List}
 use Prim.Native.Nat.{ℕ, zero, suc, ◌<◌, ◌≤◌}
 use native.Mathlib.Omega.{arith}
 use lib.Dec.{T}
-use lib.Ieee.{binary64, fits, to_bits}
+use lib.Ieee.{Float, binary64, fits, to_bits}
+use lib.Ieee.Scale.{finite}
+use Rattle.std.specs.Prelude.{Result, Ok, Err}
+use Rattle.std.specs.Result.{IfOk}
 use Rattle.rules.specs.Calls.{query_answer}
+use Rattle.rules.specs.declared.Refusal.{Refusal}
 use Rattle.rules.specs.Numbers.{at}
 use Rattle.rules.proofs.Refused.{or_else_passed}
 use Rattle.grid_checks.proofs.Rows.{axes_few}
@@ -18,6 +23,7 @@ use Rattle.sheet_build.specs.SheetTensor.{building_refusal}
 use Rattle.sheet_build.proofs.Few.{at_most, or_else_few, sheet_few, build_few}
 use Rattle.rules.proofs.Cases.{passed}
 use Rattle.sheet_surface.specs.SheetSurface.{stack_refused, built, asked, surface_refusal, surface}
+use Rattle.sheet_surface.specs.OnTheStack.{Surfaced}
 use Rattle.sheet_surface.proofs.Values.{value_fits}
 use Rattle.sheet_surface.proofs.Answers.{asked_few, asked_finite}
 
@@ -31,7 +37,7 @@ module _ (bytes patterns : List ℕ) where
       (or_else_few (building_refusal bytes) (build_few bytes) (asked_few bytes patterns))))
 
   module _ (none : surface_refusal bytes patterns ≡ 0) where
-    nothing_refused : (sheet_refusal bytes ≡ 0) × ((asked bytes patterns).refusal ≡ 0)
+    pub nothing_refused : (sheet_refusal bytes ≡ 0) × ((asked bytes patterns).refusal ≡ 0)
     unfolding surface_refusal
     nothing_refused =
         let read = or_else_passed (sheet_refusal bytes) _ none in
@@ -54,6 +60,12 @@ module _ (bytes patterns : List ℕ) where
   pub refused_pattern : (number : ℕ) → surface_refusal bytes patterns ≡ suc number → surface bytes patterns ≡ refusal_pattern (suc number)
   unfolding surface
   refused_pattern number e = rw e
+
+-- a value that is given is finite
+pub given_finite : (bytes patterns : List ℕ) (r : Result Float Refusal) → Surfaced bytes patterns r → IfOk r (λ value. finite value ≡ true)
+given_finite bytes patterns (Ok value) given =
+    rw given.value_is (asked_finite bytes patterns (nothing_refused bytes patterns (sym given.refused)).1)
+given_finite bytes patterns (Err refusal) given = tt
 
 -- two calls that answer one pattern have one refusal
 pub pattern_tells_the_refusal : (bytes patterns bytes' patterns' : List ℕ) → surface bytes patterns ≡ surface bytes' patterns'

@@ -3,75 +3,61 @@
 
 #![tactic(auto)]
 
-ghost use Rattle.std.specs.Prelude.{◌≡◌, [], ◌∷◌, ◌≤◌, length};
+ghost use Rattle.std.specs.Prelude.{[], ◌∷◌, ◌≤◌, length};
 ghost use Rattle.rules.specs.Sizes.{scratch_length};
-ghost use Rattle.rules.specs.Calls.{or_else};
-ghost use Rattle.sheet_patterns.specs.Patterns.{answer_pattern};
 ghost use Rattle.sheet_read.specs.Fields.{sheet_grid};
 ghost use Rattle.sheet_read.specs.FoundSoFar.{PartsRoom};
-ghost use Rattle.sheet_build.specs.SheetTensor.{building_refusal};
-ghost use Rattle.sheet_surface.specs.SheetSurface.{most_on_the_stack, asked, SurfacePromise};
-ghost use Rattle.sheet_surface.specs.OnTheStack.{SmallSheet};
+ghost use Rattle.sheet_surface.specs.SheetSurface.{most_on_the_stack, SurfacePromise};
+ghost use Rattle.sheet_surface.specs.OnTheStack.{SmallSheet, BuiltAndAsked, Surfaced};
 
 use grid_scratch::TENSOR;
-use rules::Axis;
+use rules::Refusal;
 use sheet_in_scratch::tensor_in_scratch;
-use sheet_patterns::{answer_pattern, coordinates_of, is_unused_refused, refusal_pattern};
+use sheet_patterns::{answer_pattern, coordinates_of, is_unused_refused};
+use sheet_read::Sheet;
 use sheet_read::look::look;
 
-// The pattern of what the sheet's tensor answers at the coordinates, built in the buffers that it is lent.
+// The value of the sheet's surface at the coordinates, its tensor built in the buffers that this is lent. Refuses what the build does, and
+// then what the query does.
 fn build_and_query(
     bytes: &[u8],
-    edition: usize,
-    axes: usize,
-    all: [Axis; 4],
+    sheet: Sheet,
     patterns: [u64; 4],
     knots: &mut [f64],
     samples: &mut [f64],
     scratch: &mut [f64],
-) -> u64
-    requires { PartsRoom bytes.now edition axes all knots.old samples.old
+) -> Result<f64, Refusal>
+    requires { PartsRoom bytes.now sheet.edition sheet.axes sheet.all knots.old samples.old
         × (scratch_length (sheet_grid bytes.now) ≤ length scratch.old) }
-    ensures { result ≡ answer_pattern (or_else (building_refusal bytes.now) (asked bytes.now patterns).refusal)
-        (asked bytes.now patterns).value }
+    ensures { BuiltAndAsked bytes.now patterns result }
 {
-    let refusal = tensor_in_scratch(bytes, edition, axes, all, knots, samples, scratch);
-    if refusal != 0 {
-        return refusal_pattern(refusal);
-    }
+    let axes = sheet.axes;
+    let all = sheet.all;
+    tensor_in_scratch(bytes, sheet.edition, axes, all, knots, samples, scratch)?;
     let knots_end = grid::knots_length(axes, all);
     let end = TENSOR + grid::tensor_length(axes, all);
     let coordinates = coordinates_of(patterns);
-    let answer = query_full::query(
+    let found = query_full::query(
         axes,
         all,
         &knots[0..knots_end],
         &scratch[TENSOR..end],
         &coordinates[0..axes],
-    );
-    answer_pattern(answer.refusal, answer.value)
+    )?;
+    Ok(found.value)
 }
 
 // The same, with buffers on the stack for a tensor of at most 128 numbers.
-fn small_on_the_stack(
-    bytes: &[u8],
-    edition: usize,
-    axes: usize,
-    all: [Axis; 4],
-    patterns: [u64; 4],
-) -> u64
-    requires { SmallSheet 128 bytes.now edition axes all }
-    ensures { result ≡ answer_pattern (or_else (building_refusal bytes.now) (asked bytes.now patterns).refusal)
-        (asked bytes.now patterns).value }
+fn small_on_the_stack(bytes: &[u8], sheet: Sheet, patterns: [u64; 4]) -> Result<f64, Refusal>
+    requires { SmallSheet 128 bytes.now sheet.edition sheet.axes sheet.all }
+    ensures { BuiltAndAsked bytes.now patterns result }
 {
     let mut knots = [0.0; 64];
     let mut samples = [0.0; 64];
     let mut scratch = [0.0; 2176];
     build_and_query(
         bytes,
-        edition,
-        axes,
-        all,
+        sheet,
         patterns,
         &mut knots,
         &mut samples,
@@ -80,30 +66,40 @@ fn small_on_the_stack(
 }
 
 // The same for any tensor that has its place there.
-fn on_the_stack(
-    bytes: &[u8],
-    edition: usize,
-    axes: usize,
-    all: [Axis; 4],
-    patterns: [u64; 4],
-) -> u64
-    requires { SmallSheet most_on_the_stack bytes.now edition axes all }
-    ensures { result ≡ answer_pattern (or_else (building_refusal bytes.now) (asked bytes.now patterns).refusal)
-        (asked bytes.now patterns).value }
+fn on_the_stack(bytes: &[u8], sheet: Sheet, patterns: [u64; 4]) -> Result<f64, Refusal>
+    requires { SmallSheet most_on_the_stack bytes.now sheet.edition sheet.axes sheet.all }
+    ensures { BuiltAndAsked bytes.now patterns result }
 {
     let mut knots = [0.0; 256];
     let mut samples = [0.0; 256];
     let mut scratch = [0.0; 2560];
     build_and_query(
         bytes,
-        edition,
-        axes,
-        all,
+        sheet,
         patterns,
         &mut knots,
         &mut samples,
         &mut scratch,
     )
+}
+
+// The value of the surface of a sheet at the coordinates of these patterns, with the refusals of the public call.
+fn value_at(bytes: &[u8], patterns: [u64; 4]) -> Result<f64, Refusal>
+    ensures { Surfaced bytes.now patterns result }
+{
+    let sheet = look(bytes)?;
+    let axes = sheet.axes;
+    let numbers = grid::tensor_length(axes, sheet.all);
+    if 512 < numbers {
+        return Err(Refusal::Stack);
+    }
+    if is_unused_refused(axes, patterns) {
+        return Err(Refusal::Unused);
+    }
+    if numbers <= 128 {
+        return small_on_the_stack(bytes, sheet, patterns);
+    }
+    on_the_stack(bytes, sheet, patterns)
 }
 
 // PUBLIC. The pattern of the surface's value at the coordinates of four patterns, from the bytes of a sheet of either edition; each axis
@@ -113,23 +109,5 @@ fn on_the_stack(
 pub fn surface(bytes: &[u8], c0: u64, c1: u64, c2: u64, c3: u64) -> u64
     ensures { SurfacePromise bytes.now (c0 ∷ c1 ∷ c2 ∷ c3 ∷ []) result }
 {
-    let sheet = look(bytes);
-    let fault = sheet.refusal;
-    if fault != 0 {
-        return refusal_pattern(fault);
-    }
-    let axes = sheet.axes;
-    let all = sheet.all;
-    let numbers = grid::tensor_length(axes, all);
-    if 512 < numbers {
-        return refusal_pattern(16);
-    }
-    let patterns = [c0, c1, c2, c3];
-    if is_unused_refused(axes, patterns) {
-        return refusal_pattern(17);
-    }
-    if numbers <= 128 {
-        return small_on_the_stack(bytes, sheet.edition, axes, all, patterns);
-    }
-    on_the_stack(bytes, sheet.edition, axes, all, patterns)
+    answer_pattern(value_at(bytes, [c0, c1, c2, c3]))
 }

@@ -35,14 +35,12 @@ use Rattle.sheet_read.specs.Fields.{
   sheet_samples,
 }
 use Rattle.sheet_read.specs.Faults.{axis_fault, axes_fault, tail_refused, samples_fault, sheet_refusal}
-use Rattle.sheet_read.specs.Read.{buffer_length, over, ReadPromise}
-use Rattle.sheet_read.specs.declared.ReadAnswer.{ReadAnswer}
+use Rattle.sheet_read.specs.Read.{buffer_length, over, ReadPromise, ReadAnswer}
 use Rattle.sheet_read.proofs.Unique.{read_refuses_no_sheet}
 use Rattle.sheet_read.proofs.Examples.{zero_bytes, example, second_edition}
 use Rattle.sheet_write.specs.SheetOf.{axis_fields, axes_fields, part_fields, sheet_fields, sheet_of}
-use Rattle.sheet_write.specs.Write.{no_sheet_refusal, edition_refusal, write_refusal, WritePromise}
+use Rattle.sheet_write.specs.Write.{no_sheet_refusal, edition_refusal, write_refusal, WritePromise, WriteAnswer}
 use Rattle.sheet_write.specs.RoundTrip.{grid_read, samples_read}
-use Rattle.sheet_write.specs.declared.WriteAnswer.{WriteAnswer}
 use Rattle.sheet_write.proofs.RoundTrip.{of_bytes, read, written_back}
 
 -- one axis of two points; the three that are not in use have a mode that nothing reads

@@ -16,12 +16,11 @@ use Rattle.base_bits.proofs.Writes.{Bytes}
 use Rattle.base_bits.proofs.Rows.{packed_bytes}
 use Rattle.sheet_read.specs.Fields.{edition as edition_said, axes, entries, knots_below, sheet_grid, sheet_samples}
 use Rattle.sheet_read.specs.Faults.{sheet_refusal}
-use Rattle.sheet_read.specs.Read.{over, ReadPromise}
-use Rattle.sheet_read.specs.declared.ReadAnswer.{ReadAnswer}
+use Rattle.sheet_read.specs.Read.{over, ReadPromise, ReadAnswer}
 use Rattle.sheet_read.proofs.Unique.{read_accepts, read_refuses_no_sheet}
 use Rattle.sheet_read.proofs.Parts.{take_over, parts}
 use Rattle.sheet_write.specs.SheetOf.{sheet_fields, sheet_of}
-use Rattle.sheet_write.specs.Write.{no_sheet_refusal, WritePromise}
+use Rattle.sheet_write.specs.Write.{no_sheet_refusal, WritePromise, WriteAnswer}
 use Rattle.sheet_write.specs.RoundTrip.{
   PartsHeld,
   entry,
@@ -35,7 +34,6 @@ use Rattle.sheet_write.specs.RoundTrip.{
   ReadBack,
   WrittenBack,
 }
-use Rattle.sheet_write.specs.declared.WriteAnswer.{WriteAnswer}
 use Rattle.sheet_write.proofs.Editions.{own_edition}
 use Rattle.sheet_write.proofs.Parts.{known, WithoutNan, without_nan}
 use Rattle.sheet_write.proofs.Sheets.{read_of_sheet, sheet_without_nan, sheet_of_read}

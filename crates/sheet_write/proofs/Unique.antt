@@ -9,8 +9,7 @@ use Rattle.rules.specs.Sizes.{Grid}
 use Rattle.rules.proofs.Refused.{or_else_passed}
 use Rattle.sheet_read.specs.Read.{over}
 use Rattle.sheet_write.specs.SheetOf.{sheet_of}
-use Rattle.sheet_write.specs.Write.{no_sheet_refusal, edition_refusal, write_refusal, write_answer, WritePromise}
-use Rattle.sheet_write.specs.declared.WriteAnswer.{WriteAnswer}
+use Rattle.sheet_write.specs.Write.{no_sheet_refusal, edition_refusal, write_refusal, write_answer, WritePromise, WriteAnswer}
 
 pub write_unique :
     (edition : ℕ) (g : Grid) (samples : List Float) (buffer : List ℕ) (a a' : WriteAnswer) (b b' : List ℕ)

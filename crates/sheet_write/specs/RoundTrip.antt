@@ -24,11 +24,9 @@ use Rattle.base_bits.proofs.Writes.{Bytes}
 use Rattle.base_bits.proofs.Numbers.{Held}
 use Rattle.sheet_read.specs.Fields.{edition as edition_said, axes, entries, knots_below, sheet_grid, sheet_samples}
 use Rattle.sheet_read.specs.Faults.{sheet_refusal}
-use Rattle.sheet_read.specs.Read.{buffer_length, over, ReadPromise}
-use Rattle.sheet_read.specs.declared.ReadAnswer.{ReadAnswer}
+use Rattle.sheet_read.specs.Read.{buffer_length, over, ReadPromise, ReadAnswer}
 use Rattle.sheet_write.specs.SheetOf.{sheet_of}
-use Rattle.sheet_write.specs.Write.{no_sheet_refusal, edition_refusal, WritePromise}
-use Rattle.sheet_write.specs.declared.WriteAnswer.{WriteAnswer}
+use Rattle.sheet_write.specs.Write.{no_sheet_refusal, edition_refusal, WritePromise, WriteAnswer}
 
 -- ---- what the statements speak of
 

@@ -1,5 +1,5 @@
 -- The chapter Write of docs/RULES.md: the public call `write`, its refusal, its answer, and what stands afterwards in the buffer.
-use Rattle.std.specs.Prelude.{◌≡◌, Bool, cond, ◌||◌, List, ℕ, ltb, get_or, Float}
+use Rattle.std.specs.Prelude.{◌≡◌, Bool, cond, ◌||◌, List, ℕ, ltb, get_or, Float, Result, Ok, Err}
 use Rattle.std.proofs.Math.ListN.{length}
 use Rattle.rules.specs.Numbers.{any}
 use Rattle.rules.specs.Sizes.{unused_axis, Grid, knots_length, samples_length}
@@ -13,11 +13,12 @@ use Rattle.rules.specs.Refusals.{
   some_knots_refused,
   some_fewness_refused,
 }
+use Rattle.rules.specs.Answers.{number_of}
 use Rattle.rules.specs.Calls.{or_else, stored, counted}
+use Rattle.rules.specs.declared.Refusal.{Refusal}
 use Rattle.grid_codes.specs.Editions.{unknown_edition, mode_refused}
 use Rattle.sheet_read.specs.Read.{over}
 use Rattle.sheet_write.specs.SheetOf.{sheet_of}
-use Rattle.sheet_write.specs.declared.WriteAnswer.{WriteAnswer}
 
 -- what is refused of the parts, the first of 1 2 3 4 7 8 9 that applies: the build's tests but for 5 and 10
 unfoldable pub no_sheet_refusal : Grid → List Float → ℕ
@@ -38,6 +39,16 @@ some_mode_refused edition g = any (λ i. mode_refused edition (get_or g.entries 
 unfoldable pub edition_refusal : ℕ → Grid → ℕ
 unfolding unknown_edition mode_refused
 edition_refusal edition g = cond (unknown_edition edition) 12 (cond (some_mode_refused edition g) 23 0)
+
+-- the answer in numbers: the refusal, and how many bytes the sheet has
+pub record WriteAnswer : Type 0 where
+  pub refusal : ℕ
+  pub length : ℕ
+
+-- the answer of what the call gives
+abbrev pub write_told : Result ℕ Refusal → WriteAnswer
+write_told (Ok length) = record { refusal = 0; length = length }
+write_told (Err refusal) = record { refusal = number_of refusal; length = 0 }
 
 module _ (edition : ℕ) (g : Grid) (samples : List Float) (buffer : List ℕ) where
   -- its refusal: that of the parts, that of the edition, and then 15 for a buffer that is shorter than the sheet

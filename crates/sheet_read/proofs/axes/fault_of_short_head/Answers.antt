@@ -28,7 +28,7 @@ kinds : (c : After-is_periodic_at_one_end)
 kinds c = cc
 
 pub returns-then-is_short : goal.returns-then-is_short
-returns-then-is_short c = (no_points _ _ (ltb-true _ _ (sym c.is_short.ensures ∙ c.if-is_short.true)), omega arith)
+returns-then-is_short c = no_points _ _ (ltb-true _ _ (sym c.is_short.ensures ∙ c.if-is_short.true))
 
 pub field_at-requires : goal.field_at-requires
 field_at-requires c = (record { room = points_room (goal.at.field_at-requires c).Else-is_short; small = omega arith }, omega arith)
@@ -37,14 +37,12 @@ pub returns-then-field_at-lt1 : goal.returns-then-field_at-lt1
 unfolding points_at
 returns-then-field_at-lt1 c =
     let is = c.field_at.ensures in
-    (few_points _ _ (points_room (goal.at.returns-then-field_at-lt1 c).Else-is_short) (omega (arith, c.if-field_at-lt1.true)), omega arith)
+    few_points _ _ (points_room (goal.at.returns-then-field_at-lt1 c).Else-is_short) (omega (arith, c.if-field_at-lt1.true))
 
 pub returns-then-is_short-2 : goal.returns-then-is_short-2
-returns-then-is_short-2 c = (
-  no_kinds _ _ (enough (goal.at.returns-then-is_short-2 c).Else-field_at-lt1) (points_room (goal.at.returns-then-is_short-2 c).Else-is_short)
-      (ltb-true _ _ (sym c.is_short-2.ensures ∙ c.if-is_short-2.true)),
-  omega arith,
-)
+returns-then-is_short-2 c =
+    no_kinds _ _ (enough (goal.at.returns-then-is_short-2 c).Else-field_at-lt1) (points_room (goal.at.returns-then-is_short-2 c).Else-is_short)
+    (ltb-true _ _ (sym c.is_short-2.ensures ∙ c.if-is_short-2.true))
 
 pub field_at-requires-2 : goal.field_at-requires-2
 field_at-requires-2 c = let room = kinds_room (goal.at.field_at-requires-2 c).Else-is_short-2 in (record { room = omega arith; small = omega arith }, omega arith)
@@ -53,12 +51,10 @@ pub field_at-requires-3 : goal.field_at-requires-3
 field_at-requires-3 c = (record { room = kinds_room (goal.at.field_at-requires-3 c).Else-is_short-2; small = omega arith }, omega arith)
 
 pub returns-then-is_periodic_at_one_end : goal.returns-then-is_periodic_at_one_end
-returns-then-is_periodic_at_one_end c = (one_periodic _ _ (enough (goal.at.returns-then-is_periodic_at_one_end c).Else-field_at-lt1) (kinds_room (goal.at.returns-then-is_periodic_at_one_end c).Else-is_short-2) (sym (kinds (goal.at.returns-then-is_periodic_at_one_end c).After-is_periodic_at_one_end) ∙ c.if-is_periodic_at_one_end.true), omega arith)
+returns-then-is_periodic_at_one_end c = one_periodic _ _ (enough (goal.at.returns-then-is_periodic_at_one_end c).Else-field_at-lt1) (kinds_room (goal.at.returns-then-is_periodic_at_one_end c).Else-is_short-2) (sym (kinds (goal.at.returns-then-is_periodic_at_one_end c).After-is_periodic_at_one_end) ∙ c.if-is_periodic_at_one_end.true)
 
 pub returns : goal.returns
 returns c =
     let told = c.requires.0 in
-    let gone = c.requires.2 in (
-      no_mode _ _ (enough (goal.at.returns c).Else-field_at-lt1) (kinds_room (goal.at.returns c).Else-is_short-2) (sym (kinds (goal.at.returns c).After-is_periodic_at_one_end) ∙ c.if-is_periodic_at_one_end.false) (omega (arith, gone, told)),
-      omega arith,
-    )
+    let gone = c.requires.2 in
+    no_mode _ _ (enough (goal.at.returns c).Else-field_at-lt1) (kinds_room (goal.at.returns c).Else-is_short-2) (sym (kinds (goal.at.returns c).After-is_periodic_at_one_end) ∙ c.if-is_periodic_at_one_end.false) (omega (arith, gone, told))

@@ -3,14 +3,13 @@ use Prim.Native.Nat.{◌+◌}
 use native.Mathlib.Omega.{arith}
 use borrow.Author.Tests.{ltb-true, ltb-false}
 use Rattle.base_bits.specs.BitsThere.{Within}
-use Rattle.grid_codes.proofs.Classed.{unread_met, read_none}
+use Rattle.rules.proofs.Given.{err_given}
 use Rattle.sheet_read.specs.Faults.{axis_fault}
 use Rattle.sheet_read.proofs.Extents.{Extent, extent}
 use Rattle.sheet_read.proofs.HeadFields.{small, end_is}
-use Rattle.sheet_read.proofs.Numbers.{axis_of_reading}
 use Rattle.sheet_read.proofs.Walks.{turn_first, turn_fault, turn_whole, turn_next, turn_last}
 use Rattle.sheet_read.proofs.axes.walk_axes.Goals as goal
-use Rattle.sheet_read.proofs.axes.walk_axes.Goals.{Else-is_short, Else-is_unread, In-loop-i}
+use Rattle.sheet_read.proofs.axes.walk_axes.Goals.{Else-is_short, In_ok-check_head, In-loop-i}
 
 known : (turn : In-loop-i) → Extent turn.args.bytes.now turn.loop-i.at
 known turn = extent _ _
@@ -24,11 +23,9 @@ there c =
     record { room = ltb-false _ _ (sym c.is_short.ensures ∙ c.if-is_short.false); small = omega arith }
 
 -- the axis at hand has no fault
-faultless : (c : Else-is_unread)
+faultless : (c : In_ok-check_head)
     → axis_fault c.args.bytes.now c.loop-i.at ≡ 0
-faultless c =
-    let is = c.fault_of_head-refusal.ensures in
-    sym is ∙ read_none _ is (axis_of_reading _ _) (sym c.is_unread.ensures ∙ c.if-is_unread.false)
+faultless c = sym c.in_ok-check_head.ensures
 
 pub loop-i-init : goal.loop-i-init
 loop-i-init c = rw c.unused-all.ensures (turn_first _ _ c.requires.1)
@@ -42,29 +39,27 @@ is_short-requires c =
     let told = c.requires.0 in
     let few = c.loop-i.invariant.small in omega arith
 
-pub fault_of_short_head-refusal-requires : goal.fault_of_short_head-refusal-requires
-fault_of_short_head-refusal-requires c = (c.requires.0, c.loop-i.invariant.small, ltb-true _ _ (sym c.is_short.ensures ∙ c.if-is_short.true))
+pub fault_of_short_head-requires : goal.fault_of_short_head-requires
+fault_of_short_head-requires c = (c.requires.0, c.loop-i.invariant.small, ltb-true _ _ (sym c.is_short.ensures ∙ c.if-is_short.true))
 
 pub returns-then-is_short : goal.returns-then-is_short
-returns-then-is_short c =
-    let fault = c.fault_of_short_head-refusal.ensures in
-    turn_fault _ _ _ _ _ c.loop-i.invariant c.loop-i-test.true _ fault.0 (λ z. let some = fault.1 in omega (arith, z))
+returns-then-is_short c = turn_fault _ _ _ _ _ c.loop-i.invariant c.loop-i-test.true _ c.fault_of_short_head.ensures
 
 pub head_at-head-requires : goal.head_at-head-requires
 head_at-head-requires c = (c.requires.0, there (goal.at.head_at-head-requires c).Else-is_short)
 
-pub fault_of_head-refusal-requires : goal.fault_of_head-refusal-requires
-fault_of_head-refusal-requires c = (c.requires.0, there (goal.at.fault_of_head-refusal-requires c).Else-is_short, c.head_at-head.ensures, c.loop-i.invariant.small)
+pub check_head-requires : goal.check_head-requires
+check_head-requires c = (c.requires.0, there (goal.at.check_head-requires c).Else-is_short, c.head_at-head.ensures, c.loop-i.invariant.small)
 
-pub returns-then-is_unread : goal.returns-then-is_unread
-returns-then-is_unread c =
-    turn_fault _ _ _ _ _ c.loop-i.invariant c.loop-i-test.true _ c.fault_of_head-refusal.ensures
-    (unread_met _ (sym c.is_unread.ensures ∙ c.if-is_unread.true))
+pub returns-in_err-check_head : goal.returns-in_err-check_head
+returns-in_err-check_head c =
+    rw (err_given c.from_residual.result _ c.from_residual.ensures.1)
+    (turn_fault _ _ _ _ _ c.loop-i.invariant c.loop-i-test.true _ c.in_err-check_head.ensures)
 
 pub axis-requires : goal.axis-requires
 axis-requires c = (
   c.requires.0,
-  turn_whole _ _ _ _ _ c.loop-i.invariant c.loop-i-test.true (faultless (goal.at.axis-requires c).Else-is_unread),
+  turn_whole _ _ _ _ _ c.loop-i.invariant c.loop-i-test.true (faultless (goal.at.axis-requires c).In_ok-check_head),
   c.head_at-head.ensures,
 )
 
@@ -73,7 +68,7 @@ after-at-requires c = small _ _ _ c.head_at-head.ensures _ c.requires.0 c.loop-i
 
 pub loop-i-preserved : goal.loop-i-preserved
 loop-i-preserved c =
-    turn_next _ _ _ _ _ c.loop-i.invariant c.loop-i-test.true _ _ (faultless (goal.at.loop-i-preserved c).Else-is_unread)
+    turn_next _ _ _ _ _ c.loop-i.invariant c.loop-i-test.true _ _ (faultless (goal.at.loop-i-preserved c).In_ok-check_head)
     c.axis.ensures
     (c.after-at.ensures ∙ end_is _ _ _ c.head_at-head.ensures _ c.requires.0)
 

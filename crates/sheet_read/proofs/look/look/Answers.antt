@@ -1,7 +1,7 @@
 -- Edition and number of axes are judged in reading order: 11, 12, 11 again, then 1 for none or more than four; of one to four axes the
 -- answer is that of the look at them.
 use mathlib.Core.Bool.{true, false, cond}
-use mathlib.Core.Path.{◌≡◌, sym, ap, ◌∙◌}
+use mathlib.Core.Path.{◌≡◌, refl, sym, ap, ◌∙◌}
 use Prim.Native.Nat.{◌+◌, ◌*◌, ◌≤◌}
 use native.Mathlib.Omega.{arith}
 use borrow.Author.Tests.{ltb-true, ltb-false}
@@ -13,7 +13,7 @@ use Rattle.sheet_read.specs.Fields.{edition, axes, sheet_grid}
 use Rattle.sheet_read.specs.Faults.{axes_fault, samples_fault, sheet_refusal}
 use Rattle.sheet_read.proofs.Sheets.{no_edition, other_edition, no_axes, some_axes, axes_few, axes_many, axes_allowed}
 use Rattle.sheet_read.proofs.look.look.Goals as goal
-use Rattle.sheet_read.proofs.look.look.Goals.{After-field_at-n, After-is_unknown_edition, Else-is_short, Else-is_short-2, Else-is_unknown_edition, in_default-via-then-n-lt1, in_default-via-else-n-lt1+else-n-lt5}
+use Rattle.sheet_read.proofs.look.look.Goals.{After-field_at-n, After-is_unknown_edition, Else-is_short, Else-is_short-2, Else-is_unknown_edition}
 
 -- what each test that was passed has shown
 edition_room : (c : Else-is_short) → 0 + 4 ≤ 8 * length c.args.bytes.now
@@ -37,19 +37,19 @@ number c =
     some_axes _ ((ltb-false _ _ (sym c.is_short.ensures ∙ c.if-is_short.false))) ((sym ((c.is_unknown_edition.ensures ∙ ap unknown_edition c.field_at-edition.ensures)) ∙ c.if-is_unknown_edition.false)) ((ltb-false _ _ (sym c.is_short-2.ensures ∙ c.if-is_short-2.false)))
 
 pub returns-then-is_short : goal.returns-then-is_short
-returns-then-is_short c = rw (no_edition _ (ltb-true _ _ (sym c.is_short.ensures ∙ c.if-is_short.true))) c.refused.ensures
+returns-then-is_short c = rw (no_edition _ (ltb-true _ _ (sym c.is_short.ensures ∙ c.if-is_short.true))) refl
 
 pub field_at-edition-requires : goal.field_at-edition-requires
 field_at-edition-requires c = (record { room = edition_room (goal.at.field_at-edition-requires c).Else-is_short; small = omega arith }, omega arith)
 
 pub returns-then-is_unknown_edition : goal.returns-then-is_unknown_edition
-returns-then-is_unknown_edition c = rw (other_edition _ (edition_room (goal.at.returns-then-is_unknown_edition c).Else-is_short) (sym (edition_is (goal.at.returns-then-is_unknown_edition c).After-is_unknown_edition) ∙ c.if-is_unknown_edition.true)) c.refused-then-is_unknown_edition.ensures
+returns-then-is_unknown_edition c = rw (other_edition _ (edition_room (goal.at.returns-then-is_unknown_edition c).Else-is_short) (sym (edition_is (goal.at.returns-then-is_unknown_edition c).After-is_unknown_edition) ∙ c.if-is_unknown_edition.true)) refl
 
 pub returns-then-is_short-2 : goal.returns-then-is_short-2
 returns-then-is_short-2 c =
     rw (no_axes _ (edition_room (goal.at.returns-then-is_short-2 c).Else-is_short) (edition_known (goal.at.returns-then-is_short-2 c).Else-is_unknown_edition)
     (ltb-true _ _ (sym c.is_short-2.ensures ∙ c.if-is_short-2.true)))
-    c.refused-then-is_short-2.ensures
+    refl
 
 pub field_at-n-requires : goal.field_at-n-requires
 field_at-n-requires c = (record { room = axes_room (goal.at.field_at-n-requires c).Else-is_short-2; small = omega arith }, omega arith)
@@ -74,10 +74,10 @@ returns-in-1-to-4 c =
 
 pub returns-in_default : goal.returns-in_default
 returns-in_default c =
-    let bytes = c.args.bytes.now in
-    let none : axes_refused (sheet_grid bytes) ≡ true =
-    elim c.in_default.branch [
-      | in_default-via-then-n-lt1 w ↦ axes_few bytes (omega (arith, c.field_at-n.ensures))
-      | in_default-via-else-n-lt1+else-n-lt5 w ↦ axes_many bytes (omega (arith, c.field_at-n.ensures))
-    ] in
-    rw (number (goal.at.returns-in_default c).After-field_at-n, none) c.refused-in_default.ensures
+    let none : axes_refused (sheet_grid c.args.bytes.now) ≡ true = axes_few c.args.bytes.now (omega (arith, c.field_at-n.ensures)) in
+    rw (number (goal.at.returns-in_default c).After-field_at-n, none) refl
+
+pub returns-in_default-2 : goal.returns-in_default-2
+returns-in_default-2 c =
+    let none : axes_refused (sheet_grid c.args.bytes.now) ≡ true = axes_many c.args.bytes.now (omega (arith, c.field_at-n.ensures)) in
+    rw (number (goal.at.returns-in_default-2 c).After-field_at-n, none) refl

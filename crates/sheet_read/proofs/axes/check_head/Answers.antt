@@ -10,8 +10,8 @@ use Rattle.grid_codes.specs.Modes.{unknown_mode}
 use Rattle.sheet_read.specs.Faults.{axis_fault}
 use Rattle.sheet_read.proofs.Extents.{Extent, extent}
 use Rattle.sheet_read.proofs.HeadFields.{head_few, head_periodic, head_other_mode, head_patterns, values_most}
-use Rattle.sheet_read.proofs.axes.fault_of_head.Goals as goal
-use Rattle.sheet_read.proofs.axes.fault_of_head.Goals.{After-are_short, Else-head-lt2, Else-is_periodic_at_one_end, Else-is_unknown_mode}
+use Rattle.sheet_read.proofs.axes.check_head.Goals as goal
+use Rattle.sheet_read.proofs.axes.check_head.Goals.{After-are_short, Else-head-lt2, Else-is_periodic_at_one_end, Else-is_unknown_mode}
 
 enough : (c : Else-head-lt2) → 2 ≤ c.args.head.points
 enough c = omega (arith, c.if-head-lt2.false)

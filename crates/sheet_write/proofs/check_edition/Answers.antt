@@ -1,7 +1,7 @@
 -- 12 for an edition that there is not, then 23 for an axis in use whose mode it refuses, else 0: the rules' own order.
 use mathlib.Core.Path.{sym, ◌∙◌}
 use Rattle.sheet_write.specs.Write.{edition_refusal}
-use Rattle.sheet_write.proofs.edition_refusal.Goals as goal
+use Rattle.sheet_write.proofs.check_edition.Goals as goal
 
 pub returns-then-is_unknown_edition : goal.returns-then-is_unknown_edition
 unfolding edition_refusal

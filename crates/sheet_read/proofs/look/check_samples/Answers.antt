@@ -8,8 +8,8 @@ use Rattle.rules.specs.Sizes.{tensor_length}
 use Rattle.grid.specs.GridOfCall.{sizes_of}
 use Rattle.base_bits.specs.Bits.{numbers_short}
 use Rattle.sheet_read.proofs.Samples.{begin_small, samples_least, too_large, samples_few, no_samples, samples_room, after_samples}
-use Rattle.sheet_read.proofs.look.fault_of_samples.Goals as goal
-use Rattle.sheet_read.proofs.look.fault_of_samples.Goals.{Else-are_short, Else-tensor_length-gt4096}
+use Rattle.sheet_read.proofs.look.check_samples.Goals as goal
+use Rattle.sheet_read.proofs.look.check_samples.Goals.{Else-are_short, Else-tensor_length-gt4096}
 
 -- what each test that was passed has shown
 small : (c : Else-tensor_length-gt4096) → let args = c.args in tensor_length (sizes_of args.n args.all) ≤ 4096
