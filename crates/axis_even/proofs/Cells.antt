@@ -1,12 +1,12 @@
 -- The direct cell by its quotient: of one that lies within one of k it is k or k - 1, and of a zero it is 0.
-use Rattle.std.proofs.Common.{◌≡◌, ℕ, zero, suc, ◌+◌, ◌-◌, ◌*◌, ◌/◌, ◌<◌, ◌≤◌, min, Bool, true, false, cond, pos, refl, true≢false, mul-le-mul_right, mul_comm, div-lt_iff_lt-mul, add-mul, lt_of_mul-lt-mul_right, mul-lt-mul_of_pos_right, le-div_iff_mul-le, mul_right_comm, le_of_mul-le-mul_right, arith, le-ltb, lt-ltb}
+use Rattle.std.proofs.Common.{◌≡◌, ℕ, zero, suc, ◌+◌, ◌-◌, ◌*◌, ◌/◌, ◌<◌, ◌≤◌, min, Bool, true, false, cond, pos, true≢false, mul-le-mul_right, mul_comm, div-lt_iff_lt-mul, add-mul, lt_of_mul-lt-mul_right, mul-lt-mul_of_pos_right, le-div_iff_mul-le, mul_right_comm, le_of_mul-le-mul_right, arith, le-ltb, lt-ltb}
 use lib.Ieee as Ieee
 use lib.Ieee.{Float, nan, inf, fin, up, down, lt}
 use lib.Ieee.Fits.{down_pos}
 use lib.Ieee.Exact.{HasValue}
 use Rattle.base_floats.specs.Zeros.{Zero}
 use Rattle.rules.specs.Numbers.{◌⊖◌, ◌⊘◌, plus_zero}
-use Rattle.rules.specs.Even.{first_too_large, whole_part, as_index, direct_cell}
+use Rattle.rules.specs.Even.{whole_part, as_index, direct_cell}
 use Rattle.axis_even.proofs.Direct.{direct_is}
 
 -- knot k is an end of a cell: the cell is k or k - 1

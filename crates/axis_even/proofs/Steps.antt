@@ -1,5 +1,5 @@
 -- Knots of a format whose steps are even: knot k less the first, over the first step, lies within one of k.
-use Rattle.std.proofs.Common.{◌≡◌, ℕ, zero, suc, ◌+◌, ◌-◌, ◌*◌, ◌^◌, ◌<◌, ◌≤◌, true, false, cond, T, ltb, sym, ap, ◌∙◌, le_trans, le_of_eq, mul-le-mul_right, mul_comm, mul-pos, arith, pow_mono, pow-add, ltb-true, lt-ltb}
+use Rattle.std.proofs.Common.{◌≡◌, ℕ, zero, suc, ◌+◌, ◌-◌, ◌*◌, ◌^◌, ◌<◌, ◌≤◌, true, false, cond, T, sym, ap, ◌∙◌, le_trans, le_of_eq, mul-le-mul_right, mul_comm, mul-pos, arith, pow_mono, pow-add, lt-ltb}
 use lib.Ieee.{Float, Format, binary32, binary64, emax, low, sub, mul, div, fits, lt}
 use lib.Ieee.Exact.{HasValue}
 use lib.Ieee.Scale.{grid, overflow, finite}

@@ -1,5 +1,5 @@
 -- What the theorem asks of an axis can be met, and both cells come out: on the knots 0.1 0.2 0.3 0.4 both inner knots lie in direct cell 1.
-use Rattle.std.proofs.Common.{◌≡◌, ℕ, zero, suc, ◌+◌, ◌<◌, true, false, List, [], ◌∷◌, refl, arith}
+use Rattle.std.proofs.Common.{◌≡◌, ℕ, zero, suc, ◌+◌, ◌<◌, true, List, [], ◌∷◌, refl, arith}
 use lib.Ieee as Ieee
 use lib.Ieee.{Float, binary64, lt, fits}
 use lib.Ieee.Scale.{finite}

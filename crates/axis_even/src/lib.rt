@@ -57,10 +57,8 @@ fn some_interval_may_fail(knots: &[f64]) -> bool
     let tolerance = tolerance(step);
     let last = knots.len() - 1;
     let mut found = false;
-    let mut interval = 1;
-    while interval < last {
-        found = found | may_fail(knots[interval + 1] - knots[interval], step, tolerance);
-        interval += 1;
+    for i in 1..last {
+        found = found | may_fail(knots[i + 1] - knots[i], step, tolerance);
     }
     found
 }
@@ -72,12 +70,10 @@ fn first_failing_interval(knots: &[f64]) -> usize
 {
     let step = knots[1] - knots[0];
     let tolerance = tolerance(step);
-    let mut i = 1;
-    while i < knots.len() - 1 {
+    for i in 1..knots.len() - 1 {
         if fails(knots[i + 1] - knots[i], step, tolerance) {
             return i;
         }
-        i += 1;
     }
     0
 }

@@ -1,5 +1,4 @@
 -- The first interval that fails, looked for from 1 on, is the first from `i` on: the one found is answered, or 0 where none is.
--- The measure is the knots left.
 use Rattle.std.proofs.Common.{◌-◌, length}
 use Rattle.rules.specs.Even.{fails}
 use Rattle.axis_even.proofs.First.{Turn}
@@ -7,6 +6,3 @@ use Rattle.axis_even.proofs.first_failing_interval.Given as goal
 
 abbrev pub invariant-loop-i : goal.invariant-loop-i
 invariant-loop-i l = Turn (fails l.knots) 1 (length l.knots - 1) l.i
-
-abbrev pub decreases-loop-i : goal.decreases-loop-i
-decreases-loop-i l = length l.knots - l.i
