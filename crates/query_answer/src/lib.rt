@@ -148,8 +148,8 @@ fn answer_on_two(
     check_value(value)
 }
 
-// The same on any number of axes. The labels become those of the cell, whatever they were, and after a refusal nobody reads them. They go to
-// a slice of the caller's: a struct that holds them goes through memory, and this Result does not.
+// The same on any number of axes. The labels become those of the cell, whatever they were, and after a refusal nobody reads them. They go
+// to a slice of the caller's: a struct that holds them goes through memory, and this Result does not.
 fn answer_to(
     way: Way,
     axes: usize,

@@ -71,7 +71,7 @@ fn first_lack(quality: Quality, knots: &[f64]) -> usize
     }
 }
 
-// The lowest axis that lacks it, on axes of so many points.
+// The lowest axis that lacks it, if one does, on axes of so many points.
 pub fn first_lacking(quality: Quality, axes: usize, points: &[usize], knots: &[f64]) -> Option<Lack>
     requires { InRange axes (place_of points.now) × (length points.now ≡ 4)
         × (length knots.now ≡ sum_below (place_of points.now) axes) }

@@ -4,8 +4,7 @@ use mathlib.Core.List.{List}
 use Prim.Native.Nat.{ℕ}
 use lib.Ieee.{Float}
 use Rattle.tensor.specs.Changes.{tensor_after}
-use Rattle.sheet_build.specs.SheetTensor.{SheetPromise}
-use Rattle.sheet_build.specs.declared.SheetAnswer.{SheetAnswer}
+use Rattle.sheet_build.specs.SheetTensor.{SheetPromise, SheetAnswer}
 use Rattle.sheet_build.proofs.Demand3.{grid_made, samples_made, tensor_made, sheet_is_built}
 use Rattle.query_measured.specs.EvenMeasured.{EvenReads}
 use Rattle.query_measured.specs.EvenSamples.{EvenReadsSamples, EvenReadsItsSamples}

@@ -15,8 +15,7 @@ use Rattle.base_floats.specs.Place.{AllFit}
 use Rattle.grid.specs.GridOfCall.{On}
 use Rattle.tensor.specs.Changes.{OneChange, Kept, tensor_after, samples_after}
 use Rattle.tensor.proofs.Demand3.{tensor_long, Stands, built_stands, changes_stand}
-use Rattle.sheet_build.specs.SheetTensor.{SheetPromise}
-use Rattle.sheet_build.specs.declared.SheetAnswer.{SheetAnswer}
+use Rattle.sheet_build.specs.SheetTensor.{SheetPromise, SheetAnswer}
 use Rattle.sheet_build.proofs.Demand3.{grid_made, samples_made, tensor_made, sheet_is_built}
 use Rattle.query_measured.specs.Measured.{Promise, Surface, Reads, MeasuredIsRead}
 use Rattle.query_measured.specs.Samples.{ReadsSamples, ReadsItsSamples}

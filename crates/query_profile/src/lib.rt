@@ -16,8 +16,8 @@ use query_even::qualities::{Lack, Quality};
 use query_even::{pass, qualities};
 use rules::{Axis, Refusal};
 
-// Why the profile refuses: for its sizes and lengths, or for the knots of the lowest axis that lacks a quality, and there for the first knot
-// or interval that does.
+// Why the profile refuses: for its sizes and lengths (1 to 4), or for the knots of the lowest axis that lacks a quality, with the first
+// knot or interval by which it does (7, 8, 21).
 #[derive(Clone, Copy)]
 pub enum ProfileRefusal {
     Refused(Refusal),
