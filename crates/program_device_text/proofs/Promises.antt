@@ -19,10 +19,10 @@ use Rattle.program_device_text.specs.DeviceText.{
   device_text,
   device_text_length,
   device_text_refusal,
+  CurveTextAnswer,
   device_text_answer,
   DeviceTextPromise,
 }
-use Rattle.program_device_text.specs.declared.CurveTextAnswer.{CurveTextAnswer}
 use Rattle.program_device_text.proofs.Lines.{lines_length}
 
 -- ---- how long the text is
