@@ -1,8 +1,7 @@
 -- Cells by hand: a half on either side of zero, the farthest reach on either side, and the two refusals in their order.
 use mathlib.Core.Path.{◌≡◌, refl}
 use lib.IntN.{ℤ, pos, negsuc}
-use Rattle.device_cell.specs.DeviceCell.{exact, nearest, cell_in_range, cell_refusal, cell_answer}
-use Rattle.device_cell.specs.declared.CellAnswer.{CellAnswer}
+use Rattle.device_cell.specs.DeviceCell.{exact, nearest, cell_in_range, cell_refusal, CellAnswer, cell_answer}
 
 abbrev at : ℤ → ℤ → ℤ → ℤ → ℤ → CellAnswer
 at p0 p1 d0 d1 k = cell_answer (record { p0 = p0; p1 = p1; d0 = d0; d1 = d1 }) k

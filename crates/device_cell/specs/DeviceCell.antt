@@ -1,8 +1,9 @@
 -- The chapter DeviceCell of docs/RULES.md: one cell in whole numbers, and the public call `cell_value`.
-use Rattle.std.specs.Prelude.{◌≡◌, Bool, ◌&&◌, cond, ℕ, zero, suc, ◌+◌, ◌*◌, ◌/◌, ◌^◌, ℤ, pos, negsuc, neg_ℤ, nat_abs, ◌+ℤ◌, ◌-ℤ◌, ◌*ℤ◌}
+use Rattle.std.specs.Prelude.{◌≡◌, Bool, ◌&&◌, cond, Result, Ok, Err, ℕ, zero, suc, ◌+◌, ◌*◌, ◌/◌, ◌^◌, ℤ, pos, negsuc, neg_ℤ, nat_abs, ◌+ℤ◌, ◌-ℤ◌, ◌*ℤ◌}
 use Rattle.std.specs.Int.Signed.{le_z}
 use Rattle.device_cell.specs.declared.Cell.{Cell}
-use Rattle.device_cell.specs.declared.CellAnswer.{CellAnswer}
+use Rattle.device_cell.specs.declared.Refusal.{Refusal}
+use Rattle.device_cell.specs.declared.Refusal.TheVariants.{Range, Position}
 
 -- ---- the value
 
@@ -48,6 +49,27 @@ position_in_range k = in_range (pos 0) (pos 256) k
 -- 19: a value or a slope is out of range; then 20: the position is
 unfoldable pub cell_refusal : Cell → ℤ → ℕ
 cell_refusal c k = cond (cell_in_range c) (cond (position_in_range k) 0 20) 19
+
+-- ---- the answer, told in numbers as C is told it
+
+-- the number of a refusal
+abbrev pub number_of : Refusal → ℕ
+number_of Range = 19
+number_of Position = 20
+
+-- the number of what a call of the device gives, 0 where it does not refuse
+abbrev pub refusal_of : {T : Type 0} → Result T Refusal → ℕ
+refusal_of (Ok given) = 0
+refusal_of (Err refusal) = number_of refusal
+
+-- the number of the refusal, 0 for none, and the value, 0 after a refusal
+pub record CellAnswer : Type 0 where
+  pub refusal : ℕ
+  pub value : ℤ
+
+abbrev pub cell_told : Result ℤ Refusal → CellAnswer
+cell_told (Ok value) = record { refusal = 0; value = value }
+cell_told (Err refusal) = record { refusal = number_of refusal; value = pos 0 }
 
 -- ---- the call
 

@@ -4,7 +4,17 @@
 
 ghost use Rattle.std.specs.Prelude.{◌≡◌, true, ◌≤◌};
 ghost use Rattle.base_integers.specs.Sized.{Sized};
-ghost use Rattle.device_cell.specs.DeviceCell.{nearest, cell_number, in_range, cell_in_range, cell_refusal, CellPromise};
+ghost use Rattle.device_cell.specs.DeviceCell.{
+  nearest,
+  cell_number,
+  in_range,
+  cell_in_range,
+  cell_refusal,
+  number_of,
+  refusal_of,
+  cell_told,
+  CellPromise,
+};
 ghost use Rattle.device_cell.specs.CellWeights.{weights_at, weighted, Room};
 
 // The values and the slopes, scaled by the width, at the two ends of a cell.
@@ -16,11 +26,20 @@ pub struct Cell {
     pub d1: i64,
 }
 
-// A refusal's number, 0 for none, and the value.
+// Why a call of the device refuses. The numbers are those of the table of document 01, which has the refusals of all calls.
 #[derive(Clone, Copy)]
-pub struct CellAnswer {
-    pub refusal: usize,
-    pub value: i32,
+pub enum Refusal {
+    Range = 19,
+    Position = 20,
+}
+
+impl Refusal {
+    // Its number.
+    pub fn number(self) -> usize
+        ensures { result ≡ number_of self }
+    {
+        self as usize
+    }
 }
 
 // How many parts of 256³ each number of a cell counts; those of d1 are taken away.
@@ -104,27 +123,25 @@ pub fn cell_number(cell: Cell, k: u64) -> i32
     rounded(weighted(weights_at(k), cell.p0, cell.p1, cell.d0, cell.d1)) as i32
 }
 
-// The refusal of a cell at a position.
-fn cell_refusal(cell: Cell, k: i64) -> usize
-    ensures { result ≡ cell_refusal cell k }
+// Looks for the refusals of a cell at a position: first of its numbers, and then of the position.
+fn check_cell(cell: Cell, k: i64) -> Result<(), Refusal>
+    ensures { refusal_of result ≡ cell_refusal cell k }
 {
-    if cell_in_range(cell) {
-        if in_range(0, 256, k) { 0 } else { 20 }
-    } else {
-        19
+    if !cell_in_range(cell) {
+        return Err(Refusal::Range);
     }
+    if !in_range(0, 256, k) {
+        return Err(Refusal::Position);
+    }
+    Ok(())
 }
 
 // PUBLIC. The value of a cell at position k of 256, rounded to the nearest whole number, a half away from zero. Refuses 19, a value
-// outside -32,768..32,767 or a slope outside -131,072..131,071, and then 20, a position outside 0..256; the value is 0 then.
-pub fn cell_value(p0: i32, p1: i32, d0: i32, d1: i32, k: i32) -> CellAnswer
-    ensures { CellPromise p0 p1 d0 d1 k result }
+// outside -32,768..32,767 or a slope outside -131,072..131,071, and then 20, a position outside 0..256.
+pub fn cell_value(p0: i32, p1: i32, d0: i32, d1: i32, k: i32) -> Result<i32, Refusal>
+    ensures { CellPromise p0 p1 d0 d1 k (cell_told result) }
 {
     let cell = cell_of(p0, p1, d0, d1);
-    let refusal = cell_refusal(cell, k as i64);
-    if refusal != 0 {
-        return CellAnswer { refusal, value: 0 };
-    }
-    let value = cell_number(cell, k as u64);
-    CellAnswer { refusal: 0, value }
+    check_cell(cell, k as i64)?;
+    Ok(cell_number(cell, k as u64))
 }

@@ -17,9 +17,9 @@ use Rattle.device_cursor.specs.DeviceCurve.{
   curve_numbers,
   cursor_number,
   next_refusal,
+  NextAnswer,
   next_answer,
 }
-use Rattle.device_cursor.specs.declared.NextAnswer.{NextAnswer}
 
 -- p0 1, p1 −2, d0 256, d1 −131,072
 abbrev one_cell : List ℕ

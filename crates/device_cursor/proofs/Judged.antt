@@ -1,5 +1,5 @@
 -- A curve judged whole: what the loop over its cells knows, and what is known of a curve that is not refused.
-use mathlib.Core.Path.{◌≡◌, refl}
+use mathlib.Core.Path.{◌≡◌, refl, ◌∙◌}
 use mathlib.Core.Bool.{Bool, true, false, not, ◌&&◌, ◌||◌, cond}
 use mathlib.Core.List.{List}
 use mathlib.Core.Logic.{⊎_elim}
@@ -12,7 +12,9 @@ use lib.IntN.{pos, ◌-ℤ◌}
 use lib.ListN.{length}
 use borrow.Author.Tests.{lt-ltb, le-ltb, leb-true, eqb-true}
 use Rattle.base_integers.proofs.Tests.{both}
-use Rattle.device_cell.specs.DeviceCell.{value_in_range, slope_in_range, cell_in_range}
+use Rattle.device_cell.specs.DeviceCell.{value_in_range, slope_in_range, cell_in_range, number_of}
+use Rattle.device_cell.specs.declared.Refusal.{Refusal}
+use Rattle.device_cell.proofs.Given.{number_some}
 use Rattle.device_cursor.proofs.Flags.{flags_of_two, flags_of_four}
 use Rattle.device_cursor.specs.DeviceCurve.{signed, number_at, cell_at, cells, whole_cells, all_in_range, curve_refusal}
 
@@ -77,6 +79,10 @@ module _ (curve : List ℕ) where
   pub good : whole_cells (length curve) ≡ true → all_in_range curve (cells curve) ≡ true → 0 ≡ curve_refusal curve
   unfolding curve_refusal
   good e f = rw (e, f)
+
+  -- what is met has a number
+  pub met_some : (met : Refusal) → number_of met ≡ curve_refusal curve → curve_refusal curve ≡ 0 → ⊥
+  met_some met e none = number_some met (e ∙ none)
 
   -- ---- a curve that is not refused
 

@@ -2,9 +2,8 @@
 use mathlib.Core.Path.{◌≡◌, sym, ◌∙◌}
 use mathlib.Core.List.{List}
 use Prim.Native.Nat.{ℕ}
-use Rattle.device_cursor.specs.DeviceCurve.{StartPromise, NextPromise}
+use Rattle.device_cursor.specs.DeviceCurve.{NextAnswer, StartPromise, NextPromise}
 use Rattle.device_cursor.specs.declared.Cursor.{Cursor}
-use Rattle.device_cursor.specs.declared.NextAnswer.{NextAnswer}
 
 pub start_unique : (c c' : Cursor) → StartPromise c → StartPromise c' → c ≡ c'
 start_unique c c' p q = p.answer ∙ sym q.answer

@@ -24,10 +24,10 @@ use Rattle.device_cursor.specs.DeviceCurve.{
   last_cursor,
   cursor_number,
   start_cursor,
+  NextAnswer,
   next_answer,
 }
 use Rattle.device_cursor.specs.declared.Cursor.{Cursor}
-use Rattle.device_cursor.specs.declared.NextAnswer.{NextAnswer}
 use Rattle.device_cursor.proofs.Judged.{Whole, length_known, cell_known}
 use Rattle.device_cursor.proofs.Steps.{
   number_before,

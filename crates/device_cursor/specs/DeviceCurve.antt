@@ -1,10 +1,10 @@
 -- The chapter DeviceCurve of docs/RULES.md: a curve of cells as bytes, its numbers in the program's order, and the public cursor that walks
 -- them.
-use Rattle.std.specs.Prelude.{◌≡◌, Bool, true, ◌&&◌, cond, List, [], ◌∷◌, ◌++◌, ℕ, zero, suc, ◌+◌, ◌-◌, ◌*◌, ◌/◌, ◌%◌, eqb, leb, ltb, ℤ, pos, ◌-ℤ◌, length, get_or}
-use Rattle.device_cell.specs.DeviceCell.{cell_number, cell_in_range, valued}
+use Rattle.std.specs.Prelude.{◌≡◌, Bool, true, ◌&&◌, cond, Result, Ok, Err, List, [], ◌∷◌, ◌++◌, ℕ, zero, suc, ◌+◌, ◌-◌, ◌*◌, ◌/◌, ◌%◌, eqb, leb, ltb, ℤ, pos, ◌-ℤ◌, length, get_or}
+use Rattle.device_cell.specs.DeviceCell.{cell_number, cell_in_range, number_of, valued}
 use Rattle.device_cell.specs.declared.Cell.{Cell}
+use Rattle.device_cell.specs.declared.Refusal.{Refusal}
 use Rattle.device_cursor.specs.declared.Cursor.{Cursor}
-use Rattle.device_cursor.specs.declared.NextAnswer.{NextAnswer}
 
 -- ---- the cells
 
@@ -95,6 +95,17 @@ start_cursor = record { n = 0 }
 abbrev pub moved : ℕ → ℕ → ℕ
 moved zero n = n + 1
 moved (suc refusal) n = n
+
+-- a step as C is told it: the number of the refusal, 0 for none; the value, 0 after a refusal; and the cursor after the step, or after a
+-- refusal the one that was given
+pub record NextAnswer : Type 0 where
+  pub refusal : ℕ
+  pub value : ℤ
+  pub cursor : Cursor
+
+abbrev pub next_told : Cursor → Result (ℤ × Cursor) Refusal → NextAnswer
+next_told cursor (Ok (value, later)) = record { refusal = 0; value = value; cursor = later }
+next_told cursor (Err refusal) = record { refusal = number_of refusal; value = pos 0; cursor = cursor }
 
 -- the answer of `next`: the number at the cursor, and the cursor moved on
 unfoldable pub next_answer : List ℕ → Cursor → NextAnswer

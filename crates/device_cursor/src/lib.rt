@@ -3,7 +3,7 @@
 #![tactic(auto)]
 
 ghost use Rattle.std.specs.Prelude.{◌≡◌, true, not, ◌+◌, ◌*◌, ◌/◌, ◌<◌, ◌≤◌, length};
-ghost use Rattle.device_cell.specs.DeviceCell.{cell_number, cell_in_range};
+ghost use Rattle.device_cell.specs.DeviceCell.{cell_number, cell_in_range, refusal_of};
 ghost use Rattle.device_cursor.specs.DeviceCurve.{
   four_bytes,
   number_at,
@@ -15,25 +15,18 @@ ghost use Rattle.device_cursor.specs.DeviceCurve.{
   last_cursor,
   cursor_number,
   next_refusal,
+  next_told,
   StartPromise,
   NextPromise,
 };
 ghost use Rattle.device_cursor.specs.Columns.{value_out, slope_out, one_of_four_out};
 
-use device_cell::Cell;
+use device_cell::{Cell, Refusal};
 
 // Where a walk stands: how many numbers lie before it. Any n has a meaning.
 #[derive(Clone, Copy)]
 pub struct Cursor {
     pub n: u32,
-}
-
-// A refusal's number, 0 for none, the value at a cursor, and the cursor after it.
-#[derive(Clone, Copy)]
-pub struct NextAnswer {
-    pub refusal: usize,
-    pub value: i32,
-    pub cursor: Cursor,
 }
 
 // Four bytes, the lowest first: it requires that they are there.
@@ -162,15 +155,17 @@ fn some_cell_refused(curve: &[u8]) -> bool
     refused
 }
 
-// The refusal of a curve, which is judged whole: 20 for its length, then 19 for its numbers.
-pub fn curve_refusal(curve: &[u8]) -> usize
-    ensures { result ≡ curve_refusal curve.now }
+// Looks for the refusals of a curve, which is judged whole: 20 for its length, then 19 for its numbers.
+pub fn check_curve(curve: &[u8]) -> Result<(), Refusal>
+    ensures { refusal_of result ≡ curve_refusal curve.now }
 {
-    if whole_cells(curve.len()) {
-        if some_cell_refused(curve) { 19 } else { 0 }
-    } else {
-        20
+    if !whole_cells(curve.len()) {
+        return Err(Refusal::Position);
     }
+    if some_cell_refused(curve) {
+        return Err(Refusal::Range);
+    }
+    Ok(())
 }
 
 // Cell i at a position: it requires that the cell is there and in range, and a position of at most 256.
@@ -195,18 +190,15 @@ pub fn cursor_number(curve: &[u8], n: usize) -> i32
     }
 }
 
-// The refusal of a step: the curve's, and then 20 past the end.
-fn next_refusal(curve: &[u8], n: usize) -> usize
-    ensures { result ≡ next_refusal curve.now n }
+// Looks for the refusals of a step: the curve's, and then 20 past the end.
+fn check_next(curve: &[u8], n: usize) -> Result<(), Refusal>
+    ensures { refusal_of result ≡ next_refusal curve.now n }
 {
-    let refusal = curve_refusal(curve);
-    if refusal != 0 {
-        return refusal;
-    }
+    check_curve(curve)?;
     if 256 * (curve.len() / 16) < n {
-        return 20;
+        return Err(Refusal::Position);
     }
-    0
+    Ok(())
 }
 
 impl Cursor {
@@ -219,24 +211,13 @@ impl Cursor {
 
     // PUBLIC. The value at the cursor, and the cursor moved on: each cell at 0 to 255, then the last at 256. The curve is judged whole
     // at every call. Refuses 20, bytes that are not 1 to 255 whole cells, then 19, a value or a slope out of range anywhere, then 20, a
-    // cursor past the end; the value is 0 then and the cursor as it was.
-    pub fn next(self, curve: &[u8]) -> NextAnswer
-        ensures { NextPromise curve.now self result }
+    // cursor past the end.
+    pub fn next(self, curve: &[u8]) -> Result<(i32, Cursor), Refusal>
+        ensures { NextPromise curve.now self (next_told self result) }
     {
         let n = self.n as usize;
-        let refusal = next_refusal(curve, n);
-        if refusal != 0 {
-            return NextAnswer {
-                refusal,
-                value: 0,
-                cursor: self,
-            };
-        }
+        check_next(curve, n)?;
         let value = cursor_number(curve, n);
-        NextAnswer {
-            refusal: 0,
-            value,
-            cursor: Cursor { n: self.n + 1 },
-        }
+        Ok((value, Cursor { n: self.n + 1 }))
     }
 }

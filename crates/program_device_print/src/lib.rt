@@ -4,11 +4,10 @@
 
 use program_streams::{Streams, read_input, write_output};
 
-// Prints the text of a curve.
+// Prints the text of a curve, for which the array has room.
 pub fn print_text(streams: Streams, curve: &[u8]) {
     let mut text = [0u8; 456967];
-    let answer = program_device_text::device_text(curve, &mut text);
-    let length = answer.length;
+    let length = program_device_text::device_text(curve, &mut text).unwrap();
     write_output(streams, &text[0..length]);
 }
 

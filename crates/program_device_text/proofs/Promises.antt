@@ -1,17 +1,21 @@
 -- The promise of the call, for each way that it ends. No text of a curve is longer than the length that is asked for.
-use mathlib.Core.Path.{◌≡◌, refl}
+use mathlib.Core.Path.{◌≡◌, refl, ap, ◌∙◌}
 use mathlib.Core.Bool.{Bool, true, false, cond}
 use mathlib.Core.List.{List}
 use Prim.Native.Nat.{ℕ, zero, suc, ◌+◌, ◌<◌, ◌≤◌}
 use native.Mathlib.Omega.{arith}
 use lib.ListN.{length}
 use borrow.Author.Tests.{lt-ltb, le-ltb}
+use Rattle.std.specs.Prelude.{Result, Ok, Err}
+use Rattle.std.specs.Result.{IsOk}
 use Rattle.base_text.specs.Lines.{refused_line}
 use Rattle.base_text.specs.PutBytes.{Put}
 use Rattle.base_text.proofs.Puts.{put_written}
 use Rattle.base_text.proofs.Decimals.{decimal_length, length_word_line}
 use Rattle.device_cursor.specs.DeviceCurve.{whole_cells, all_in_range, cells, curve_refusal, curve_numbers}
 use Rattle.device_cursor.proofs.Judged.{Whole, length_known}
+use Rattle.rules.specs.declared.Refusal.{Refusal}
+use Rattle.rules.proofs.Given.{number_some}
 use Rattle.rules.proofs.Refused.{counted_most}
 use Rattle.program_device_text.specs.DeviceText.{
   signed_lines,
@@ -19,10 +23,11 @@ use Rattle.program_device_text.specs.DeviceText.{
   device_text,
   device_text_length,
   device_text_refusal,
+  CurveTextAnswer,
+  curve_text_told,
   device_text_answer,
   DeviceTextPromise,
 }
-use Rattle.program_device_text.specs.declared.CurveTextAnswer.{CurveTextAnswer}
 use Rattle.program_device_text.proofs.Lines.{lines_length}
 
 -- ---- how long the text is
@@ -89,6 +94,14 @@ module _ (curve text : List ℕ) where
       record { answer = rw (e, done.1); text = rw e done.0 }
 
 -- ---- what a caller knows of the answer
+
+-- a text that has room for the longest is not refused
+pub given_for_room : (curve text : List ℕ) (given : Result ℕ Refusal) (later : List ℕ)
+    → DeviceTextPromise curve text (curve_text_told given) later → device_text_length ≤ length text → IsOk given
+unfolding device_text_answer
+given_for_room curve text (Ok end) later p room = refl
+given_for_room curve text (Err refusal) later p room =
+    absurd (number_some refusal (ap (λ (a : CurveTextAnswer). a.refusal) p.answer ∙ rw (le-ltb (length text) device_text_length room)))
 
 -- the text has no more bytes than the length that is asked for
 pub length_most : (curve text : List ℕ) (given : CurveTextAnswer) (later : List ℕ) → DeviceTextPromise curve text given later

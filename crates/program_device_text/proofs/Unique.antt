@@ -2,8 +2,7 @@
 use mathlib.Core.Path.{◌≡◌, sym, ◌∙◌}
 use mathlib.Core.List.{List}
 use Prim.Native.Nat.{ℕ}
-use Rattle.program_device_text.specs.DeviceText.{DeviceTextPromise}
-use Rattle.program_device_text.specs.declared.CurveTextAnswer.{CurveTextAnswer}
+use Rattle.program_device_text.specs.DeviceText.{CurveTextAnswer, DeviceTextPromise}
 
 pub text_unique : (curve text : List ℕ) (a a' : CurveTextAnswer) (x x' : List ℕ) → DeviceTextPromise curve text a x
     → DeviceTextPromise curve text a' x'

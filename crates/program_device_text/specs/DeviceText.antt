@@ -1,10 +1,11 @@
 -- The chapter DeviceText of docs/RULES.md: all that the device's program prints of a curve, and the public call `device_text`, which writes
 -- it to a text that it is lent.
-use Rattle.std.specs.Prelude.{◌≡◌, cond, List, [], ◌∷◌, ◌++◌, ℕ, zero, suc, ◌+◌, ◌*◌, ltb, ℤ, pos, negsuc, nat_abs, length}
+use Rattle.std.specs.Prelude.{◌≡◌, cond, Result, Ok, Err, List, [], ◌∷◌, ◌++◌, ℕ, zero, suc, ◌+◌, ◌*◌, ltb, ℤ, pos, negsuc, nat_abs, length}
+use Rattle.rules.specs.Answers.{number_of}
 use Rattle.rules.specs.Calls.{stored, counted}
+use Rattle.rules.specs.declared.Refusal.{Refusal}
 use Rattle.base_text.specs.Lines.{word_line, refused_line, written}
 use Rattle.device_cursor.specs.DeviceCurve.{curve_refusal, curve_numbers}
-use Rattle.program_device_text.specs.declared.CurveTextAnswer.{CurveTextAnswer}
 
 -- ---- the text
 
@@ -40,6 +41,15 @@ device_text_length = 7 * (256 * 255 + 1)
 -- 15: the text is shorter than that
 abbrev pub device_text_refusal : ℕ → ℕ
 device_text_refusal given = cond (ltb given device_text_length) 15 0
+
+-- the call as C is told it: the number of the refusal, 0 for none, and how long the curve's text is, 0 after a refusal
+pub record CurveTextAnswer : Type 0 where
+  pub refusal : ℕ
+  pub length : ℕ
+
+abbrev pub curve_text_told : Result ℕ Refusal → CurveTextAnswer
+curve_text_told (Ok length) = record { refusal = 0; length = length }
+curve_text_told (Err refusal) = record { refusal = number_of refusal; length = 0 }
 
 module _ (curve text_lent : List ℕ) where
   -- its answer: the refusal, and how long the curve's text is

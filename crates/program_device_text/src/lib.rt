@@ -5,14 +5,16 @@
 ghost use Rattle.std.specs.Prelude.{◌≡◌, ◌+◌, ◌≤◌, length};
 ghost use Rattle.base_text.specs.PutBytes.{Put};
 ghost use Rattle.device_cursor.specs.DeviceCurve.{curve_refusal, curve_numbers};
-ghost use Rattle.program_device_text.specs.DeviceText.{signed_line, signed_lines, device_text, device_text_length, DeviceTextPromise};
+ghost use Rattle.program_device_text.specs.DeviceText.{
+  signed_line,
+  signed_lines,
+  device_text,
+  device_text_length,
+  curve_text_told,
+  DeviceTextPromise,
+};
 
-// A refusal's number, 0 for none, and how many bytes of the text are the curve's.
-#[derive(Clone, Copy)]
-pub struct CurveTextAnswer {
-    pub refusal: usize,
-    pub length: usize,
-}
+use rules::Refusal;
 
 // The line of a number. It requires that there is room.
 fn put_signed_line(number: i32, text: &mut [u8], at: usize) -> usize
@@ -45,25 +47,20 @@ fn put_text(curve: &[u8], text: &mut [u8]) -> usize
     requires { device_text_length ≤ length text.old }
     ensures { Put (device_text curve.now) text.old 0 text.new result }
 {
-    let refusal = device_cursor::curve_refusal(curve);
-    if refusal != 0 {
-        return base_text::put_refused_line(refusal as u64, text, 0);
+    if let Err(refusal) = device_cursor::check_curve(curve) {
+        return base_text::put_refused_line(refusal.number() as u64, text, 0);
     }
     put_numbers(curve, text)
 }
 
 // PUBLIC. Writes all that the device's program prints of a curve to the front of the text, and answers how many bytes that is: a line
 // for each number, each cell at 0 to 255 and then the last at 256, or the one line `refused K`. So a refused curve is no refusal of
-// this call. It refuses a text shorter than 456,967 bytes by 15; then the length is 0 and nothing is written.
-pub fn device_text(curve: &[u8], text: &mut [u8]) -> CurveTextAnswer
-    ensures { DeviceTextPromise curve.now text.old result text.new }
+// this call. It refuses a text shorter than 456,967 bytes by 15; then nothing is written.
+pub fn device_text(curve: &[u8], text: &mut [u8]) -> Result<usize, Refusal>
+    ensures { DeviceTextPromise curve.now text.old (curve_text_told result) text.new }
 {
     if text.len() < 456967 {
-        return CurveTextAnswer {
-            refusal: 15,
-            length: 0,
-        };
+        return Err(Refusal::Buffer);
     }
-    let length = put_text(curve, text);
-    CurveTextAnswer { refusal: 0, length }
+    Ok(put_text(curve, text))
 }

@@ -6,8 +6,5 @@ use Rattle.program_device_text.proofs.device_text.Goals as goal
 pub returns-then-text-lt456967 : goal.returns-then-text-lt456967
 returns-then-text-lt456967 c = text_refused _ _ c.if-text-lt456967.true
 
-pub put_text-length-requires : goal.put_text-length-requires
-put_text-length-requires c = c.if-text-lt456967.false
-
 pub returns : goal.returns
-returns c = text_written _ _ c.if-text-lt456967.false c.put_text-length.ensures
+returns c = text_written _ _ c.if-text-lt456967.false c.put_text.ensures

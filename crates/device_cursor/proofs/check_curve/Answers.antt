@@ -2,17 +2,17 @@
 use mathlib.Core.Path.{sym, ◌∙◌}
 use borrow.Author.Tests.{not-true, not-false}
 use Rattle.device_cursor.proofs.Judged.{broken_length, out_of_range, good}
-use Rattle.device_cursor.proofs.curve_refusal.Goals as goal
+use Rattle.device_cursor.proofs.check_curve.Goals as goal
+
+pub returns-then-not-whole_cells : goal.returns-then-not-whole_cells
+returns-then-not-whole_cells c = broken_length _ (sym c.whole_cells.ensures ∙ c.if-not-whole_cells.true)
 
 pub returns-then-some_cell_refused : goal.returns-then-some_cell_refused
 returns-then-some_cell_refused c =
-    out_of_range _ (sym c.whole_cells.ensures ∙ c.if-whole_cells.true)
+    out_of_range _ (sym c.whole_cells.ensures ∙ c.if-not-whole_cells.false)
     (not-true _ (sym c.some_cell_refused.ensures ∙ c.if-some_cell_refused.true))
 
-pub returns-else-some_cell_refused : goal.returns-else-some_cell_refused
-returns-else-some_cell_refused c =
-    good _ (sym c.whole_cells.ensures ∙ c.if-whole_cells.true)
+pub returns : goal.returns
+returns c =
+    good _ (sym c.whole_cells.ensures ∙ c.if-not-whole_cells.false)
     (not-false _ (sym c.some_cell_refused.ensures ∙ c.if-some_cell_refused.false))
-
-pub returns-else-whole_cells : goal.returns-else-whole_cells
-returns-else-whole_cells c = broken_length _ (sym c.whole_cells.ensures ∙ c.if-whole_cells.false)
