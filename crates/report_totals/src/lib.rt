@@ -152,12 +152,12 @@ fn with_sheet(totals: Totals, refusal: usize, orders: [OrderTotals; 5]) -> Total
 
 // The totals with one sheet more that is refused by a number, so that it has no tensor. It requires totals of no more sheets than a report
 // has, and such a number.
-pub fn with_refused(totals: Totals, refusal: usize) -> Totals
-    requires { (refusal < 24) × Running totals }
-    ensures { Adds totals refusal [] result }
+pub fn with_refused(totals: Totals, refusal: Refusal) -> Totals
+    requires { Running totals }
+    ensures { Adds totals (number_of refusal) [] result }
 {
     let orders = totals.orders;
-    with_sheet(totals, refusal, orders)
+    with_sheet(totals, refusal.number(), orders)
 }
 
 // The totals with one sheet more that is accepted, and its tensor. It requires totals of no more sheets than a report has, and at most
