@@ -21,4 +21,4 @@ returns c =
     let pre = c.requires in
     let front = c.look_at_front-front.ensures in
     took _ _ _ _ _ pre.1 pre.0 c.if-totals-eq1000000.false front.size_is front.inside c.count_sheet-later.ensures
-    (c.is_err.ensures ∙ stops_unread _ _ (own_looked _ _ _ front.size_is front.looked))
+    (c.is_err.ensures.value ∙ stops_unread _ _ (own_looked _ _ _ front.size_is front.looked))

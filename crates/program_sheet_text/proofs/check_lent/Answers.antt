@@ -1,6 +1,6 @@
 -- Five lengths in the rules' order: 4 for knots, samples or tensor, 5 for the scratch, 15 for the text, and 0 where all pass.
 use borrow.Author.Tests.{eq-eqb, ne_eqb, lt-ltb, le-ltb}
-use Rattle.program_sheet_text.proofs.lent_refusal.Goals as goal
+use Rattle.program_sheet_text.proofs.check_lent.Goals as goal
 
 pub returns-then-knots-ne1024 : goal.returns-then-knots-ne1024
 returns-then-knots-ne1024 c = rw (ne_eqb _ _ c.if-knots-ne1024.true)
