@@ -1,15 +1,15 @@
 -- A wrong length is refused, and all that was lent stays as it was (`lent_refused`); else the text is that of the sheet's own refusal
 -- or tensor (`text_written`), whose at most 4,096 numbers lie in the tensor and have room in the text.
 use mathlib.Core.Path.{◌≡◌, sym, ◌∙◌}
-use Prim.Native.Nat.{ℕ}
+use Prim.Native.Nat.{◌-◌, ◌≤◌}
 use native.Mathlib.Nat.{sub-zero}
 use native.Mathlib.Omega.{arith}
-use lib.ListN.{length, length-take}
+use lib.ListN.{length, take, length-take}
 use Rattle.rules.proofs.Given.{err_given, number_some, number_most}
 use Rattle.sheet_build.proofs.Promises.{length_most}
 use Rattle.program_tensor_text.proofs.Texts.{length_most as tensor_text_most}
 use Rattle.program_sheet_text.specs.SheetText.{text_refusal}
-use Rattle.program_sheet_text.proofs.Told.{refused_told, length_refused_line}
+use Rattle.program_sheet_text.proofs.Told.{refusal_put, length_refused_line}
 use Rattle.program_sheet_text.proofs.Promises.{Lent, lent, lent_refused, text_written}
 use Rattle.program_sheet_text.proofs.sheet_text.Goals as goal
 use Rattle.program_sheet_text.proofs.sheet_text.Goals.{In_ok-check_lent}
@@ -37,7 +37,10 @@ slice_bounds-put_tensor-end c =
 
 pub put_tensor-requires : goal.put_tensor-requires
 put_tensor-requires c =
-    let most = length_most _ _ _ _ _ _ _ _ _ _ (rw c.in-Ok.is at c.tensor_of_sheet.ensures) in ?
+    let most = length_most _ _ _ _ _ _ _ _ _ _ (rw c.in-Ok.is at c.tensor_of_sheet.ensures) in
+    let part : length (take (c.in-Ok.built.length - 0) c.tensor_of_sheet.new.tensor) ≤ 4096
+    = rw (length-take, sub-zero c.in-Ok.built.length) (omega (arith, most)) in
+    omega (arith, tensor_text_most _ part, (enough (goal.at.put_tensor-requires c).In_ok-check_lent).text)
 
 pub returns-in-Ok : goal.returns-in-Ok
 returns-in-Ok c =
@@ -56,4 +59,7 @@ put_refused_line-requires c =
     )
 
 pub returns-in-Err : goal.returns-in-Err
-returns-in-Err c = ?
+returns-in-Err c =
+    text_written _ _ _ _ _ _ (passed (goal.at.returns-in-Err c).In_ok-check_lent) _ _ _ _ _ _ _
+    (rw c.in-Err.is at c.tensor_of_sheet.ensures)
+    (refusal_put _ _ _ (c.number.ensures ∙ c.refusal.ensures) (λ z. number_some _ (c.refusal.ensures ∙ z)) c.put_refused_line.ensures)
