@@ -38,11 +38,11 @@ fn check_lent(
     Ok(())
 }
 
-// PUBLIC. Writes all that the sheet program prints of a sheet to the front of the text, and answers how many bytes that is: the line
+// PUBLIC. Writes all that the sheet program prints of a sheet to the front of the text, and gives how many bytes that is: the line
 // `tensor N` and a line for each number of the sheet's tensor, or the one line `refused K`. So a refused sheet is no refusal of this
 // call. It refuses what it is lent: knots or samples of another length than 1,024 or a tensor of another than 4,096 by 4, a scratch
-// shorter than 6,144 by 5, and a text shorter than 69,644 bytes by 15. Then the length is 0 and nothing is written. Else knots,
-// samples, tensor and scratch are left as by `tensor_of_sheet`.
+// shorter than 6,144 by 5, and a text shorter than 69,644 bytes by 15. Then nothing is written. Else knots, samples, tensor and scratch
+// are left as by `tensor_of_sheet`.
 pub fn sheet_text(
     bytes: &[u8],
     knots: &mut [f64],
