@@ -1,6 +1,6 @@
 // A case: its slices are made as the list gives them, and its call is made on them.
 use trial_replay_cases::is_same;
-use trial_replay_items::arguments::Case;
+use trial_replay_items::arguments::{BYTES, Case, FLOATS, NUMBERS};
 
 // Whether a case was answered as the list says, and the place after it.
 #[derive(Clone, Copy)]
@@ -21,16 +21,16 @@ fn is_same_on_floats(
     y: &mut [u8],
     z: &mut [u8],
 ) -> bool {
-    let mut a = case.floats(list, b'a');
-    let mut b = case.floats(list, b'b');
-    let mut c = case.floats(list, b'c');
-    let mut d = case.floats(list, b'd');
-    let mut e = case.floats(list, b'e');
-    let a_end = case.floats_end(list, b'a');
-    let b_end = case.floats_end(list, b'b');
-    let c_end = case.floats_end(list, b'c');
-    let d_end = case.floats_end(list, b'd');
-    let e_end = case.floats_end(list, b'e');
+    let mut a = case.slice::<f64, FLOATS>(list, b'a');
+    let mut b = case.slice::<f64, FLOATS>(list, b'b');
+    let mut c = case.slice::<f64, FLOATS>(list, b'c');
+    let mut d = case.slice::<f64, FLOATS>(list, b'd');
+    let mut e = case.slice::<f64, FLOATS>(list, b'e');
+    let a_end = case.length::<FLOATS>(list, b'a');
+    let b_end = case.length::<FLOATS>(list, b'b');
+    let c_end = case.length::<FLOATS>(list, b'c');
+    let d_end = case.length::<FLOATS>(list, b'd');
+    let e_end = case.length::<FLOATS>(list, b'e');
     is_same(
         list,
         case,
@@ -58,12 +58,12 @@ fn is_same_on_bytes(
     p: &mut [usize],
     q: &mut [usize],
 ) -> bool {
-    let x = case.bytes(list, b'x');
-    let mut y = case.bytes(list, b'y');
-    let mut z = case.bytes(list, b'z');
-    let x_end = case.bytes_end(list, b'x');
-    let y_end = case.bytes_end(list, b'y');
-    let z_end = case.bytes_end(list, b'z');
+    let x = case.slice::<u8, BYTES>(list, b'x');
+    let mut y = case.slice::<u8, BYTES>(list, b'y');
+    let mut z = case.slice::<u8, BYTES>(list, b'z');
+    let x_end = case.length::<BYTES>(list, b'x');
+    let y_end = case.length::<BYTES>(list, b'y');
+    let z_end = case.length::<BYTES>(list, b'z');
     is_same_on_floats(
         list,
         case,
@@ -79,14 +79,14 @@ fn is_same_on_bytes(
 
 // The same with no slice made yet.
 fn is_same_as_given(list: &[u8], case: Case) -> bool {
-    let mut n = case.numbers(list, b'n');
-    let mut o = case.numbers(list, b'o');
-    let mut p = case.numbers(list, b'p');
-    let mut q = case.numbers(list, b'q');
-    let n_end = case.numbers_end(list, b'n');
-    let o_end = case.numbers_end(list, b'o');
-    let p_end = case.numbers_end(list, b'p');
-    let q_end = case.numbers_end(list, b'q');
+    let mut n = case.slice::<usize, NUMBERS>(list, b'n');
+    let mut o = case.slice::<usize, NUMBERS>(list, b'o');
+    let mut p = case.slice::<usize, NUMBERS>(list, b'p');
+    let mut q = case.slice::<usize, NUMBERS>(list, b'q');
+    let n_end = case.length::<NUMBERS>(list, b'n');
+    let o_end = case.length::<NUMBERS>(list, b'o');
+    let p_end = case.length::<NUMBERS>(list, b'p');
+    let q_end = case.length::<NUMBERS>(list, b'q');
     is_same_on_bytes(
         list,
         case,
@@ -101,12 +101,6 @@ fn is_same_as_given(list: &[u8], case: Case) -> bool {
 pub fn case_at(list: &[u8], place: usize) -> Replayed {
     let case = Case::at(list, place);
     let next = case.next(list);
-    if case.is_known() {
-        Replayed {
-            same: is_same_as_given(list, case),
-            next,
-        }
-    } else {
-        Replayed { same: false, next }
-    }
+    let same = case.is_known() && is_same_as_given(list, case);
+    Replayed { same, next }
 }

@@ -3,7 +3,7 @@
 
 #![tactic(auto)]
 
-ghost use Rattle.std.specs.Prelude.{◌+◌, ◌≤◌, length};
+ghost use Rattle.std.specs.Prelude.{◌≤◌, length};
 
 use std::io::{Read, Stdin, Stdout, Write};
 use trial_replay_items::words::{held, word};
@@ -14,11 +14,8 @@ use cases::case_at;
 
 fn print_case(out: Stdout, number: usize, same: bool) {
     let mut to = out;
-    if same {
-        let _ = writeln!(to, "{number} same");
-    } else {
-        let _ = writeln!(to, "{number} differs");
-    }
+    let answer = if same { "same" } else { "differs" };
+    let _ = writeln!(to, "{number} {answer}");
 }
 
 fn print_counts(out: Stdout, cases: usize, same: usize) {
@@ -26,31 +23,24 @@ fn print_counts(out: Stdout, cases: usize, same: usize) {
     let _ = writeln!(to, "{cases} cases, {same} the same");
 }
 
-// One more where a case was the same.
-fn counted(same: usize, is_same: bool) -> usize
-    requires { same ≤ 4096 }
-    ensures { result ≤ same + 1 }
-{
-    if is_same { same + 1 } else { same }
-}
-
 // Every case of the list, of which at most 4,096 are looked at.
 fn replay(out: Stdout, list: &[u8]) {
     let cases = held(word(list, 0), 4096);
     let mut place = 1;
     let mut same: usize = 0;
-    let mut i = 0;
-    while i < cases {
+    for i in 0..cases {
         let replayed = case_at(list, place);
         print_case(out, i + 1, replayed.same);
-        same = counted(same, replayed.same);
+        if replayed.same {
+            same += 1;
+        }
         place = replayed.next;
-        i += 1;
     }
     print_counts(out, cases, same);
 }
 
-// Reads until the list is full, the input ends or a read fails, and answers how many bytes came.
+// Reads until the list is full, the input ends or a read fails, and answers how many bytes came. A while: a turn goes on by as many bytes
+// as were read.
 fn read_list(from: Stdin, list: &mut [u8]) -> usize
     ensures { result ≤ length list.new }
 {
@@ -58,9 +48,8 @@ fn read_list(from: Stdin, list: &mut [u8]) -> usize
     let mut done = 0;
     while done < list.len() {
         match from.read(&mut list[done..]) {
-            Ok(0) => return done,
+            Ok(0) | Err(_) => return done,
             Ok(more) => done += more,
-            Err(_) => return done,
         }
     }
     done

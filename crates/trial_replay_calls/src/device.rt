@@ -1,41 +1,20 @@
 // The device's calls, whose slots hold numbers of 32 bits: a case has them as whole numbers, by their bits.
 ghost use Rattle.std.specs.Prelude.{◌≤◌};
 
-use trial_replay_items::words::held;
-
-// The lowest 31 bits.
-fn low_bits(bits: u64) -> i32 {
-    (bits % 2147483648) as i32
-}
-
 // The whole number of the lowest 32 bits.
 fn integer_of(bits: u64) -> i32 {
-    if bits % 4294967296 < 2147483648 {
-        low_bits(bits)
-    } else {
-        -1 - low_bits(18446744073709551615 - bits)
-    }
-}
-
-// The 32 bits of a whole number.
-fn bits_of(number: i32) -> usize {
-    let magnitude = base_integers::magnitude(number) as usize;
-    if number < 0 {
-        4294967296 - magnitude
-    } else {
-        magnitude
-    }
+    ((bits % 4294967296) as u32).cast_signed()
 }
 
 // A number of a slot, and 0 past its end.
 fn number_at(slot: &[usize], k: usize) -> usize {
-    if k < slot.len() { slot[k] } else { 0 }
+    slot.get(k).copied().unwrap_or(0)
 }
 
 // Stores a number in a slot, if it has a place for it.
 fn store(slot: &mut [usize], k: usize, number: usize) {
-    if k < slot.len() {
-        slot[k] = number;
+    if let Some(place) = slot.get_mut(k) {
+        *place = number;
     }
 }
 
@@ -43,7 +22,7 @@ fn store(slot: &mut [usize], k: usize, number: usize) {
 fn end_of(slot: &[usize]) -> usize
     ensures { result ≤ 2 }
 {
-    held(slot.len() as u64, 2)
+    slot.len().min(2)
 }
 
 // The first two numbers of a slot, with a sign and without.
@@ -63,8 +42,8 @@ fn words_of(slot: &[usize]) -> [u32; 2] {
 
 // Stores them.
 fn store_integers(slot: &mut [usize], integers: [i32; 2]) {
-    store(slot, 0, bits_of(integers[0]));
-    store(slot, 1, bits_of(integers[1]));
+    store(slot, 0, integers[0].cast_unsigned() as usize);
+    store(slot, 1, integers[1].cast_unsigned() as usize);
 }
 
 fn store_words(slot: &mut [usize], words: [u32; 2]) {

@@ -18,19 +18,11 @@ fn floats_stand(
     d: &[f64],
     e: &[f64],
 ) -> bool {
-    if !case.floats_stand(list, b'a', a) {
-        return false;
-    }
-    if !case.floats_stand(list, b'b', b) {
-        return false;
-    }
-    if !case.floats_stand(list, b'c', c) {
-        return false;
-    }
-    if !case.floats_stand(list, b'd', d) {
-        return false;
-    }
-    case.floats_stand(list, b'e', e)
+    case.stands(list, b'a', a)
+        && case.stands(list, b'b', b)
+        && case.stands(list, b'c', c)
+        && case.stands(list, b'd', d)
+        && case.stands(list, b'e', e)
 }
 
 // Whether the whole numbers do.
@@ -42,24 +34,15 @@ fn numbers_stand(
     p: &[usize],
     q: &[usize],
 ) -> bool {
-    if !case.numbers_stand(list, b'n', n) {
-        return false;
-    }
-    if !case.numbers_stand(list, b'o', o) {
-        return false;
-    }
-    if !case.numbers_stand(list, b'p', p) {
-        return false;
-    }
-    case.numbers_stand(list, b'q', q)
+    case.stands(list, b'n', n)
+        && case.stands(list, b'o', o)
+        && case.stands(list, b'p', p)
+        && case.stands(list, b'q', q)
 }
 
 // Whether the bytes do, of which no call writes the first.
 fn bytes_stand(list: &[u8], case: Case, y: &[u8], z: &[u8]) -> bool {
-    if !case.bytes_stand(list, b'y', y) {
-        return false;
-    }
-    case.bytes_stand(list, b'z', z)
+    case.stands(list, b'y', y) && case.stands(list, b'z', z)
 }
 
 // The readings of a sheet, which write what other calls read: each alone, so that what it promises is no part of what follows.
@@ -149,16 +132,10 @@ fn stand(
     y: &[u8],
     z: &[u8],
 ) -> bool {
-    if answer != word(list, case.answer) {
-        return false;
-    }
-    if !floats_stand(list, case, a, b, c, d, e) {
-        return false;
-    }
-    if !numbers_stand(list, case, n, o, p, q) {
-        return false;
-    }
-    bytes_stand(list, case, y, z)
+    answer == word(list, case.answer)
+        && floats_stand(list, case, a, b, c, d, e)
+        && numbers_stand(list, case, n, o, p, q)
+        && bytes_stand(list, case, y, z)
 }
 
 // Whether the call, on the slices as they are given, returns what the list says and leaves them so.

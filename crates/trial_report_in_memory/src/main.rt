@@ -11,7 +11,6 @@ fn main(rt: HostRuntime) {
     if input.failed {
         return;
     }
-    let length = input.length;
-    let report = report::report_of_bytes(&buffer[0..length]);
+    let report = report::report_of_bytes(&buffer[..input.length]);
     program_report_print::print_text(streams, report);
 }
