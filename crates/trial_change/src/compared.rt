@@ -1,8 +1,8 @@
 // A change, beside a fresh build from the samples that stand then.
 use rules::Axis;
 use std::io::Stdout;
-use trial_lines::{BEFORE, print, print_count, print_refusal, print_scratch, same};
-use trial_tensor_lines::print_counts;
+use trial_lines::{BEFORE, print, print_scratch, same};
+use trial_tensor_lines::{print_counts, print_lanes};
 
 // A changed sample: its place, where it stands among the samples, its new number.
 #[derive(Clone, Copy)]
@@ -24,7 +24,7 @@ pub fn print_change(
     change: ChangedSample,
 ) {
     let mut scratch = [BEFORE; 2500];
-    let answer = tensor::change(
+    let given = tensor::change(
         axes,
         all,
         knots,
@@ -35,17 +35,17 @@ pub fn print_change(
     );
     print(out, name);
     print_counts(out, &change.place);
-    print_refusal(out, b"", b"change", answer.refusal);
-    print(out, b" lanes");
-    print_count(out, answer.lanes);
-    stand(samples, change.number, change.sample, answer.refusal);
+    print_lanes(out, b"", given);
+    if given.is_ok() {
+        stand(samples, change.number, change.sample);
+    }
     print_comparison(out, axes, all, knots, samples, tensor);
     print_scratch(out, &scratch);
 }
 
 // The sample of an accepted change stands among the samples.
-fn stand(samples: &mut [f64], number: usize, sample: f64, refusal: usize) {
-    if refusal == 0 && number < samples.len() {
+fn stand(samples: &mut [f64], number: usize, sample: f64) {
+    if number < samples.len() {
         samples[number] = sample;
     }
 }
@@ -87,8 +87,8 @@ fn print_same(
     fresh: &mut [f64],
 ) {
     let mut scratch = [0.0; 2448];
-    let refusal = tensor::build(axes, all, knots, samples, fresh, &mut scratch);
-    if refusal != 0 {
+    let given = tensor::build(axes, all, knots, samples, fresh, &mut scratch);
+    if given.is_err() {
         print(out, b" no fresh build");
     } else if same(tensor, fresh) {
         print(out, b" same");

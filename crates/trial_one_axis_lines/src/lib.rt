@@ -2,7 +2,7 @@
 
 #![tactic(auto)]
 
-use rules::Condition;
+use rules::{Condition, number_told};
 use std::io::Stdout;
 use trial_lines::{BEFORE, print, print_number, print_output, print_refusal, print_scratch};
 
@@ -17,7 +17,8 @@ pub fn print_moments_in(
     moments: &mut [f64],
     scratch: &mut [f64],
 ) {
-    let refusal = axis_curve::moments(points, knots, samples, condition, moments, scratch);
+    let given = axis_curve::moments(points, knots, samples, condition, moments, scratch);
+    let refusal = number_told(given);
     print_refusal(out, name, b"moments", refusal);
     print_output(out, refusal, moments);
     print_scratch(out, scratch);
@@ -56,13 +57,14 @@ pub fn print_slopes(
     moments: &[f64],
     slopes: &mut [f64],
 ) {
-    let refusal = axis_curve::knot_slopes(points, knots, samples, moments, slopes);
+    let given = axis_curve::knot_slopes(points, knots, samples, moments, slopes);
+    let refusal = number_told(given);
     print_refusal(out, name, b"slopes", refusal);
     print_output(out, refusal, slopes);
     print(out, b"\n");
 }
 
-// The curve at a point.
+// The curve at a point, +0.0 after a refusal.
 pub fn print_curve(
     out: Stdout,
     name: &[u8],
@@ -72,8 +74,11 @@ pub fn print_curve(
     moments: &[f64],
     point: f64,
 ) {
-    let answer = axis_curve::curve(points, knots, samples, moments, point);
-    print_refusal(out, name, b"curve", answer.refusal);
-    print_number(out, answer.value);
+    let (refusal, value) = match axis_curve::curve(points, knots, samples, moments, point) {
+        Ok(value) => (0, value),
+        Err(refusal) => (refusal.number(), 0.0),
+    };
+    print_refusal(out, name, b"curve", refusal);
+    print_number(out, value);
     print(out, b"\n");
 }

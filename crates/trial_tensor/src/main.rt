@@ -4,7 +4,7 @@
 
 ghost use Rattle.std.specs.Prelude.{◌≤◌, length};
 
-use rules::{Axis, Condition, Mode};
+use rules::{Axis, Condition, Mode, number_told};
 use std::io::Stdout;
 use trial_lines::{BEFORE, print_numbers, print_output, print_refusal, print_scratch};
 use trial_tensor_lines::{grids, print_build, print_change, print_query};
@@ -22,9 +22,10 @@ fn print_large_build(
     requires { 8 ≤ length tensor.old }
 {
     let mut scratch = [BEFORE; 6144];
-    let refusal = tensor::build(axes, all, knots, samples, tensor, &mut scratch);
+    let given = tensor::build(axes, all, knots, samples, tensor, &mut scratch);
+    let refusal = number_told(given);
     print_refusal(out, name, b"build", refusal);
-    if refusal == 0 {
+    if given.is_ok() {
         print_numbers(out, &tensor[0..8]);
     } else {
         print_output(out, refusal, tensor);

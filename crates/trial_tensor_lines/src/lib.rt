@@ -2,7 +2,7 @@
 
 #![tactic(auto)]
 
-use rules::{Axis, QueryAnswer};
+use rules::{Axis, Refusal, ValueInCell, number_told};
 use std::io::Stdout;
 use trial_lines::{
     BEFORE, print, print_count, print_number, print_numbers, print_output, print_refusal,
@@ -10,6 +10,12 @@ use trial_lines::{
 };
 
 pub mod grids; // grids.rt: the grids and the samples of the examples
+
+// What is shown of a query that refuses: +0.0, and 0 for each label.
+pub const NOTHING: ValueInCell = ValueInCell {
+    value: 0.0,
+    labels: [0; 4],
+};
 
 // A build, with every number of the tensor.
 pub fn print_build(
@@ -22,7 +28,8 @@ pub fn print_build(
     tensor: &mut [f64],
 ) {
     let mut scratch = [BEFORE; 2500];
-    let refusal = tensor::build(axes, all, knots, samples, tensor, &mut scratch);
+    let given = tensor::build(axes, all, knots, samples, tensor, &mut scratch);
+    let refusal = number_told(given);
     print_refusal(out, name, b"build", refusal);
     print_output(out, refusal, tensor);
     print_scratch(out, &scratch);
@@ -40,12 +47,21 @@ pub fn print_change(
     sample: f64,
 ) {
     let mut scratch = [BEFORE; 2500];
-    let answer = tensor::change(axes, all, knots, tensor, &mut scratch, place, sample);
-    print_refusal(out, name, b"change", answer.refusal);
-    print(out, b" lanes");
-    print_count(out, answer.lanes);
+    let given = tensor::change(axes, all, knots, tensor, &mut scratch, place, sample);
+    print_lanes(out, name, given);
     print_numbers(out, tensor);
     print_scratch(out, &scratch);
+}
+
+// What a change gives: how many lanes it solved, none after a refusal.
+pub fn print_lanes(out: Stdout, name: &[u8], given: Result<usize, Refusal>) {
+    let (refusal, lanes) = match given {
+        Ok(lanes) => (0, lanes),
+        Err(refusal) => (refusal.number(), 0),
+    };
+    print_refusal(out, name, b"change", refusal);
+    print(out, b" lanes");
+    print_count(out, lanes);
 }
 
 // The value at a point, and its labels.
@@ -58,17 +74,25 @@ pub fn print_query(
     tensor: &[f64],
     coordinates: &[f64],
 ) {
-    let answer = query_full::query(axes, all, knots, tensor, coordinates);
-    print_answer(out, name, b"query", answer);
+    let given = query_full::query(axes, all, knots, tensor, coordinates);
+    print_answer(out, name, b"query", given);
 }
 
-// The answer of a query: the value, and the labels.
-pub fn print_answer(out: Stdout, name: &[u8], call: &[u8], answer: QueryAnswer) {
-    print_refusal(out, name, call, answer.refusal);
-    print_number(out, answer.value);
-    print(out, b" labels");
-    print_counts(out, &answer.labels);
+// What a query gives: the value, and the labels.
+pub fn print_answer(out: Stdout, name: &[u8], call: &[u8], given: Result<ValueInCell, Refusal>) {
+    match given {
+        Ok(found) => print_value(out, name, call, 0, found),
+        Err(refusal) => print_value(out, name, call, refusal.number(), NOTHING),
+    }
     print(out, b"\n");
+}
+
+// The start of a query's line: behind the refusal's number the value and the labels.
+pub fn print_value(out: Stdout, name: &[u8], call: &[u8], refusal: usize, found: ValueInCell) {
+    print_refusal(out, name, call, refusal);
+    print_number(out, found.value);
+    print(out, b" labels");
+    print_counts(out, &found.labels);
 }
 
 // The numbers of a place, or the labels of points.

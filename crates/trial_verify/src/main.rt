@@ -5,6 +5,7 @@
 
 use rules::{Axis, Condition};
 use std::io::Stdout;
+use tensor_verify::Verdict;
 use trial_lines::{BEFORE, print, print_count, print_refusal, print_scratch};
 use trial_tensor_lines::{grids, print_build, print_change, print_counts};
 
@@ -18,20 +19,38 @@ fn print_verify(
     tensor: &[f64],
 ) {
     let mut scratch = [BEFORE; 2500];
-    let answer = tensor_verify::verify(axes, all, knots, tensor, &mut scratch);
-    print_refusal(out, name, b"verify", answer.refusal);
-    if answer.whole {
-        print(out, b" whole");
-    } else {
-        print(out, b" not whole");
+    let given = tensor_verify::verify(axes, all, knots, tensor, &mut scratch);
+    match given {
+        Ok(Verdict::Whole) => print_verdict(out, name, 0, b" whole", [0; 4], 0, 0),
+        Ok(Verdict::Differs {
+            place,
+            mask,
+            differing,
+        }) => print_verdict(out, name, 0, b" not whole", place, mask, differing),
+        Err(refusal) => print_verdict(out, name, refusal.number(), b" not whole", [0; 4], 0, 0),
     }
-    print(out, b" place");
-    print_counts(out, &answer.place);
-    print(out, b" mask");
-    print_count(out, answer.mask);
-    print(out, b" differing");
-    print_count(out, answer.differing);
     print_scratch(out, &scratch);
+}
+
+// The start of the line: the refusal's number, whether the tensor is whole, and what is told of the first number that differs, each 0 where
+// none does and after a refusal.
+fn print_verdict(
+    out: Stdout,
+    name: &[u8],
+    refusal: usize,
+    whole: &[u8],
+    place: [usize; 4],
+    mask: usize,
+    differing: usize,
+) {
+    print_refusal(out, name, b"verify", refusal);
+    print(out, whole);
+    print(out, b" place");
+    print_counts(out, &place);
+    print(out, b" mask");
+    print_count(out, mask);
+    print(out, b" differing");
+    print_count(out, differing);
 }
 
 // One sample overwritten, as a loader did that kept the derivatives: the change with the sample that stands renews all that follow from it.
