@@ -64,7 +64,7 @@ pub extern "C" fn hullashlar_slopes(
     ensures { SlopesPromise points knots.now samples.now moments.now slopes.old result
         slopes.new }
 {
-    axis_curve::knot_slopes(points, knots, samples, moments, slopes)
+    rules::number_told(axis_curve::knot_slopes(points, knots, samples, moments, slopes))
 }
 
 // The tensor of the samples on a grid. Refuses 1 2 3 4 5 7 8 9 10, and 4 and 13 of its own.
