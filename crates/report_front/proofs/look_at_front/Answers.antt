@@ -1,7 +1,7 @@
 -- The look's refusal is the sheet's, so what is known of the one is known of the other; where the length is not known, all bytes are the
 -- sheet's own.
 use native.Mathlib.Omega.{arith}
-use mathlib.Core.Path.{◌≡◌, ap, sym, ◌∙◌}
+use mathlib.Core.Path.{ap, sym, ◌∙◌}
 use Rattle.grid_codes.specs.Classes.{length_known}
 use Rattle.sheet_read.proofs.Promises.{given_refusal}
 use Rattle.report_front.proofs.Tails.{met_before, unknown_after}
