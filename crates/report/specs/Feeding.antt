@@ -29,9 +29,10 @@ pub record Buffers (knots samples scratch : List Float) : Type 0 where
 abbrev pub Looked : List ℕ → ReadAnswer → Type 0
 Looked bytes sheet = sheet ≡ look_answer bytes
 
--- a sheet was counted
-abbrev pub SheetCounted : Totals → List ℕ → Totals → Type 0
-SheetCounted totals bytes later = Adds totals (sheet_at bytes).refusal (sheet_at bytes).tensor later
+-- a sheet was counted, and this is its refusal
+pub record SheetCounted (totals : Totals) (bytes : List ℕ) (later : Totals) (refusal : ℕ) : Type 0 where
+  pub refused : refusal ≡ (sheet_at bytes).refusal
+  pub adds : Adds totals (sheet_at bytes).refusal (sheet_at bytes).tensor later
 
 -- one sheet further or a feeding on some bytes, which may be the front of any rest of any input: the report has then come to what it left
 -- of these bytes, or it stops and has the report of that input. It may look at n bytes

@@ -3,15 +3,17 @@
 #![tactic(auto)]
 
 ghost use Rattle.std.specs.Prelude.{◌≤◌, length, Ok};
+ghost use Rattle.rules.specs.Answers.{refusal_of};
 ghost use Rattle.sheet_read.specs.Read.{read_told};
 ghost use Rattle.report_totals.specs.Counting.{Running};
 ghost use Rattle.report.specs.Report.{ReportPromise};
 ghost use Rattle.report.specs.Feeding.{Buffers, Looked, SheetCounted, Progressed, Fed};
 
+use grid_codes::classes::is_unread;
 use grid_scratch::TENSOR;
 use report_front::look_at_front;
 use report_totals::{Report, Totals, none, with_accepted, with_refused};
-use rules::Refusal;
+use rules::{Refusal, number_told};
 use sheet_in_scratch::tensor_in_scratch;
 use sheet_read::Sheet;
 
@@ -24,6 +26,13 @@ pub struct Progress {
     pub stopped: bool,
 }
 
+// What counting a sheet leaves: the totals with it, and what the sheet is refused by, if it is.
+#[derive(Clone, Copy)]
+struct Counted {
+    totals: Totals,
+    outcome: Result<(), Refusal>,
+}
+
 // The totals with one sheet more that was read. Its tensor is counted where it is built.
 fn count_read(
     totals: Totals,
@@ -32,18 +41,24 @@ fn count_read(
     knots: &mut [f64],
     samples: &mut [f64],
     scratch: &mut [f64],
-) -> Totals
+) -> Counted
     requires { Running totals × Looked bytes.now (read_told (Ok sheet)) × Buffers knots.old samples.old scratch.old }
-    ensures { SheetCounted totals bytes.now result }
+    ensures { SheetCounted totals bytes.now result.totals (refusal_of result.outcome) }
 {
     let axes = sheet.axes;
     let all = sheet.all;
     let built = tensor_in_scratch(bytes, sheet.edition, axes, all, knots, samples, scratch);
     if let Err(refusal) = built {
-        return with_refused(totals, refusal);
+        return Counted {
+            totals: with_refused(totals, refusal),
+            outcome: Err(refusal),
+        };
     }
     let end = TENSOR + grid::tensor_length(axes, all);
-    with_accepted(totals, axes, &scratch[TENSOR..end])
+    Counted {
+        totals: with_accepted(totals, axes, &scratch[TENSOR..end]),
+        outcome: Ok(()),
+    }
 }
 
 // The totals with one sheet more, of which all was looked at.
@@ -54,13 +69,16 @@ fn count_sheet(
     knots: &mut [f64],
     samples: &mut [f64],
     scratch: &mut [f64],
-) -> Totals
+) -> Counted
     requires { Running totals × Looked bytes.now (read_told sheet) × Buffers knots.old samples.old scratch.old }
-    ensures { SheetCounted totals bytes.now result }
+    ensures { SheetCounted totals bytes.now result.totals (refusal_of result.outcome) }
 {
     match sheet {
         Ok(read) => count_read(totals, bytes, read, knots, samples, scratch),
-        Err(refusal) => with_refused(totals, refusal),
+        Err(refusal) => Counted {
+            totals: with_refused(totals, refusal),
+            outcome: Err(refusal),
+        },
     }
 }
 
@@ -86,11 +104,12 @@ fn take_sheet(
     let front = look_at_front(bytes);
     let size = front.size;
     let sheet = front.sheet;
-    let later = count_sheet(totals, &bytes[0..size], sheet, knots, samples, scratch);
+    let counted = count_sheet(totals, &bytes[0..size], sheet, knots, samples, scratch);
+    let later = counted.totals;
     Progress {
         totals: later,
         taken: size,
-        stopped: sheet.is_err(),
+        stopped: is_unread(number_told(counted.outcome)),
     }
 }
 

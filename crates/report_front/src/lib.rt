@@ -11,6 +11,7 @@ ghost use Rattle.report_front.specs.LookedAt.{FrontLooked};
 
 use base_bits::field_at;
 use grid::samples_length;
+use grid_codes::classes::is_length_known;
 use grid_codes::editions::mode_width;
 use rules::Refusal;
 use sheet_read::Sheet;
@@ -80,9 +81,11 @@ pub fn look_at_front(bytes: &[u8]) -> Front
 {
     match look(bytes) {
         Ok(_) => known_front(bytes),
-        Err(refusal) => match refusal {
-            Refusal::Tail => known_front(bytes),
-            _ => faulty_front(bytes, refusal),
-        },
+        Err(refusal) => {
+            if is_length_known(refusal.number()) {
+                return known_front(bytes);
+            }
+            faulty_front(bytes, refusal)
+        }
     }
 }

@@ -1,6 +1,6 @@
 -- A sheet whose length is known meets nothing before its tail (`none_before`), so the walk passes all its axes.
 use native.Mathlib.Omega.{arith}
-use mathlib.Core.Path.{◌≡◌, sym, ap, ◌∙◌}
+use mathlib.Core.Path.{ap, ◌∙◌}
 use Rattle.rules.proofs.Given.{number_some}
 use Rattle.grid_codes.specs.Editions.{mode_width}
 use Rattle.report_front.proofs.Tails.{none_before}

@@ -1,7 +1,6 @@
 -- The promise of a sheet's tensor: the lengths, then the reader's faults, then what the build refuses.
-use mathlib.Core.Path.{◌≡◌, refl}
+use mathlib.Core.Path.{refl}
 use native.Mathlib.Omega.{arith}
-use lib.ListN.{length}
 use Rattle.std.proofs.lemmas.Result.{err_from_is_err_and}
 use Rattle.rules.proofs.Given.{number_some}
 use Rattle.sheet_build.proofs.Promises.{buffer_refused, sheet_refused, parts_given, sheet_built}

@@ -1,9 +1,8 @@
 -- The ways out of the firmware's call: the reader's fault, 16, 17, and what the sheet gives that is built and queried on the stack.
 use mathlib.Core.Path.{refl, sym, ◌∙◌}
-use Prim.Native.Nat.{ℕ, ◌<◌, ◌≤◌}
+use Prim.Native.Nat.{◌<◌, ◌≤◌}
 use native.Mathlib.Omega.{arith}
 use Rattle.rules.proofs.Given.{err_given}
-use Rattle.sheet_surface.specs.OnTheStack.{SmallSheet}
 use Rattle.sheet_surface.proofs.Small.{range}
 use Rattle.sheet_surface.proofs.Answers.{sheet_read, sheet_small, reader_refuses, stack_refuses, unused_refuses, sheet_asked}
 use Rattle.sheet_surface.proofs.value_at.Goals as goal
