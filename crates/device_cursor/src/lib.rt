@@ -71,8 +71,8 @@ fn whole_cells(length: usize) -> bool
 const MOST_VALUE: u32 = 32767;
 const MOST_SLOPE: u32 = 131071;
 
-// Whether the number in four bytes is out of the range up to the greatest number. Lifted by half of its range, without the carry, a number in
-// range is below the range, and no other is. It requires that the bytes are there, as the two after it do of theirs.
+// Whether the number in four bytes is out of the range up to the greatest number. Lifted by half of the range, without the carry, a number
+// in it is below the range, and no other is. It requires that the bytes are there, as the two after it do of theirs.
 fn number_refused<const MOST: u32>(curve: &[u8], at: usize) -> bool
     requires { (at + 4 ≤ length curve.now) × (MOST < 1073741824) }
     ensures { result ≡ number_out MOST curve.now at }
@@ -92,7 +92,7 @@ fn cell_refused(curve: &[u8], i: usize) -> bool
         | number_refused::<MOST_SLOPE>(curve, at + 12)
 }
 
-// Whether one of four numbers is out of range, each in the cell after the one before. It requires that they are there.
+// Whether one of four numbers is out of range, each in the cell after the one before.
 fn one_of_four_refused<const MOST: u32>(curve: &[u8], at: usize) -> bool
     requires { (at + 52 ≤ length curve.now) × (MOST < 1073741824) }
     ensures { result ≡ one_of_four_out (number_out MOST curve.now) at }
@@ -115,10 +115,10 @@ fn some_of_fours_refused(curve: &[u8]) -> bool
     let mut d1 = false;
     for i in 0..fours {
         let at = 64 * i;
-        p0 = p0 | one_of_four_refused::<MOST_VALUE>(curve, at);
-        p1 = p1 | one_of_four_refused::<MOST_VALUE>(curve, at + 4);
-        d0 = d0 | one_of_four_refused::<MOST_SLOPE>(curve, at + 8);
-        d1 = d1 | one_of_four_refused::<MOST_SLOPE>(curve, at + 12);
+        p0 |= one_of_four_refused::<MOST_VALUE>(curve, at);
+        p1 |= one_of_four_refused::<MOST_VALUE>(curve, at + 4);
+        d0 |= one_of_four_refused::<MOST_SLOPE>(curve, at + 8);
+        d1 |= one_of_four_refused::<MOST_SLOPE>(curve, at + 12);
     }
     p0 | p1 | d0 | d1
 }
@@ -130,7 +130,7 @@ fn some_cell_refused(curve: &[u8]) -> bool
     let cells = curve.len() / 16;
     let mut refused = some_of_fours_refused(curve);
     for i in 4 * (curve.len() / 64)..cells {
-        refused = refused | cell_refused(curve, i);
+        refused |= cell_refused(curve, i);
     }
     refused
 }
