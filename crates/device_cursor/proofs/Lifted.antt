@@ -1,5 +1,5 @@
--- 32 bits read with their sign, and when that number lies in a range of as many numbers below zero as from zero on: just where, lifted by half of
--- the range without the carry, it is below the range.
+-- 32 bits read with their sign. The number is in a range of as many numbers below zero as from zero on just where, lifted by half of the
+-- range without the carry, it is below the range.
 use mathlib.Core.Path.{◌≡◌, refl, sym, ap, ◌∙◌}
 use mathlib.Core.Bool.{Bool, true, false, not, ◌&&◌}
 use Prim.Native.Nat.{ℕ, suc, ◌+◌, ◌-◌, ◌*◌, ◌%◌, ◌<◌}
