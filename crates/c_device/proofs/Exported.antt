@@ -1,11 +1,11 @@
--- Each export of the device refuses a slot of another length, or answers as the device's call promises and stores it.
+-- Each export of the device, where its slots have one place, answers as the device's call promises and stores it.
 use mathlib.Core.Path.{◌≡◌, refl, ap, ◌∙◌}
 use mathlib.Core.List.{List, [], ◌∷◌}
 use Prim.Native.Nat.{ℕ}
 use native.Mathlib.Omega.{arith}
 use lib.IntN.{ℤ, pos}
 use lib.ListN.{length, get_or, set}
-use borrow.Author.Tests.{eq-eqb, ne_eqb}
+use borrow.Author.Tests.{eq-eqb}
 use Rattle.device_cell.specs.DeviceCell.{CellAnswer, CellPromise}
 use Rattle.device_cursor.specs.DeviceCurve.{NextAnswer, NextPromise}
 use Rattle.c_device.specs.DeviceExports.{CellExport, NextExport}
@@ -24,9 +24,6 @@ stays (first ∷ []) e = refl
 stays (first ∷ second ∷ rest) e = let z : ⊥ = omega arith in absurd z
 
 module _ (p0 p1 d0 d1 k : ℤ) (value_lent : List ℤ) where
-  pub cell_refused : (length value_lent ≡ 1 → ⊥) → CellExport p0 p1 d0 d1 k value_lent 4 value_lent
-  cell_refused other = let e = ne_eqb (length value_lent) 1 other in record { answer = rw e; value = rw e }
-
   pub cell_called : length value_lent ≡ 1 → (a : CellAnswer) → CellPromise p0 p1 d0 d1 k a
       → CellExport p0 p1 d0 d1 k value_lent a.refusal (set value_lent 0 a.value)
   cell_called one a p =
@@ -37,16 +34,6 @@ module _ (p0 p1 d0 d1 k : ℤ) (value_lent : List ℤ) where
       }
 
 module _ (curve cursor_lent : List ℕ) (value_lent : List ℤ) where
-  pub cursor_refused : (length cursor_lent ≡ 1 → ⊥) → NextExport curve cursor_lent value_lent 4 cursor_lent value_lent
-  cursor_refused other = let e = ne_eqb (length cursor_lent) 1 other in record { answer = rw e; cursor = rw e; value = rw e }
-
-  pub value_refused : length cursor_lent ≡ 1 → (length value_lent ≡ 1 → ⊥)
-      → NextExport curve cursor_lent value_lent 4 cursor_lent value_lent
-  value_refused one other =
-      let e = eq-eqb (length cursor_lent) 1 one in
-      let f = ne_eqb (length value_lent) 1 other in
-      record { answer = rw (e, f); cursor = rw (e, f); value = rw (e, f) }
-
   pub next_called : length cursor_lent ≡ 1 → length value_lent ≡ 1 → (a : NextAnswer)
       → NextPromise curve (record { n = get_or cursor_lent 0 0 }) a
       → NextExport curve cursor_lent value_lent a.refusal (set cursor_lent 0 a.cursor.n) (set value_lent 0 a.value)

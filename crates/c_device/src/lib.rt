@@ -31,10 +31,7 @@ pub fn cell_value(p0: i32, p1: i32, d0: i32, d1: i32, k: i32, value: &mut [i32])
 pub fn cursor_next(curve: &[u8], cursor: &mut [u32], value: &mut [i32]) -> usize
     ensures { NextExport curve.now cursor.old value.old result cursor.new value.new }
 {
-    if cursor.len() != 1 {
-        return 4;
-    }
-    if value.len() != 1 {
+    if cursor.len() != 1 || value.len() != 1 {
         return 4;
     }
     let place = Cursor { n: cursor[0] };

@@ -30,11 +30,11 @@ pub struct Cursor {
 }
 
 // Four bytes, the lowest first: it requires that they are there.
-fn four_bytes(curve: &[u8], at: usize) -> u64
+fn four_bytes(curve: &[u8], at: usize) -> u32
     requires { at + 4 ≤ length curve.now }
-    ensures { (result ≡ four_bytes curve.now at) × (result < 4294967296) }
+    ensures { result ≡ four_bytes curve.now at }
 {
-    u32::from_le_bytes([curve[at], curve[at + 1], curve[at + 2], curve[at + 3]]) as u64
+    u32::from_le_bytes([curve[at], curve[at + 1], curve[at + 2], curve[at + 3]])
 }
 
 // The number with a sign in four bytes: it requires that they are there.
@@ -42,12 +42,7 @@ fn number_at(curve: &[u8], at: usize) -> i64
     requires { at + 4 ≤ length curve.now }
     ensures { result ≡ number_at curve.now at }
 {
-    let bits = four_bytes(curve, at);
-    if bits < 2147483648 {
-        bits as i64
-    } else {
-        bits as i64 - 4294967296
-    }
+    four_bytes(curve, at).cast_signed() as i64
 }
 
 // Cell i: it requires that the cell is there.
@@ -73,16 +68,16 @@ fn whole_cells(length: usize) -> bool
 }
 
 // The greatest value and the greatest slope in range. A range has as many numbers below zero as from zero on.
-const MOST_VALUE: u64 = 32767;
-const MOST_SLOPE: u64 = 131071;
+const MOST_VALUE: u32 = 32767;
+const MOST_SLOPE: u32 = 131071;
 
-// Whether the number in four bytes is out of the range up to the greatest number. Lifted by half of its range, without the carry, a number in
-// range is below the range, and no other is. It requires that the bytes are there, as the two after it do of theirs.
-fn number_refused<const MOST: u64>(curve: &[u8], at: usize) -> bool
+// Whether the number in four bytes is out of the range up to the greatest number. Lifted by half of the range, without the carry, a number
+// in it is below the range, and no other is. It requires that the bytes are there, as the two after it do of theirs.
+fn number_refused<const MOST: u32>(curve: &[u8], at: usize) -> bool
     requires { (at + 4 ≤ length curve.now) × (MOST < 1073741824) }
     ensures { result ≡ number_out MOST curve.now at }
 {
-    (four_bytes(curve, at) + (MOST + 1)) % 4294967296 >= 2 * (MOST + 1)
+    four_bytes(curve, at).wrapping_add(MOST + 1) >= 2 * (MOST + 1)
 }
 
 // Whether a number of cell i is out of range.
@@ -97,8 +92,8 @@ fn cell_refused(curve: &[u8], i: usize) -> bool
         | number_refused::<MOST_SLOPE>(curve, at + 12)
 }
 
-// Whether one of four numbers is out of range, each in the cell after the one before. It requires that they are there.
-fn one_of_four_refused<const MOST: u64>(curve: &[u8], at: usize) -> bool
+// Whether one of four numbers is out of range, each in the cell after the one before.
+fn one_of_four_refused<const MOST: u32>(curve: &[u8], at: usize) -> bool
     requires { (at + 52 ≤ length curve.now) × (MOST < 1073741824) }
     ensures { result ≡ one_of_four_out (number_out MOST curve.now) at }
 {
@@ -120,10 +115,10 @@ fn some_of_fours_refused(curve: &[u8]) -> bool
     let mut d1 = false;
     for i in 0..fours {
         let at = 64 * i;
-        p0 = p0 | one_of_four_refused::<MOST_VALUE>(curve, at);
-        p1 = p1 | one_of_four_refused::<MOST_VALUE>(curve, at + 4);
-        d0 = d0 | one_of_four_refused::<MOST_SLOPE>(curve, at + 8);
-        d1 = d1 | one_of_four_refused::<MOST_SLOPE>(curve, at + 12);
+        p0 |= one_of_four_refused::<MOST_VALUE>(curve, at);
+        p1 |= one_of_four_refused::<MOST_VALUE>(curve, at + 4);
+        d0 |= one_of_four_refused::<MOST_SLOPE>(curve, at + 8);
+        d1 |= one_of_four_refused::<MOST_SLOPE>(curve, at + 12);
     }
     p0 | p1 | d0 | d1
 }
@@ -135,7 +130,7 @@ fn some_cell_refused(curve: &[u8]) -> bool
     let cells = curve.len() / 16;
     let mut refused = some_of_fours_refused(curve);
     for i in 4 * (curve.len() / 64)..cells {
-        refused = refused | cell_refused(curve, i);
+        refused |= cell_refused(curve, i);
     }
     refused
 }

@@ -21,11 +21,8 @@ fn put_signed_line(number: i32, text: &mut [u8], at: usize) -> usize
     requires { at + length (signed_line number) ≤ length text.old }
     ensures { Put (signed_line number) text.old at text.new result }
 {
-    let digits = base_integers::magnitude(number);
-    if number < 0 {
-        return base_text::put_word_line(b"-", digits, text, at);
-    }
-    base_text::put_word_line(b"", digits, text, at)
+    let sign: &[u8] = if number < 0 { b"-" } else { b"" };
+    base_text::put_word_line(sign, base_integers::magnitude(number), text, at)
 }
 
 // A line for each number of a curve that has been judged. It requires that the curve is not refused, and room for the longest text.

@@ -3,12 +3,9 @@
 use mir.Syntax.{w32}
 use mir.Val.{SFits}
 use mir.ValLaws.{to_z-of_z}
-use Rattle.c_device.proofs.Exported.{cell_refused, cell_called}
+use Rattle.c_device.proofs.Exported.{cell_called}
 use borrow.Author.Rules.{rules}
 use Rattle.c_device.proofs.cell_value.Goals as goal
-
-pub returns-then-value-ne1 : goal.returns-then-value-ne1
-returns-then-value-ne1 c = cell_refused _ _ _ _ _ _ c.if-value-ne1.true
 
 pub returns-in-Ok : goal.returns-in-Ok
 returns-in-Ok c =

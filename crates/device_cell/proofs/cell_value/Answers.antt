@@ -26,8 +26,11 @@ made c =
 none : (c : In_ok-check_cell) → cell_refusal (record { p0 = c.args.p0; p1 = c.args.p1; d0 = c.args.d0; d1 = c.args.d1 }) c.args.k ≡ 0
 none c =
     sym
-    (rw (to_z-of_z w32 c.args.k c.ranges.k, to_z-of_z w64 c.args.k (wider _ c.ranges.k), made (goal.at.In_ok-check_cell c).After-cell_of-cell)
-    at c.in_ok-check_cell.ensures)
+    (rw (
+      to_z-of_z w32 c.args.k c.ranges.k,
+      to_z-of_z w64 c.args.k (wider _ c.ranges.k),
+      made (goal.at.In_ok-check_cell c).After-cell_of-cell,
+    ) at c.in_ok-check_cell.ensures)
 
 known : (c : In_ok-check_cell) → Passed (record { p0 = c.args.p0; p1 = c.args.p1; d0 = c.args.d0; d1 = c.args.d1 }) c.args.k
 known c = passed _ _ (none c)

@@ -1,5 +1,5 @@
--- Both branches are `nearest`: half of 256³ is added on the number's own side of zero, and the division cuts off toward zero, so halves go away
--- from zero. With a magnitude of at most 256³ times 65,536, each sum and quotient fits 64 bits.
+-- Both branches are `nearest`: half of 256³ is added on the number's own side of zero, and the division cuts off toward zero, so halves go
+-- away from zero. With a magnitude of at most 256³ times 65,536, each sum and quotient fits 64 bits.
 use mathlib.Core.Path.{◌≡◌, refl}
 use Prim.Native.Nat.{ℕ, suc, ◌+◌, ◌/◌, ◌≤◌}
 use native.Mathlib.Omega.{arith}

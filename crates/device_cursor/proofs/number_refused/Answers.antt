@@ -1,4 +1,4 @@
--- The sum fits 64 bits, and the four bytes are below 2 ^ 32, so what is lifted decides the range.
+-- What is lifted decides the range, since the four bytes are below 2 ^ 32.
 use mathlib.Core.Path.{ap, ◌∙◌}
 use mathlib.Core.Bool.{not}
 use Prim.Native.Nat.{ℕ}
@@ -11,5 +11,5 @@ use Rattle.device_cursor.proofs.number_refused.Goals as goal
 pub returns : goal.returns
 returns g c =
     let bytes = c.four_bytes in
-    lifted_above g.row.MOST bytes.result c.requires.1 bytes.ensures.1
-    ∙ ap (λ (n : ℕ). not (in_range (negsuc g.row.MOST) (pos g.row.MOST) (signed n))) bytes.ensures.0
+    lifted_above g.row.MOST bytes.result c.requires.1 bytes.type_inv
+    ∙ ap (λ (n : ℕ). not (in_range (negsuc g.row.MOST) (pos g.row.MOST) (signed n))) bytes.ensures

@@ -1,5 +1,5 @@
--- The array has the length that is asked for, so the text is given (`given_for_room`), and what is written lies within the array, as no text
--- is longer (`length_most`).
+-- The array has the length that is asked for, so the text is given (`given_for_room`), and what is written lies within the array, as no
+-- text is longer (`length_most`).
 use native.Mathlib.Omega.{arith}
 use Rattle.program_device_text.proofs.Promises.{given_for_room, length_most}
 use Rattle.program_device_print.proofs.print_text.Goals as goal
