@@ -12,6 +12,7 @@ ROOT = Path(__file__).resolve().parent.parent
 KNOWN = {
     ("doubles_patterns/proofs/Values.antt sub_mul", "exact_rounding/proofs/Operations.antt sub_mul"),
     ("device_cursor/proofs/Walks.antt below_or_not", "tensor_fours/proofs/Fours.antt below_or_not"),
+    ("device_cell/proofs/Given.antt number_some", "rules/proofs/Given.antt number_some"),
     ("query_measured/proofs/EvenExample.antt on_the_grid", "query_measured/proofs/Example.antt on_the_grid"),
     ("query_measured/proofs/EvenExample.antt equal_knots", "query_measured/proofs/Example.antt equal_knots"),
 }

@@ -3,13 +3,11 @@ use mathlib.Core.Path.{◌≡◌, refl, ap, ◌∙◌}
 use mathlib.Core.List.{List, [], ◌∷◌}
 use Prim.Native.Nat.{ℕ}
 use native.Mathlib.Omega.{arith}
-use lib.IntN.{ℤ}
+use lib.IntN.{ℤ, pos}
 use lib.ListN.{length, get_or, set}
 use borrow.Author.Tests.{eq-eqb, ne_eqb}
-use Rattle.device_cell.specs.DeviceCell.{CellPromise}
-use Rattle.device_cell.specs.declared.CellAnswer.{CellAnswer}
-use Rattle.device_cursor.specs.DeviceCurve.{NextPromise}
-use Rattle.device_cursor.specs.declared.NextAnswer.{NextAnswer}
+use Rattle.device_cell.specs.DeviceCell.{CellAnswer, CellPromise}
+use Rattle.device_cursor.specs.DeviceCurve.{NextAnswer, NextPromise}
 use Rattle.c_device.specs.DeviceExports.{CellExport, NextExport}
 
 module _ {A : Type 0} where
@@ -18,6 +16,12 @@ module _ {A : Type 0} where
   filled [] a e = let z : ⊥ = omega arith in absurd z
   filled (first ∷ []) a e = refl
   filled (first ∷ second ∷ rest) a e = let z : ⊥ = omega arith in absurd z
+
+-- a slot of one keeps its number where that is stored
+stays : (lent : List ℕ) → length lent ≡ 1 → set lent 0 (get_or lent 0 0) ≡ lent
+stays [] e = let z : ⊥ = omega arith in absurd z
+stays (first ∷ []) e = refl
+stays (first ∷ second ∷ rest) e = let z : ⊥ = omega arith in absurd z
 
 module _ (p0 p1 d0 d1 k : ℤ) (value_lent : List ℤ) where
   pub cell_refused : (length value_lent ≡ 1 → ⊥) → CellExport p0 p1 d0 d1 k value_lent 4 value_lent
@@ -54,3 +58,12 @@ module _ (curve cursor_lent : List ℕ) (value_lent : List ℤ) where
         cursor = rw (e, f) (filled cursor_lent a.cursor.n one ∙ ap (λ (b : NextAnswer). b.cursor.n ∷ []) p.answer);
         value = rw (e, f) (filled value_lent a.value one_too ∙ ap (λ (b : NextAnswer). b.value ∷ []) p.answer);
       }
+
+  -- a refused step stores no cursor
+  pub next_refused : length cursor_lent ≡ 1 → length value_lent ≡ 1 → (r : ℕ)
+      → NextPromise curve (record { n = get_or cursor_lent 0 0 })
+      (record { refusal = r; value = pos 0; cursor = record { n = get_or cursor_lent 0 0 } })
+      → NextExport curve cursor_lent value_lent r cursor_lent (set value_lent 0 (pos 0))
+  next_refused one one_too r p =
+      rw (stays cursor_lent one) at
+      (next_called one one_too (record { refusal = r; value = pos 0; cursor = record { n = get_or cursor_lent 0 0 } }) p)

@@ -1,10 +1,8 @@
 -- The chapter DeviceExports of docs/RULES.md: the exported calls of the device, over whole numbers alone. Each has slots of one, and
 -- another length of a slot is the host's own 4, with which nothing is written.
 use Rattle.std.specs.Prelude.{◌≡◌, Bool, cond, not, ◌||◌, List, [], ◌∷◌, ℕ, eqb, ℤ, length, get_or}
-use Rattle.device_cell.specs.DeviceCell.{cell_answer}
-use Rattle.device_cell.specs.declared.CellAnswer.{CellAnswer}
-use Rattle.device_cursor.specs.DeviceCurve.{next_answer}
-use Rattle.device_cursor.specs.declared.NextAnswer.{NextAnswer}
+use Rattle.device_cell.specs.DeviceCell.{CellAnswer, cell_answer}
+use Rattle.device_cursor.specs.DeviceCurve.{NextAnswer, next_answer}
 
 -- 4: a slot has another length than one
 abbrev pub slot_refused : {A : Type 0} → List A → Bool

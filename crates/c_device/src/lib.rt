@@ -14,10 +14,16 @@ pub fn cell_value(p0: i32, p1: i32, d0: i32, d1: i32, k: i32, value: &mut [i32])
     if value.len() != 1 {
         return 4;
     }
-    let answer = device_cell::cell_value(p0, p1, d0, d1, k);
-    let number = answer.value;
-    value[0] = number;
-    answer.refusal
+    match device_cell::cell_value(p0, p1, d0, d1, k) {
+        Ok(number) => {
+            value[0] = number;
+            0
+        }
+        Err(refusal) => {
+            value[0] = 0;
+            refusal.number()
+        }
+    }
 }
 
 // The value at the cursor that stands in its slot of one, in another slot of one, and the cursor moved on. Refuses 20 19 20, and then the
@@ -32,10 +38,15 @@ pub fn cursor_next(curve: &[u8], cursor: &mut [u32], value: &mut [i32]) -> usize
         return 4;
     }
     let place = Cursor { n: cursor[0] };
-    let answer = place.next(curve);
-    let number = answer.value;
-    let moved = answer.cursor;
-    cursor[0] = moved.n;
-    value[0] = number;
-    answer.refusal
+    match place.next(curve) {
+        Ok((number, moved)) => {
+            cursor[0] = moved.n;
+            value[0] = number;
+            0
+        }
+        Err(refusal) => {
+            value[0] = 0;
+            refusal.number()
+        }
+    }
 }

@@ -10,7 +10,7 @@ use Rattle.rules.specs.Sizes.{place_of, knots_length, tensor_length}
 use Rattle.grid_checks.proofs.Rows.{none_applies, axes_few, in_range, exact, exact_2}
 use Rattle.query_profile.specs.ProfileCalls.{even_profile_answer}
 use Rattle.query_profile.specs.Profiled.{ProfileFits, ProfileAmong}
-use Rattle.query_profile.specs.declared.EvenProfile.{EvenProfile}
+use Rattle.query_profile.specs.ProfileCalls.{EvenProfile}
 use Rattle.c_axes.specs.Axes.{axes_without_ends, grid_without_ends}
 use Rattle.c_refusals.specs.OwnRefusals.{sizes_given}
 use Rattle.c_refusals.proofs.Rows.{given_below, refused_given, sum_given, product_given}

@@ -4,7 +4,7 @@ use Rattle.rules.specs.Sizes.{knots_length}
 use Rattle.rules.specs.Refusals.{length_refused}
 use Rattle.grid_checks.specs.Tables.{Refusal, row, lowest}
 use Rattle.query_profile.specs.ProfileCalls.{even_profile_answer}
-use Rattle.query_profile.specs.declared.EvenProfile.{EvenProfile}
+use Rattle.query_profile.specs.ProfileCalls.{EvenProfile}
 use Rattle.c_axes.specs.Axes.{grid_without_ends}
 use Rattle.c_refusals.specs.OwnRefusals.{sizes_given, axes_rows}
 

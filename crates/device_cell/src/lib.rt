@@ -103,13 +103,14 @@ fn weighted(w: Weights, p0: i64, p1: i64, d0: i64, d1: i64) -> i64
     w.p0 * p0 + w.d0 * d0 + w.p1 * p1 - w.d1 * d1
 }
 
-// A number over 256³ to the nearest whole number, a half away from zero. It requires one that lies at most 2^40 from zero.
+// A number over 256³ to the nearest whole number, a half away from zero: a division cuts off toward zero, on both sides. It requires one that
+// lies at most 2^40 from zero.
 fn rounded(number: i64) -> i64
     requires { Sized 1099511627776 number }
     ensures { result ≡ nearest number }
 {
     if number < 0 {
-        0 - (0 - number + 8388608) / 16777216
+        (number - 8388608) / 16777216
     } else {
         (number + 8388608) / 16777216
     }

@@ -19,7 +19,7 @@ ghost use Rattle.device_cursor.specs.DeviceCurve.{
   StartPromise,
   NextPromise,
 };
-ghost use Rattle.device_cursor.specs.Columns.{value_out, slope_out, one_of_four_out};
+ghost use Rattle.device_cursor.specs.Columns.{number_out, one_of_four_out};
 
 use device_cell::{Cell, Refusal};
 
@@ -72,21 +72,17 @@ fn whole_cells(length: usize) -> bool
     length % 16 == 0 && 16 <= length && length <= 4080
 }
 
-// Whether the number in four bytes is out of the range of a value. Lifted by 32,768, without the carry, a number in range is below 65,536,
-// and no other is. It requires that the bytes are there, as the two after it do of theirs.
-fn value_refused(curve: &[u8], at: usize) -> bool
-    requires { at + 4 ≤ length curve.now }
-    ensures { result ≡ value_out curve.now at }
-{
-    (four_bytes(curve, at) + 32768) % 4294967296 >= 65536
-}
+// The greatest value and the greatest slope in range. A range has as many numbers below zero as from zero on.
+const MOST_VALUE: u64 = 32767;
+const MOST_SLOPE: u64 = 131071;
 
-// The same of a slope, whose range is four times as wide.
-fn slope_refused(curve: &[u8], at: usize) -> bool
-    requires { at + 4 ≤ length curve.now }
-    ensures { result ≡ slope_out curve.now at }
+// Whether the number in four bytes is out of the range up to the greatest number. Lifted by half of its range, without the carry, a number in
+// range is below the range, and no other is. It requires that the bytes are there, as the two after it do of theirs.
+fn number_refused<const MOST: u64>(curve: &[u8], at: usize) -> bool
+    requires { (at + 4 ≤ length curve.now) × (MOST < 1073741824) }
+    ensures { result ≡ number_out MOST curve.now at }
 {
-    (four_bytes(curve, at) + 131072) % 4294967296 >= 262144
+    (four_bytes(curve, at) + (MOST + 1)) % 4294967296 >= 2 * (MOST + 1)
 }
 
 // Whether a number of cell i is out of range.
@@ -95,32 +91,21 @@ fn cell_refused(curve: &[u8], i: usize) -> bool
     ensures { result ≡ not (cell_in_range (cell_at curve.now i)) }
 {
     let at = 16 * i;
-    value_refused(curve, at)
-        | value_refused(curve, at + 4)
-        | slope_refused(curve, at + 8)
-        | slope_refused(curve, at + 12)
+    number_refused::<MOST_VALUE>(curve, at)
+        | number_refused::<MOST_VALUE>(curve, at + 4)
+        | number_refused::<MOST_SLOPE>(curve, at + 8)
+        | number_refused::<MOST_SLOPE>(curve, at + 12)
 }
 
-// Whether one of four values is out of range, each in the cell after the one before. It requires that they are there, as the next does.
-fn four_values_refused(curve: &[u8], at: usize) -> bool
-    requires { at + 52 ≤ length curve.now }
-    ensures { result ≡ one_of_four_out (value_out curve.now) at }
+// Whether one of four numbers is out of range, each in the cell after the one before. It requires that they are there.
+fn one_of_four_refused<const MOST: u64>(curve: &[u8], at: usize) -> bool
+    requires { (at + 52 ≤ length curve.now) × (MOST < 1073741824) }
+    ensures { result ≡ one_of_four_out (number_out MOST curve.now) at }
 {
-    value_refused(curve, at)
-        | value_refused(curve, at + 16)
-        | value_refused(curve, at + 32)
-        | value_refused(curve, at + 48)
-}
-
-// The same of four slopes.
-fn four_slopes_refused(curve: &[u8], at: usize) -> bool
-    requires { at + 52 ≤ length curve.now }
-    ensures { result ≡ one_of_four_out (slope_out curve.now) at }
-{
-    slope_refused(curve, at)
-        | slope_refused(curve, at + 16)
-        | slope_refused(curve, at + 32)
-        | slope_refused(curve, at + 48)
+    number_refused::<MOST>(curve, at)
+        | number_refused::<MOST>(curve, at + 16)
+        | number_refused::<MOST>(curve, at + 32)
+        | number_refused::<MOST>(curve, at + 48)
 }
 
 // Whether a number is out of range in a cell of those that come in fours. A flag for each of a cell's numbers is kept to the last four, so
@@ -135,10 +120,10 @@ fn some_of_fours_refused(curve: &[u8]) -> bool
     let mut d1 = false;
     for i in 0..fours {
         let at = 64 * i;
-        p0 = p0 | four_values_refused(curve, at);
-        p1 = p1 | four_values_refused(curve, at + 4);
-        d0 = d0 | four_slopes_refused(curve, at + 8);
-        d1 = d1 | four_slopes_refused(curve, at + 12);
+        p0 = p0 | one_of_four_refused::<MOST_VALUE>(curve, at);
+        p1 = p1 | one_of_four_refused::<MOST_VALUE>(curve, at + 4);
+        d0 = d0 | one_of_four_refused::<MOST_SLOPE>(curve, at + 8);
+        d1 = d1 | one_of_four_refused::<MOST_SLOPE>(curve, at + 12);
     }
     p0 | p1 | d0 | d1
 }

@@ -103,9 +103,10 @@ fn report_through(streams: Streams, buffer: &mut [u8], first: Input) -> Outcome
 // Prints the text of a report.
 pub fn print_text(streams: Streams, report: Report) {
     let mut text = [0u8; 1137];
-    let answer = program_report_text::report_text(report, &mut text);
-    let length = answer.length;
-    write_output(streams, &text[0..length]);
+    let written = program_report_text::report_text(report, &mut text);
+    if let Ok(length) = written {
+        write_output(streams, &text[0..length]);
+    }
 }
 
 // Prints the report of the stream of sheets on standard input, of any length. Where the input cannot be read, nothing is printed.

@@ -14,8 +14,8 @@ use Rattle.program_report_text.specs.ReportText.{
   report_text_refusal,
   report_text_answer,
   ReportTextPromise,
+  ReportTextAnswer,
 }
-use Rattle.program_report_text.specs.declared.ReportTextAnswer.{ReportTextAnswer}
 use Rattle.program_report_text.proofs.Lengths.{text_fits}
 
 module _ (report : Report) (text : List ℕ) where

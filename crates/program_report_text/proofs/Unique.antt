@@ -3,8 +3,7 @@ use mathlib.Core.Path.{◌≡◌, sym, ◌∙◌}
 use mathlib.Core.List.{List}
 use Prim.Native.Nat.{ℕ}
 use Rattle.report_totals.specs.declared.Report.{Report}
-use Rattle.program_report_text.specs.ReportText.{ReportTextPromise}
-use Rattle.program_report_text.specs.declared.ReportTextAnswer.{ReportTextAnswer}
+use Rattle.program_report_text.specs.ReportText.{ReportTextPromise, ReportTextAnswer}
 
 pub report_text_unique : (report : Report) (text : List ℕ) (a a' : ReportTextAnswer) (x x' : List ℕ)
     → ReportTextPromise report text a x → ReportTextPromise report text a' x' → (a ≡ a') × (x ≡ x')

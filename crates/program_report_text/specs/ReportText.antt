@@ -1,12 +1,13 @@
 -- The chapter ReportText of docs/RULES.md: all that the report program prints, as a text of the totals, and the public call `report_text`,
 -- which writes it to a text that it is lent.
-use Rattle.std.specs.Prelude.{◌≡◌, Bool, cond, List, [], ◌∷◌, ◌++◌, ℕ, zero, suc, ltb, eqb, length, get_or}
+use Rattle.std.specs.Prelude.{◌≡◌, Bool, cond, List, [], ◌∷◌, ◌++◌, ℕ, zero, suc, ltb, eqb, length, get_or, Result, Ok, Err}
+use Rattle.rules.specs.Answers.{number_of}
 use Rattle.rules.specs.Calls.{stored, counted}
+use Rattle.rules.specs.declared.Refusal.{Refusal}
 use Rattle.base_text.specs.Lines.{line_end, hex_digits, decimal, word_line, written}
 use Rattle.report_totals.specs.declared.OrderTotals.{OrderTotals}
 use Rattle.report_totals.specs.declared.Totals.{Totals}
 use Rattle.report_totals.specs.declared.Report.{Report}
-use Rattle.program_report_text.specs.declared.ReportTextAnswer.{ReportTextAnswer}
 
 -- ---- the lines
 
@@ -99,6 +100,16 @@ report_length = 1137
 -- its refusal: 15 for a text that is shorter than that
 abbrev pub report_text_refusal : ℕ → ℕ
 report_text_refusal given = cond (ltb given report_length) 15 0
+
+-- the answer in numbers: the refusal, and how many bytes of the text are the report's
+pub record ReportTextAnswer : Type 0 where
+  pub refusal : ℕ
+  pub length : ℕ
+
+-- the answer of what the call gives
+abbrev pub report_text_told : Result ℕ Refusal → ReportTextAnswer
+report_text_told (Ok length) = record { refusal = 0; length = length }
+report_text_told (Err refusal) = record { refusal = number_of refusal; length = 0 }
 
 module _ (report : Report) (text_lent : List ℕ) where
   -- its answer: the refusal, and how long the report's text is

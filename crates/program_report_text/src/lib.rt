@@ -15,18 +15,13 @@ ghost use Rattle.program_report_text.specs.ReportText.{
   sheets_lines,
   report_text,
   report_length,
+  report_text_told,
   ReportTextPromise,
 };
 
 use base_text::{put_byte, put_decimal, put_hex_digits, put_word, put_word_line};
 use report_totals::{OrderTotals, Report, Totals};
-
-// A refusal's number, 0 for none, and how many bytes of the text are the report's.
-#[derive(Clone, Copy)]
-pub struct ReportTextAnswer {
-    pub refusal: usize,
-    pub length: usize,
-}
+use rules::Refusal;
 
 // A word and a number after it. This and all up to `put_report` are no public calls: each requires that there is room, and what is told a
 // refusal's number or an order requires that there is such a one.
@@ -129,18 +124,14 @@ fn put_report(report: Report, text: &mut [u8]) -> usize
     put_last(report.stopped, text, orders_end)
 }
 
-// PUBLIC. Writes all that the report program prints of a report to the front of the text, and answers how many bytes that is: the lines
+// PUBLIC. Writes all that the report program prints of a report to the front of the text, and gives how many bytes that is: the lines
 // of the sheets, of the accepted ones, of the refusals that occurred, of the five orders, and the last line, `end` or `stopped`. It
-// refuses a text shorter than 1,137 bytes by 15; then the length is 0 and nothing is written. The report may be any.
-pub fn report_text(report: Report, text: &mut [u8]) -> ReportTextAnswer
-    ensures { ReportTextPromise report text.old result text.new }
+// refuses a text shorter than 1,137 bytes by 15; then nothing is written. The report may be any.
+pub fn report_text(report: Report, text: &mut [u8]) -> Result<usize, Refusal>
+    ensures { ReportTextPromise report text.old (report_text_told result) text.new }
 {
     if text.len() < 1137 {
-        return ReportTextAnswer {
-            refusal: 15,
-            length: 0,
-        };
+        return Err(Refusal::Buffer);
     }
-    let length = put_report(report, text);
-    ReportTextAnswer { refusal: 0, length }
+    Ok(put_report(report, text))
 }

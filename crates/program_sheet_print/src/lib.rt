@@ -11,7 +11,7 @@ pub fn print_text(streams: Streams, sheet: &[u8]) {
     let mut tensor = [0.0; 4096];
     let mut scratch = [0.0; 6144];
     let mut text = [0u8; 69644];
-    let answer = program_sheet_text::sheet_text(
+    let written = program_sheet_text::sheet_text(
         sheet,
         &mut knots,
         &mut samples,
@@ -19,8 +19,9 @@ pub fn print_text(streams: Streams, sheet: &[u8]) {
         &mut scratch,
         &mut text,
     );
-    let length = answer.length;
-    write_output(streams, &text[0..length]);
+    if let Ok(length) = written {
+        write_output(streams, &text[0..length]);
+    }
 }
 
 // Prints the text of the sheet on standard input, of which the first 65,536 bytes are looked at and no more. Where the input cannot be

@@ -15,9 +15,8 @@ use Rattle.rules.proofs.Refused.{or_else_passed, unchanged, counted_most}
 use Rattle.grid_checks.proofs.Rows.{exact_3}
 use Rattle.sheet_read.specs.Fields.{sheet_grid, sheet_samples}
 use Rattle.sheet_read.specs.Faults.{sheet_refusal}
-use Rattle.sheet_build.specs.SheetTensor.{own_refusal, SheetPromise}
+use Rattle.sheet_build.specs.SheetTensor.{own_refusal, SheetPromise, SheetAnswer}
 use Rattle.sheet_build.specs.LentEnough.{Enough}
-use Rattle.sheet_build.specs.declared.SheetAnswer.{SheetAnswer}
 use Rattle.sheet_build.proofs.Builds.{length_tensor}
 use Rattle.sheet_build.proofs.Few.{own_few}
 use Rattle.sheet_build.proofs.Enough.{reading_is, refusal_is}
@@ -25,8 +24,7 @@ use Rattle.sheet_build.proofs.Alone.{read_alone, few_numbers, answered_alone, te
 use Rattle.base_text.specs.PutBytes.{Put}
 use Rattle.base_text.proofs.Puts.{put_written}
 use Rattle.rules.proofs.Cases.{passed as no_test}
-use Rattle.program_sheet_text.specs.SheetText.{text_of, sheet_text, text_length, lent_refusal, text_refusal, text_answer, TextPromise}
-use Rattle.program_sheet_text.specs.declared.TextAnswer.{TextAnswer}
+use Rattle.program_sheet_text.specs.SheetText.{text_of, sheet_text, text_length, lent_refusal, text_refusal, text_answer, TextPromise, TextAnswer}
 use Rattle.program_tensor_text.proofs.Texts.{length_most as tensor_text_most}
 use Rattle.program_sheet_text.proofs.Told.{length_refused_line}
 

@@ -6,16 +6,19 @@ use native.Mathlib.Omega.{arith}
 use lib.ListN.{length}
 use lib.Ieee.{Float}
 use Rattle.base_text.specs.Lines.{refused_line}
+use Rattle.base_text.specs.PutBytes.{Put}
 use Rattle.base_text.proofs.Decimals.{decimal_length, length_word_line}
-use Rattle.program_tensor_text.specs.TensorText.{tensor_text}
 use Rattle.program_sheet_text.specs.SheetText.{text_of}
 
-pub tensor_told : (refusal : ℕ) (numbers : List Float) → refusal ≡ 0 → tensor_text numbers ≡ text_of refusal numbers
-tensor_told refusal numbers e = rw e
-
-pub refused_told : (refusal : ℕ) (numbers : List Float) → (refusal ≡ 0 → ⊥) → refused_line refusal ≡ text_of refusal numbers
+refused_told : (refusal : ℕ) (numbers : List Float) → (refusal ≡ 0 → ⊥) → refused_line refusal ≡ text_of refusal numbers
 refused_told zero numbers met = absurd (met refl)
 refused_told (suc refusal) numbers met = refl
+
+-- so the line that is put is the text
+pub refusal_put :
+    (refusal number : ℕ) (numbers : List Float) {text later : List ℕ} {at end : ℕ} → number ≡ refusal → (refusal ≡ 0 → ⊥)
+    → Put (refused_line number) text at later end → Put (text_of refusal numbers) text at later end
+refusal_put refusal number numbers e met put = rw (← refused_told refusal numbers met, ← e) put
 
 -- the line of a refusal, whatever 64-bit number it is
 pub length_refused_line : (refusal : ℕ) → refusal < 18446744073709551616 → length (refused_line refusal) ≤ 29

@@ -4,8 +4,7 @@ use mathlib.Core.Path.{◌≡◌, sym, ◌∙◌}
 use mathlib.Core.List.{List}
 use Prim.Native.Nat.{ℕ}
 use lib.Ieee.{Float}
-use Rattle.program_sheet_text.specs.SheetText.{TextPromise}
-use Rattle.program_sheet_text.specs.declared.TextAnswer.{TextAnswer}
+use Rattle.program_sheet_text.specs.SheetText.{TextPromise, TextAnswer}
 
 pub text_unique :
     (bytes : List ℕ) (knots samples tensor scratch : List Float) (text : List ℕ) (a a' : TextAnswer) (k k' s s' t t' w w' : List Float)

@@ -1,6 +1,6 @@
 -- The chapter SheetText of docs/RULES.md: all that the sheet program prints of a sheet, and the public call `sheet_text`, which writes it
 -- to a text that it is lent.
-use Rattle.std.specs.Prelude.{◌≡◌, Bool, cond, ◌||◌, List, ℕ, zero, suc, ◌+◌, ◌*◌, ltb, length, Float}
+use Rattle.std.specs.Prelude.{◌≡◌, Bool, cond, ◌||◌, List, ℕ, zero, suc, ◌+◌, ◌*◌, ltb, length, Float, Result, Ok, Err}
 use Rattle.rules.specs.Sizes.{most_in_a_tensor, scratch_of_rows}
 use Rattle.rules.specs.Refusals.{length_refused, scratch_refused}
 use Rattle.rules.specs.Tensor.{tensor}
@@ -11,7 +11,8 @@ use Rattle.sheet_read.specs.Read.{buffer_length, over}
 use Rattle.sheet_build.specs.SheetTensor.{own_refusal}
 use Rattle.base_text.specs.Lines.{refused_line, written}
 use Rattle.program_tensor_text.specs.TensorText.{tensor_text}
-use Rattle.program_sheet_text.specs.declared.TextAnswer.{TextAnswer}
+use Rattle.rules.specs.Answers.{number_of}
+use Rattle.rules.specs.declared.Refusal.{Refusal}
 
 -- ---- the text
 
@@ -39,6 +40,16 @@ abbrev pub lent_refusal : ℕ → ℕ → ℕ → ℕ → ℕ → ℕ
 lent_refusal knots samples tensor scratch text =
     cond (length_refused knots buffer_length || length_refused samples buffer_length || length_refused tensor most_in_a_tensor) 4
     (cond (scratch_refused scratch (most_in_a_tensor + scratch_of_rows)) 5 (cond (text_refused text) 15 0))
+
+-- the answer in numbers: the refusal, and how many bytes of the text are the sheet's
+pub record TextAnswer : Type 0 where
+  pub refusal : ℕ
+  pub length : ℕ
+
+-- the answer of what the call gives
+abbrev pub text_told : Result ℕ Refusal → TextAnswer
+text_told (Ok length) = record { refusal = 0; length = length }
+text_told (Err refusal) = record { refusal = number_of refusal; length = 0 }
 
 module _ (bytes : List ℕ) (knots_lent samples_lent tensor_lent scratch_lent : List Float) (text_lent : List ℕ) where
   -- the same, of the slices

@@ -2,52 +2,42 @@
 
 #![tactic(auto)]
 
-ghost use Rattle.std.specs.Prelude.{◌≡◌, ◌≤◌, length};
-ghost use Rattle.base_text.specs.PutBytes.{Put};
-ghost use Rattle.program_sheet_text.specs.SheetText.{text_length, text_of, lent_refusal, TextPromise};
+ghost use Rattle.std.specs.Prelude.{◌≡◌};
+ghost use Rattle.rules.specs.Answers.{refusal_of};
+ghost use Rattle.program_sheet_text.specs.SheetText.{lent_refusal, text_told, TextPromise};
 
-use grid_codes::classes::is_built;
+use base_text::put_refused_line;
+use program_tensor_text::put_tensor;
+use rules::Refusal;
 
-// A refusal's number, 0 for none, and how many bytes of the text are the sheet's.
-#[derive(Clone, Copy)]
-pub struct TextAnswer {
-    pub refusal: usize,
-    pub length: usize,
-}
-
-// The text of a refusal, 0 for none, and of the numbers of a tensor. Not a public call: at most 4,096 numbers are required, and room for
-// the longest text.
-fn put_text(refusal: usize, numbers: &[f64], text: &mut [u8]) -> usize
-    requires { (length numbers.now ≤ 4096) × (text_length ≤ length text.old) }
-    ensures { Put (text_of refusal numbers.now) text.old 0 text.new result }
-{
-    if is_built(refusal) {
-        return program_tensor_text::put_tensor(numbers, text, 0);
-    }
-    base_text::put_refused_line(refusal as u64, text, 0)
-}
-
-// The refusal of what is lent, by the lengths.
-fn lent_refusal(knots: usize, samples: usize, tensor: usize, scratch: usize, text: usize) -> usize
-    ensures { result ≡ lent_refusal knots samples tensor scratch text }
+// What is refused of all that is lent, by the lengths: 4, 5 or 15.
+fn check_lent(
+    knots: usize,
+    samples: usize,
+    tensor: usize,
+    scratch: usize,
+    text: usize,
+) -> Result<(), Refusal>
+    ensures { refusal_of result ≡ lent_refusal knots samples tensor scratch text }
 {
     if knots != 1024 || samples != 1024 || tensor != 4096 {
-        return 4;
+        return Err(Refusal::Length);
+    }
     }
     if scratch < 6144 {
-        return 5;
+        return Err(Refusal::Scratch);
     }
     if text < 69644 {
-        return 15;
+        return Err(Refusal::Buffer);
     }
-    0
+    Ok(())
 }
 
-// PUBLIC. Writes all that the sheet program prints of a sheet to the front of the text, and answers how many bytes that is: the line
+// PUBLIC. Writes all that the sheet program prints of a sheet to the front of the text, and gives how many bytes that is: the line
 // `tensor N` and a line for each number of the sheet's tensor, or the one line `refused K`. So a refused sheet is no refusal of this
 // call. It refuses what it is lent: knots or samples of another length than 1,024 or a tensor of another than 4,096 by 4, a scratch
-// shorter than 6,144 by 5, and a text shorter than 69,644 bytes by 15. Then the length is 0 and nothing is written. Else knots,
-// samples, tensor and scratch are left as by `tensor_of_sheet`.
+// shorter than 6,144 by 5, and a text shorter than 69,644 bytes by 15. Then nothing is written. Else knots, samples, tensor and scratch
+// are left as by `tensor_of_sheet`.
 pub fn sheet_text(
     bytes: &[u8],
     knots: &mut [f64],
@@ -55,22 +45,19 @@ pub fn sheet_text(
     tensor: &mut [f64],
     scratch: &mut [f64],
     text: &mut [u8],
-) -> TextAnswer
+) -> Result<usize, Refusal>
     ensures { TextPromise bytes.now knots.old samples.old tensor.old scratch.old
-        text.old result knots.new samples.new tensor.new scratch.new text.new }
+        text.old (text_told result) knots.new samples.new tensor.new scratch.new text.new }
 {
-    let refusal = lent_refusal(
+    check_lent(
         knots.len(),
         samples.len(),
         tensor.len(),
         scratch.len(),
         text.len(),
-    );
-    if refusal != 0 {
-        return TextAnswer { refusal, length: 0 };
+    )?;
+    match sheet_build::tensor_of_sheet(bytes, knots, samples, tensor, scratch) {
+        Ok(built) => Ok(put_tensor(&tensor[0..built.length], text, 0)),
+        Err(refused) => Ok(put_refused_line(refused.refusal().number() as u64, text, 0)),
     }
-    let answer = sheet_build::tensor_of_sheet(bytes, knots, samples, tensor, scratch);
-    let numbers = answer.length;
-    let length = put_text(answer.refusal, &tensor[0..numbers], text);
-    TextAnswer { refusal: 0, length }
 }

@@ -9,7 +9,7 @@ use native.Mathlib.Omega.{arith}
 use lib.Ieee.{Float}
 use lib.ListN.{length, take, drop, length-append, length-drop, drop_of_length-le}
 use lib.Seq.{drop-drop, take_all}
-use Rattle.sheet_read.specs.declared.ReadAnswer.{ReadAnswer}
+use Rattle.sheet_read.specs.Read.{ReadAnswer}
 use Rattle.report_front.specs.Front.{front_size, front_bytes, rest_bytes}
 use Rattle.report_front.specs.LookedAt.{look_answer}
 use Rattle.report_front.proofs.Tails.{true_not_false}
@@ -18,7 +18,7 @@ use Rattle.report_totals.specs.Counting.{Running, Adds}
 use Rattle.report_totals.specs.declared.Totals.{Totals}
 use Rattle.report_totals.specs.declared.Report.{Report}
 use Rattle.report_totals.proofs.Sheets.{running_none, running_next, sheets_are}
-use Rattle.report.specs.Report.{front_sheet, stops, after, stops_here, stream_of, report_of}
+use Rattle.report.specs.Report.{sheet_at, front_sheet, stops, after, stops_here, stream_of, report_of}
 use Rattle.report.specs.Feeding.{Stands, Shown, Buffers, Looked, SheetCounted, Progressed, Fed}
 use Rattle.report.specs.declared.Progress.{Progress}
 use Rattle.report.proofs.Fronts.{front_some, front_small}
@@ -120,15 +120,15 @@ own_looked bytes size sheet e looked = let here : size - 0 ≡ front_size bytes 
 
 -- one sheet further, by the answers of the calls: how the bytes of the front sheet were counted
 pub took :
-    (totals later : Totals) (bytes : List ℕ) (size refusal : ℕ) (stopped : Bool) → 1 ≤ length bytes → Running totals
+    (totals later : Totals) (bytes : List ℕ) (size : ℕ) (stopped : Bool) → 1 ≤ length bytes → Running totals
     → (totals.sheets ≡ most_sheets → ⊥) → size ≡ front_size bytes → size ≤ length bytes
-    → SheetCounted totals (take (size - 0) bytes) later refusal → stopped ≡ stops refusal
+    → SheetCounted totals (take (size - 0) bytes) later → stopped ≡ stops (sheet_at (take (size - 0) bytes)).refusal
     → Progressed totals bytes (record { totals = later; taken = size; stopped = stopped })
 unfolding front_sheet
-took totals later bytes size refusal stopped some run room e inside counted q =
+took totals later bytes size stopped some run room e inside counted q =
     let here : size - 0 ≡ front_size bytes = omega arith in
-    let own : SheetCounted totals (front_bytes bytes) later refusal = rw here at counted in
-    progress_sheet totals bytes some later own.adds room run size stopped e inside (q ∙ ap stops own.refused)
+    let own : SheetCounted totals (front_bytes bytes) later = rw here at counted in
+    progress_sheet totals bytes some later own room run size stopped e inside (rw here at q)
 
 -- ---- a feeding: one sheet after the other
 

@@ -1,6 +1,6 @@
 -- Where a report stands in its stream, and what one sheet further and a feeding promise.
 use Rattle.std.specs.Prelude.{◌≡◌, true, false, List, [], ◌++◌, ℕ, ◌+◌, ◌-◌, ◌≤◌, ◌<◌, length, drop, Float}
-use Rattle.sheet_read.specs.declared.ReadAnswer.{ReadAnswer}
+use Rattle.sheet_read.specs.Read.{ReadAnswer}
 use Rattle.report_front.specs.Front.{enough_bytes}
 use Rattle.report_front.specs.LookedAt.{look_answer}
 use Rattle.report_totals.specs.Totals.{most_sheets}
@@ -29,10 +29,9 @@ pub record Buffers (knots samples scratch : List Float) : Type 0 where
 abbrev pub Looked : List ℕ → ReadAnswer → Type 0
 Looked bytes sheet = sheet ≡ look_answer bytes
 
--- a sheet was counted, and this is its refusal
-pub record SheetCounted (totals : Totals) (bytes : List ℕ) (later : Totals) (refusal : ℕ) : Type 0 where
-  pub refused : refusal ≡ (sheet_at bytes).refusal
-  pub adds : Adds totals (sheet_at bytes).refusal (sheet_at bytes).tensor later
+-- a sheet was counted
+abbrev pub SheetCounted : Totals → List ℕ → Totals → Type 0
+SheetCounted totals bytes later = Adds totals (sheet_at bytes).refusal (sheet_at bytes).tensor later
 
 -- one sheet further or a feeding on some bytes, which may be the front of any rest of any input: the report has then come to what it left
 -- of these bytes, or it stops and has the report of that input. It may look at n bytes

@@ -2,17 +2,18 @@
 
 #![tactic(auto)]
 
-ghost use Rattle.std.specs.Prelude.{◌≡◌, ◌≤◌, length};
+ghost use Rattle.std.specs.Prelude.{◌≤◌, length, Ok};
+ghost use Rattle.sheet_read.specs.Read.{read_told};
 ghost use Rattle.report_totals.specs.Counting.{Running};
 ghost use Rattle.report.specs.Report.{ReportPromise};
 ghost use Rattle.report.specs.Feeding.{Buffers, Looked, SheetCounted, Progressed, Fed};
 
-use grid_codes::classes::is_unread;
 use grid_scratch::TENSOR;
 use report_front::look_at_front;
 use report_totals::{Report, Totals, none, with_accepted, with_refused};
+use rules::Refusal;
 use sheet_in_scratch::tensor_in_scratch;
-use sheet_read::ReadAnswer;
+use sheet_read::Sheet;
 
 // Where a report has come to: its totals, how many of the bytes that it was given it has passed over, and whether it ends before the input
 // does. Where it does, no more is promised of `taken` than that it is not above the number of those bytes.
@@ -23,61 +24,44 @@ pub struct Progress {
     pub stopped: bool,
 }
 
-// What counting a sheet leaves: the totals with it, and the number of its refusal, 0 for none.
-#[derive(Clone, Copy)]
-struct Counted {
-    totals: Totals,
-    refusal: usize,
-}
-
 // The totals with one sheet more that was read. Its tensor is counted where it is built.
 fn count_read(
     totals: Totals,
     bytes: &[u8],
-    sheet: ReadAnswer,
+    sheet: Sheet,
     knots: &mut [f64],
     samples: &mut [f64],
     scratch: &mut [f64],
-) -> Counted
-    requires { Running totals × Looked bytes.now sheet × (sheet.refusal ≡ 0) × Buffers knots.old samples.old scratch.old }
-    ensures { SheetCounted totals bytes.now result.totals result.refusal }
+) -> Totals
+    requires { Running totals × Looked bytes.now (read_told (Ok sheet)) × Buffers knots.old samples.old scratch.old }
+    ensures { SheetCounted totals bytes.now result }
 {
     let axes = sheet.axes;
     let all = sheet.all;
-    let refusal = tensor_in_scratch(bytes, sheet.edition, axes, all, knots, samples, scratch);
-    if refusal != 0 {
-        return Counted {
-            totals: with_refused(totals, refusal),
-            refusal,
-        };
+    let built = tensor_in_scratch(bytes, sheet.edition, axes, all, knots, samples, scratch);
+    if let Err(refusal) = built {
+        return with_refused(totals, refusal);
     }
     let end = TENSOR + grid::tensor_length(axes, all);
-    Counted {
-        totals: with_accepted(totals, axes, &scratch[TENSOR..end]),
-        refusal: 0,
-    }
+    with_accepted(totals, axes, &scratch[TENSOR..end])
 }
 
 // The totals with one sheet more, of which all was looked at.
 fn count_sheet(
     totals: Totals,
     bytes: &[u8],
-    sheet: ReadAnswer,
+    sheet: Result<Sheet, Refusal>,
     knots: &mut [f64],
     samples: &mut [f64],
     scratch: &mut [f64],
-) -> Counted
-    requires { Running totals × Looked bytes.now sheet × Buffers knots.old samples.old scratch.old }
-    ensures { SheetCounted totals bytes.now result.totals result.refusal }
+) -> Totals
+    requires { Running totals × Looked bytes.now (read_told sheet) × Buffers knots.old samples.old scratch.old }
+    ensures { SheetCounted totals bytes.now result }
 {
-    let refusal = sheet.refusal;
-    if refusal != 0 {
-        return Counted {
-            totals: with_refused(totals, refusal),
-            refusal,
-        };
+    match sheet {
+        Ok(read) => count_read(totals, bytes, read, knots, samples, scratch),
+        Err(refusal) => with_refused(totals, refusal),
     }
-    count_read(totals, bytes, sheet, knots, samples, scratch)
 }
 
 // One sheet further: the front sheet is looked at, built and counted, and the report stops in it where it was not read. Not a public call:
@@ -102,13 +86,11 @@ fn take_sheet(
     let front = look_at_front(bytes);
     let size = front.size;
     let sheet = front.sheet;
-    let counted = count_sheet(totals, &bytes[0..size], sheet, knots, samples, scratch);
-    let later = counted.totals;
-    let refusal = counted.refusal;
+    let later = count_sheet(totals, &bytes[0..size], sheet, knots, samples, scratch);
     Progress {
         totals: later,
         taken: size,
-        stopped: is_unread(refusal),
+        stopped: sheet.is_err(),
     }
 }
 

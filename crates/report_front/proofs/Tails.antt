@@ -5,6 +5,33 @@ use mathlib.Core.List.{List}
 use Prim.Native.Nat.{ℕ, zero, suc}
 use native.Mathlib.Omega.{arith}
 use borrow.Author.Tests.{ne_eqb}
+use Rattle.rules.specs.Answers.{number_of}
+use Rattle.rules.specs.declared.Refusal.{Refusal}
+use Rattle.rules.specs.declared.Refusal.TheVariants.{
+  Axes,
+  Points,
+  Tensor,
+  Length,
+  Scratch,
+  Place,
+  Number,
+  Knots,
+  Fewness,
+  Outcome,
+  Short,
+  Edition,
+  Kinds,
+  Tail,
+  Buffer,
+  Stack,
+  Unused,
+  Outside,
+  Range,
+  Position,
+  Uneven,
+  Mode,
+  Lost,
+}
 use Rattle.rules.specs.Sizes.{samples_length}
 use Rattle.rules.specs.Refusals.{axes_refused, tensor_refused}
 use Rattle.rules.specs.Calls.{or_else}
@@ -114,3 +141,31 @@ module _ (bytes : List ℕ) where
 
   pub met_before : length_known (sheet_refusal bytes) ≡ false → before_tail bytes ≡ 0 → ⊥
   met_before unknown none = true_not_false (sym (known_of none) ∙ unknown)
+
+-- ---- by the refusal itself
+
+-- after any other than 14 the length is not known
+pub unknown_after : (refusal : Refusal) → (refusal ≡ Tail → ⊥) → length_known (number_of refusal) ≡ false
+unknown_after Axes other = refl
+unknown_after Points other = refl
+unknown_after Tensor other = refl
+unknown_after Length other = refl
+unknown_after Scratch other = refl
+unknown_after Place other = refl
+unknown_after Number other = refl
+unknown_after Knots other = refl
+unknown_after Fewness other = refl
+unknown_after Outcome other = refl
+unknown_after Short other = refl
+unknown_after Edition other = refl
+unknown_after Kinds other = refl
+unknown_after Tail other = absurd (other refl)
+unknown_after Buffer other = refl
+unknown_after Stack other = refl
+unknown_after Unused other = refl
+unknown_after Outside other = refl
+unknown_after Range other = refl
+unknown_after Position other = refl
+unknown_after Uneven other = refl
+unknown_after Mode other = refl
+unknown_after Lost other = refl

@@ -2,8 +2,7 @@
 use Rattle.std.specs.Prelude.{◌≡◌, List, ℕ, ◌≤◌, length}
 use Rattle.sheet_read.specs.Fields.{edition, axes, entries}
 use Rattle.sheet_read.specs.Faults.{sheet_refusal}
-use Rattle.sheet_read.specs.Read.{answer_of}
-use Rattle.sheet_read.specs.declared.ReadAnswer.{ReadAnswer}
+use Rattle.sheet_read.specs.Read.{ReadAnswer, answer_of, read_told}
 use Rattle.report_front.specs.Front.{front_size, front_bytes}
 use Rattle.report_front.specs.declared.Front.{Front as FoundFront}
 
@@ -15,4 +14,4 @@ look_answer bytes = answer_of (sheet_refusal bytes) (edition bytes) (axes bytes)
 pub record FrontLooked (bytes : List ℕ) (front : FoundFront) : Type 0 where
   pub size_is : front.size ≡ front_size bytes
   pub inside : front.size ≤ length bytes
-  pub looked : front.sheet ≡ look_answer (front_bytes bytes)
+  pub looked : read_told front.sheet ≡ look_answer (front_bytes bytes)

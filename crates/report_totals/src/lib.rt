@@ -6,8 +6,11 @@
 ghost use Rattle.std.specs.Prelude.{◌≡◌, true, not, [], ◌+◌, ◌/◌, ◌^◌, ◌<◌, ◌≤◌, max, length, eqb};
 ghost use Rattle.std.specs.Int.Count.{ones};
 ghost use Rattle.std.specs.Float.Ieee.Scale.{finite};
+ghost use Rattle.rules.specs.Answers.{number_of};
 ghost use Rattle.report_totals.specs.Totals.{magnitude, tensor_entries, totals_of};
 ghost use Rattle.report_totals.specs.Counting.{one_if, sum, of_mask, InPlaces, Room, Tallied, Running, sheet_added, Adds};
+
+use rules::Refusal;
 
 // What is counted of one derivative order: its entries, those of them that are not zero, and the pattern of the largest magnitude.
 #[derive(Clone, Copy)]
@@ -140,14 +143,13 @@ fn with_sheet(totals: Totals, refusal: usize, orders: [OrderTotals; 5]) -> Total
     }
 }
 
-// The totals with one sheet more that is refused by a number, so that it has no tensor. It requires totals of no more sheets than a report
-// has, and such a number.
-pub fn with_refused(totals: Totals, refusal: usize) -> Totals
-    requires { (refusal < 24) × Running totals }
-    ensures { Adds totals refusal [] result }
+// The totals with one sheet more that is refused, so that it has no tensor. It requires totals of no more sheets than a report has.
+pub fn with_refused(totals: Totals, refusal: Refusal) -> Totals
+    requires { Running totals }
+    ensures { Adds totals (number_of refusal) [] result }
 {
     let orders = totals.orders;
-    with_sheet(totals, refusal, orders)
+    with_sheet(totals, refusal.number(), orders)
 }
 
 // The totals with one sheet more that is accepted, and its tensor. It requires totals of no more sheets than a report has, and at most

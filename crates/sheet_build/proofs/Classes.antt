@@ -6,8 +6,9 @@ use mathlib.Core.List.{List}
 use Prim.Native.Nat.{ℕ, zero, suc}
 use native.Mathlib.Omega.{arith}
 use borrow.Author.Tests.{eq-eqb, ltb-false}
-use lib.ListN.{length, take, length-take}
+use lib.ListN.{length, take, length-take, length-replicate}
 use lib.Ieee.{Float}
+use Rattle.rules.specs.Numbers.{plus_zero, zeros}
 use Rattle.rules.specs.Sizes.{Grid, tensor_length, scratch_length}
 use Rattle.rules.specs.Refusals.{
   scratch_refused,
@@ -26,12 +27,14 @@ use Rattle.grid_codes.proofs.Apart.{none_not_reading, reading_not_building, none
 use Rattle.grid_codes.proofs.Tested.{tested}
 use Rattle.grid_codes.proofs.Classed.{Of, no_fault}
 use Rattle.sheet_read.specs.Fields.{edition, sheet_grid, sheet_samples}
+use Rattle.sheet_read.specs.Faults.{sheet_refusal}
 use Rattle.sheet_read.specs.Read.{over}
 use Rattle.sheet_read.proofs.Parts.{parts}
 use Rattle.sheet_build.specs.SheetTensor.{
   unread_answer,
   read_answer,
   parts_refusal,
+  building_refusal,
   reading_refusal,
   sheet_tensor_refusal,
   SheetPromise,
@@ -40,6 +43,28 @@ use Rattle.sheet_build.specs.SheetTensor.{
 use Rattle.sheet_build.proofs.Faults.{reading_of_reading}
 use Rattle.sheet_build.proofs.Builds.{unread_is, answered_refusal}
 use Rattle.sheet_build.proofs.Promises.{refusal_met, refusal_passed, read_passed}
+
+-- what the bytes alone have the build refuse, where the reader refuses nothing
+pub building_of_building : (bytes : List ℕ) → sheet_refusal bytes ≡ 0 → Of Building (building_refusal bytes)
+unfolding building_refusal build_refusal class
+building_of_building bytes none =
+    let g = sheet_grid bytes in
+    let y = sheet_samples bytes in
+    let known = parts bytes none in
+    let lent = zeros (scratch_length g) in
+    rw (
+      known.axes,
+      known.points,
+      known.tensor,
+      eq-eqb _ _ known.knots,
+      eq-eqb _ _ known.samples,
+      eq-eqb _ _ (length-replicate (tensor_length g) plus_zero),
+    )
+    (tested (Of Building) (scratch_refused (length lent) (scratch_length g)) (λ met. refl)
+    (tested (Of Building) (some_number_refused g.flat_knots || some_ends_refused g || some_number_refused y) (λ met. refl)
+    (tested (Of Building) (some_knots_refused g) (λ met. refl)
+    (tested (Of Building) (some_fewness_refused g) (λ met. refl)
+    (tested (Of Building) (outcome_refused (tensor g y)) (λ met. refl) no_fault)))))
 
 module _ (bytes : List ℕ) (knots samples lent scratch : List Float) where
   abbrev g : Grid

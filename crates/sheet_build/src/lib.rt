@@ -2,7 +2,8 @@
 
 #![tactic(auto)]
 
-ghost use Rattle.std.specs.Prelude.{◌≡◌};
+ghost use Rattle.std.specs.Prelude.{◌≡◌, Err};
+ghost use Rattle.rules.specs.Answers.{number_of};
 ghost use Rattle.sheet_build.specs.declared.SheetRefusal.TheVariants.{Unread};
 ghost use Rattle.sheet_build.specs.SheetTensor.{sheet_told, grid_in, samples_in, PartsGiven, PartsPromise, SheetPromise};
 
@@ -29,6 +30,18 @@ impl From<Refusal> for SheetRefusal {
     // A refusal of the reader.
     fn from(refusal: Refusal) -> SheetRefusal {
         SheetRefusal::Unread(refusal)
+    }
+}
+
+impl SheetRefusal {
+    // The refusal itself.
+    pub fn refusal(self) -> Refusal
+        ensures { number_of result ≡ (sheet_told (Err self)).refusal }
+    {
+        match self {
+            SheetRefusal::Unread(refusal) => refusal,
+            SheetRefusal::Unbuilt { refusal, .. } => refusal,
+        }
     }
 }
 

@@ -2,9 +2,8 @@
 use mathlib.Core.Path.{◌≡◌, ap, ◌∙◌, sym}
 use mathlib.Core.List.{List}
 use Prim.Native.Nat.{ℕ, ◌+◌, ◌≤◌}
-use Rattle.device_cursor.specs.DeviceCurve.{last_cursor, next_refusal, next_answer, NextPromise}
+use Rattle.device_cursor.specs.DeviceCurve.{last_cursor, next_refusal, NextAnswer, next_answer, NextPromise}
 use Rattle.device_cursor.specs.declared.Cursor.{Cursor}
-use Rattle.device_cursor.specs.declared.NextAnswer.{NextAnswer}
 use Rattle.device_cursor.proofs.Steps.{passed}
 
 module _ (curve : List ℕ) (cursor : Cursor) (given : NextAnswer) (told : NextPromise curve cursor given) (none : given.refusal ≡ 0) where

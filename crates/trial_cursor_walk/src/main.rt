@@ -21,13 +21,16 @@ fn print_refused(out: Stdout, refusal: usize) {
 fn walk(out: Stdout, curve: &[u8]) {
     let mut cursor = Cursor::start();
     'calls: loop {
-        let answer = cursor.next(curve);
-        if answer.refusal != 0 {
-            print_refused(out, answer.refusal);
-            return;
+        match cursor.next(curve) {
+            Ok((value, moved)) => {
+                print_value(out, value);
+                cursor = moved;
+            }
+            Err(refusal) => {
+                print_refused(out, refusal.number());
+                return;
+            }
         }
-        print_value(out, answer.value);
-        cursor = answer.cursor;
     }
 }
 

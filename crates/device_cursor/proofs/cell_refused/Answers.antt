@@ -4,5 +4,5 @@ use Rattle.device_cursor.proofs.cell_refused.Goals as goal
 
 pub returns : goal.returns
 returns c =
-    cell_flags _ c.args.i _ _ _ _ c.value_refused.ensures c.value_refused-2.ensures
-    c.slope_refused.ensures c.slope_refused-2.ensures
+    cell_flags _ c.args.i _ _ _ _ c.number_refused.ensures c.number_refused-2.ensures
+    c.number_refused-3.ensures c.number_refused-4.ensures

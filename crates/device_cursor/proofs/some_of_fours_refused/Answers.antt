@@ -7,8 +7,8 @@ loop-i-init c = kept_first _
 
 pub loop-i-preserved : goal.loop-i-preserved
 loop-i-preserved c =
-    kept_next _ c.loop-i.i _ _ _ _ c.loop-i.invariant _ _ _ _ c.four_values_refused-p0.ensures
-    c.four_values_refused-p1.ensures c.four_slopes_refused-d0.ensures c.four_slopes_refused-d1.ensures
+    kept_next _ c.loop-i.i _ _ _ _ c.loop-i.invariant _ _ _ _ c.one_of_four_refused-p0.ensures
+    c.one_of_four_refused-p1.ensures c.one_of_four_refused-d0.ensures c.one_of_four_refused-d1.ensures
 
 pub returns : goal.returns
 returns c =

@@ -4,4 +4,4 @@ use Rattle.program_report_text.proofs.Promises.{length_most}
 use Rattle.program_report_print.proofs.print_text.Goals as goal
 
 pub slice_bounds-write_output-end : goal.slice_bounds-write_output-end
-slice_bounds-write_output-end c = let most = length_most _ _ _ _ c.report_text-answer.ensures in omega arith
+slice_bounds-write_output-end c = let most = length_most _ _ _ _ (rw c.in-Ok.is at c.report_text-written.ensures) in omega arith

@@ -7,4 +7,4 @@ pub returns-then-text-lt1137 : goal.returns-then-text-lt1137
 returns-then-text-lt1137 c = too_short _ _ c.if-text-lt1137.true
 
 pub returns : goal.returns
-returns c = text_written _ _ _ _ c.if-text-lt1137.false c.put_report-length.ensures
+returns c = text_written _ _ _ _ c.if-text-lt1137.false c.put_report.ensures

@@ -4,4 +4,4 @@ use Rattle.program_sheet_text.proofs.Promises.{length_most}
 use Rattle.program_sheet_print.proofs.print_text.Goals as goal
 
 pub slice_bounds-write_output-end : goal.slice_bounds-write_output-end
-slice_bounds-write_output-end c = let most = length_most _ _ _ _ _ _ _ _ _ _ _ _ c.sheet_text-answer.ensures in omega arith
+slice_bounds-write_output-end c = let most = length_most _ _ _ _ _ _ _ _ _ _ _ _ (rw c.in-Ok.is at c.sheet_text-written.ensures) in omega arith

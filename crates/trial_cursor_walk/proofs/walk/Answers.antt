@@ -1,3 +1,4 @@
+use mathlib.Core.Path.{refl}
 use native.Mathlib.Omega.{arith}
 use Rattle.trial_cursor_walk.proofs.Walking.{further, not_past}
 use Rattle.trial_cursor_walk.proofs.walk.Goals as goal
@@ -7,10 +8,10 @@ calls-init c = rw c.start-cursor.ensures.answer (omega arith)
 
 pub calls-smaller : goal.calls-smaller
 calls-smaller c =
-    let step = further _ _ _ c.next-answer.ensures c.if-answer-ne0.false in
-    let most = not_past _ _ _ c.next-answer.ensures c.if-answer-ne0.false in omega arith
+    let step = further _ _ _ c.in-Ok.ensures refl in
+    let most = not_past _ _ _ c.in-Ok.ensures refl in omega arith
 
 pub calls-preserved : goal.calls-preserved
 calls-preserved c =
-    let step = further _ _ _ c.next-answer.ensures c.if-answer-ne0.false in
-    let most = not_past _ _ _ c.next-answer.ensures c.if-answer-ne0.false in omega arith
+    let step = further _ _ _ c.in-Ok.ensures refl in
+    let most = not_past _ _ _ c.in-Ok.ensures refl in omega arith

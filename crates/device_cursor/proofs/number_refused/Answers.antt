@@ -2,14 +2,14 @@
 use mathlib.Core.Path.{ap, ◌∙◌}
 use mathlib.Core.Bool.{not}
 use Prim.Native.Nat.{ℕ}
-use native.Mathlib.Omega.{arith}
-use Rattle.device_cell.specs.DeviceCell.{value_in_range}
+use lib.IntN.{pos, negsuc}
+use Rattle.device_cell.specs.DeviceCell.{in_range}
 use Rattle.device_cursor.specs.DeviceCurve.{signed}
 use Rattle.device_cursor.proofs.Lifted.{lifted_above}
-use Rattle.device_cursor.proofs.value_refused.Goals as goal
+use Rattle.device_cursor.proofs.number_refused.Goals as goal
 
 pub returns : goal.returns
-returns c =
+returns g c =
     let bytes = c.four_bytes in
-    lifted_above 32767 bytes.result (omega arith) bytes.ensures.1
-    ∙ ap (λ (n : ℕ). not (value_in_range (signed n))) bytes.ensures.0
+    lifted_above g.row.MOST bytes.result c.requires.1 bytes.ensures.1
+    ∙ ap (λ (n : ℕ). not (in_range (negsuc g.row.MOST) (pos g.row.MOST) (signed n))) bytes.ensures.0
