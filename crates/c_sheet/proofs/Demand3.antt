@@ -14,7 +14,7 @@ use Rattle.grid_checks.proofs.Rows.{axes_few}
 use Rattle.tensor.proofs.Demand3.{Stands, built_stands}
 use Rattle.sheet_read.specs.Fields.{edition as edition_said, axes as axes_said, sheet_grid}
 use Rattle.sheet_build.specs.SheetTensor.{answer_of, reading_refusal, sheet_tensor_refusal, SheetPromise}
-use Rattle.sheet_build.specs.declared.SheetAnswer.{SheetAnswer}
+use Rattle.sheet_build.specs.SheetTensor.{SheetAnswer}
 use Rattle.sheet_build.proofs.Builds.{answered_refusal}
 use Rattle.sheet_build.proofs.Demand3.{grid_made, samples_made, tensor_made, sheet_is_built}
 use Rattle.c_axes.specs.Axes.{axes_given, grid_given, points_found, kinds_found, values_found}

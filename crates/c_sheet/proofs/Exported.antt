@@ -7,14 +7,14 @@ use lib.Ieee.{Float}
 use Rattle.rules.specs.declared.Axis.{Axis}
 use Rattle.sheet_read.specs.Fields.{edition as edition_said, sheet_grid}
 use Rattle.sheet_read.specs.Read.{ReadPromise, Edition1Promise}
-use Rattle.sheet_read.specs.declared.ReadAnswer.{ReadAnswer}
-use Rattle.sheet_read.specs.declared.Edition1Answer.{Edition1Answer}
+use Rattle.sheet_read.specs.Read.{ReadAnswer}
+use Rattle.sheet_read.specs.Read.{Edition1Answer}
 use Rattle.sheet_read.proofs.Promises.{answer_refusal}
 use Rattle.sheet_build.specs.SheetTensor.{reading_refusal, sheet_tensor_refusal, SheetPromise}
-use Rattle.sheet_build.specs.declared.SheetAnswer.{SheetAnswer}
+use Rattle.sheet_build.specs.SheetTensor.{SheetAnswer}
 use Rattle.sheet_build.proofs.Builds.{answered_refusal}
 use Rattle.sheet_write.specs.Write.{write_answer, WritePromise}
-use Rattle.sheet_write.specs.declared.WriteAnswer.{WriteAnswer}
+use Rattle.sheet_write.specs.Write.{WriteAnswer}
 use Rattle.c_axes.specs.Axes.{axes_given, axes_in_modes, modes_found, AxesStored}
 use Rattle.c_refusals.specs.OwnRefusals.{write_own_refusal, read_own_refusal, read_edition_1_own_refusal, sheet_tensor_own_refusal}
 use Rattle.c_refusals.specs.Slots.{in_slot}

@@ -13,7 +13,7 @@ use Rattle.base_bits.proofs.Numbers.{each_at}
 use Rattle.sheet_read.specs.Fields.{edition as edition_said, axes as axes_said, entries, knots_below, sheet_grid, sheet_samples}
 use Rattle.sheet_read.specs.Faults.{sheet_refusal}
 use Rattle.sheet_read.specs.Read.{over, read_refusal, answer_of, ReadPromise}
-use Rattle.sheet_read.specs.declared.ReadAnswer.{ReadAnswer}
+use Rattle.sheet_read.specs.Read.{ReadAnswer}
 use Rattle.sheet_read.proofs.Promises.{answer_refusal}
 use Rattle.sheet_read.proofs.Sheets.{accepted}
 use Rattle.sheet_read.proofs.Parts.{take_over, parts as sizes_of_parts}
@@ -21,7 +21,7 @@ use Rattle.sheet_read.proofs.Unique.{read_accepts}
 use Rattle.sheet_write.specs.SheetOf.{sheet_of}
 use Rattle.sheet_write.specs.Write.{no_sheet_refusal, edition_refusal, write_answer, WritePromise}
 use Rattle.sheet_write.specs.RoundTrip.{PartsHeld, in_use}
-use Rattle.sheet_write.specs.declared.WriteAnswer.{WriteAnswer}
+use Rattle.sheet_write.specs.Write.{WriteAnswer}
 use Rattle.sheet_write.proofs.Unique.{write_refuses_no_sheet}
 use Rattle.sheet_write.proofs.RoundTrip.{one_sheet, read_of_written, written_own}
 use Rattle.c_axes.specs.Axes.{points_found, kinds_found, values_found, modes_found}

@@ -5,10 +5,10 @@ use Rattle.rules.specs.Calls.{or_else, stored, scratch_after, counted}
 use Rattle.rules.specs.declared.Axis.{Axis}
 use Rattle.sheet_read.specs.Fields.{edition as edition_said, axes as axes_said, entries, knots_below, sheet_grid, sheet_samples}
 use Rattle.sheet_read.specs.Read.{over, read_refusal, read_edition_1_refusal, answer_of as read_answer_of, edition_1_answer}
-use Rattle.sheet_read.specs.declared.ReadAnswer.{ReadAnswer}
-use Rattle.sheet_read.specs.declared.Edition1Answer.{Edition1Answer}
+use Rattle.sheet_read.specs.Read.{ReadAnswer}
+use Rattle.sheet_read.specs.Read.{Edition1Answer}
 use Rattle.sheet_build.specs.SheetTensor.{answer_of, reading_refusal, sheet_tensor_refusal}
-use Rattle.sheet_build.specs.declared.SheetAnswer.{SheetAnswer}
+use Rattle.sheet_build.specs.SheetTensor.{SheetAnswer}
 use Rattle.sheet_write.specs.SheetOf.{sheet_of}
 use Rattle.sheet_write.specs.Write.{write_refusal, write_answer}
 use Rattle.rules.specs.Sizes.{Grid}

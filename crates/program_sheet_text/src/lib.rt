@@ -23,7 +23,6 @@ fn check_lent(
     if knots != 1024 || samples != 1024 || tensor != 4096 {
         return Err(Refusal::Length);
     }
-    }
     if scratch < 6144 {
         return Err(Refusal::Scratch);
     }
