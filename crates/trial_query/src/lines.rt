@@ -1,9 +1,16 @@
 // The queries of a tensor and the stepped surface, shown as lines: the example's name, the call, the refusal's number, the value, and the
 // labels or the indices.
-use rules::{Axis, Condition, Mode, StepDirection};
+use query_profile::ProfileRefusal;
+use rules::{Axis, Condition, EvenRefusal, Mode, Refusal, StepDirection, SteppedSample};
 use std::io::Stdout;
 use trial_lines::{print, print_count, print_number, print_refusal};
-use trial_tensor_lines::{grids, print_answer, print_counts, print_query};
+use trial_tensor_lines::{NOTHING, grids, print_answer, print_counts, print_query, print_value};
+
+// What is shown of the stepped surface when it refuses: +0.0, and 0 for each index.
+const NO_SAMPLE: SteppedSample = SteppedSample {
+    value: 0.0,
+    indices: [0; 4],
+};
 
 // Two axes of three points each, both in one mode.
 pub fn two_of_three(mode: Mode) -> [Axis; 4] {
@@ -25,8 +32,8 @@ pub fn print_quick(
     tensor: &[f64],
     coordinates: &[f64],
 ) {
-    let answer = query_quick::quick_query(axes, all, knots, tensor, coordinates);
-    print_answer(out, name, b"quick query", answer);
+    let given = query_quick::quick_query(axes, all, knots, tensor, coordinates);
+    print_answer(out, name, b"quick query", given);
 }
 
 // The direct query.
@@ -39,8 +46,8 @@ pub fn print_direct(
     tensor: &[f64],
     coordinates: &[f64],
 ) {
-    let answer = query_direct::direct_query(axes, all, knots, tensor, coordinates);
-    print_answer(out, name, b"direct query", answer);
+    let given = query_direct::direct_query(axes, all, knots, tensor, coordinates);
+    print_answer(out, name, b"direct query", given);
 }
 
 // The query of even axes, with the axis that is not even and its interval.
@@ -53,24 +60,34 @@ pub fn print_even(
     tensor: &[f64],
     coordinates: &[f64],
 ) {
-    let answer = query_even::even_query(axes, all, knots, tensor, coordinates);
-    print_refusal(out, name, b"even query", answer.refusal);
-    print_number(out, answer.value);
-    print(out, b" labels");
-    print_counts(out, &answer.labels);
+    let given = query_even::even_query(axes, all, knots, tensor, coordinates);
+    let (refusal, found, axis, interval) = match given {
+        Ok(found) => (0, found, 0, 0),
+        Err(EvenRefusal::Refused(refusal)) => (refusal.number(), NOTHING, 0, 0),
+        Err(EvenRefusal::Uneven { axis, interval }) => {
+            (Refusal::Uneven.number(), NOTHING, axis, interval)
+        }
+    };
+    print_value(out, name, b"even query", refusal, found);
     print(out, b" uneven");
-    print_count(out, answer.axis);
-    print_count(out, answer.interval);
+    print_count(out, axis);
+    print_count(out, interval);
     print(out, b"\n");
 }
 
 // The profile of even axes, with the axis that is refused and its knot or interval.
 pub fn print_profile(out: Stdout, name: &[u8], axes: usize, all: [Axis; 4], knots: &[f64]) {
-    let answer = query_profile::even_profile(axes, all, knots);
-    print_refusal(out, name, b"even profile", answer.refusal);
+    let (refusal, axis, place) = match query_profile::even_profile(axes, all, knots) {
+        Ok(()) => (0, 0, 0),
+        Err(ProfileRefusal::Refused(refusal)) => (refusal.number(), 0, 0),
+        Err(ProfileRefusal::NotFinite(lack)) => (Refusal::Number.number(), lack.axis, lack.place),
+        Err(ProfileRefusal::NotRising(lack)) => (Refusal::Knots.number(), lack.axis, lack.place),
+        Err(ProfileRefusal::Uneven(lack)) => (Refusal::Uneven.number(), lack.axis, lack.place),
+    };
+    print_refusal(out, name, b"even profile", refusal);
     print(out, b" told");
-    print_count(out, answer.axis);
-    print_count(out, answer.place);
+    print_count(out, axis);
+    print_count(out, place);
     print(out, b"\n");
 }
 
@@ -114,10 +131,14 @@ pub fn print_stepped(
     samples: &[f64],
     coordinates: &[f64],
 ) {
-    let answer = step_surface::stepped(axes, all, directions, knots, samples, coordinates);
-    print_refusal(out, name, call, answer.refusal);
-    print_number(out, answer.value);
+    let given = step_surface::stepped(axes, all, directions, knots, samples, coordinates);
+    let (refusal, found) = match given {
+        Ok(found) => (0, found),
+        Err(refusal) => (refusal.number(), NO_SAMPLE),
+    };
+    print_refusal(out, name, call, refusal);
+    print_number(out, found.value);
     print(out, b" indices");
-    print_counts(out, &answer.indices);
+    print_counts(out, &found.indices);
     print(out, b"\n");
 }

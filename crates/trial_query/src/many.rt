@@ -1,6 +1,6 @@
 // Many points by one call: of three points the second is refused and stops nothing; and a call that is refused writes nothing.
 use crate::lines;
-use rules::{Axis, Condition, Mode, StepDirection};
+use rules::{Axis, Condition, Mode, Refusal, StepDirection, number_told};
 use std::io::Stdout;
 use trial_lines::{BEFORE, print, print_numbers, print_refusal};
 use trial_tensor_lines::{grids, print_counts};
@@ -9,7 +9,7 @@ use trial_tensor_lines::{grids, print_counts};
 const UNWRITTEN: usize = 9;
 
 // A call on three points, by what it makes of the values, the labels and the refusals that it is lent, and what it leaves of these.
-fn print_three<F: FnOnce(&mut [f64], &mut [usize], &mut [usize]) -> usize>(
+fn print_three<F: FnOnce(&mut [f64], &mut [usize], &mut [usize]) -> Result<(), Refusal>>(
     out: Stdout,
     name: &[u8],
     call: &[u8],
@@ -20,8 +20,8 @@ fn print_three<F: FnOnce(&mut [f64], &mut [usize], &mut [usize]) -> usize>(
     let mut values = [BEFORE; 3];
     let mut labels = [UNWRITTEN; 12];
     let mut refusals = [UNWRITTEN; 3];
-    let refusal = asked(&mut values, &mut labels, &mut refusals);
-    print_refusal(out, name, call, refusal);
+    let given = asked(&mut values, &mut labels, &mut refusals);
+    print_refusal(out, name, call, number_told(given));
     print_numbers(out, &values);
     print(out, b" labels");
     print_counts(out, &labels);
