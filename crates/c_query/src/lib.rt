@@ -23,7 +23,16 @@ pub fn query(
     ensures { QueryExport axes points.now modes.now knots.now tensor.now coordinates.now
         value.old labels.old result value.new labels.new }
 {
-    let own = own::check_query(axes, points, modes, knots, tensor, coordinates, value, labels);
+    let own = own::check_query(
+        axes,
+        points,
+        modes,
+        knots,
+        tensor,
+        coordinates,
+        value,
+        labels,
+    );
     if let Err(refusal) = own {
         slots::store_query(value, labels, 0.0, [0; 4]);
         return refusal.number();
@@ -56,7 +65,16 @@ pub fn quick_query(
     ensures { QuickQueryExport axes points.now modes.now knots.now tensor.now
         coordinates.now value.old labels.old result value.new labels.new }
 {
-    let own = own::check_query(axes, points, modes, knots, tensor, coordinates, value, labels);
+    let own = own::check_query(
+        axes,
+        points,
+        modes,
+        knots,
+        tensor,
+        coordinates,
+        value,
+        labels,
+    );
     if let Err(refusal) = own {
         slots::store_query(value, labels, 0.0, [0; 4]);
         return refusal.number();

@@ -125,12 +125,13 @@ pub fn sheet_tensor(
     if let Err(refusal) = own {
         return refusal.number();
     }
-    let (number, sheet, numbers) =
-        match sheet_build::tensor_of_sheet(bytes, knots, samples, tensor, scratch) {
-            Ok(built) => (0, built.sheet, built.length),
-            Err(SheetRefusal::Unread(refusal)) => (refusal.number(), no_sheet(), 0),
-            Err(SheetRefusal::Unbuilt { refusal, sheet }) => (refusal.number(), sheet, 0),
-        };
+    let (number, sheet, numbers) = match sheet_build::tensor_of_sheet(
+        bytes, knots, samples, tensor, scratch,
+    ) {
+        Ok(built) => (0, built.sheet, built.length),
+        Err(SheetRefusal::Unread(refusal)) => (refusal.number(), no_sheet(), 0),
+        Err(SheetRefusal::Unbuilt { refusal, sheet }) => (refusal.number(), sheet, 0),
+    };
     length[0] = numbers;
     axes[0] = sheet.axes;
     c_axes::store_axes(sheet.all, points, kinds, values);

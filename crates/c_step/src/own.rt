@@ -42,7 +42,12 @@ pub fn check_axis(points: usize, location: &[usize], fraction: &[f64]) -> Result
 }
 
 // Of the index of a step: its slot and the call's own slice, which 22 comes after.
-pub fn check_step(points: usize, knots: &[f64], direction: u8, index: &[usize]) -> Result<(), Refusal>
+pub fn check_step(
+    points: usize,
+    knots: &[f64],
+    direction: u8,
+    index: &[usize],
+) -> Result<(), Refusal>
     ensures { refusal_of result ≡ step_own_refusal points knots.now direction index.now }
 {
     if sizes::points_refused(points) {

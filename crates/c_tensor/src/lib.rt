@@ -55,7 +55,9 @@ pub fn change(
     }
     let all = c_axes::axes_given(axes, points, kinds, values);
     let changed = c_axes::place_given(place);
-    let (number, solved) = match tensor::change(axes, all, knots, tensor, scratch, changed, sample) {
+    let (number, solved) = match tensor::change(
+        axes, all, knots, tensor, scratch, changed, sample,
+    ) {
         Ok(solved) => (0, solved),
         Err(refusal) => (refusal.number(), 0),
     };

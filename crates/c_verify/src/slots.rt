@@ -36,11 +36,13 @@ pub fn store_found(place: &mut [usize], found: &mut [usize], verdict: Result<Ver
     }
     match verdict {
         Ok(Verdict::Whole) => store_both(place, found, [0; 4], [1, 0, 0]),
-        Ok(Verdict::Differs {
-            place: first,
-            mask,
-            differing,
-        }) => store_both(place, found, first, [0, mask, differing]),
+        Ok(
+            Verdict::Differs {
+                place: first,
+                mask,
+                differing,
+            },
+        ) => store_both(place, found, first, [0, mask, differing]),
         Err(_) => store_both(place, found, [0; 4], [0; 3]),
     }
 }

@@ -69,6 +69,7 @@ fn whole_cells(length: usize) -> bool
 
 // The greatest value and the greatest slope in range. A range has as many numbers below zero as from zero on.
 const MOST_VALUE: u32 = 32767;
+
 const MOST_SLOPE: u32 = 131071;
 
 // Whether the number in four bytes is out of the range up to the greatest number. Lifted by half of the range, without the carry, a number

@@ -73,27 +73,27 @@ number_some refusal e =
 pub number_most : (refusal : Refusal) → number_of refusal ≤ 23
 number_most refusal =
     elim refusal as (λ r. number_of r ≤ 23) [
-      Axes ↦ omega arith |
-      Points ↦ omega arith |
-      Tensor ↦ omega arith |
-      Length ↦ omega arith |
-      Scratch ↦ omega arith |
-      Place ↦ omega arith |
-      Number ↦ omega arith |
-      Knots ↦ omega arith |
-      Fewness ↦ omega arith |
-      Outcome ↦ omega arith |
-      Short ↦ omega arith |
-      Edition ↦ omega arith |
-      Kinds ↦ omega arith |
-      Tail ↦ omega arith |
-      Buffer ↦ omega arith |
-      Stack ↦ omega arith |
-      Unused ↦ omega arith |
-      Outside ↦ omega arith |
-      Range ↦ omega arith |
-      Position ↦ omega arith |
-      Uneven ↦ omega arith |
-      Mode ↦ omega arith |
-      Lost ↦ omega arith
+      | Axes ↦ omega arith
+      | Points ↦ omega arith
+      | Tensor ↦ omega arith
+      | Length ↦ omega arith
+      | Scratch ↦ omega arith
+      | Place ↦ omega arith
+      | Number ↦ omega arith
+      | Knots ↦ omega arith
+      | Fewness ↦ omega arith
+      | Outcome ↦ omega arith
+      | Short ↦ omega arith
+      | Edition ↦ omega arith
+      | Kinds ↦ omega arith
+      | Tail ↦ omega arith
+      | Buffer ↦ omega arith
+      | Stack ↦ omega arith
+      | Unused ↦ omega arith
+      | Outside ↦ omega arith
+      | Range ↦ omega arith
+      | Position ↦ omega arith
+      | Uneven ↦ omega arith
+      | Mode ↦ omega arith
+      | Lost ↦ omega arith
     ]

@@ -19,12 +19,7 @@ mod fields; // fields.rt: the fields of a sheet, one after the other
 mod counts; // counts.rt: how many bits they have
 
 // What is refused of the parts: 1, 2, 3, 4, 7, 8 or 9. The build's own tests, told of a tensor and scratch that have their lengths.
-fn check_parts(
-    axes: usize,
-    all: [Axis; 4],
-    knots: &[f64],
-    samples: &[f64],
-) -> Result<(), Refusal>
+fn check_parts(axes: usize, all: [Axis; 4], knots: &[f64], samples: &[f64]) -> Result<(), Refusal>
     ensures { refusal_of result ≡ no_sheet_refusal (grid axes all knots.now) samples.now }
 {
     check_sizes(axes, all)?;

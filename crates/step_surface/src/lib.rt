@@ -103,12 +103,6 @@ pub fn stepped(
     ensures { SteppedPromise (grid axes all knots.now) directions samples.now coordinates.now (stepped_told result) }
 {
     let points = grid::points_of(all);
-    step_checks::check_stepped_sizes(
-        axes,
-        &points,
-        knots.len(),
-        samples.len(),
-        coordinates.len(),
-    )?;
+    step_checks::check_stepped_sizes(axes, &points, knots.len(), samples.len(), coordinates.len())?;
     stepped_of_points(axes, &points, directions, knots, samples, coordinates)
 }

@@ -22,11 +22,13 @@ fn print_verify(
     let given = tensor_verify::verify(axes, all, knots, tensor, &mut scratch);
     match given {
         Ok(Verdict::Whole) => print_verdict(out, name, 0, b" whole", [0; 4], 0, 0),
-        Ok(Verdict::Differs {
-            place,
-            mask,
-            differing,
-        }) => print_verdict(out, name, 0, b" not whole", place, mask, differing),
+        Ok(
+            Verdict::Differs {
+                place,
+                mask,
+                differing,
+            },
+        ) => print_verdict(out, name, 0, b" not whole", place, mask, differing),
         Err(refusal) => print_verdict(out, name, refusal.number(), b" not whole", [0; 4], 0, 0),
     }
     print_scratch(out, &scratch);

@@ -7,7 +7,6 @@ use Rattle.c_query.proofs.Given.{axes_given}
 use Rattle.c_many.proofs.Given.{few, points_fit}
 use Rattle.c_many.proofs.quick_queries.Goals as goal
 
-
 pub answer_each-requires : goal.answer_each-requires
 answer_each-requires c = points_fit _ _ _ _ _ _ _ _ _ (sym c.in_default.ensures)
 

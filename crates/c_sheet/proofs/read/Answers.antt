@@ -25,12 +25,12 @@ store_told-requires c =
 pub returns : goal.returns
 returns c =
     elim c.match-read.branch [
-      in-Ok w ↦
+      | in-Ok w ↦
           rw w.number-is
           (read_called _ _ _ _ _ _ _ _ _ c.in_default.ensures refl
           (read_told (Ok w.in-Ok.sheet)) w.in-Ok.ensures
-          (rw w.number-is at c.store_axes.ensures) (rw w.number-is at c.store_told.ensures)) |
-      in-Err-read w ↦
+          (rw w.number-is at c.store_axes.ensures) (rw w.number-is at c.store_told.ensures))
+      | in-Err-read w ↦
           rw (w.number-is, w.number-in-Err-read.ensures, w.no_sheet.ensures)
           (read_called _ _ _ _ _ _ _ _ _ c.in_default.ensures refl
           (read_told (Err w.in-Err-read.refusal)) w.in-Err-read.ensures

@@ -20,12 +20,12 @@ store_axes-requires c =
 pub returns : goal.returns
 returns c =
     elim c.match-read_edition_1.branch [
-      in-Ok w ↦
+      | in-Ok w ↦
           rw w.number-is
           (read_edition_1_called _ _ _ _ _ _ _ c.in_default.ensures refl
           (edition_1_told (Ok w.in-Ok.sheet)) w.in-Ok.ensures
-          (rw w.number-is at c.store_axes.ensures)) |
-      in-Err-read_edition_1 w ↦
+          (rw w.number-is at c.store_axes.ensures))
+      | in-Err-read_edition_1 w ↦
           rw (w.number-is, w.number-in-Err-read_edition_1.ensures, w.no_sheet_of_edition_1.ensures)
           (read_edition_1_called _ _ _ _ _ _ _ c.in_default.ensures refl
           (edition_1_told (Err w.in-Err-read_edition_1.refusal)) w.in-Err-read_edition_1.ensures

@@ -17,12 +17,12 @@ axes_in_modes-all-requires c = (write_lengths _ _ _ _ _ _ _ _ (sym c.in_default.
 pub returns : goal.returns
 returns c =
     elim c.match-write.branch [
-      in-Ok w ↦
+      | in-Ok w ↦
           rw w.number-is
           (write_called _ _ _ _ _ _ _ _ _ _ c.in_default.ensures refl _ _ c.axes_given-given.ensures c.axes_in_modes-all.ensures
           (write_told (Ok w.in-Ok.written)) w.in-Ok.ensures
-          (rw w.number-is at c.store_count-2.ensures)) |
-      in-Err-write w ↦
+          (rw w.number-is at c.store_count-2.ensures))
+      | in-Err-write w ↦
           rw (w.number-is, w.number-in-Err-write.ensures)
           (write_called _ _ _ _ _ _ _ _ _ _ c.in_default.ensures refl _ _ c.axes_given-given.ensures c.axes_in_modes-all.ensures
           (write_told (Err w.in-Err-write.refusal)) w.in-Err-write.ensures

@@ -6,7 +6,6 @@ use Rattle.step_many.specs.StepByStep.{SteppedAmong}
 use Rattle.c_step_many.proofs.Given.{four_directions, all_fit, each_stepped}
 use Rattle.c_step_many.proofs.stepped_many.Goals as goal
 
-
 pub directions_given-given-requires : goal.directions_given-given-requires
 directions_given-given-requires c =
     let s = c.args in

@@ -11,7 +11,7 @@ use Rattle.many_points.proofs.store_answer.Goals.{in-Ok, in-Err}
 
 pub returns : goal.returns
 returns c = elim c.match-given.branch [
-  in-Ok w ↦
+  | in-Ok w ↦
       rw (w.in-Ok.is, c.copy_from_slice.ensures.after, w.value-is, add-sub_cancel_left)
       (record {
         value = refl;
