@@ -55,9 +55,9 @@ def count():
         crate = where.parts[1]
         export = crate.startswith("c_") or crate in ("hullashlar", "hullashlar_c", "hullashlar_doubles")
         for number, line in enumerate(text.split("\n"), 1):
-            if re.match(r"\s*(while\b|loop \{|let \w+ = loop|'\w+: while)", line):
+            if re.match(r"\s*(?:let \w+ = )?(?:'\w+: )?(?:while\b|loop \{)", line):
                 found["3 loops by while or loop"].append(f"{where}:{number}: {line.strip()}")
-            if re.match(r"\s*(pub )?(refusal|found|made|refused|stopped|whole): (usize|bool),", line):
+            if re.match(r"\s*(pub )?(refusal|found|made|refused|stopped|failed): (usize|bool),", line):
                 found["1 a refusal's number or a flag in a struct, values beside it"].append(f"{where}:{number}: {line.strip()}")
         for enum in re.finditer(r"enum (\w+) \{\n((?:    .*\n)*?)\}", text):
             variants = [v.strip() for v in enum[2].split("\n") if v.strip() and not v.strip().startswith("//")]

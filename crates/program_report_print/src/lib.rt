@@ -76,6 +76,7 @@ fn report_through(streams: Streams, buffer: &mut [u8], first: Input) -> Outcome
     let mut sum = none();
     let mut filled = first.length;
     let mut brought = first.length;
+    // A loop: it ends where the stream or the report does.
     loop {
         if filled < buffer.len() {
             return told(feed(sum, &buffer[0..filled], 1), brought, filled);
