@@ -2,13 +2,27 @@
 
 #![tactic(auto)]
 
-ghost use Rattle.std.specs.Prelude.{◌≡◌};
+ghost use Rattle.std.specs.Prelude.{◌≡◌, ◌≤◌, length};
 ghost use Rattle.rules.specs.Answers.{refusal_of};
-ghost use Rattle.program_sheet_text.specs.SheetText.{lent_refusal, text_told, TextPromise};
+ghost use Rattle.base_text.specs.PutBytes.{Put};
+ghost use Rattle.program_sheet_text.specs.SheetText.{text_length, text_of, lent_refusal, text_told, TextPromise};
 
 use base_text::put_refused_line;
+use grid_codes::classes::is_built;
 use program_tensor_text::put_tensor;
 use rules::Refusal;
+
+// The text of the number of a refusal, 0 for none, and of the numbers of a tensor. Not a public call: at most 4,096 numbers are required,
+// and room for the longest text.
+fn put_text(refusal: usize, numbers: &[f64], text: &mut [u8]) -> usize
+    requires { (length numbers.now ≤ 4096) × (text_length ≤ length text.old) }
+    ensures { Put (text_of refusal numbers.now) text.old 0 text.new result }
+{
+    if is_built(refusal) {
+        return put_tensor(numbers, text, 0);
+    }
+    put_refused_line(refusal as u64, text, 0)
+}
 
 // What is refused of all that is lent, by the lengths: 4, 5 or 15.
 fn check_lent(
@@ -56,7 +70,7 @@ pub fn sheet_text(
         text.len(),
     )?;
     match sheet_build::tensor_of_sheet(bytes, knots, samples, tensor, scratch) {
-        Ok(built) => Ok(put_tensor(&tensor[0..built.length], text, 0)),
-        Err(refused) => Ok(put_refused_line(refused.refusal().number() as u64, text, 0)),
+        Ok(built) => Ok(put_text(0, &tensor[0..built.length], text)),
+        Err(refused) => Ok(put_text(refused.refusal().number(), &tensor[0..0], text)),
     }
 }

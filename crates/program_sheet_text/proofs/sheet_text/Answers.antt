@@ -1,15 +1,13 @@
 -- A wrong length is refused, and all that was lent stays as it was (`lent_refused`); else the text is that of the sheet's own refusal
 -- or tensor (`text_written`), whose at most 4,096 numbers lie in the tensor and have room in the text.
 use mathlib.Core.Path.{◌≡◌, sym, ◌∙◌}
-use Prim.Native.Nat.{◌-◌, ◌≤◌}
 use native.Mathlib.Nat.{sub-zero}
 use native.Mathlib.Omega.{arith}
-use lib.ListN.{length, take, length-take}
-use Rattle.rules.proofs.Given.{err_given, number_some, number_most}
+use lib.ListN.{length, length-take}
+use Rattle.rules.proofs.Given.{err_given, number_some}
 use Rattle.sheet_build.proofs.Promises.{length_most}
-use Rattle.program_tensor_text.proofs.Texts.{length_most as tensor_text_most}
 use Rattle.program_sheet_text.specs.SheetText.{text_refusal}
-use Rattle.program_sheet_text.proofs.Told.{refusal_put, length_refused_line}
+use Rattle.program_sheet_text.proofs.Told.{refusal_put}
 use Rattle.program_sheet_text.proofs.Promises.{Lent, lent, lent_refused, text_written}
 use Rattle.program_sheet_text.proofs.sheet_text.Goals as goal
 use Rattle.program_sheet_text.proofs.sheet_text.Goals.{In_ok-check_lent}
@@ -30,36 +28,23 @@ returns-in_err-check_lent c =
     rw (err_given c.from_residual.result _ c.from_residual.ensures.1)
     (lent_refused _ _ _ _ _ _ _ c.in_err-check_lent.ensures (number_some _))
 
-pub slice_bounds-put_tensor-end : goal.slice_bounds-put_tensor-end
-slice_bounds-put_tensor-end c =
+pub slice_bounds-put_text-end : goal.slice_bounds-put_text-end
+slice_bounds-put_text-end c =
     let most = length_most _ _ _ _ _ _ _ _ _ _ (rw c.in-Ok.is at c.tensor_of_sheet.ensures) in
-    omega (arith, most, (enough (goal.at.slice_bounds-put_tensor-end c).In_ok-check_lent).tensor)
+    omega (arith, most, (enough (goal.at.slice_bounds-put_text-end c).In_ok-check_lent).tensor)
 
-pub put_tensor-requires : goal.put_tensor-requires
-put_tensor-requires c =
+pub put_text-requires : goal.put_text-requires
+put_text-requires c =
     let most = length_most _ _ _ _ _ _ _ _ _ _ (rw c.in-Ok.is at c.tensor_of_sheet.ensures) in
-    let part : length (take (c.in-Ok.built.length - 0) c.tensor_of_sheet.new.tensor) ≤ 4096
-    = rw (length-take, sub-zero c.in-Ok.built.length) (omega (arith, most)) in
-    omega (arith, tensor_text_most _ part, (enough (goal.at.put_tensor-requires c).In_ok-check_lent).text)
+    (rw (length-take, sub-zero c.in-Ok.built.length) (omega (arith, most)), (enough (goal.at.put_text-requires c).In_ok-check_lent).text)
 
 pub returns-in-Ok : goal.returns-in-Ok
 returns-in-Ok c =
     text_written _ _ _ _ _ _ (passed (goal.at.returns-in-Ok c).In_ok-check_lent) _ _ _ _ _ _ _
-    (rw c.in-Ok.is at c.tensor_of_sheet.ensures) c.put_tensor.ensures
-
-pub put_refused_line-requires : goal.put_refused_line-requires
-put_refused_line-requires c =
-    let most = number_most c.refusal.result in
-    omega (
-      arith,
-      c.number.ensures,
-      most,
-      length_refused_line c.number.result (omega (arith, c.number.ensures, most)),
-      (enough (goal.at.put_refused_line-requires c).In_ok-check_lent).text,
-    )
+    (rw c.in-Ok.is at c.tensor_of_sheet.ensures) c.put_text.ensures
 
 pub returns-in-Err : goal.returns-in-Err
 returns-in-Err c =
     text_written _ _ _ _ _ _ (passed (goal.at.returns-in-Err c).In_ok-check_lent) _ _ _ _ _ _ _
     (rw c.in-Err.is at c.tensor_of_sheet.ensures)
-    (refusal_put _ _ _ (c.number.ensures ∙ c.refusal.ensures) (λ z. number_some _ (c.refusal.ensures ∙ z)) c.put_refused_line.ensures)
+    (refusal_put _ _ _ _ (c.number.ensures ∙ c.refusal.ensures) (λ z. number_some _ (c.refusal.ensures ∙ z)) c.put_text-in-Err.ensures)
