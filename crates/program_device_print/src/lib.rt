@@ -15,10 +15,7 @@ pub fn print_text(streams: Streams, curve: &[u8]) {
 // can have. Where the input cannot be read, nothing is printed.
 pub fn run(streams: Streams) {
     let mut buffer = [0u8; 4081];
-    let input = read_input(streams, &mut buffer);
-    if input.failed {
-        return;
+    if let Ok(length) = read_input(streams, &mut buffer) {
+        print_text(streams, &buffer[0..length]);
     }
-    let length = input.length;
-    print_text(streams, &buffer[0..length]);
 }

@@ -4,6 +4,7 @@ use mathlib.Core.Bool.{true, false}
 use mathlib.Core.List.{List, [], ◌++◌, append-nil, append_assoc}
 use Prim.Native.Nat.{ℕ, ◌+◌, ◌-◌, ◌*◌, ◌<◌, ◌≤◌}
 use native.Mathlib.Omega.{arith}
+use Rattle.std.specs.Prelude.{Result, Ok, Err, IfOk}
 use lib.ListN.{length, take, drop, length-append, length-take, length-drop}
 use lib.Seq.{take-add, take_all, take_at, take-take, take-append-le, drop-append-le, drop-drop}
 use Rattle.report_front.specs.Front.{enough_bytes}
@@ -11,23 +12,22 @@ use Rattle.report_totals.specs.Totals.{totals_of, most_sheets}
 use Rattle.report_totals.specs.Counting.{Running}
 use Rattle.report_totals.specs.declared.Totals.{Totals}
 use Rattle.report_totals.proofs.Sheets.{running_none, sheets_most}
-use Rattle.program_streams.specs.declared.Input.{Input}
 use Rattle.report.specs.Feeding.{Stands, Fed}
 use Rattle.report.specs.declared.Progress.{Progress}
 use Rattle.report.proofs.Progressing.{stands_none, fed_last}
 use Rattle.program_report_print.specs.AroundReads.{said, Lent, Refilled, Told}
-use Rattle.program_report_print.specs.declared.Outcome.{Outcome}
 
 -- the buffer after a read into its part behind the first `kept` bytes
-pub refilled : (before came : List ℕ) (kept : ℕ) (input : Input) → kept ≤ length before → input.length ≤ length came
-    → Refilled before kept (take kept before ++ (came ++ [])) input
-refilled before came kept input h k =
+pub refilled : {E : Type 0} (before came : List ℕ) (kept : ℕ) (input : Result ℕ E) → kept ≤ length before
+    → IfOk input (λ count. count ≤ length came) → IfOk input (Refilled before kept (take kept before ++ (came ++ [])))
+refilled before came kept (Ok count) h most =
     let front = length-take kept before in
     let e : length (take kept before) ≡ kept = omega arith in
     record {
       most = simp (length-append, append-nil) (omega arith);
       front = take_at (take kept before) (came ++ []) kept e;
     }
+refilled before came kept (Err failure) h none = none
 
 module _ (before : List ℕ) (first : ℕ) where
   -- before a turn: the report stands in the input before the buffer's bytes, whatever comes behind them
@@ -67,14 +67,14 @@ module _ (before : List ℕ) (first : ℕ) where
 
   module _ (buffer : List ℕ) (sum : Totals) (filled brought : ℕ) (turn : Turn buffer sum filled brought) where
     -- the input has ended
-    pub turn_ends : (progress : Progress) → filled < length buffer → Fed sum (take (filled - 0) buffer) 1 progress
-        → Told before first buffer (said progress brought filled)
+    pub turn_ends : {E : Type 0} (progress : Progress) → filled < length buffer → Fed sum (take (filled - 0) buffer) 1 progress
+        → Told {E = E} before first buffer (Ok (said progress brought filled))
     turn_ends progress l fed =
         let all : filled - 0 ≡ filled = omega arith in
         let stands = rw (append-nil, append-nil) at (turn.stands []) in
         record {
           read = λ short. refl;
-          whole = λ ok. record {
+          whole = record {
             input = turn.input;
             long = turn.long;
             begins = turn.begins;
@@ -90,10 +90,10 @@ module _ (before : List ℕ) (first : ℕ) where
       full_stands : (more : List ℕ) → Stands sum (buffer ++ more) (turn.input ++ more)
       full_stands more = rw (take_all filled buffer full) at (turn.stands more)
 
-      pub turn_stops : progress.stopped ≡ true → Told before first buffer (said progress brought filled)
+      pub turn_stops : {E : Type 0} → progress.stopped ≡ true → Told {E = E} before first buffer (Ok (said progress brought filled))
       turn_stops off = record {
         read = λ short. refl;
-        whole = λ ok. record {
+        whole = record {
           input = turn.input;
           long = turn.long;
           begins = turn.begins;
@@ -107,10 +107,10 @@ module _ (before : List ℕ) (first : ℕ) where
       }
 
       -- a later read failed
-      pub turn_fails : (after : List ℕ) (outcome : Outcome) → outcome.failed ≡ true → Told before first after outcome
-      turn_fails after outcome failed = record {
+      pub turn_fails : {E : Type 0} (after : List ℕ) (failure : E) → Told before first after (Err failure)
+      turn_fails after failure = record {
         read = λ short. absurd (let once = turn.at_once short in let same = turn.same in omega arith);
-        whole = λ ok. let z : ◌≡◌ {A = ℕ} 0 1 = cc in absurd (omega arith);
+        whole = tt;
       }
 
       pub turn_less : progress.stopped ≡ false → most_sheets - progress.totals.sheets < most_sheets - sum.sheets
@@ -121,7 +121,7 @@ module _ (before : List ℕ) (first : ℕ) where
           let most = sheets_most progress.totals (fed.takes.running on) in omega arith
 
       -- the bytes that were not taken are moved to the front, and more are read behind them
-      module _ (on : progress.stopped ≡ false) (moved later : List ℕ) (read : Input)
+      module _ (on : progress.stopped ≡ false) (moved later : List ℕ) (read : ℕ)
           (moved_long : length moved ≡ length buffer)
           (kept_are : take (length buffer - progress.taken) moved ≡ drop progress.taken buffer)
           (later_long : length later ≡ length moved) (refill : Refilled moved (length moved - progress.taken) later read) where
@@ -129,23 +129,23 @@ module _ (before : List ℕ) (first : ℕ) where
         kept = length moved - progress.taken
 
         abbrev came : List ℕ
-        came = take read.length (drop kept later)
+        came = take read (drop kept later)
 
         kept_is : kept ≡ length buffer - progress.taken
         kept_is = omega arith
 
-        came_long : length came ≡ read.length
+        came_long : length came ≡ read
         came_long =
-            let front = length-take read.length (drop kept later) in
+            let front = length-take read (drop kept later) in
             let rest = length-drop kept later in
             let most = refill.most in omega arith
 
-        in_front : take (kept + read.length) later ≡ drop progress.taken buffer ++ came
+        in_front : take (kept + read) later ≡ drop progress.taken buffer ++ came
         in_front =
             let front : take kept later ≡ drop progress.taken buffer = refill.front ∙ (rw (← kept_is) at kept_are) in
-            take-add kept read.length later ∙ rw front
+            take-add kept read later ∙ rw front
 
-        brought_most : brought + read.length ≤ 524288 * (progress.totals.sheets + 1)
+        brought_most : brought + read ≤ 524288 * (progress.totals.sheets + 1)
         brought_most =
             let lent = turn.lent.long in
             let same = turn.same in
@@ -154,23 +154,23 @@ module _ (before : List ℕ) (first : ℕ) where
             let most = refill.most in omega arith
 
         -- so their number fits: a report has at most 1,000,000 sheets
-        pub brought_fits : brought + read.length ≤ 524288 * (most_sheets + 1)
+        pub brought_fits : brought + read ≤ 524288 * (most_sheets + 1)
         brought_fits =
             let most = brought_most in
             let sheets = sheets_most progress.totals (fed.takes.running on) in omega arith
 
-        still_ends : drop ((brought + read.length) - (kept + read.length)) (turn.input ++ came) ≡ take (kept + read.length) later
+        still_ends : drop ((brought + read) - (kept + read)) (turn.input ++ came) ≡ take (kept + read) later
         still_ends =
             let inside = turn.inside in
             let taken = fed.takes.inside in
             let most = turn.most in
             let long = turn.long in
-            let start : (brought + read.length) - (kept + read.length) ≡ (brought - filled) + progress.taken = omega arith in
+            let start : (brought + read) - (kept + read) ≡ (brought - filled) + progress.taken = omega arith in
             let kept_end : drop ((brought - filled) + progress.taken) turn.input ≡ drop progress.taken buffer =
             sym (drop-drop progress.taken (brought - filled) turn.input) ∙ rw (turn.ends, take_all filled buffer full) in
             rw (start, drop-append-le ((brought - filled) + progress.taken) turn.input came (omega arith), in_front, kept_end)
 
-        pub turn_next : Turn later progress.totals (kept + read.length) (brought + read.length)
+        pub turn_next : Turn later progress.totals (kept + read) (brought + read)
         turn_next = record {
           lent = turn.lent;
           same = later_long ∙ moved_long ∙ turn.same;

@@ -1,6 +1,5 @@
 -- What is promised around reads. No contract says which bytes a read brings; but they stand in the buffer then, and it says how many.
-use Rattle.std.specs.Prelude.{◌≡◌, true, false, List, ◌++◌, ℕ, ◌+◌, ◌-◌, ◌<◌, ◌≤◌, length, take, drop}
-use Rattle.program_streams.specs.declared.Input.{Input}
+use Rattle.std.specs.Prelude.{◌≡◌, true, List, ◌++◌, ℕ, ◌+◌, ◌-◌, ◌<◌, ◌≤◌, length, take, drop, Result, IsOk, IfOk}
 use Rattle.report.specs.Report.{report_of}
 use Rattle.report.specs.declared.Progress.{Progress}
 use Rattle.program_report_print.specs.declared.Outcome.{Outcome}
@@ -11,14 +10,13 @@ pub record Lent (buffer : List ℕ) (first : ℕ) : Type 0 where
   pub most : first ≤ length buffer
 
 -- a read leaves the kept bytes where they are, and has its own behind them
-pub record Refilled (before : List ℕ) (kept : ℕ) (later : List ℕ) (input : Input) : Type 0 where
-  pub most : kept + input.length ≤ length later
+pub record Refilled (before : List ℕ) (kept : ℕ) (later : List ℕ) (came : ℕ) : Type 0 where
+  pub most : kept + came ≤ length later
   pub front : take kept later ≡ take kept before
 
 -- what is said of where a report has come to at last, after so many bytes
 abbrev pub said : Progress → ℕ → ℕ → Outcome
 said last brought filled = record {
-  failed = false;
   report = record { totals = last.totals; stopped = last.stopped };
   brought = brought;
   filled = filled;
@@ -39,6 +37,6 @@ pub record Whole (before : List ℕ) (first : ℕ) (after : List ℕ) (outcome :
       → (more : List ℕ) → (outcome.report.stopped ≡ true) × (outcome.report ≡ report_of (input ++ more))
 
 -- so it is where no read failed; and there was none to fail where the first did not fill the buffer
-pub record Told (before : List ℕ) (first : ℕ) (after : List ℕ) (outcome : Outcome) : Type 0 where
-  pub read : first < length before → outcome.failed ≡ false
-  pub whole : outcome.failed ≡ false → Whole before first after outcome
+pub record Told {E : Type 0} (before : List ℕ) (first : ℕ) (after : List ℕ) (given : Result Outcome E) : Type 0 where
+  pub read : first < length before → IsOk given
+  pub whole : IfOk given (Whole before first after)

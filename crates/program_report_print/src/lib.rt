@@ -2,27 +2,26 @@
 
 #![tactic(auto)]
 
-ghost use Rattle.std.specs.Prelude.{◌≡◌, true, ◌-◌, ◌≤◌, length, take, drop};
+ghost use Rattle.std.specs.Prelude.{◌≡◌, ◌-◌, ◌≤◌, length, take, drop, IfOk};
 ghost use Rattle.program_report_print.specs.AroundReads.{said, Lent, Refilled, Told};
 
-use program_streams::{Input, Streams, read_input, write_output};
+use program_streams::{Streams, read_input, write_output};
 use report::{Progress, feed};
 use report_totals::{Report, none};
+use std::io::Result;
 
-// Whether a read failed, and else the report of all that was read; how many bytes all reads brought, and how many of them stand in the
-// buffer's front in the end.
+// The report of all that was read; how many bytes all reads brought, and how many of them stand in the buffer's front in the end.
 #[derive(Clone, Copy)]
 pub struct Outcome {
-    pub failed: bool,
     pub report: Report,
     pub brought: usize,
     pub filled: usize,
 }
 
-// Reads behind the bytes that were kept, until the buffer is full or the input ends, and answers how many bytes came.
-fn refill(streams: Streams, buffer: &mut [u8], kept: usize) -> Input
+// Reads behind the bytes that were kept, until the buffer is full or the input ends, and gives how many bytes came.
+fn refill(streams: Streams, buffer: &mut [u8], kept: usize) -> Result<usize>
     requires { kept ≤ length buffer.old }
-    ensures { Refilled buffer.old kept buffer.new result }
+    ensures { IfOk result (Refilled buffer.old kept buffer.new) }
 {
     read_input(streams, &mut buffer[kept..])
 }
@@ -35,29 +34,12 @@ fn keep(buffer: &mut [u8], from: usize)
     buffer.copy_within(from.., 0);
 }
 
-// A read failed: there is no report, and the totals are those of nothing.
-fn unread() -> Outcome
-    ensures { result.failed ≡ true }
-{
-    let totals = none();
-    Outcome {
-        failed: true,
-        report: Report {
-            totals,
-            stopped: false,
-        },
-        brought: 0,
-        filled: 0,
-    }
-}
-
 // What is said of where a report has come to at last, after so many bytes.
 fn told(last: Progress, brought: usize, filled: usize) -> Outcome
     ensures { result ≡ said last brought filled }
 {
     let totals = last.totals;
     Outcome {
-        failed: false,
         report: Report {
             totals,
             stopped: last.stopped,
@@ -68,36 +50,32 @@ fn told(last: Progress, brought: usize, filled: usize) -> Outcome
 }
 
 // The report of standard input, piece by piece, the first of which the first read has brought to the buffer's front: each is fed, the
-// buffer rid of what was taken and filled again, until the input or the report ends.
-fn report_through(streams: Streams, buffer: &mut [u8], first: Input) -> Outcome
-    requires { Lent buffer.old first.length }
-    ensures { Told buffer.old first.length buffer.new result }
+// buffer rid of what was taken and filled again, until the input or the report ends. A read that fails leaves no report.
+fn report_through(streams: Streams, buffer: &mut [u8], first: usize) -> Result<Outcome>
+    requires { Lent buffer.old first }
+    ensures { Told buffer.old first buffer.new result }
 {
     let mut sum = none();
-    let mut filled = first.length;
-    let mut brought = first.length;
+    let mut filled = first;
+    let mut brought = first;
     // A loop: it ends where the stream or the report does.
     loop {
         if filled < buffer.len() {
-            return told(feed(sum, &buffer[0..filled], 1), brought, filled);
+            return Ok(told(feed(sum, &buffer[0..filled], 1), brought, filled));
         }
         let next = feed(sum, buffer, 65536);
         let so_far = next.totals;
         let stopped = next.stopped;
         let taken = next.taken;
         if stopped {
-            return told(next, brought, filled);
+            return Ok(told(next, brought, filled));
         }
         keep(buffer, taken);
         let kept = buffer.len() - taken;
-        let input = refill(streams, buffer, kept);
-        let failed = input.failed;
-        if failed {
-            return unread();
-        }
+        let came = refill(streams, buffer, kept)?;
         sum = so_far;
-        filled = kept + input.length;
-        brought += input.length;
+        filled = kept + came;
+        brought += came;
     }
 }
 
@@ -113,14 +91,11 @@ pub fn print_text(streams: Streams, report: Report) {
 // Prints the report of the stream of sheets on standard input, of any length. Where the input cannot be read, nothing is printed.
 pub fn run(streams: Streams) {
     let mut buffer = [0u8; 524288];
-    let first = read_input(streams, &mut buffer);
-    if first.failed {
+    let Ok(first) = read_input(streams, &mut buffer) else {
         return;
+    };
+    if let Ok(outcome) = report_through(streams, &mut buffer, first) {
+        let report = outcome.report;
+        print_text(streams, report);
     }
-    let outcome = report_through(streams, &mut buffer, first);
-    if outcome.failed {
-        return;
-    }
-    let report = outcome.report;
-    print_text(streams, report);
 }

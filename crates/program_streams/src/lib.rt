@@ -2,9 +2,9 @@
 
 #![tactic(auto)]
 
-ghost use Rattle.std.specs.Prelude.{◌≤◌, length};
+ghost use Rattle.std.specs.Prelude.{◌≤◌, length, IfOk};
 
-use std::io::{Read, Stderr, Stdin, Stdout, Write};
+use std::io::{Read, Result, Stderr, Stdin, Stdout, Write};
 
 // The standard streams, which a program is given at its start.
 #[derive(Clone, Copy)]
@@ -24,43 +24,25 @@ impl Streams {
     }
 }
 
-// Whether a read failed, and how many bytes were read, which is 0 then.
-#[derive(Clone, Copy)]
-pub struct Input {
-    pub failed: bool,
-    pub length: usize,
-}
-
-// Reads standard input to the front of a buffer, until the buffer is full or the input ends, and says so on standard error where a
-// read fails. What the bytes are no contract can say.
-pub fn read_input(streams: Streams, buffer: &mut [u8]) -> Input
-    ensures { result.length ≤ length buffer.new }
+// Reads standard input to the front of a buffer, until the buffer is full or the input ends, and gives how many bytes came. Where a read
+// fails, that is the Err, and a line on standard error says so. What the bytes are no contract can say.
+pub fn read_input(streams: Streams, buffer: &mut [u8]) -> Result<usize>
+    ensures { IfOk result (λ count. count ≤ length buffer.new) }
 {
     let mut input = streams.input;
     let mut done = 0;
     // A while: a turn goes on by as many bytes as were read.
     while done < buffer.len() {
         match input.read(&mut buffer[done..]) {
-            Ok(0) => {
-                return Input {
-                    failed: false,
-                    length: done,
-                };
-            }
+            Ok(0) => return Ok(done),
             Ok(more) => done += more,
-            Err(_) => {
+            Err(failure) => {
                 write_whole(streams.errors, b"standard input could not be read\n");
-                return Input {
-                    failed: true,
-                    length: 0,
-                };
+                return Err(failure);
             }
         }
     }
-    Input {
-        failed: false,
-        length: done,
-    }
+    Ok(done)
 }
 
 // Writes a text to standard output, in one call where the system takes it whole, and says so on standard error where a write fails.

@@ -7,10 +7,8 @@ use program_streams::{Streams, read_input};
 fn main(rt: HostRuntime) {
     let streams = Streams::of(&rt);
     let mut buffer = [0u8; 65536];
-    let input = read_input(streams, &mut buffer);
-    if input.failed {
-        return;
+    if let Ok(length) = read_input(streams, &mut buffer) {
+        let report = report::report_of_bytes(&buffer[..length]);
+        program_report_print::print_text(streams, report);
     }
-    let report = report::report_of_bytes(&buffer[..input.length]);
-    program_report_print::print_text(streams, report);
 }

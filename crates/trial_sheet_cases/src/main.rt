@@ -23,9 +23,7 @@ fn print_texts(streams: Streams, list: &[u8]) {
 fn main(rt: HostRuntime) {
     let streams = Streams::of(&rt);
     let mut buffer = [0u8; 65536];
-    let input = read_input(streams, &mut buffer);
-    if input.failed {
-        return;
+    if let Ok(length) = read_input(streams, &mut buffer) {
+        print_texts(streams, &buffer[..length]);
     }
-    print_texts(streams, &buffer[..input.length]);
 }

@@ -1,5 +1,6 @@
 use mathlib.Core.Path.{◌∙◌}
 use native.Mathlib.Omega.{arith}
+use Rattle.rules.proofs.Given.{err_given}
 use Rattle.program_report_print.proofs.Turns.{turn_first, turn_ends, turn_stops, turn_fails, turn_next, turn_less, brought_fits}
 use Rattle.program_report_print.proofs.report_through.Goals as goal
 
@@ -37,19 +38,21 @@ overflow_sub-kept c =
     let inside = c.feed-next.ensures.takes.inside in
     let moved = c.keep.auto.buffer in omega arith
 
-pub refill-input-requires : goal.refill-input-requires
-refill-input-requires c = omega arith
+pub refill-requires : goal.refill-requires
+refill-requires c = omega arith
 
-pub shape_of-buffer-then-failed : goal.shape_of-buffer-then-failed
-shape_of-buffer-then-failed c = c.refill-input.auto.buffer ∙ c.keep.auto.buffer ∙ c.loop-filled.invariant.same
+pub shape_of-buffer-in_err-came : goal.shape_of-buffer-in_err-came
+shape_of-buffer-in_err-came c = c.refill.auto.buffer ∙ c.keep.auto.buffer ∙ c.loop-filled.invariant.same
 
-pub returns-then-failed : goal.returns-then-failed
-returns-then-failed c = turn_fails _ _ _ _ _ _ c.loop-filled.invariant c.if-filled-buffer.false _ c.feed-next.ensures _ _ c.unread.ensures
+pub returns-in_err-came : goal.returns-in_err-came
+returns-in_err-came c =
+    rw (err_given c.from_residual.result _ c.from_residual.ensures.1)
+    (turn_fails _ _ _ _ _ _ c.loop-filled.invariant c.if-filled-buffer.false _ c.feed-next.ensures _ _)
 
 pub overflow_add-filled : goal.overflow_add-filled
 overflow_add-filled c =
     let inv = c.loop-filled.invariant in
-    omega (arith, c.refill-input.ensures.most, c.refill-input.auto.buffer, c.keep.auto.buffer, inv.same, inv.lent.long)
+    omega (arith, c.in_ok-came.ensures.most, c.refill.auto.buffer, c.keep.auto.buffer, inv.same, inv.lent.long)
 
 pub overflow_add-brought : goal.overflow_add-brought
 overflow_add-brought c =
@@ -57,8 +60,8 @@ overflow_add-brought c =
     brought_fits _ _ _ _ _ _ c.loop-filled.invariant c.if-filled-buffer.false _ c.feed-next.ensures c.if-stopped.false _ _ _
     c.keep.auto.buffer
     c.keep.ensures
-    c.refill-input.auto.buffer
-    c.refill-input.ensures in omega arith
+    c.refill.auto.buffer
+    c.in_ok-came.ensures in omega arith
 
 pub loop-filled-smaller : goal.loop-filled-smaller
 loop-filled-smaller c = turn_less _ _ _ _ _ _ c.loop-filled.invariant c.if-filled-buffer.false _ c.feed-next.ensures c.if-stopped.false
@@ -68,5 +71,5 @@ loop-filled-preserved c =
     turn_next _ _ _ _ _ _ c.loop-filled.invariant c.if-filled-buffer.false _ c.feed-next.ensures c.if-stopped.false _ _ _
     c.keep.auto.buffer
     c.keep.ensures
-    c.refill-input.auto.buffer
-    c.refill-input.ensures
+    c.refill.auto.buffer
+    c.in_ok-came.ensures

@@ -9,10 +9,10 @@ pub slice_bounds-read_input-end : goal.slice_bounds-read_input-end
 slice_bounds-read_input-end c = sym (length-replicate {A = ℕ} 524288 0)
 
 pub slice_bounds-report_through-end : goal.slice_bounds-report_through-end
-slice_bounds-report_through-end c = sym (c.read_input-first.auto.buffer ∙ length-replicate {A = ℕ} 524288 0)
+slice_bounds-report_through-end c = sym (c.read_input.auto.buffer ∙ length-replicate {A = ℕ} 524288 0)
 
-pub report_through-outcome-requires : goal.report_through-outcome-requires
-report_through-outcome-requires c = record {
-  long = c.read_input-first.auto.buffer ∙ length-replicate {A = ℕ} 524288 0;
-  most = c.read_input-first.ensures;
+pub report_through-requires : goal.report_through-requires
+report_through-requires c = record {
+  long = c.read_input.auto.buffer ∙ length-replicate {A = ℕ} 524288 0;
+  most = rw c.in-Ok.is at c.read_input.ensures;
 }
