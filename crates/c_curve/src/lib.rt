@@ -42,16 +42,16 @@ pub fn curve(
         value.new }
 {
     if let Err(refusal) = own::check_curve(points, value) {
-        slots::store_value(value, 0.0);
+        slots::store_one(value, 0.0);
         return refusal.number();
     }
     match axis_curve::curve(points, knots, samples, moments, point) {
         Ok(found) => {
-            slots::store_value(value, found);
+            slots::store_one(value, found);
             0
         }
         Err(refusal) => {
-            slots::store_value(value, 0.0);
+            slots::store_one(value, 0.0);
             refusal.number()
         }
     }

@@ -1,15 +1,12 @@
 // The host's own refusals of curves, tensors, queries and sheets, in one order: with axes 1, 4 for the points, 2, 3, 4 for every other
 // slice and slot, 13 for the kinds and 22 for the modes; on one axis 2, 4 and 13; of a sheet that is read 4 alone. Where none applies,
 // the call's own follow. Steps have theirs in c_step::own, and the device in c_device.
-ghost use Rattle.std.specs.Prelude.{◌≡◌, ◌||◌, ◌≤◌};
+ghost use Rattle.std.specs.Prelude.{◌≡◌, ◌||◌, ◌≤◌, length};
 ghost use Rattle.rules.specs.Sizes.{knots_length, samples_length};
 ghost use Rattle.rules.specs.Answers.{refusal_of};
 ghost use Rattle.rules.specs.Refusals.{length_refused};
 ghost use Rattle.grid.specs.GridOfCall.{sizes_of, points_of, InRange};
 ghost use Rattle.c_refusals.specs.OwnRefusals.{
-  two_ends_refused,
-  eight_ends_refused,
-  place_or_lanes_refused,
   query_slots_refused,
   modes_or_slots_refused,
   found_slots_refused,
@@ -19,7 +16,6 @@ ghost use Rattle.c_refusals.specs.OwnRefusals.{
   change_own_refusal,
   write_own_refusal,
   query_own_refusal,
-  modes_or_slot_refused,
   read_edition_1_own_refusal,
   read_own_refusal,
   sheet_tensor_own_refusal,
@@ -34,14 +30,11 @@ use grid_checks::{lengths, sizes};
 use grid_codes::ends::{kinds_refused, wide};
 use rules::{Axis, Refusal};
 
-// Whether kinds or values are not those of one axis's two ends.
-fn two_ends_refused(kinds: &[u8], values: &[f64]) -> bool
-    ensures { result ≡ two_ends_refused kinds.now values.now }
+// Whether kinds or values are not those of so many ends: two of an axis, eight of four.
+fn ends_refused<const ENDS: usize>(kinds: &[u8], values: &[f64]) -> bool
+    ensures { result ≡ (length_refused (length kinds.now) ENDS || length_refused (length values.now) ENDS) }
 {
-    if lengths::length_refused(kinds.len(), 2) {
-        return true;
-    }
-    lengths::length_refused(values.len(), 2)
+    lengths::length_refused(kinds.len(), ENDS) || lengths::length_refused(values.len(), ENDS)
 }
 
 // Of the curve's moments: two ends, and the call's own slices, which 13 comes after.
@@ -59,7 +52,7 @@ pub fn check_moments(
     if sizes::points_refused(points) {
         return Err(Refusal::Points);
     }
-    if two_ends_refused(kinds, values) {
+    if ends_refused::<2>(kinds, values) {
         return Err(Refusal::Length);
     }
     if lengths::axis_refused(points, knots.len(), samples.len(), moments.len()) {
@@ -97,16 +90,6 @@ pub fn check_axes(axes: usize, points: &[usize]) -> Result<Sizes, Refusal>
     sizes::sizes_of_points(axes, points)
 }
 
-// Whether kinds or values are not those of the eight ends of four axes.
-fn eight_ends_refused(kinds: &[u8], values: &[f64]) -> bool
-    ensures { result ≡ eight_ends_refused kinds.now values.now }
-{
-    if lengths::length_refused(kinds.len(), 8) {
-        return true;
-    }
-    lengths::length_refused(values.len(), 8)
-}
-
 // Of a build: eight ends, and the call's own slices, which 13 comes after.
 pub fn check_build(
     axes: usize,
@@ -121,7 +104,7 @@ pub fn check_build(
         samples.now tensor.now }
 {
     check_axes(axes, points)?;
-    if eight_ends_refused(kinds, values) {
+    if ends_refused::<8>(kinds, values) {
         return Err(Refusal::Length);
     }
     let all = axes_without_ends(axes, points);
@@ -132,16 +115,6 @@ pub fn check_build(
         return Err(Refusal::Kinds);
     }
     Ok(())
-}
-
-// Whether the place or the slot of the count of a change is of another length.
-fn place_or_lanes_refused(place: &[usize], lanes: &[usize]) -> bool
-    ensures { result ≡ place_or_lanes_refused place.now lanes.now }
-{
-    if lengths::length_refused(place.len(), 4) {
-        return true;
-    }
-    lengths::length_refused(lanes.len(), 1)
 }
 
 // Of a change: eight ends, the place, the slot of the count, and the call's own slices.
@@ -159,10 +132,10 @@ pub fn check_change(
         tensor.now place.now lanes.now }
 {
     check_axes(axes, points)?;
-    if eight_ends_refused(kinds, values) {
+    if ends_refused::<8>(kinds, values) {
         return Err(Refusal::Length);
     }
-    if place_or_lanes_refused(place, lanes) {
+    if four_or_slot_refused(place, lanes) {
         return Err(Refusal::Length);
     }
     let all = axes_without_ends(axes, points);
@@ -184,14 +157,11 @@ fn parts_refused(axes: usize, all: [Axis; 4], knots: usize, samples: usize) -> b
     lengths::build_refused(axes, all, knots, samples, grid::tensor_length(axes, all))
 }
 
-// Whether modes are not those of four axes, or a slot is not one number.
-fn modes_or_slot_refused(modes: &[u8], slot: &[usize]) -> bool
-    ensures { result ≡ modes_or_slot_refused modes.now slot.now }
+// Whether what is one of each of four axes, as a place or modes are, has another length, or a slot is not one number.
+fn four_or_slot_refused<T: Copy>(four: &[T], slot: &[usize]) -> bool
+    ensures { result ≡ (length_refused (length four.now) 4 || length_refused (length slot.now) 1) }
 {
-    if lengths::length_refused(modes.len(), 4) {
-        return true;
-    }
-    lengths::length_refused(slot.len(), 1)
+    lengths::length_refused(four.len(), 4) || lengths::length_refused(slot.len(), 1)
 }
 
 // Of a sheet that is written: eight ends, the modes, the slot of the length, and the call's own slices.
@@ -209,10 +179,10 @@ pub fn check_write(
         knots.now samples.now length.now }
 {
     check_axes(axes, points)?;
-    if eight_ends_refused(kinds, values) {
+    if ends_refused::<8>(kinds, values) {
         return Err(Refusal::Length);
     }
-    if modes_or_slot_refused(modes, length) {
+    if four_or_slot_refused(modes, length) {
         return Err(Refusal::Length);
     }
     let all = axes_without_ends(axes, points);
@@ -232,20 +202,14 @@ pub fn check_write(
 pub fn query_slots_refused(value: &[f64], labels: &[usize]) -> bool
     ensures { result ≡ query_slots_refused value.now labels.now }
 {
-    if lengths::length_refused(value.len(), 1) {
-        return true;
-    }
-    lengths::length_refused(labels.len(), 4)
+    lengths::length_refused(value.len(), 1) || lengths::length_refused(labels.len(), 4)
 }
 
 // Whether the modes are not those of four axes, or a slot of a query's answer is of another length.
 fn modes_or_slots_refused(modes: &[u8], value: &[f64], labels: &[usize]) -> bool
     ensures { result ≡ modes_or_slots_refused modes.now value.now labels.now }
 {
-    if lengths::length_refused(modes.len(), 4) {
-        return true;
-    }
-    query_slots_refused(value, labels)
+    lengths::length_refused(modes.len(), 4) || query_slots_refused(value, labels)
 }
 
 // What a query on axes of these sizes meets after them: 4 for the modes, the slots of its answer and its own slices, and 22. Not a public
@@ -340,13 +304,9 @@ pub fn check_even_query(
 fn found_slots_refused(axes: &[usize], points: &[usize], kinds: &[u8], values: &[f64]) -> bool
     ensures { result ≡ found_slots_refused axes.now points.now kinds.now values.now }
 {
-    if lengths::length_refused(axes.len(), 1) {
-        return true;
-    }
-    if lengths::length_refused(points.len(), 4) {
-        return true;
-    }
-    eight_ends_refused(kinds, values)
+    lengths::length_refused(axes.len(), 1)
+        || lengths::length_refused(points.len(), 4)
+        || ends_refused::<8>(kinds, values)
 }
 
 // Of a sheet that is read as one of edition 1: what is found of its axes.
@@ -379,7 +339,7 @@ pub fn check_read(
     if found_slots_refused(axes, points, kinds, values) {
         return Err(Refusal::Length);
     }
-    if modes_or_slot_refused(modes, edition) {
+    if four_or_slot_refused(modes, edition) {
         return Err(Refusal::Length);
     }
     Ok(())
@@ -401,7 +361,7 @@ pub fn check_sheet_tensor(
     if found_slots_refused(axes, points, kinds, values) {
         return Err(Refusal::Length);
     }
-    if modes_or_slot_refused(modes, edition) {
+    if four_or_slot_refused(modes, edition) {
         return Err(Refusal::Length);
     }
     if lengths::length_refused(length.len(), 1) {

@@ -4,24 +4,13 @@ ghost use Rattle.c_refusals.specs.Slots.{in_slot, QueryStored, EvenStored};
 
 use crate::own;
 
-// A value goes to its slot.
-pub fn store_value(slot: &mut [f64], value: f64)
-    ensures { slot.new ≡ in_slot slot.old value }
+// An answer of one number goes to its slot.
+pub fn store_one<T: Copy>(slot: &mut [T], answer: T)
+    ensures { slot.new ≡ in_slot slot.old answer }
 {
-    if slot.len() != 1 {
-        return;
+    if slot.len() == 1 {
+        slot[0] = answer;
     }
-    slot[0] = value;
-}
-
-// A count goes to its slot.
-pub fn store_count(slot: &mut [usize], count: usize)
-    ensures { slot.new ≡ in_slot slot.old count }
-{
-    if slot.len() != 1 {
-        return;
-    }
-    slot[0] = count;
 }
 
 // Four labels, or four indices, go to their slice. Not a public call: its length is required.

@@ -158,7 +158,7 @@ pub fn write(
 {
     let own = own::check_write(axes, points, kinds, values, modes, knots, samples, length);
     if let Err(refusal) = own {
-        slots::store_count(length, 0);
+        slots::store_one(length, 0);
         return refusal.number();
     }
     let given = c_axes::axes_given(axes, points, kinds, values);
@@ -167,6 +167,6 @@ pub fn write(
         Ok(written) => (0, written),
         Err(refusal) => (refusal.number(), 0),
     };
-    slots::store_count(length, written);
+    slots::store_one(length, written);
     number
 }

@@ -5,7 +5,7 @@
 
 ghost use Rattle.c_step.specs.StepExports.{ExactExport, AxisExport, StepExport, SteppedExport};
 
-use c_refusals::slots::{store_count, store_query};
+use c_refusals::slots::{store_one, store_query};
 use rules::AxisLocation;
 
 pub mod directions; // directions.rt: directions as numbers
@@ -78,17 +78,17 @@ pub fn locate_step_index(
     ensures { StepExport points knots.now direction point index.old result index.new }
 {
     if let Err(refusal) = own::check_step(points, knots, direction, index) {
-        store_count(index, 0);
+        store_one(index, 0);
         return refusal.number();
     }
     let given = directions::direction_of_number(direction);
     match step_axis::locate_step_index(given, points, knots, point) {
         Ok(found) => {
-            store_count(index, found);
+            store_one(index, found);
             0
         }
         Err(refusal) => {
-            store_count(index, 0);
+            store_one(index, 0);
             refusal.number()
         }
     }

@@ -69,10 +69,7 @@ pub fn check_step(
 fn stepped_slots_refused(directions: &[u8], value: &[f64], indices: &[usize]) -> bool
     ensures { result ≡ stepped_slots_refused directions.now value.now indices.now }
 {
-    if lengths::length_refused(directions.len(), 4) {
-        return true;
-    }
-    query_slots_refused(value, indices)
+    lengths::length_refused(directions.len(), 4) || query_slots_refused(value, indices)
 }
 
 // Of the stepped surface: the directions, the slots of its answer, and the call's own slices, which 22 comes after.

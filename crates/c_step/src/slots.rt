@@ -31,10 +31,7 @@ pub fn store_exact(slot: &mut [usize], index: Option<usize>)
 pub fn location_slots_refused(location: &[usize], fraction: &[f64]) -> bool
     ensures { result ≡ location_slots_refused location.now fraction.now }
 {
-    if lengths::length_refused(location.len(), 2) {
-        return true;
-    }
-    lengths::length_refused(fraction.len(), 1)
+    lengths::length_refused(location.len(), 2) || lengths::length_refused(fraction.len(), 1)
 }
 
 // A location goes to its slots.

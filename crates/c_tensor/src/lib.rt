@@ -50,7 +50,7 @@ pub fn change(
 {
     let own = own::check_change(axes, points, kinds, values, knots, tensor, place, lanes);
     if let Err(refusal) = own {
-        slots::store_count(lanes, 0);
+        slots::store_one(lanes, 0);
         return refusal.number();
     }
     let all = c_axes::axes_given(axes, points, kinds, values);
@@ -61,6 +61,6 @@ pub fn change(
         Ok(solved) => (0, solved),
         Err(refusal) => (refusal.number(), 0),
     };
-    slots::store_count(lanes, solved);
+    slots::store_one(lanes, solved);
     number
 }

@@ -11,10 +11,7 @@ use tensor_verify::Verdict;
 pub fn slots_refused(place: &[usize], found: &[usize]) -> bool
     ensures { result ≡ verify_slots_refused place.now found.now }
 {
-    if lengths::length_refused(place.len(), 4) {
-        return true;
-    }
-    lengths::length_refused(found.len(), 3)
+    lengths::length_refused(place.len(), 4) || lengths::length_refused(found.len(), 3)
 }
 
 // A place and three numbers go to their slots. Not a public call: the lengths of both are required.

@@ -21,10 +21,10 @@ returns c =
           rw w.number-is
           (write_called _ _ _ _ _ _ _ _ _ _ c.in_default.ensures refl _ _ c.axes_given-given.ensures c.axes_in_modes-all.ensures
           (write_told (Ok w.in-Ok.written)) w.in-Ok.ensures
-          (rw w.number-is at c.store_count-2.ensures))
+          (rw w.number-is at c.store_one-2.ensures))
       | in-Err-write w ↦
           rw (w.number-is, w.number-in-Err-write.ensures)
           (write_called _ _ _ _ _ _ _ _ _ _ c.in_default.ensures refl _ _ c.axes_given-given.ensures c.axes_in_modes-all.ensures
           (write_told (Err w.in-Err-write.refusal)) w.in-Err-write.ensures
-          (rw w.number-is at c.store_count-2.ensures))
+          (rw w.number-is at c.store_one-2.ensures))
     ]

@@ -22,9 +22,9 @@ returns c =
       | in-Ok w ↦
           rw w.number-is
           (change_called _ _ _ _ _ _ _ _ _ _ c.in_default.ensures refl _ c.axes_given-all.ensures _ c.place_given-changed.ensures
-          (change_told (Ok w.in-Ok.solved)) w.in-Ok.ensures (rw w.number-is at c.store_count-2.ensures))
+          (change_told (Ok w.in-Ok.solved)) w.in-Ok.ensures (rw w.number-is at c.store_one-2.ensures))
       | in-Err-change w ↦
           rw (w.number-is, w.number-in-Err-change.ensures)
           (change_called _ _ _ _ _ _ _ _ _ _ c.in_default.ensures refl _ c.axes_given-all.ensures _ c.place_given-changed.ensures
-          (change_told (Err w.in-Err-change.refusal)) w.in-Err-change.ensures (rw w.number-is at c.store_count-2.ensures))
+          (change_told (Err w.in-Err-change.refusal)) w.in-Err-change.ensures (rw w.number-is at c.store_one-2.ensures))
     ]

@@ -21,7 +21,7 @@ past_lengths : (c : Else-build_refused) → Past ((build_own_rows c.args.axes c.
     c.args.samples.now c.args.tensor.now)) 5
 past_lengths c answer e =
     (axes_pass _ _ c.in_ok-check_axes.ensures.refusal _ refl (pass _
-    (second c.eight_ends_refused.ensures c.if-eight_ends_refused.false
+    (second c.ends_refused.ensures c.if-ends_refused.false
     (rw c.axes_without_ends-all.ensures at c.build_refused.ensures))
     c.if-build_refused.false e))
 
@@ -30,9 +30,9 @@ unfolding build_own_refusal
 returns-in_err-check_axes c =
     axes_given _ _ c.in_err-check_axes.ensures.refusal c.from_residual.result _ refl c.from_residual.ensures.1 _
 
-pub returns-then-eight_ends_refused : goal.returns-then-eight_ends_refused
+pub returns-then-ends_refused : goal.returns-then-ends_refused
 unfolding build_own_refusal
-returns-then-eight_ends_refused c = past_axes (goal.at.returns-then-eight_ends_refused c).In_ok-check_axes _ (stop _ (first _ c.eight_ends_refused.ensures c.if-eight_ends_refused.true) refl)
+returns-then-ends_refused c = past_axes (goal.at.returns-then-ends_refused c).In_ok-check_axes _ (stop _ (first _ c.ends_refused.ensures c.if-ends_refused.true) refl)
 
 pub axes_without_ends-all-requires : goal.axes_without_ends-all-requires
 axes_without_ends-all-requires c = points_four _ _ c.in_ok-check_axes.ensures.refusal refl
@@ -45,7 +45,7 @@ unfolding build_own_refusal
 returns-then-build_refused c =
     past_axes (goal.at.returns-then-build_refused c).In_ok-check_axes _
     (stop _
-    (second c.eight_ends_refused.ensures c.if-eight_ends_refused.false
+    (second c.ends_refused.ensures c.if-ends_refused.false
     (rw c.axes_without_ends-all.ensures at c.build_refused.ensures))
     c.if-build_refused.true)
 
@@ -53,7 +53,7 @@ pub some_kinds_refused-requires : goal.some_kinds_refused-requires
 some_kinds_refused-requires c = (
   (range (goal.at.some_kinds_refused-requires c).In_ok-check_axes).few_axes,
   (eight_lengths c.args.kinds.now c.args.values.now
-      (sym c.eight_ends_refused.ensures ∙ c.if-eight_ends_refused.false)).0,
+      (sym c.ends_refused.ensures ∙ c.if-ends_refused.false)).0,
 )
 
 pub returns-then-some_kinds_refused : goal.returns-then-some_kinds_refused

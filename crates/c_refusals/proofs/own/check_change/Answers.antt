@@ -21,9 +21,9 @@ past_lengths : (c : Else-change_refused) → Past ((change_own_rows c.args.axes 
     c.args.tensor.now c.args.place.now c.args.lanes.now)) 5
 past_lengths c answer e =
     (axes_pass _ _ c.in_ok-check_axes.ensures.refusal _ refl (pass _ (second
-    (second c.eight_ends_refused.ensures c.if-eight_ends_refused.false
-    c.place_or_lanes_refused.ensures)
-    c.if-place_or_lanes_refused.false
+    (second c.ends_refused.ensures c.if-ends_refused.false
+    c.four_or_slot_refused.ensures)
+    c.if-four_or_slot_refused.false
     (rw c.axes_without_ends-all.ensures at c.change_refused.ensures))
     c.if-change_refused.false e))
 
@@ -32,19 +32,19 @@ unfolding change_own_refusal
 returns-in_err-check_axes c =
     axes_given _ _ c.in_err-check_axes.ensures.refusal c.from_residual.result _ refl c.from_residual.ensures.1 _
 
-pub returns-then-eight_ends_refused : goal.returns-then-eight_ends_refused
+pub returns-then-ends_refused : goal.returns-then-ends_refused
 unfolding change_own_refusal
-returns-then-eight_ends_refused c = past_axes (goal.at.returns-then-eight_ends_refused c).In_ok-check_axes _ (stop _ (first _ (first _ c.eight_ends_refused.ensures c.if-eight_ends_refused.true) refl) refl)
+returns-then-ends_refused c = past_axes (goal.at.returns-then-ends_refused c).In_ok-check_axes _ (stop _ (first _ (first _ c.ends_refused.ensures c.if-ends_refused.true) refl) refl)
 
-pub returns-then-place_or_lanes_refused : goal.returns-then-place_or_lanes_refused
+pub returns-then-four_or_slot_refused : goal.returns-then-four_or_slot_refused
 unfolding change_own_refusal
-returns-then-place_or_lanes_refused c =
-    past_axes (goal.at.returns-then-place_or_lanes_refused c).In_ok-check_axes _
+returns-then-four_or_slot_refused c =
+    past_axes (goal.at.returns-then-four_or_slot_refused c).In_ok-check_axes _
     (stop _
     (first _
-    (second c.eight_ends_refused.ensures c.if-eight_ends_refused.false
-    c.place_or_lanes_refused.ensures)
-    c.if-place_or_lanes_refused.true)
+    (second c.ends_refused.ensures c.if-ends_refused.false
+    c.four_or_slot_refused.ensures)
+    c.if-four_or_slot_refused.true)
     refl)
 
 pub axes_without_ends-all-requires : goal.axes_without_ends-all-requires
@@ -58,9 +58,9 @@ unfolding change_own_refusal
 returns-then-change_refused c =
     past_axes (goal.at.returns-then-change_refused c).In_ok-check_axes _
     (stop _ (second
-    (second c.eight_ends_refused.ensures c.if-eight_ends_refused.false
-    c.place_or_lanes_refused.ensures)
-    c.if-place_or_lanes_refused.false
+    (second c.ends_refused.ensures c.if-ends_refused.false
+    c.four_or_slot_refused.ensures)
+    c.if-four_or_slot_refused.false
     (rw c.axes_without_ends-all.ensures at c.change_refused.ensures))
     c.if-change_refused.true)
 
@@ -68,7 +68,7 @@ pub some_kinds_refused-requires : goal.some_kinds_refused-requires
 some_kinds_refused-requires c = (
   (range (goal.at.some_kinds_refused-requires c).In_ok-check_axes).few_axes,
   (eight_lengths c.args.kinds.now c.args.values.now
-      (sym c.eight_ends_refused.ensures ∙ c.if-eight_ends_refused.false)).0,
+      (sym c.ends_refused.ensures ∙ c.if-ends_refused.false)).0,
 )
 
 pub returns-then-some_kinds_refused : goal.returns-then-some_kinds_refused

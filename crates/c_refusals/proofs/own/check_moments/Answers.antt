@@ -9,46 +9,46 @@ use Rattle.grid_checks.proofs.Rows.{first, second, stop, pass, Past}
 use Rattle.c_refusals.specs.OwnRefusals.{moments_own_rows, moments_own_refusal}
 use Rattle.c_refusals.proofs.Lengths.{two_lengths}
 use Rattle.c_refusals.proofs.own.check_moments.Goals as goal
-use Rattle.c_refusals.proofs.own.check_moments.Goals.{Else-axis_refused, Else-points_refused, Else-two_ends_refused}
+use Rattle.c_refusals.proofs.own.check_moments.Goals.{Else-axis_refused, Else-points_refused, Else-ends_refused}
 
 past_points : (c : Else-points_refused) → Past ((moments_own_rows c.args.points c.args.knots.now c.args.samples.now c.args.kinds.now c.args.values.now
     c.args.moments.now)) 1
 past_points c answer e = pass _ c.points_refused.ensures c.if-points_refused.false e
 
-two : (c : Else-two_ends_refused)
+two : (c : Else-ends_refused)
     → (length c.args.kinds.now ≡ 2) × (length c.args.values.now ≡ 2)
 two c =
     two_lengths c.args.kinds.now c.args.values.now
-    (sym c.two_ends_refused.ensures ∙ c.if-two_ends_refused.false)
+    (sym c.ends_refused.ensures ∙ c.if-ends_refused.false)
 
 past_lengths : (c : Else-axis_refused) → Past ((moments_own_rows c.args.points c.args.knots.now c.args.samples.now c.args.kinds.now c.args.values.now
     c.args.moments.now)) 2
 past_lengths c answer e =
     (pass _ c.points_refused.ensures c.if-points_refused.false (pass _
-    (second c.two_ends_refused.ensures c.if-two_ends_refused.false c.axis_refused.ensures)
+    (second c.ends_refused.ensures c.if-ends_refused.false c.axis_refused.ensures)
     c.if-axis_refused.false e))
 
 pub returns-then-points_refused : goal.returns-then-points_refused
 unfolding moments_own_refusal
 returns-then-points_refused c = stop _ c.points_refused.ensures c.if-points_refused.true
 
-pub returns-then-two_ends_refused : goal.returns-then-two_ends_refused
+pub returns-then-ends_refused : goal.returns-then-ends_refused
 unfolding moments_own_refusal
-returns-then-two_ends_refused c = past_points (goal.at.returns-then-two_ends_refused c).Else-points_refused _ (stop _ (first _ c.two_ends_refused.ensures c.if-two_ends_refused.true) refl)
+returns-then-ends_refused c = past_points (goal.at.returns-then-ends_refused c).Else-points_refused _ (stop _ (first _ c.ends_refused.ensures c.if-ends_refused.true) refl)
 
 pub returns-then-axis_refused : goal.returns-then-axis_refused
 unfolding moments_own_refusal
 returns-then-axis_refused c =
     past_points (goal.at.returns-then-axis_refused c).Else-points_refused _
     (stop _
-    (second c.two_ends_refused.ensures c.if-two_ends_refused.false c.axis_refused.ensures)
+    (second c.ends_refused.ensures c.if-ends_refused.false c.axis_refused.ensures)
     c.if-axis_refused.true)
 
 pub bounds-kinds-0 : goal.bounds-kinds-0
-bounds-kinds-0 c = let long = two (goal.at.bounds-kinds-0 c).Else-two_ends_refused in omega arith
+bounds-kinds-0 c = let long = two (goal.at.bounds-kinds-0 c).Else-ends_refused in omega arith
 
 pub bounds-kinds-1 : goal.bounds-kinds-1
-bounds-kinds-1 c = let long = two (goal.at.bounds-kinds-1 c).Else-two_ends_refused in omega arith
+bounds-kinds-1 c = let long = two (goal.at.bounds-kinds-1 c).Else-ends_refused in omega arith
 
 pub returns-then-kinds_refused : goal.returns-then-kinds_refused
 unfolding moments_own_refusal

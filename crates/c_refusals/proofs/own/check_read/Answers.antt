@@ -8,19 +8,19 @@ pub returns-then-found_slots_refused : goal.returns-then-found_slots_refused
 unfolding read_own_refusal
 returns-then-found_slots_refused c = stop _ (first _ c.found_slots_refused.ensures c.if-found_slots_refused.true) refl
 
-pub returns-then-modes_or_slot_refused : goal.returns-then-modes_or_slot_refused
+pub returns-then-four_or_slot_refused : goal.returns-then-four_or_slot_refused
 unfolding read_own_refusal
-returns-then-modes_or_slot_refused c =
+returns-then-four_or_slot_refused c =
     stop _
     (second c.found_slots_refused.ensures c.if-found_slots_refused.false
-    c.modes_or_slot_refused.ensures)
-    c.if-modes_or_slot_refused.true
+    c.four_or_slot_refused.ensures)
+    c.if-four_or_slot_refused.true
 
 pub returns : goal.returns
 unfolding read_own_refusal
 returns c =
     pass _
     (second c.found_slots_refused.ensures c.if-found_slots_refused.false
-    c.modes_or_slot_refused.ensures)
-    c.if-modes_or_slot_refused.false
+    c.four_or_slot_refused.ensures)
+    c.if-four_or_slot_refused.false
     refl

@@ -8,14 +8,14 @@ pub returns-then-found_slots_refused : goal.returns-then-found_slots_refused
 unfolding sheet_tensor_own_refusal
 returns-then-found_slots_refused c = stop _ (first _ (first _ c.found_slots_refused.ensures c.if-found_slots_refused.true) refl) refl
 
-pub returns-then-modes_or_slot_refused : goal.returns-then-modes_or_slot_refused
+pub returns-then-four_or_slot_refused : goal.returns-then-four_or_slot_refused
 unfolding sheet_tensor_own_refusal
-returns-then-modes_or_slot_refused c =
+returns-then-four_or_slot_refused c =
     stop _
     (first _
     (second c.found_slots_refused.ensures c.if-found_slots_refused.false
-    c.modes_or_slot_refused.ensures)
-    c.if-modes_or_slot_refused.true)
+    c.four_or_slot_refused.ensures)
+    c.if-four_or_slot_refused.true)
     refl
 
 pub returns-then-length_refused : goal.returns-then-length_refused
@@ -24,8 +24,8 @@ returns-then-length_refused c =
     stop _
     (second
     (second c.found_slots_refused.ensures c.if-found_slots_refused.false
-    c.modes_or_slot_refused.ensures)
-    c.if-modes_or_slot_refused.false
+    c.four_or_slot_refused.ensures)
+    c.if-four_or_slot_refused.false
     c.length_refused.ensures)
     c.if-length_refused.true
 
@@ -35,8 +35,8 @@ returns c =
     pass _
     (second
     (second c.found_slots_refused.ensures c.if-found_slots_refused.false
-    c.modes_or_slot_refused.ensures)
-    c.if-modes_or_slot_refused.false
+    c.four_or_slot_refused.ensures)
+    c.if-four_or_slot_refused.false
     c.length_refused.ensures)
     c.if-length_refused.false
     refl

@@ -21,18 +21,18 @@ past_lengths : (c : Else-parts_refused) → Past ((write_own_rows c.args.axes c.
     c.args.knots.now c.args.samples.now c.args.length.now)) 5
 past_lengths c answer e =
     (axes_pass _ _ c.in_ok-check_axes.ensures.refusal _ refl (pass _ (second
-    (second c.eight_ends_refused.ensures c.if-eight_ends_refused.false
-    c.modes_or_slot_refused.ensures)
-    c.if-modes_or_slot_refused.false
+    (second c.ends_refused.ensures c.if-ends_refused.false
+    c.four_or_slot_refused.ensures)
+    c.if-four_or_slot_refused.false
     (rw c.axes_without_ends-all.ensures at c.parts_refused.ensures))
     c.if-parts_refused.false e))
 
 past_kinds : (c : Else-some_kinds_refused) → Past ((write_own_rows c.args.axes c.args.points.now c.args.kinds.now c.args.values.now c.args.modes.now
     c.args.knots.now c.args.samples.now c.args.length.now)) 6
 past_kinds c answer e = ((axes_pass _ _ c.in_ok-check_axes.ensures.refusal _ refl (pass _ (second
-    (second c.eight_ends_refused.ensures c.if-eight_ends_refused.false
-    c.modes_or_slot_refused.ensures)
-    c.if-modes_or_slot_refused.false
+    (second c.ends_refused.ensures c.if-ends_refused.false
+    c.four_or_slot_refused.ensures)
+    c.if-four_or_slot_refused.false
     (rw c.axes_without_ends-all.ensures at c.parts_refused.ensures))
     c.if-parts_refused.false (pass _ c.some_kinds_refused.ensures c.if-some_kinds_refused.false e))))
 
@@ -41,19 +41,19 @@ unfolding write_own_refusal
 returns-in_err-check_axes c =
     axes_given _ _ c.in_err-check_axes.ensures.refusal c.from_residual.result _ refl c.from_residual.ensures.1 _
 
-pub returns-then-eight_ends_refused : goal.returns-then-eight_ends_refused
+pub returns-then-ends_refused : goal.returns-then-ends_refused
 unfolding write_own_refusal
-returns-then-eight_ends_refused c = past_axes (goal.at.returns-then-eight_ends_refused c).In_ok-check_axes _ (stop _ (first _ (first _ c.eight_ends_refused.ensures c.if-eight_ends_refused.true) refl) refl)
+returns-then-ends_refused c = past_axes (goal.at.returns-then-ends_refused c).In_ok-check_axes _ (stop _ (first _ (first _ c.ends_refused.ensures c.if-ends_refused.true) refl) refl)
 
-pub returns-then-modes_or_slot_refused : goal.returns-then-modes_or_slot_refused
+pub returns-then-four_or_slot_refused : goal.returns-then-four_or_slot_refused
 unfolding write_own_refusal
-returns-then-modes_or_slot_refused c =
-    past_axes (goal.at.returns-then-modes_or_slot_refused c).In_ok-check_axes _
+returns-then-four_or_slot_refused c =
+    past_axes (goal.at.returns-then-four_or_slot_refused c).In_ok-check_axes _
     (stop _
     (first _
-    (second c.eight_ends_refused.ensures c.if-eight_ends_refused.false
-    c.modes_or_slot_refused.ensures)
-    c.if-modes_or_slot_refused.true)
+    (second c.ends_refused.ensures c.if-ends_refused.false
+    c.four_or_slot_refused.ensures)
+    c.if-four_or_slot_refused.true)
     refl)
 
 pub axes_without_ends-all-requires : goal.axes_without_ends-all-requires
@@ -67,9 +67,9 @@ unfolding write_own_refusal
 returns-then-parts_refused c =
     past_axes (goal.at.returns-then-parts_refused c).In_ok-check_axes _
     (stop _ (second
-    (second c.eight_ends_refused.ensures c.if-eight_ends_refused.false
-    c.modes_or_slot_refused.ensures)
-    c.if-modes_or_slot_refused.false
+    (second c.ends_refused.ensures c.if-ends_refused.false
+    c.four_or_slot_refused.ensures)
+    c.if-four_or_slot_refused.false
     (rw c.axes_without_ends-all.ensures at c.parts_refused.ensures))
     c.if-parts_refused.true)
 
@@ -77,7 +77,7 @@ pub some_kinds_refused-requires : goal.some_kinds_refused-requires
 some_kinds_refused-requires c = (
   (range (goal.at.some_kinds_refused-requires c).In_ok-check_axes).few_axes,
   (eight_lengths c.args.kinds.now c.args.values.now
-      (sym c.eight_ends_refused.ensures ∙ c.if-eight_ends_refused.false)).0,
+      (sym c.ends_refused.ensures ∙ c.if-ends_refused.false)).0,
 )
 
 pub returns-then-some_kinds_refused : goal.returns-then-some_kinds_refused
@@ -88,7 +88,7 @@ pub some_modes_refused-requires : goal.some_modes_refused-requires
 some_modes_refused-requires c = (
   (range (goal.at.some_modes_refused-requires c).In_ok-check_axes).few_axes,
   (mode_slot_lengths c.args.modes.now c.args.length.now
-      (sym c.modes_or_slot_refused.ensures ∙ c.if-modes_or_slot_refused.false)).0,
+      (sym c.four_or_slot_refused.ensures ∙ c.if-four_or_slot_refused.false)).0,
 )
 
 pub returns-then-some_modes_refused : goal.returns-then-some_modes_refused

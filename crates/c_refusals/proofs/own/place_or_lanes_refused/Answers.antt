@@ -1,9 +1,0 @@
--- A change's place that is not four numbers, or a slot of its count that is not one: the first test answers, or the second.
-use Rattle.grid_checks.proofs.Rows.{first, second}
-use Rattle.c_refusals.proofs.own.place_or_lanes_refused.Goals as goal
-
-pub returns-then-length_refused : goal.returns-then-length_refused
-returns-then-length_refused c = first _ c.length_refused.ensures c.if-length_refused.true
-
-pub returns : goal.returns
-returns c = second c.length_refused.ensures c.if-length_refused.false c.length_refused-2.ensures

@@ -1,9 +1,0 @@
--- The slots of a query's answer: true where the value's is not one number or the labels are not four.
-use Rattle.grid_checks.proofs.Rows.{first, second}
-use Rattle.c_refusals.proofs.own.query_slots_refused.Goals as goal
-
-pub returns-then-length_refused : goal.returns-then-length_refused
-returns-then-length_refused c = first _ c.length_refused.ensures c.if-length_refused.true
-
-pub returns : goal.returns
-returns c = second c.length_refused.ensures c.if-length_refused.false c.length_refused-2.ensures
