@@ -11,8 +11,8 @@
  * target/staticlib/libhullashlar.a is for x86-64, with SSE2 and the System V calling convention. `make firmware`
  * compiles the same proved module for Cortex-M0+, M4F, M33 and M7, AArch64, RV32 and RV64, to
  * target/firmware/TARGET/libhullashlar.a; docs/FIRMWARE.md says how to link it and what each call costs there. An
- * archive needs memcpy and memset from its host. On 32 bits it also needs the compiler's functions that divide 64-bit
- * whole numbers. It needs nothing else.
+ * archive needs memcpy, memmove and memset from its host. On 32 bits it also needs the compiler's functions that divide
+ * 64-bit whole numbers. It needs nothing else.
  *
  * Floats. A call computes under the caller's float settings. They must be those that a C program starts with: rounding
  * to nearest; subnormal numbers kept, neither flushed to zero nor read as zero (FTZ and DAZ clear in MXCSR; FZ clear in
@@ -27,9 +27,9 @@
  * signals, as long as no call writes a slice that another one uses.
  *
  * Memory. The largest grid takes 98,304 bytes: tensor 32,768, scratch 49,152, the two buffers of a sheet 16,384.
- * hullashlar_surface is lent the sheet alone, and has its memory on the stack. Every other call needs at most 3,256
- * bytes of stack on x86-64, on any input, beside what the host's memcpy and memset take. docs/BENCH.md has the stack of
- * each call, the size of the code and what the archive's proofs rest on.
+ * hullashlar_surface is lent the sheet alone, and has its memory on the stack. Every other call needs at most 2,920
+ * bytes of stack on x86-64, on any input, beside what the host's memcpy, memmove and memset take. docs/BENCH.md has the
+ * stack of each call, the size of the code and what the archive's proofs rest on.
  *
  * Axes. The arrays points, kinds, values, modes, directions, place, labels and indices are lent for four axes. An entry
  * past the axes in use may be anything: no refusal, no answer and no number that is written depends on it. Labels,
@@ -623,7 +623,7 @@ uint64_t hullashlar_cursor_next(const uint8_t *curve, uint64_t curve_length,
  * extend). So where each coordinate equals a knot of its axis, the value equals the sheet's sample at that place. c0 to
  * c3 are the patterns of doubles, one for each axis of the sheet; those past its axes must be 0. The call returns the
  * pattern of the value, or HULLASHLAR_REFUSED + the refusal; memcpy turns a double into its pattern and back. It takes
- * 27,944 bytes of stack on x86-64. 24,576 of them are buffers: scratch 20,480, in which the tensor stays, knots 2,048,
+ * 27,960 bytes of stack on x86-64. 24,576 of them are buffers: scratch 20,480, in which the tensor stays, knots 2,048,
  * samples 2,048. The rest are the frames of the functions that read, build and ask.
  * Lengths: bytes_length any
  * Writes:  nothing

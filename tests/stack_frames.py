@@ -1,7 +1,7 @@
 #!/usr/bin/env python3
 """What stack each exported call can need at most, added up from the machine code of the archive: the frames along its
-longest chain of calls, with every return address, and the arguments that it takes on the stack. memcpy and memset are
-the host's: of these only the return address is counted. A function that calls itself does so once for each axis at most.
+longest chain of calls, with every return address, and the arguments that it takes on the stack. memcpy, memmove and
+memset are the host's: of these only the return address is counted. A function that calls itself does so once for each axis at most.
 A jump by a table goes to every place that the table has.
 Fails where the code moves the stack pointer in a way that is not followed here. Prints a table of docs/BENCH.md."""
 
@@ -13,7 +13,7 @@ from pathlib import Path
 REPOSITORY = Path(__file__).resolve().parent.parent
 ARCHIVE = REPOSITORY / "target/staticlib/libhullashlar.a"
 HEADER = REPOSITORY / "include/hullashlar.h"
-OF_THE_HOST = {"memcpy", "memset"}
+OF_THE_HOST = {"memcpy", "memmove", "memset"}
 MOST_AXES = 4
 IN_REGISTERS = 6
 WORD = 8
@@ -74,7 +74,7 @@ def places_in(taken, instructions, sections):
     """The places of one table of a function: it ends where the next begins."""
     section, begin = taken
     begins = {other for _, _, relocated in instructions if (other := table_at(relocated))}
-    end = min((other for of, other in begins if of == section and other > begin), default=1 << 32)
+    end = min((other for of, other in begins if of == section and other > begin), default=max(sections[section]) + 4)
     return [sections[section][at] - at + begin for at in range(begin, end, 4) if at in sections[section]]
 
 
