@@ -27,7 +27,7 @@
  * signals, as long as no call writes a slice that another one uses.
  *
  * Memory. The largest grid takes 98,304 bytes: tensor 32,768, scratch 49,152, the two buffers of a sheet 16,384.
- * hullashlar_surface is lent the sheet alone, and has its memory on the stack. Every other call needs at most 2,920
+ * hullashlar_surface takes the sheet alone, and has its memory on the stack. Every other call needs at most 2,920
  * bytes of stack on x86-64, on any input, beside what the host's memcpy, memmove and memset take. docs/BENCH.md has the
  * stack of each call, the size of the code and what the archive's proofs rest on.
  *
