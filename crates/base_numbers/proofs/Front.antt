@@ -1,7 +1,7 @@
 -- A loop that stores from the front: a list with its first i elements replaced by those of another.
 use mathlib.Core.Path.{◌≡◌, refl, ap}
 use mathlib.Core.List.{List, [], ◌∷◌, ◌++◌, append-nil}
-use Prim.Native.Nat.{ℕ, zero, suc, ◌+◌, ◌<◌}
+use Prim.Native.Nat.{ℕ, zero, suc, ◌+◌, ◌<◌, ◌≤◌}
 use native.Mathlib.Nat.{not-suc-le-zero, le_of_suc-le-suc}
 use native.Mathlib.Numerals.{add-one}
 use native.Mathlib.Omega.{arith}
@@ -36,3 +36,14 @@ module _ {A : Type 0} where
   pub front_all : (new old : List A) (i : ℕ) → length new ≡ i → length old ≡ i → front new i old ≡ new
   unfolding front
   front_all new old i h k = rw (take_all i new (omega arith), drop_of_length-le old {i = i} (omega arith), append-nil)
+
+  -- past what was stored, the old elements stand
+  pub front_rest : (new old : List A) (i k : ℕ) (d : A) → i ≤ length new → i ≤ k → k < length old
+      → get_or (front new i old) k d ≡ get_or old k d
+  unfolding front
+  front_rest new old zero k d h l b = refl
+  front_rest [] old (suc i) k d h l b = absurd (not-suc-le-zero h)
+  front_rest (x ∷ new) [] (suc i) k d h l b = absurd (not-suc-le-zero b)
+  front_rest (x ∷ new) (y ∷ old) (suc i) zero d h l b = absurd (not-suc-le-zero l)
+  front_rest (x ∷ new) (y ∷ old) (suc i) (suc k) d h l b =
+      front_rest new old i k d (le_of_suc-le-suc h) (le_of_suc-le-suc l) (le_of_suc-le-suc b)

@@ -83,12 +83,15 @@ pub fn clear(s: &mut [f64])
     s.fill(0.0);
 }
 
-// The numbers of one slice go to another of the same length. Not a public call: the lengths are required.
+// The numbers of one slice go to another of the same length. By a loop, which compiles to memcpy: copy_from_slice would need memmove, which
+// no host has to bring. Not a public call: the lengths are required.
 pub fn copy(to: &mut [f64], from: &[f64])
     requires { length from.now ≡ length to.old }
     ensures { to.new ≡ from.now }
 {
-    to.copy_from_slice(from);
+    for i in 0..from.len() {
+        to[i] = from[i];
+    }
 }
 
 // The float of any pattern: each pattern of a NaN gives the one NaN.

@@ -51,15 +51,16 @@ pub fn sizes_of_points(axes: usize, points: &[usize]) -> Result<Sizes, Refusal>
     Ok(Sizes { knots, numbers })
 }
 
-// What every call on a grid meets first: 1, 2, 3, or else the sizes of its grid.
-pub fn check_sizes(axes: usize, all: [Axis; 4]) -> Result<Sizes, Refusal>
+// What every call on a grid meets first: 1, 2, 3, or none.
+pub fn check_sizes(axes: usize, all: [Axis; 4]) -> Result<(), Refusal>
     ensures { refusal_of result ≡ sizes_check axes all }
 {
     if axes_refused(axes) {
         return Err(Refusal::Axes);
     }
     let points = grid::points_of(all);
-    sizes_of_points(axes, &points)
+    sizes_of_points(axes, &points)?;
+    Ok(())
 }
 
 // Whether a place is off the grid on an axis in use. Not a public call: at most four axes are required.
