@@ -55,7 +55,7 @@ pub record Turn (w₀ w : List Float) (l k : ℕ) : Type 0 where
   pub between : (j : ℕ) → j < k → 0 < j → row w 1024 j ≡ plus_zero
   pub kept : (j : ℕ) → Outside 1024 (suc l) j → at w j ≡ at w₀ j
 
-turn_first : (w : List Float) (l : ℕ) → RowsGiven w l → 0 < l → Turn w w l 1
+pub turn_first : (w : List Float) (l : ℕ) → RowsGiven w l → 0 < l → Turn w w l 1
 turn_first w l g more = record {
   given = g;
   least = omega arith;
@@ -65,7 +65,7 @@ turn_first w l g more = record {
   kept = λ j o. refl;
 }
 
-turn_next : (w₀ w : List Float) (l k : ℕ) → Turn w₀ w l k → k < l → Turn w₀ (set w (1024 + k) plus_zero) l (k + 1)
+pub turn_next : (w₀ w : List Float) (l k : ℕ) → Turn w₀ w l k → k < l → Turn w₀ (set w (1024 + k) plus_zero) l (k + 1)
 turn_next w₀ w l k t lt =
     let other : (j : ℕ) → j ≢ 1024 + k → at (set w (1024 + k) plus_zero) j ≡ at w j =
     λ j n. get_or-set_other w (1024 + k) j plus_zero nan n in

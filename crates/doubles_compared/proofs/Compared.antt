@@ -215,13 +215,13 @@ nan_right (inf s) = (refl, refl)
 nan_right (fin s m e) = (refl, refl)
 
 module _ (a b : ℕ) where
-  nan_first : infinity < magnitude a → (false ≡ is_less a b) × (false ≡ is_equal a b)
+  pub nan_first : infinity < magnitude a → (false ≡ is_less a b) × (false ≡ is_equal a b)
   nan_first h = (
     sym (ap (λ (z : Float). lt z (of_bits binary64 b)) (nan_of a h) ∙ (nan_left (of_bits binary64 b)).0),
     sym (ap (λ (z : Float). eq z (of_bits binary64 b)) (nan_of a h) ∙ (nan_left (of_bits binary64 b)).1),
   )
 
-  nan_second : infinity < magnitude b → (false ≡ is_less a b) × (false ≡ is_equal a b)
+  pub nan_second : infinity < magnitude b → (false ≡ is_less a b) × (false ≡ is_equal a b)
   nan_second h = (
     sym (ap (lt (of_bits binary64 a)) (nan_of b h) ∙ (nan_right (of_bits binary64 a)).0),
     sym (ap (eq (of_bits binary64 a)) (nan_of b h) ∙ (nan_right (of_bits binary64 a)).1),

@@ -62,13 +62,13 @@ zero_pattern : pattern binary64 0 (2 ^ low binary64) ≡ 0
 unfolding pattern size
 zero_pattern = pattern_same binary64 0 (2 ^ low binary64) 0 1 (pow_pos (low binary64)) (lit< tt) refl ∙ refl
 
-product_zero : (p o : ℕ) → p ≡ 0 → product_of_units (units_of p) (units_of o) ≡ 0
+pub product_zero : (p o : ℕ) → p ≡ 0 → product_of_units (units_of p) (units_of o) ≡ 0
 unfolding product_of_units
 product_zero p o e =
     ap (λ (x : ℕ). pattern binary64 (x * units_of o) (2 ^ low binary64)) (ap units_of e ∙ units_zero)
     ∙ ap (λ (x : ℕ). pattern binary64 x (2 ^ low binary64)) (zero-mul (units_of o)) ∙ zero_pattern
 
-product_zero_back : (p o : ℕ) → o ≡ 0 → product_of_units (units_of p) (units_of o) ≡ 0
+pub product_zero_back : (p o : ℕ) → o ≡ 0 → product_of_units (units_of p) (units_of o) ≡ 0
 unfolding product_of_units
 product_zero_back p o e =
     ap (λ (x : ℕ). pattern binary64 (units_of p * x) (2 ^ low binary64)) (ap units_of e ∙ units_zero)

@@ -111,7 +111,7 @@ shifted_high s e z some small count h =
     count_is : (z j e : ℕ) → z + suc j ≡ 64 → z ≤ e + 1 → suc (j + e - 10) - 53 ≡ e + 1 - z
     count_is z j e s h = omega arith
 
-shifted_low : (s e z : ℕ) → 0 < s → s < 2 ^ 64 → count_leading_zeros 64 s ≡ z → e + 1 < z → Shifted s e (e + 1)
+pub shifted_low : (s e z : ℕ) → 0 < s → s < 2 ^ 64 → count_leading_zeros 64 s ≡ z → e + 1 < z → Shifted s e (e + 1)
 shifted_low s e z some small count h =
     let t = leading_top 64 s some small in
     let j = t.0 in
@@ -180,12 +180,12 @@ shifted_one s (suc e) h l =
 
 -- the code's packing
 module _ (k q c : ℕ) (is : q ≡ c) where
-  packed_under : k * leading + q < infinity → k * leading + q ≡ capped binary64 (k * leading + c)
+  pub packed_under : k * leading + q < infinity → k * leading + q ≡ capped binary64 (k * leading + c)
   packed_under l =
       sym (ap (λ (x : ℕ). capped binary64 (k * leading + x)) (sym is)
       ∙ ap (λ (b : Bool). cond b (k * leading + q) infinity) (lt-ltb (k * leading + q) infinity l))
 
-  packed_over : infinity ≤ k * leading + q → infinity ≡ capped binary64 (k * leading + c)
+  pub packed_over : infinity ≤ k * leading + q → infinity ≡ capped binary64 (k * leading + c)
   packed_over l =
       sym (ap (λ (x : ℕ). capped binary64 (k * leading + x)) (sym is)
       ∙ ap (λ (b : Bool). cond b (k * leading + q) infinity) (le-ltb (k * leading + q) infinity l))
