@@ -3,7 +3,7 @@
 input cannot be read, and the exit status is 0. A pipe that nobody reads any more is a failure like the others, since the toolchain has every
 program ignore its signal. Input that ends early is no failure: a sheet cut at any byte is refused on standard output, and nothing is said on
 standard error. With strace at hand it also counts the calls by which a tensor is printed
-and by which a long stream is read."""
+and by which a long stream is read, and interrupts writes: one that a signal interrupts counts as failed, and is not tried again."""
 
 import os
 import re
@@ -74,6 +74,13 @@ def calls(program, name, source):
     return [int(taken) for taken in re.findall(rb"^%s\([01],.* = (\d+)$" % name.encode(), traced.stderr, re.M)]
 
 
+def run_interrupted(program, source, which):
+    """The same as `run`, where a signal interrupts these calls of write. A program that tries them for ever is ended."""
+    interrupt = ["-e", "trace=write", "-e", f"inject=write:error=EINTR{which}"]
+    done = subprocess.run(["timeout", "20", "strace", "-o", os.devnull, *interrupt, program], stdin=source, stdout=subprocess.PIPE, stderr=subprocess.PIPE)
+    return done.stdout, done.stderr, done.returncode
+
+
 def reads_of_a_stream():
     """The calls of read by which the report takes a long stream."""
     with tempfile.TemporaryFile() as stream:
@@ -91,7 +98,8 @@ def main():
             faults.append(name)
 
     directory = os.open("/", os.O_RDONLY)
-    for program, good in ((SHEET_PROGRAM, EXAMPLE), (REPORT, EXAMPLE), (DEVICE, CURVE)):
+    programs = ((SHEET_PROGRAM, EXAMPLE), (REPORT, EXAMPLE), (DEVICE, CURVE))
+    for program, good in programs:
         expect(f"{program.name}, a directory as input", run(program, directory), (b"", NOT_READ, 0))
         expect(f"{program.name}, no input", run(program, None, before=lambda: os.close(0)), (b"", NOT_READ, 0))
         with open(good, "rb") as given, open("/dev/full", "wb") as full:
@@ -112,6 +120,11 @@ def main():
         expect(f"a stream in {len(reads)} calls of read", sum(reads), len(STREAM))
         # The last two take what is left and find the end.
         expect("all but the last two are large", min(reads[:-2]) >= LARGE_READ, True)
+        for program, good in programs:
+            with open(good, "rb") as given:
+                expect(f"{program.name}, its first write interrupted", run_interrupted(program, given, ":when=1"), (b"", NOT_WRITTEN, 0))
+            with open(good, "rb") as given:
+                expect(f"{program.name}, every write interrupted", run_interrupted(program, given, ""), (b"", b"", 0))
     sys.exit(1 if faults else 0)
 
 

@@ -4,7 +4,7 @@ use mathlib.Core.Bool.{true, false}
 use mathlib.Core.List.{List, [], ◌++◌, append-nil, append_assoc}
 use Prim.Native.Nat.{ℕ, ◌+◌, ◌-◌, ◌*◌, ◌<◌, ◌≤◌}
 use native.Mathlib.Omega.{arith}
-use Rattle.std.specs.Prelude.{Result, Ok, Err, IfOk}
+use Rattle.std.specs.Prelude.{Result, Ok, Err, IfOk, MatchResult}
 use lib.ListN.{length, take, drop, length-append, length-take, length-drop}
 use lib.Seq.{take-add, take_all, take_at, take-take, take-append-le, drop-append-le, drop-drop}
 use Rattle.report_front.specs.Front.{enough_bytes}
@@ -17,17 +17,23 @@ use Rattle.report.specs.declared.Progress.{Progress}
 use Rattle.report.proofs.Progressing.{stands_none, fed_last}
 use Rattle.program_report_print.specs.AroundReads.{said, Lent, Refilled, Told}
 
--- the buffer after a read into its part behind the first `kept` bytes
+kept_stay : (before rest : List ℕ) (kept : ℕ) → kept ≤ length before → take kept (take kept before ++ rest) ≡ take kept before
+kept_stay before rest kept h =
+    let front = length-take kept before in
+    take_at (take kept before) rest kept (omega arith)
+
+-- the buffer after a read into its part behind the first `kept` bytes, one that failed too
 pub refilled : {E : Type 0} (before came : List ℕ) (kept : ℕ) (input : Result ℕ E) → kept ≤ length before
-    → IfOk input (λ count. count ≤ length came) → IfOk input (Refilled before kept (take kept before ++ (came ++ [])))
+    → IfOk input (λ count. count ≤ length came)
+    → MatchResult input (Refilled before kept (take kept before ++ (came ++ [])))
+    (λ _. take kept (take kept before ++ (came ++ [])) ≡ take kept before)
 refilled before came kept (Ok count) h most =
     let front = length-take kept before in
-    let e : length (take kept before) ≡ kept = omega arith in
     record {
       most = simp (length-append, append-nil) (omega arith);
-      front = take_at (take kept before) (came ++ []) kept e;
+      front = kept_stay before (came ++ []) kept h;
     }
-refilled before came kept (Err failure) h none = none
+refilled before came kept (Err failure) h none = kept_stay before (came ++ []) kept h
 
 module _ (before : List ℕ) (first : ℕ) where
   -- before a turn: the report stands in the input before the buffer's bytes, whatever comes behind them

@@ -2,7 +2,7 @@
 
 #![tactic(auto)]
 
-ghost use Rattle.std.specs.Prelude.{◌≡◌, ◌-◌, ◌≤◌, length, take, drop, IfOk};
+ghost use Rattle.std.specs.Prelude.{◌≡◌, ◌-◌, ◌≤◌, length, take, drop, MatchResult};
 ghost use Rattle.program_report_print.specs.AroundReads.{said, Lent, Refilled, Told};
 
 use program_streams::{Streams, read_input, write_output};
@@ -18,10 +18,11 @@ pub struct Outcome {
     pub filled: usize,
 }
 
-// Reads behind the bytes that were kept, until the buffer is full or the input ends, and gives how many bytes came.
+// Reads behind the bytes that were kept, until the buffer is full or the input ends, and gives how many bytes came. The kept bytes stay,
+// where a read fails too.
 fn refill(streams: Streams, buffer: &mut [u8], kept: usize) -> Result<usize>
     requires { kept ≤ length buffer.old }
-    ensures { IfOk result (Refilled buffer.old kept buffer.new) }
+    ensures { MatchResult result (Refilled buffer.old kept buffer.new) (λ _. take kept buffer.new ≡ take kept buffer.old) }
 {
     read_input(streams, &mut buffer[kept..])
 }

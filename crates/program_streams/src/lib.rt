@@ -53,7 +53,16 @@ pub fn write_output(streams: Streams, text: &[u8]) {
     write_whole(streams.errors, b"standard output could not be written\n");
 }
 
-// Writes all bytes, and answers whether the system took them: it stops at a write that takes nothing or fails.
+// Writes all bytes, and answers whether the system took them: it stops at a write that takes nothing or fails. One that a signal
+// interrupts has failed too.
 fn write_whole<W: Write + Drop>(mut to: W, bytes: &[u8]) -> bool {
-    to.write_all(bytes).is_ok()
+    let mut done = 0;
+    // A while: a turn goes on by as many bytes as were taken. The library's `write_all` would try an interrupted write again.
+    while done < bytes.len() {
+        match to.write(&bytes[done..]) {
+            Ok(0) | Err(_) => return false,
+            Ok(more) => done += more,
+        }
+    }
+    true
 }
