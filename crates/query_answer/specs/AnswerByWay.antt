@@ -8,7 +8,7 @@ use Rattle.rules.specs.Outside.{placed_on, some_outside_refused}
 use Rattle.rules.specs.Query.{value_in, cell_of}
 use Rattle.rules.specs.Calls.{labels_of, answer_of}
 use Rattle.rules.specs.declared.Refusal.{Refusal}
-use Rattle.rules.specs.Answers.{QueryAnswer, query_told}
+use Rattle.rules.specs.Answers.{number_of, QueryAnswer}
 use Rattle.axis_locate.specs.CellFound.{Rising}
 use Rattle.query_answer.specs.PointsAndModes.{OfAnyAxes}
 use Rattle.query_answer.specs.Ways.{by_search}
@@ -25,10 +25,10 @@ refused_with refusal = record { refusal = refusal; value = plus_zero; labels = r
 abbrev pub answer_in : Float → List ℕ → QueryAnswer
 answer_in value lower = answer_of (cond (answer_refused value) 10 0) value lower
 
--- what is told of a value whose labels stand in a slice, which after a refusal nobody reads
+-- an answer whose labels stand in a slice, after a refusal too
 abbrev pub with_labels : Result Float Refusal → List ℕ → QueryAnswer
-with_labels (Ok value) labels = query_told (Ok (record { value = value; labels = labels }))
-with_labels (Err refusal) labels = query_told (Err refusal)
+with_labels (Ok value) labels = record { refusal = 0; value = value; labels = labels }
+with_labels (Err refusal) labels = record { refusal = number_of refusal; value = plus_zero; labels = labels }
 
 -- the refusal where knots are refused: of a walk it may be 7
 abbrev pub knots_refusal : Way → List Float → ℕ

@@ -1,14 +1,14 @@
 // What every query answers once its sizes and lengths are in order: its cell found on the axes, and 7, 8, 18 and 10 in this order. None of
-// these is a public call: `answer` requires what refusals 1 to 4 leave, with four points and four modes.
+// these is a public call: `answer_to` requires what refusals 1 to 4 leave, with four points, four modes and room for four labels.
 
 #![tactic(auto)]
 
-ghost use Rattle.std.specs.Prelude.{◌≡◌, List, ℕ, length, replicate};
+ghost use Rattle.std.specs.Prelude.{◌≡◌, length, replicate};
 ghost use Rattle.rules.specs.Sizes.{most_axes};
 ghost use Rattle.rules.specs.Outside.{mode_number};
 ghost use Rattle.rules.specs.Answers.{number_of, refusal_of, query_told};
 ghost use Rattle.query_answer.specs.PointsAndModes.{ModesOf, QueryFits};
-ghost use Rattle.query_answer.specs.AnswerByWay.{answer_in, with_labels, knots_refusal, refusal_found, AnswerAmong};
+ghost use Rattle.query_answer.specs.AnswerByWay.{refused_with, answer_in, with_labels, knots_refusal, refusal_found, AnswerAmong};
 
 use rules::{Axis, Refusal, ValueInCell};
 use searched::Refusals;
@@ -69,23 +69,33 @@ fn check_found(way: Way, knots: &[f64], refusals: Refusals) -> Result<(), Refusa
     Ok(())
 }
 
-// A value that is worked out in a cell, or 10.
-fn check_value(value: f64) -> Result<f64, Refusal>
-    ensures { (lower : List ℕ) → with_labels result lower ≡ answer_in value lower }
-{
-    if base_numbers::is_finite(value) {
-        Ok(value)
-    } else {
-        Err(Refusal::Outcome)
-    }
-}
-
 // All four labels 0.
 fn clear_labels(labels: &mut [usize])
     requires { length labels.old ≡ 4 }
     ensures { labels.new ≡ replicate most_axes 0 }
 {
     labels.fill(0);
+}
+
+// A refusal, with labels 0.
+fn refuse(labels: &mut [usize], refusal: Refusal) -> Result<f64, Refusal>
+    requires { length labels.old ≡ 4 }
+    ensures { with_labels result labels.new ≡ refused_with (number_of refusal) }
+{
+    clear_labels(labels);
+    Err(refusal)
+}
+
+// A value, where the labels are the cell that it was worked out in, or 10.
+fn check_value(labels: &mut [usize], value: f64) -> Result<f64, Refusal>
+    requires { length labels.old ≡ 4 }
+    ensures { with_labels result labels.new ≡ answer_in value labels.old }
+{
+    if base_numbers::is_finite(value) {
+        Ok(value)
+    } else {
+        refuse(labels, Refusal::Outcome)
+    }
 }
 
 // The answer on one axis, whose cell and weights stay in registers.
@@ -113,9 +123,11 @@ fn answer_on_one(
         labels,
         &mut weights,
     );
-    check_found(way, knots, refusals)?;
+    if let Err(refusal) = check_found(way, knots, refusals) {
+        return refuse(labels, refusal);
+    }
     let value = query_cell::value(1, points, labels, &weights, tensor);
-    check_value(value)
+    check_value(labels, value)
 }
 
 // The same on two axes.
@@ -143,14 +155,16 @@ fn answer_on_two(
         labels,
         &mut weights,
     );
-    check_found(way, knots, refusals)?;
+    if let Err(refusal) = check_found(way, knots, refusals) {
+        return refuse(labels, refusal);
+    }
     let value = query_cell::value_on_two(points, labels, &weights, tensor);
-    check_value(value)
+    check_value(labels, value)
 }
 
-// The same on any number of axes. The labels become those of the cell, whatever they were, and after a refusal nobody reads them. They go
-// to a slice of the caller's: a struct that holds them goes through memory, and this Result does not.
-fn answer_to(
+// The answer at a point on axes of these points, with a mode's number for each: of their ends nothing is read. The labels are those of
+// the answer, whatever they were: of the cell, and after a refusal 0.
+pub fn answer_to(
     way: Way,
     axes: usize,
     points: &[usize],
@@ -182,12 +196,14 @@ fn answer_to(
         labels,
         &mut weights,
     );
-    check_found(way, knots, refusals)?;
+    if let Err(refusal) = check_found(way, knots, refusals) {
+        return refuse(labels, refusal);
+    }
     let value = query_cell::value(axes, points, labels, &weights, tensor);
-    check_value(value)
+    check_value(labels, value)
 }
 
-// The value and the labels at a point on axes of these points, with a mode's number for each: of their ends nothing is read.
+// The same, with its labels.
 pub fn answer(
     way: Way,
     axes: usize,

@@ -3,7 +3,7 @@ use mathlib.Core.Path.{◌≡◌, refl, sym, ap, ap₂, ◌∙◌}
 use mathlib.Core.Logic.{◌≢◌}
 use mathlib.Core.Bool.{Bool, true, false, cond, ◌||◌}
 use mathlib.Core.List.{List}
-use Prim.Native.Nat.{ℕ, ◌*◌, ◌^◌, ◌<◌}
+use Prim.Native.Nat.{ℕ, ◌*◌, ◌^◌, ◌<◌, ◌≤◌}
 use native.Mathlib.Omega.{arith}
 use lib.Dec.{ltb}
 use lib.ListN.{length}
@@ -22,13 +22,14 @@ use Rattle.rules.specs.Refusals.{
 }
 use Rattle.rules.specs.Even.{some_uneven_refused}
 use Rattle.rules.specs.declared.Axis.{Axis}
-use Rattle.rules.proofs.Refused.{or_else_met}
+use Rattle.rules.proofs.Refused.{or_else_met, any_ext}
 use Rattle.rules.proofs.Sums.{sum_ext, product_ext}
 use Rattle.base_numbers.proofs.Scan.{any_at, any_never}
 use Rattle.grid.specs.GridOfCall.{grid, points_of}
 use Rattle.grid.proofs.Knots.{knots_of_axis}
 use Rattle.std.specs.Prelude.{None}
-use Rattle.grid_checks.proofs.FiniteKnots.{axes_finite}
+use Rattle.grid_checks.specs.Check.{knots_of_points_refused}
+use Rattle.grid_checks.proofs.FiniteKnots.{axes_finite, points_finite}
 use Rattle.grid_checks.proofs.Rows.{rows_then, none_applies, axes_few, in_range, exact as exact_length, length_fits}
 use Rattle.query_answer.specs.PointsAndModes.{PointsOf}
 use Rattle.query_answer.proofs.Accepted.{axis_numbers}
@@ -71,7 +72,7 @@ untold number low of =
     rw (ne_eqb number 7 (λ z. omega arith), ne_eqb number 8 (λ z. omega arith), ne_eqb number 21 (λ z. omega arith)) refl
 
 -- sizes and lengths have no other
-among_sizes : (a b c d : Bool) → cond a 1 (cond b 2 (cond c 3 (cond d 4 0))) < 7
+among_sizes : (a b c d : Bool) → cond a 1 (cond b 2 (cond c 3 (cond d 4 0))) ≤ 4
 among_sizes true b c d = omega arith
 among_sizes false true c d = omega arith
 among_sizes false false true d = omega arith
@@ -101,16 +102,16 @@ module _ (axes : ℕ) (all : List Axis) (x : List Float) (points_in : List ℕ) 
       sym (is ∙ ap (λ (n : ℕ → ℕ). profile_sizes_check axes n (length x)) same) in
       rows_then (profile_sizes_rows axes (points_of all) (length x)) _ tt ∙ rw met (or_else_met number _ some)
 
-  low : number < 7
+  pub sizes_low : number ≤ 4
   unfolding profile_sizes_check
-  low =
+  sizes_low =
       let n = place_of points_in in
       rw is
       (among_sizes (ltb axes 1 || ltb most_axes axes) (any (λ i. points_refused (n i)) axes)
       (ltb most_in_a_tensor (product_below n axes * 2 ^ axes)) (length_refused (length x) (sum_below n axes)))
 
   pub sizes_answer : (r : EvenProfile) → r ≡ profile_of number 0 0 → EvenProfilePromise given r
-  sizes_answer = nothing_told given number sizes_met low
+  sizes_answer = nothing_told given number sizes_met (omega (arith, sizes_low))
 
 -- ---- they are not
 
@@ -159,6 +160,16 @@ module _ (axes : ℕ) (points_in : List ℕ) (x : List Float) (fits : ProfileFit
       go false e true f =
           sym f ∙ any_never (λ i. lacks Finite (knots g i) (points g i)) axes
           (λ i l. rw (knots_of_axis g exact i l) at (axis_numbers g exact e i l))
+
+  same_knots : knots_of_points_refused axes (place_of points_in) x ≡ some_knots_refused g
+  same_knots = any_ext _ _ axes λ i l.
+      rw (are i l, sum_ext (points g) (place_of points_in) i (λ k h. are k (omega arith))) refl
+
+  -- where the pass for 8 finds nothing, none lacks that its knots are finite and rise
+  pub passed_8 : {refused : Bool} → refused ≡ knots_of_points_refused axes (place_of points_in) x → refused ≡ false
+      → FirstLack Finite g None × FirstLack Rising g None
+  passed_8 walked e =
+      (same_numbers ∙ points_finite axes (place_of points_in) x fits.in_range fits.knots_exact walked e, sym same_knots ∙ sym walked ∙ e)
 
   -- where the knots pass, none does
   pub passed_0 : KnotsPass g → (r : EvenProfile) → r ≡ profile_of 0 0 0 → EvenProfilePromise g r

@@ -1,5 +1,5 @@
 -- The chapter ProfileCalls of docs/RULES.md: the refusal of the profile of even axes, and its answer.
-use Rattle.std.specs.Prelude.{◌≡◌, cond, ℕ, eqb, length, Result, Ok, Err}
+use Rattle.std.specs.Prelude.{◌≡◌, cond, ℕ, ◌≤◌, eqb, length, Result, Ok, Err}
 use Rattle.rules.specs.Sizes.{Grid, knots_length}
 use Rattle.rules.specs.Refusals.{
   axes_refused,
@@ -34,6 +34,14 @@ even_profile_told (Err (Refused refusal)) = profile_of (number_of refusal) 0 0
 even_profile_told (Err (NotFinite lack)) = profile_of 7 lack.axis lack.place
 even_profile_told (Err (NotRising lack)) = profile_of 8 lack.axis lack.place
 even_profile_told (Err (Uneven lack)) = profile_of 21 lack.axis lack.place
+
+-- 7, 8 and 21 are given with what lacks the quality: a refusal that is given alone is 1, 2, 3 or 4
+abbrev pub LackGiven : {T : Type 0} → Result T ProfileRefusal → Type 0
+LackGiven (Ok given) = Unit {0}
+LackGiven (Err (Refused refusal)) = number_of refusal ≤ 4
+LackGiven (Err (NotFinite lack)) = Unit {0}
+LackGiven (Err (NotRising lack)) = Unit {0}
+LackGiven (Err (Uneven lack)) = Unit {0}
 
 -- what is told of the quality that a refusal asks for, and 0 where it asks for none
 abbrev pub told_of_lack : ℕ → (Quality → ℕ) → ℕ

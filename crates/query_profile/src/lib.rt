@@ -8,10 +8,10 @@ ghost use Rattle.rules.specs.Sizes.{place_of};
 ghost use Rattle.rules.specs.Answers.{refusal_of};
 ghost use Rattle.grid.specs.GridOfCall.{grid};
 ghost use Rattle.query_profile.specs.declared.ProfileRefusal.TheVariants.{Refused};
-ghost use Rattle.query_profile.specs.ProfileCalls.{even_profile_told, EvenProfilePromise};
+ghost use Rattle.query_profile.specs.ProfileCalls.{even_profile_told, LackGiven, EvenProfilePromise};
 ghost use Rattle.query_profile.specs.Profiled.{profile_sizes_check, ProfileFits, ProfileAmong};
 
-use grid_checks::{lengths, sizes};
+use grid_checks::{lengths, rising, sizes};
 use query_even::qualities::{Lack, Quality};
 use query_even::{pass, qualities};
 use rules::{Axis, Refusal};
@@ -55,24 +55,26 @@ fn check_profile_sizes(axes: usize, points: &[usize], knots: usize) -> Result<()
 // whose knots are refused and its first interval that does not rise by a finite step; 21 the lowest axis that is not even and its first
 // interval that fails. All are counted from 0.
 pub fn even_profile(axes: usize, all: [Axis; 4], knots: &[f64]) -> Result<(), ProfileRefusal>
-    ensures { EvenProfilePromise (grid axes all knots.now) (even_profile_told result) }
+    ensures { EvenProfilePromise (grid axes all knots.now) (even_profile_told result) × LackGiven result }
 {
     let points = grid::points_of(all);
     check_profile_sizes(axes, &points, knots.len())?;
     even_profile_of_points(axes, &points, knots)
 }
 
-// The same where knots may be refused: 7, 8 and 21 are looked for one after the other. Not a public call: that 1 to 4 do not apply is
-// required, and four points.
+// The same where knots may be refused. First 8 is looked for, in one pass, and 7 only where that finds something: knots that pass 8 are
+// finite. Last comes 21. Not a public call: that 1 to 4 do not apply is required, and four points.
 fn even_profile_by_walks(axes: usize, points: &[usize], knots: &[f64]) -> Result<(), ProfileRefusal>
     requires { ProfileFits axes points.now knots.now }
-    ensures { ProfileAmong axes points.now knots.now (even_profile_told result) }
+    ensures { ProfileAmong axes points.now knots.now (even_profile_told result) × LackGiven result }
 {
-    if let Some(lack) = qualities::first_lacking(Quality::Finite, axes, points, knots) {
-        return Err(ProfileRefusal::NotFinite(lack));
-    }
-    if let Some(lack) = qualities::first_lacking(Quality::Rising, axes, points, knots) {
-        return Err(ProfileRefusal::NotRising(lack));
+    if rising::knots_of_points_refused(axes, points, knots) {
+        if let Some(lack) = qualities::first_lacking(Quality::Finite, axes, points, knots) {
+            return Err(ProfileRefusal::NotFinite(lack));
+        }
+        if let Some(lack) = qualities::first_lacking(Quality::Rising, axes, points, knots) {
+            return Err(ProfileRefusal::NotRising(lack));
+        }
     }
     match qualities::first_lacking(Quality::Even, axes, points, knots) {
         Some(lack) => Err(ProfileRefusal::Uneven(lack)),
@@ -88,7 +90,7 @@ pub fn even_profile_of_points(
     knots: &[f64],
 ) -> Result<(), ProfileRefusal>
     requires { ProfileFits axes points.now knots.now }
-    ensures { ProfileAmong axes points.now knots.now (even_profile_told result) }
+    ensures { ProfileAmong axes points.now knots.now (even_profile_told result) × LackGiven result }
 {
     if pass::knots_may_be_refused(axes, points, knots) {
         return even_profile_by_walks(axes, points, knots);

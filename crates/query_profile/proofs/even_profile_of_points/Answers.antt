@@ -7,7 +7,9 @@ pub knots_may_be_refused-requires : goal.knots_may_be_refused-requires
 knots_may_be_refused-requires c = let fits = c.requires in (fits.in_range, fits.four_points, fits.knots_exact)
 
 pub returns : goal.returns
-returns c =
-    λ all are.
-    passed_0 _ _ _ c.requires all are
-    (c.knots_may_be_refused.ensures c.if-knots_may_be_refused.false all are) _ refl
+returns c = (
+  λ all are.
+      passed_0 _ _ _ c.requires all are
+      (c.knots_may_be_refused.ensures c.if-knots_may_be_refused.false all are) _ refl,
+  tt,
+)
