@@ -66,7 +66,10 @@ pub fn condition_of_kind(kind: u64, lower: End, upper: End) -> Condition
 pub fn is_periodic_at_one_end(lower: u64, upper: u64) -> bool
     ensures { result ≡ periodic_at_one_end lower upper }
 {
-    (lower == 3) != (upper == 3)
+    match lower {
+        3 => upper != 3,
+        _ => upper == 3,
+    }
 }
 
 // Whether the kinds of an axis are refused by 13.

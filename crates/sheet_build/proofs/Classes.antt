@@ -1,7 +1,7 @@
 -- What the class of the call's refusal says of the answer and the buffers: after Reading nothing of the sheet shows, after Building the
--- answer has its axes and its parts stand in the buffers.
+-- answer has its axes and its parts stand in the buffers. And what the call gives is of that class (`SheetGiven`).
 use mathlib.Core.Path.{◌≡◌, refl, sym, ap, ◌∙◌}
-use mathlib.Core.Bool.{◌||◌}
+use mathlib.Core.Bool.{Bool, true, false, ◌||◌, false≢true}
 use mathlib.Core.List.{List}
 use Prim.Native.Nat.{ℕ, zero, suc}
 use native.Mathlib.Omega.{arith}
@@ -9,6 +9,7 @@ use borrow.Author.Tests.{eq-eqb, ltb-false}
 use lib.ListN.{length, take, length-take}
 use lib.Ieee.{Float}
 use Rattle.rules.specs.Sizes.{Grid, tensor_length, scratch_length}
+use Rattle.std.specs.Prelude.{Result, Ok, Err}
 use Rattle.rules.specs.Refusals.{
   scratch_refused,
   some_number_refused,
@@ -19,9 +20,12 @@ use Rattle.rules.specs.Refusals.{
 }
 use Rattle.rules.specs.Tensor.{tensor}
 use Rattle.rules.specs.Calls.{build_refusal}
+use Rattle.rules.specs.Answers.{number_of}
+use Rattle.rules.proofs.Given.{number_some}
 use Rattle.rules.proofs.Refused.{unchanged}
-use Rattle.grid_codes.specs.Classes.{class}
-use Rattle.grid_codes.specs.declared.classes.Class.TheVariants.{Reading, Building}
+use Rattle.grid_codes.specs.Classes.{class, unread}
+use Rattle.grid_codes.specs.declared.classes.Class.{Class}
+use Rattle.grid_codes.specs.declared.classes.Class.TheVariants.{None, Reading, Building, Writing, Unknown}
 use Rattle.grid_codes.proofs.Apart.{none_not_reading, reading_not_building, none_not_building}
 use Rattle.grid_codes.proofs.Tested.{tested}
 use Rattle.grid_codes.proofs.Classed.{Of, no_fault}
@@ -31,15 +35,34 @@ use Rattle.sheet_read.proofs.Parts.{parts}
 use Rattle.sheet_build.specs.SheetTensor.{
   unread_answer,
   read_answer,
+  sheet_told,
+  SheetGiven,
+  of_read,
   parts_refusal,
   reading_refusal,
   sheet_tensor_refusal,
   SheetPromise,
   SheetAnswer,
 }
+use Rattle.sheet_build.specs.declared.BuiltSheet.{BuiltSheet}
+use Rattle.sheet_build.specs.declared.SheetRefusal.{SheetRefusal}
+use Rattle.sheet_build.specs.declared.SheetRefusal.TheVariants.{Unread, Unbuilt}
 use Rattle.sheet_build.proofs.Faults.{reading_of_reading}
 use Rattle.sheet_build.proofs.Builds.{unread_is, answered_refusal}
 use Rattle.sheet_build.proofs.Promises.{refusal_met, refusal_passed, read_passed}
+
+-- 4 for the tensor's buffer, before the sheet is looked at
+pub four_of_reading : class 4 ≡ Reading
+unfolding class
+four_of_reading = refl
+
+-- what is not read is of the class Reading
+pub unread_of_reading : (given : Class) → unread given ≡ true → given ≡ Reading
+unread_of_reading None told = absurd (false≢true told)
+unread_of_reading Reading told = refl
+unread_of_reading Building told = absurd (false≢true told)
+unread_of_reading Writing told = absurd (false≢true told)
+unread_of_reading Unknown told = absurd (false≢true told)
 
 module _ (bytes : List ℕ) (knots samples lent scratch : List Float) where
   abbrev g : Grid
@@ -120,3 +143,13 @@ module _ (bytes : List ℕ) (knots samples lent scratch : List Float) where
         go : (number : ℕ) → refusal ≡ number → (given.length ≡ 0) × (t ≡ lent)
         go zero e = absurd (none_not_building (sym (ap class e) ∙ sym class_is ∙ c))
         go (suc number) e = (ap (λ (a : SheetAnswer). a.length) (parts_stand c).0 ∙ rw e, rw e at p.output)
+
+  -- what is given of a sheet that was read
+  pub given_of_read : (given : Result BuiltSheet SheetRefusal) (k s t w : List Float) → reading ≡ 0 → of_read given ≡ true
+      → SheetPromise bytes knots samples lent scratch (sheet_told given) k s t w → SheetGiven given
+  given_of_read (Ok built) k s t w none read p = tt
+  given_of_read (Err (Unread met)) k s t w none read p = absurd (false≢true read)
+  given_of_read (Err (Unbuilt met sheet)) k s t w none read p =
+      let is : number_of met ≡ refusal =
+      ap (λ (a : SheetAnswer). a.refusal) p.answer ∙ answered_refusal reading refusal (edition bytes) g in
+      ap class is ∙ building_class none (λ z. number_some met (is ∙ z))

@@ -6,4 +6,5 @@ pub mod Promises
 pub mod Alone
 pub mod Classes
 pub mod Demand3
+pub mod Results
 pub mod Unique

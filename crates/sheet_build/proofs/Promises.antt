@@ -1,5 +1,6 @@
 -- The promise of the whole call, for each way that it ends, and what an accepted sheet gives the build.
 use mathlib.Core.Path.{◌≡◌, refl, sym, ap, ◌∙◌}
+use mathlib.Core.Bool.{false}
 use mathlib.Core.List.{List}
 use Prim.Native.Nat.{ℕ, zero, suc, ◌≤◌}
 use native.Mathlib.Omega.{arith}
@@ -11,6 +12,8 @@ use Rattle.rules.specs.Refusals.{length_refused}
 use Rattle.rules.specs.Calls.{stored, scratch_after}
 use Rattle.rules.proofs.Refused.{or_else_met, unchanged}
 use Rattle.grid_checks.proofs.Rows.{axes_few, in_range, exact}
+use Rattle.grid_codes.specs.Classes.{class, unread}
+use Rattle.grid_codes.proofs.Classed.{read_none}
 use Rattle.sheet_read.specs.Fields.{edition, sheet_grid, sheet_samples}
 use Rattle.sheet_read.specs.Faults.{sheet_refusal}
 use Rattle.sheet_read.specs.Read.{over, read_refusal, ReadPromise, ReadAnswer}
@@ -114,9 +117,13 @@ module _ (bytes : List ℕ) (knots samples lent scratch : List Float) where
     sheet_refused given met e =
         reading_refused given k s (λ z. met (answered ∙ z)) (rw answered at e) knots_are samples_are
 
+    -- a sheet that was read
+    pub reader_passed : unread (class a.refusal) ≡ false → a.refusal ≡ 0
+    reader_passed told = read_none a.refusal answered (reading_of_reading bytes knots samples lent scratch) told
+
     -- an accepted sheet: its parts stand in the buffers
     module _ (none : a.refusal ≡ 0) where
-      passed : reading ≡ 0
+      pub passed : reading ≡ 0
       passed = sym answered ∙ none
 
       accepted : sheet_refusal bytes ≡ 0

@@ -1,6 +1,6 @@
 -- The chapter SheetTensor of docs/RULES.md: the public call `tensor_of_sheet`, its refusal, its answer, and what stands afterwards in all
 -- that it was lent.
-use Rattle.std.specs.Prelude.{◌≡◌, cond, List, ℕ, zero, suc, ◌≤◌, length, take, Float, Result, Ok, Err}
+use Rattle.std.specs.Prelude.{◌≡◌, Bool, true, false, cond, List, ℕ, zero, suc, ◌≤◌, length, take, Float, Result, Ok, Err}
 use Rattle.rules.specs.Numbers.{zeros, table}
 use Rattle.rules.specs.Sizes.{most_axes, most_in_a_tensor, unused_axis, Grid, knots_length, samples_length, tensor_length, scratch_length}
 use Rattle.rules.specs.Refusals.{length_refused}
@@ -9,6 +9,8 @@ use Rattle.rules.specs.Calls.{or_else, stored, counted, scratch_after, build_ref
 use Rattle.rules.specs.Answers.{number_of}
 use Rattle.rules.specs.declared.Axis.{Axis}
 use Rattle.grid.specs.GridOfCall.{grid, sizes_of, points_of, InRange}
+use Rattle.grid_codes.specs.Classes.{class}
+use Rattle.grid_codes.specs.declared.classes.Class.TheVariants.{Reading, Building}
 use Rattle.sheet_read.specs.Fields.{edition, sheet_grid, sheet_samples}
 use Rattle.sheet_read.specs.Faults.{sheet_refusal}
 use Rattle.sheet_read.specs.Read.{over, read_refusal}
@@ -60,6 +62,18 @@ sheet_told (Err (Unbuilt refusal sheet)) = record {
   all = sheet.all;
   length = 0;
 }
+
+-- the class of the number tells which of the two refusals it is: Reading of a sheet that is not read, Building of one that is not built
+abbrev pub SheetGiven : Result BuiltSheet SheetRefusal → Type 0
+SheetGiven (Ok built) = Unit {0}
+SheetGiven (Err (Unread refusal)) = class (number_of refusal) ≡ Reading
+SheetGiven (Err (Unbuilt refusal sheet)) = class (number_of refusal) ≡ Building
+
+-- whether what is given is of a sheet that was read
+abbrev pub of_read : Result BuiltSheet SheetRefusal → Bool
+of_read (Ok built) = true
+of_read (Err (Unread refusal)) = false
+of_read (Err (Unbuilt refusal sheet)) = true
 
 -- ---- a build whose numbers stand in the first places of buffers
 

@@ -2,12 +2,13 @@
 
 #![tactic(auto)]
 
-ghost use Rattle.std.specs.Prelude.{◌≡◌, Err};
+ghost use Rattle.std.specs.Prelude.{◌≡◌, true, Err};
 ghost use Rattle.rules.specs.Answers.{number_of};
 ghost use Rattle.sheet_build.specs.declared.SheetRefusal.TheVariants.{Unread};
-ghost use Rattle.sheet_build.specs.SheetTensor.{sheet_told, grid_in, samples_in, PartsGiven, PartsPromise, SheetPromise};
+ghost use Rattle.sheet_build.specs.SheetTensor.{sheet_told, SheetGiven, of_read, grid_in, samples_in, PartsGiven, PartsPromise, SheetPromise};
 
-use rules::Refusal;
+use grid_codes::classes::{is_built, is_unread};
+use rules::{Refusal, number_told};
 use sheet_read::Sheet;
 
 // What a sheet says whose tensor is built, and how many numbers the tensor has.
@@ -56,7 +57,7 @@ fn build_parts(
 ) -> Result<BuiltSheet, SheetRefusal>
     requires { PartsGiven sheet.axes sheet.all knots.now samples.now tensor.old }
     ensures { PartsPromise (grid_in sheet.axes sheet.all knots.now) (samples_in sheet.axes sheet.all samples.now)
-        tensor.old scratch.old sheet.edition (sheet_told result) tensor.new scratch.new }
+        tensor.old scratch.old sheet.edition (sheet_told result) tensor.new scratch.new × (of_read result ≡ true) }
 {
     let axes = sheet.axes;
     let all = sheet.all;
@@ -71,10 +72,13 @@ fn build_parts(
         &mut tensor[0..length],
         scratch,
     );
-    match built {
-        Ok(()) => Ok(BuiltSheet { sheet, length }),
-        Err(refusal) => Err(SheetRefusal::Unbuilt { refusal, sheet }),
+    if is_built(number_told(built)) {
+        return Ok(BuiltSheet { sheet, length });
     }
+    Err(SheetRefusal::Unbuilt {
+        refusal: built.unwrap_err(),
+        sheet,
+    })
 }
 
 // PUBLIC. Reads a sheet of either edition and builds its tensor: edition, axes and the tensor's length are given, the sheet's knots,
@@ -91,11 +95,16 @@ pub fn tensor_of_sheet(
     scratch: &mut [f64],
 ) -> Result<BuiltSheet, SheetRefusal>
     ensures { SheetPromise bytes.now knots.old samples.old tensor.old scratch.old (sheet_told result)
-        knots.new samples.new tensor.new scratch.new }
+        knots.new samples.new tensor.new scratch.new × SheetGiven result }
 {
     if tensor.len() != 4096 {
         return Err(SheetRefusal::Unread(Refusal::Length));
     }
-    let sheet = sheet_read::read(bytes, knots, samples)?;
+    let sheet = match sheet_read::read(bytes, knots, samples) {
+        Ok(sheet) => sheet,
+        Err(refusal) if is_unread(refusal.number()) => return Err(refusal.into()),
+        // Whatever the reader refuses is of the class Reading.
+        Err(_) => unreachable!(),
+    };
     build_parts(sheet, knots, samples, tensor, scratch)
 }

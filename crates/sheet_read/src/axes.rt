@@ -11,9 +11,10 @@ ghost use Rattle.sheet_read.specs.Heads.{HeadOf};
 
 use crate::heads::{Head, after, head_at, knots_from, values};
 use base_bits::{are_short, field_at, fill, is_short, number_at};
+use grid_codes::classes::is_unread;
 use grid_codes::ends::{condition_of_kind, end_of_kind, is_periodic_at_one_end, values_of_kind};
 use grid_codes::modes::{is_unknown_mode, mode_of_number};
-use rules::{Axis, Condition, Refusal};
+use rules::{Axis, Condition, Refusal, number_told};
 
 // What a walk over axes without a fault finds: the four axes, and the bit after the last.
 #[derive(Clone, Copy)]
@@ -100,7 +101,10 @@ pub fn walk_axes(bytes: &[u8], width: usize, axes: usize) -> Result<Walk, Refusa
             return Err(fault_of_short_head(bytes, width, at));
         }
         let head = head_at(bytes, width, at);
-        check_head(bytes, width, at, head)?;
+        let checked = check_head(bytes, width, at, head);
+        if is_unread(number_told(checked)) {
+            return Err(checked.unwrap_err());
+        }
         all[i] = axis(bytes, width, at, head);
         at = after(width, at, head);
     }

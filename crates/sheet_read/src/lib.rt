@@ -8,6 +8,7 @@ ghost use Rattle.sheet_read.specs.Read.{read_told, edition_1_told, ReadPromise, 
 use crate::look::look;
 use crate::store::store_parts;
 use base_bits::{field_at, is_short};
+use grid_codes::classes::is_unread;
 use rules::{Axis, Refusal};
 
 pub mod axes; // axes.rt: the axes of a sheet, one after the other
@@ -44,7 +45,12 @@ pub fn read(bytes: &[u8], knots: &mut [f64], samples: &mut [f64]) -> Result<Shee
     if samples.len() != 1024 {
         return Err(Refusal::Length);
     }
-    let sheet = look(bytes)?;
+    let sheet = match look(bytes) {
+        Ok(sheet) => sheet,
+        Err(refusal) if is_unread(refusal.number()) => return Err(refusal),
+        // Every fault of a sheet is of the class Reading.
+        Err(_) => unreachable!(),
+    };
     let all = sheet.all;
     store_parts(bytes, sheet.edition, sheet.axes, all, knots, samples);
     Ok(sheet)

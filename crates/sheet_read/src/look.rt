@@ -12,8 +12,9 @@ use crate::Sheet;
 use crate::axes::walk_axes;
 use base_bits::{are_short, field_at, is_short};
 use grid::{samples_length, tensor_length};
+use grid_codes::classes::is_unread;
 use grid_codes::editions::{is_unknown_edition, mode_width};
-use rules::{Axis, Refusal};
+use rules::{Axis, Refusal, number_told};
 
 // Whether 8 or more bits follow bit `at`, or one that is not zero.
 fn has_more(bytes: &[u8], at: usize) -> bool
@@ -47,9 +48,17 @@ fn look_at_axes(bytes: &[u8], edition: usize, n: usize) -> Result<Sheet, Refusal
     ensures { read_told result ≡ answer_of (or_else (axes_fault bytes.now n) (samples_fault bytes.now)) edition n
         (entries bytes.now n) }
 {
-    let walk = walk_axes(bytes, mode_width(edition), n)?;
+    let walk = match walk_axes(bytes, mode_width(edition), n) {
+        Ok(walk) => walk,
+        Err(refusal) if is_unread(refusal.number()) => return Err(refusal),
+        // Every fault of the axes is of the class Reading.
+        Err(_) => unreachable!(),
+    };
     let all = walk.all;
-    check_samples(bytes, walk.at, n, all)?;
+    let checked = check_samples(bytes, walk.at, n, all);
+    if is_unread(number_told(checked)) {
+        return Err(checked.unwrap_err());
+    }
     Ok(Sheet {
         edition,
         axes: n,

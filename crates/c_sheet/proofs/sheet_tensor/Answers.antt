@@ -34,16 +34,16 @@ returns c =
       | in-Ok w ↦
           rw w.number-is
           (sheet_tensor_called _ _ _ _ _ _ _ _ _ _ _ _ c.in_default.ensures refl
-          (sheet_told (Ok w.in-Ok.built)) w.in-Ok.ensures
+          (sheet_told (Ok w.in-Ok.built)) w.in-Ok.ensures.0
           (rw w.number-is at c.store_axes.ensures) (rw w.number-is at c.store_told.ensures))
       | in-Err-Unread w ↦
           rw (w.number-is, w.number-in-Err-Unread.ensures, w.no_sheet.ensures)
           (sheet_tensor_called _ _ _ _ _ _ _ _ _ _ _ _ c.in_default.ensures refl
-          (sheet_told (Err (Unread w.in-Err-Unread.refusal))) (rw w.in-Err-Unread.field-0-is at w.in-Err-Unread.ensures)
+          (sheet_told (Err (Unread w.in-Err-Unread.refusal))) (rw w.in-Err-Unread.field-0-is at w.in-Err-Unread.ensures.0)
           (rw (w.number-is, w.no_sheet.ensures) at c.store_axes.ensures) (rw (w.number-is, w.no_sheet.ensures) at c.store_told.ensures))
       | in-Err-Unbuilt w ↦
           rw (w.number-is, w.number-in-Err-Unbuilt.ensures)
           (sheet_tensor_called _ _ _ _ _ _ _ _ _ _ _ _ c.in_default.ensures refl
-          (sheet_told (Err (Unbuilt w.in-Err-Unbuilt.refusal w.in-Err-Unbuilt.sheet))) (rw w.in-Err-Unbuilt.field-0-is at w.in-Err-Unbuilt.ensures)
+          (sheet_told (Err (Unbuilt w.in-Err-Unbuilt.refusal w.in-Err-Unbuilt.sheet))) (rw w.in-Err-Unbuilt.field-0-is at w.in-Err-Unbuilt.ensures.0)
           (rw w.number-is at c.store_axes.ensures) (rw w.number-is at c.store_told.ensures))
     ]

@@ -2,7 +2,8 @@
 use mathlib.Core.Path.{sym, ◌∙◌}
 use native.Mathlib.Omega.{arith}
 use Rattle.program_tensor_text.proofs.Texts.{length_most}
-use Rattle.program_sheet_text.proofs.Told.{tensor_told, refused_told, built_none, unbuilt_met, length_refused_line}
+use Rattle.grid_codes.proofs.Classed.{built_none, unbuilt_met}
+use Rattle.program_sheet_text.proofs.Told.{tensor_told, refused_told, length_refused_line}
 use Rattle.program_sheet_text.proofs.put_text.Goals as goal
 
 pub put_tensor-requires : goal.put_tensor-requires

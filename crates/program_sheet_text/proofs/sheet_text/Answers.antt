@@ -30,21 +30,21 @@ returns-in_err-check_lent c =
 
 pub slice_bounds-put_text-end : goal.slice_bounds-put_text-end
 slice_bounds-put_text-end c =
-    let most = length_most _ _ _ _ _ _ _ _ _ _ (rw c.in-Ok.is at c.tensor_of_sheet.ensures) in
+    let most = length_most _ _ _ _ _ _ _ _ _ _ (rw c.in-Ok.is at c.tensor_of_sheet.ensures.0) in
     omega (arith, most, (enough (goal.at.slice_bounds-put_text-end c).In_ok-check_lent).tensor)
 
 pub put_text-requires : goal.put_text-requires
 put_text-requires c =
-    let most = length_most _ _ _ _ _ _ _ _ _ _ (rw c.in-Ok.is at c.tensor_of_sheet.ensures) in
+    let most = length_most _ _ _ _ _ _ _ _ _ _ (rw c.in-Ok.is at c.tensor_of_sheet.ensures.0) in
     (rw (length-take, sub-zero c.in-Ok.built.length) (omega (arith, most)), (enough (goal.at.put_text-requires c).In_ok-check_lent).text)
 
 pub returns-in-Ok : goal.returns-in-Ok
 returns-in-Ok c =
     text_written _ _ _ _ _ _ (passed (goal.at.returns-in-Ok c).In_ok-check_lent) _ _ _ _ _ _ _
-    (rw c.in-Ok.is at c.tensor_of_sheet.ensures) c.put_text.ensures
+    (rw c.in-Ok.is at c.tensor_of_sheet.ensures.0) c.put_text.ensures
 
 pub returns-in-Err : goal.returns-in-Err
 returns-in-Err c =
     text_written _ _ _ _ _ _ (passed (goal.at.returns-in-Err c).In_ok-check_lent) _ _ _ _ _ _ _
-    (rw c.in-Err.is at c.tensor_of_sheet.ensures)
+    (rw c.in-Err.is at c.tensor_of_sheet.ensures.0)
     (refusal_put _ _ _ _ (c.number.ensures ∙ c.refusal.ensures) (λ z. number_some _ (c.refusal.ensures ∙ z)) c.put_text-in-Err.ensures)

@@ -1,15 +1,17 @@
-use mathlib.Core.Path.{◌≡◌, sym, ◌∙◌}
+use mathlib.Core.Path.{◌≡◌, sym, ap, ◌∙◌}
 use Prim.Native.Nat.{◌+◌}
 use native.Mathlib.Omega.{arith}
 use borrow.Author.Tests.{ltb-true, ltb-false}
 use Rattle.base_bits.specs.BitsThere.{Within}
-use Rattle.rules.proofs.Given.{err_given}
+use Rattle.rules.specs.Answers.{refusal_of}
+use Rattle.grid_codes.proofs.Classed.{unread_met, read_none, err_met}
 use Rattle.sheet_read.specs.Faults.{axis_fault}
 use Rattle.sheet_read.proofs.Extents.{Extent, extent}
 use Rattle.sheet_read.proofs.HeadFields.{small, end_is}
+use Rattle.sheet_read.proofs.Numbers.{axis_of_reading}
 use Rattle.sheet_read.proofs.Walks.{turn_first, turn_fault, turn_whole, turn_next, turn_last}
 use Rattle.sheet_read.proofs.axes.walk_axes.Goals as goal
-use Rattle.sheet_read.proofs.axes.walk_axes.Goals.{Else-is_short, In_ok-check_head, In-loop-i}
+use Rattle.sheet_read.proofs.axes.walk_axes.Goals.{Else-is_short, Else-is_unread, In-loop-i}
 
 known : (turn : In-loop-i) → Extent turn.args.bytes.now turn.loop-i.at
 known turn = extent _ _
@@ -23,9 +25,11 @@ there c =
     record { room = ltb-false _ _ (sym c.is_short.ensures ∙ c.if-is_short.false); small = omega arith }
 
 -- the axis at hand has no fault
-faultless : (c : In_ok-check_head)
+faultless : (c : Else-is_unread)
     → axis_fault c.args.bytes.now c.loop-i.at ≡ 0
-faultless c = sym c.in_ok-check_head.ensures
+faultless c =
+    let is = c.check_head-checked.ensures in
+    sym is ∙ sym c.number_told.ensures ∙ read_none _ (c.number_told.ensures ∙ is) (axis_of_reading _ _) (sym c.if-is_unread.ensures)
 
 pub loop-i-init : goal.loop-i-init
 loop-i-init c = rw c.unused-all.ensures (turn_first _ _ c.requires.1)
@@ -48,18 +52,21 @@ returns-then-is_short c = turn_fault _ _ _ _ _ c.loop-i.invariant c.loop-i-test.
 pub head_at-head-requires : goal.head_at-head-requires
 head_at-head-requires c = (c.requires.0, there (goal.at.head_at-head-requires c).Else-is_short)
 
-pub check_head-requires : goal.check_head-requires
-check_head-requires c = (c.requires.0, there (goal.at.check_head-requires c).Else-is_short, c.head_at-head.ensures, c.loop-i.invariant.small)
+pub check_head-checked-requires : goal.check_head-checked-requires
+check_head-checked-requires c = (c.requires.0, there (goal.at.check_head-checked-requires c).Else-is_short, c.head_at-head.ensures, c.loop-i.invariant.small)
 
-pub returns-in_err-check_head : goal.returns-in_err-check_head
-returns-in_err-check_head c =
-    rw (err_given c.from_residual.result _ c.from_residual.ensures.1)
-    (turn_fault _ _ _ _ _ c.loop-i.invariant c.loop-i-test.true _ c.in_err-check_head.ensures)
+pub unwrap_err-requires : goal.unwrap_err-requires
+unwrap_err-requires c = err_met _ c.number_told.ensures (unread_met _ (sym c.if-is_unread.ensures))
+
+pub returns-then-is_unread : goal.returns-then-is_unread
+returns-then-is_unread c =
+    turn_fault _ _ _ _ _ c.loop-i.invariant c.loop-i-test.true _
+    (sym (ap refusal_of c.unwrap_err.ensures) ∙ c.check_head-checked.ensures)
 
 pub axis-requires : goal.axis-requires
 axis-requires c = (
   c.requires.0,
-  turn_whole _ _ _ _ _ c.loop-i.invariant c.loop-i-test.true (faultless (goal.at.axis-requires c).In_ok-check_head),
+  turn_whole _ _ _ _ _ c.loop-i.invariant c.loop-i-test.true (faultless (goal.at.axis-requires c).Else-is_unread),
   c.head_at-head.ensures,
 )
 
@@ -68,7 +75,7 @@ after-at-requires c = small _ _ _ c.head_at-head.ensures _ c.requires.0 c.loop-i
 
 pub loop-i-preserved : goal.loop-i-preserved
 loop-i-preserved c =
-    turn_next _ _ _ _ _ c.loop-i.invariant c.loop-i-test.true _ _ (faultless (goal.at.loop-i-preserved c).In_ok-check_head)
+    turn_next _ _ _ _ _ c.loop-i.invariant c.loop-i-test.true _ _ (faultless (goal.at.loop-i-preserved c).Else-is_unread)
     c.axis.ensures
     (c.after-at.ensures ∙ end_is _ _ _ c.head_at-head.ensures _ c.requires.0)
 
