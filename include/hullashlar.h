@@ -11,8 +11,8 @@
  * target/staticlib/libhullashlar.a is for x86-64, with SSE2 and the System V calling convention. `make firmware`
  * compiles the same proved module for Cortex-M0+, M4F, M33 and M7, AArch64, RV32 and RV64, to
  * target/firmware/TARGET/libhullashlar.a; docs/FIRMWARE.md says how to link it and what each call costs there. An
- * archive needs memcpy, memmove and memset from its host. On 32 bits it also needs the compiler's functions that divide
- * 64-bit whole numbers. It needs nothing else.
+ * archive needs memcpy and memset from its host. On 32 bits it also needs the compiler's functions that divide 64-bit
+ * whole numbers. It needs nothing else.
  *
  * Floats. A call computes under the caller's float settings. They must be those that a C program starts with: rounding
  * to nearest; subnormal numbers kept, neither flushed to zero nor read as zero (FTZ and DAZ clear in MXCSR; FZ clear in
@@ -27,9 +27,9 @@
  * signals, as long as no call writes a slice that another one uses.
  *
  * Memory. The largest grid takes 98,304 bytes: tensor 32,768, scratch 49,152, the two buffers of a sheet 16,384.
- * hullashlar_surface takes the sheet alone, and has its memory on the stack. Every other call needs at most 2,920
- * bytes of stack on x86-64, on any input, beside what the host's memcpy, memmove and memset take. docs/BENCH.md has the
- * stack of each call, the size of the code and what the archive's proofs rest on.
+ * hullashlar_surface takes the sheet alone, and has its memory on the stack. Every other call needs at most 2,888
+ * bytes of stack on x86-64, on any input, beside what the host's memcpy and memset take. docs/BENCH.md has the stack of
+ * each call, the size of the code and what the archive's proofs rest on.
  *
  * Axes. The arrays points, kinds, values, modes, directions, place, labels and indices are lent for four axes. An entry
  * past the axes in use may be anything: no refusal, no answer and no number that is written depends on it. Labels,

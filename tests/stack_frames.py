@@ -1,7 +1,7 @@
 #!/usr/bin/env python3
 """What stack each exported call can need at most, added up from the machine code of the archive: the frames along its
-longest chain of calls, with every return address, and the arguments that it takes on the stack. memcpy, memmove and
-memset are the host's: of these only the return address is counted. A function that calls itself does so once for each axis at most.
+longest chain of calls, with every return address, and the arguments that it takes on the stack. memcpy and memset are
+the host's: of these only the return address is counted. A function that calls itself does so once for each axis at most.
 A jump by a table goes to every place that the table has.
 Fails where the code moves the stack pointer in a way that is not followed here. Prints a table of docs/BENCH.md."""
 
@@ -13,7 +13,7 @@ from pathlib import Path
 REPOSITORY = Path(__file__).resolve().parent.parent
 ARCHIVE = REPOSITORY / "target/staticlib/libhullashlar.a"
 HEADER = REPOSITORY / "include/hullashlar.h"
-OF_THE_HOST = {"memcpy", "memmove", "memset"}
+OF_THE_HOST = {"memcpy", "memset"}
 MOST_AXES = 4
 IN_REGISTERS = 6
 WORD = 8
