@@ -75,7 +75,7 @@ def calls(program, name, source):
 
 
 def run_interrupted(program, source, which):
-    """The same as `run`, where a signal interrupts these calls of write. A program that tries them for ever is ended."""
+    """The same as `run`, with these calls of write interrupted by a signal. A program that retries forever is killed."""
     interrupt = ["-e", "trace=write", "-e", f"inject=write:error=EINTR{which}"]
     done = subprocess.run(["timeout", "20", "strace", "-o", os.devnull, *interrupt, program], stdin=source, stdout=subprocess.PIPE, stderr=subprocess.PIPE)
     return done.stdout, done.stderr, done.returncode
