@@ -74,7 +74,9 @@ fn upper_step(knots: &[f64], point: f64) -> usize
     axis_locate::locate_lower_index(knots, point) + 1
 }
 
-// The index of the knot that a point steps to.
+// The index of the knot that a point steps to. It is not inlined: in the loop over the axes of a point, the compiler would make the search
+// take a branch at each knot that it looks at.
+#[inline(never)]
 pub fn step_index(direction: StepDirection, knots: &[f64], point: f64) -> usize
     requires { PointGiven (length knots.now) knots.now point }
     ensures { Stepped direction knots.now point result }
