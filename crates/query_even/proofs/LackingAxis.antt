@@ -9,9 +9,12 @@ use native.Mathlib.Nat.{sub-zero, add-sub_cancel_left}
 use lib.ListN.{length, take, drop, length-drop}
 use lib.Seq.{length-take-le}
 use lib.Ieee.{Float}
-use Rattle.rules.specs.Numbers.{any}
+use borrow.Author.Tests.{ltb-false}
+use Rattle.rules.specs.Numbers.{at, any}
 use Rattle.rules.specs.Sizes.{Grid, points, knots, sum_below, knots_length, place_of}
-use Rattle.base_numbers.proofs.Scan.{any_none, any_more, any_found, any_end}
+use Rattle.rules.specs.Refusals.{number_refused, step_refused}
+use Rattle.rules.specs.Even.{first_failing}
+use Rattle.base_numbers.proofs.Scan.{any_none, any_more, any_found, any_end, any_at}
 use Rattle.rules.specs.declared.Axis.{Axis}
 use Rattle.rules.proofs.Sums.{sum_ext}
 use Rattle.grid.specs.GridOfCall.{grid, points_of, InRange}
@@ -22,11 +25,29 @@ use Rattle.query_answer.specs.PointsAndModes.{PointsOf}
 use Rattle.query_even.specs.Qualities.{lacks, first_lack, lacking_axis, lacking_place}
 use Rattle.query_even.specs.Lacking.{LackIs, LackAmong}
 use Rattle.query_even.specs.declared.qualities.Quality.{Quality}
+use Rattle.query_even.specs.declared.qualities.Quality.TheVariants.{Finite, Rising, Even}
+
+-- knots that lack nothing have no place where they do
+no_lack : (quality : Quality) (x : List Float) (n : ℕ) → lacks quality x n ≡ false → first_lack quality x n ≡ 0
+no_lack Finite x n none =
+    let test : ℕ → Bool = λ k. number_refused (at x k) in first.found_none test n 0 (λ i l h. any_at test n none i (omega arith))
+no_lack Rising x n none = first.found_none (step_refused x) (n - 1) 0 (λ i l h. any_at (step_refused x) (n - 1) none i (omega arith))
+no_lack Even x n none = let z : first_failing x n ≡ 0 = omega (arith, ltb-false 0 (first_failing x n) none) in z
 
 module _ (quality : Quality) where
   module _ (g : Grid) where
     abbrev is_lacking : ℕ → Bool
     is_lacking i = lacks quality (knots g i) (points g i)
+
+    -- if no axis lacks it, the axis and the place of the rules are 0
+    pub none_lacks : 0 < g.axes → any is_lacking g.axes ≡ false → (lacking_axis quality g ≡ 0) × (lacking_place quality g ≡ 0)
+    unfolding lacking_axis lacking_place
+    none_lacks some none =
+        let lowest : lacking_axis quality g ≡ 0 =
+        first.found_none is_lacking g.axes 0 (λ i l h. any_at is_lacking g.axes none i (omega arith)) in
+        let first_place : first_lack quality (knots g 0) (points g 0) ≡ 0 =
+        no_lack quality (knots g 0) (points g 0) (any_at is_lacking g.axes none 0 some) in
+        (lowest, ap (λ (j : ℕ). first_lack quality (knots g j) (points g j)) lowest ∙ first_place)
 
     -- the first i axes lack nothing, and the knots of the next begin at `begin`; of the grid what the walk needs, its sizes and its knots'
     -- length
