@@ -23,18 +23,16 @@ pub fn less(a: u64, b: u64) -> bool
 }
 
 // Whether two doubles are equal; zeros are, whatever their signs, and a NaN is equal to nothing.
+// It returns at a NaN: in one chain of ifs the compiler has `at_most` look for a NaN twice.
 pub fn equal(a: u64, b: u64) -> bool
     ensures { result ≡ is_equal a b }
 {
     let p = a % 0x8000000000000000;
     let o = b % 0x8000000000000000;
     if 0x7FF0000000000000 < p || 0x7FF0000000000000 < o {
-        false
-    } else if p == 0 {
-        o == 0
-    } else {
-        a == b
+        return false;
     }
+    if p == 0 { o == 0 } else { a == b }
 }
 
 // Whether the first of two doubles is less than the second, or equal to it.

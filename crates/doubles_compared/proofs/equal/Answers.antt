@@ -5,8 +5,8 @@ use Rattle.doubles_patterns.specs.Patterns.{magnitude}
 use Rattle.doubles_compared.proofs.Compared.{one_nan, eq_zero, eq_other}
 use Rattle.doubles_compared.proofs.equal.Goals as goal
 
-pub returns-then-o-gt9218868437227405312 : goal.returns-then-o-gt9218868437227405312
-returns-then-o-gt9218868437227405312 c = (one_nan c.args.a c.args.b (λ number. grind arith)).1
+pub returns-then-p-gt9218868437227405312 : goal.returns-then-p-gt9218868437227405312
+returns-then-p-gt9218868437227405312 c = (one_nan c.args.a c.args.b (λ number. grind arith)).1
 
 pub returns-then-p-eq0 : goal.returns-then-p-eq0
 returns-then-p-eq0 c = eq_zero c.args.a c.args.b (omega arith) (omega arith) (omega arith)
